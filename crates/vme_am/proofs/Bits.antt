@@ -1,0 +1,43 @@
+-- What the bits of a code say is what the table says.
+use Rattle.std.proofs.Common.{◌≡◌, ℕ, ◌<◌, ◌+◌, ◌⊎◌, zero, suc, not, nat_eq, bit_and, Option, Some, Result, Ok, refl, ap, arith, rules, inl, inr, subst, ◌∙◌, sym}
+use Rattle.std.proofs.lemmas.Bool.Decides.{eqb_tells}
+use Rattle.std.specs.Option.{option_map, option_and_then, ok_or}
+use Rattle.vme_am.specs.declared.code.Space.{Space}
+use Rattle.vme_am.specs.declared.code.Kind.{Kind}
+use Rattle.vme_am.specs.Bits.{space_by_bits, kind_by_bits}
+use Rattle.vme_am.specs.Codes.{Entry, row, entry_at, read_code, fault_of}
+
+-- each number below n has the property
+abbrev AllBelow : (ℕ → Type 0) → ℕ → Type 0
+AllBelow P zero = Unit {0}
+AllBelow P (suc n) = P n × AllBelow P n
+
+at_below : (P : ℕ → Type 0) (n k : ℕ) → AllBelow P n → k < n → P k
+at_below P zero k all lt = absurd (omega arith)
+at_below P (suc n) k all lt =
+    elim (eqb_tells n k) [ inl same ↦ subst P same.1 all.0 | inr other ↦ at_below P n k all.1 (omega (arith, other.1)) ]
+
+-- the row of a space and a kind, with the privilege that bit 2 shows
+abbrev row_at : ℕ → Space → Kind → Entry
+row_at code space kind = row code space kind (not (nat_eq (bit_and code 4) 0))
+
+abbrev entry_by_bits : ℕ → Option Entry
+entry_by_bits code = option_and_then (λ space. option_map (row_at code space) (kind_by_bits space code)) (space_by_bits code)
+
+-- at each of the numbers that six lines show, by computing both
+all_agree : AllBelow (λ code. entry_at code ≡ entry_by_bits code) 64
+all_agree = search rules
+
+pub row_by_bits :
+    (code : ℕ) (space : Space) (kind : Kind) → code < 64 → space_by_bits code ≡ Some space → kind_by_bits space code ≡ Some kind
+    → entry_at code ≡ Some (row_at code space kind)
+row_by_bits code space kind lt named accessed =
+    at_below (λ code. entry_at code ≡ entry_by_bits code) 64 code all_agree lt
+    ∙ ap (option_and_then (λ space. option_map (row_at code space) (kind_by_bits space code))) named
+    ∙ ap (option_map (row_at code space)) accessed
+
+pub read_by_bits :
+    (code : ℕ) (space : Space) (kind : Kind) → code < 64 → space_by_bits code ≡ Some space → kind_by_bits space code ≡ Some kind
+    → Ok (row_at code space kind) ≡ read_code code
+unfolding read_code
+read_by_bits code space kind lt named accessed = sym (ap (λ found. ok_or found (fault_of code)) (row_by_bits code space kind lt named accessed))

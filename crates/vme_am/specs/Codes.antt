@@ -1,0 +1,42 @@
+-- The address modifier table, as data, and what a code reads as.
+use Rattle.std.specs.Prelude.{ℕ, Bool, true, false, nat_lt, nat_le, ◌==◌, ◌&&◌, if◌then◌else◌, List, [], ◌∷◌, find, Option, Result}
+use Rattle.std.specs.Option.{ok_or}
+use Rattle.vme_am.specs.declared.code.Space.{Space}
+use Rattle.vme_am.specs.declared.code.Space.TheVariants.{A16, A24, A32}
+use Rattle.vme_am.specs.declared.code.Kind.{Kind}
+use Rattle.vme_am.specs.declared.code.Kind.TheVariants.{DataAccess, ProgramAccess, BlockAccess, ShortAccess}
+use Rattle.vme_am.specs.declared.code.AmFault.{AmFault}
+use Rattle.vme_am.specs.declared.code.AmFault.TheVariants.{TooLarge, UserDefined, Reserved}
+
+-- one row of the address modifier table (IEEE 1014, section 2.3)
+pub record Entry : Type 0 where
+  pub code : ℕ
+  pub space : Space
+  pub kind : Kind
+  pub supervisory : Bool
+
+-- a row, by place
+abbrev pub row : ℕ → Space → Kind → Bool → Entry
+row code space kind supervisory = record { code = code; space = space; kind = kind; supervisory = supervisory }
+
+-- the address modifier table (IEEE 1014, section 2.3)
+abbrev pub table : List Entry
+table =
+    row 0x29 A16 ShortAccess false ∷ row 0x2d A16 ShortAccess true
+    ∷ row 0x39 A24 DataAccess false ∷ row 0x3a A24 ProgramAccess false ∷ row 0x3b A24 BlockAccess false
+    ∷ row 0x3d A24 DataAccess true ∷ row 0x3e A24 ProgramAccess true ∷ row 0x3f A24 BlockAccess true
+    ∷ row 0x09 A32 DataAccess false ∷ row 0x0a A32 ProgramAccess false ∷ row 0x0b A32 BlockAccess false
+    ∷ row 0x0d A32 DataAccess true ∷ row 0x0e A32 ProgramAccess true ∷ row 0x0f A32 BlockAccess true
+    ∷ []
+
+-- the row of a code, if the table has one (IEEE 1014, section 2.3)
+abbrev pub entry_at : ℕ → Option Entry
+entry_at code = find (λ entry. entry.code == code) table
+
+-- why a code without a row is refused: 10 to 1f are user-defined (IEEE 1014, section 2.3), six lines show no number above 3f
+abbrev pub fault_of : ℕ → AmFault
+fault_of code = if nat_lt 0x3f code then TooLarge else (if nat_le 0x10 code && nat_le code 0x1f then UserDefined else Reserved)
+
+-- what a number reads as: its row, or else its fault (this project's own)
+unfoldable pub read_code : ℕ → Result Entry AmFault
+read_code code = ok_or (entry_at code) (fault_of code)

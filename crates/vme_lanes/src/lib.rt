@@ -1,0 +1,10 @@
+//! Byte locations: which strobes say which bytes of a group of four a cycle reaches, and which data
+//! lines carry them. The table is that of ANSI/IEEE Std 1014-1987, section 2.2 (byte locations, data
+//! strobes, A01 and LWORD*); strobes are computed from address and length, and the reverse.
+#![tactic(auto)]
+
+mod lines;
+mod location;
+
+pub use lines::{DataLines, Datum, pick, place, placed_is_picked};
+pub use location::{Location, Strobes, strobes_are_sensed};

@@ -1,0 +1,75 @@
+ghost use Rattle.std.specs.Prelude.{◌≡◌, List, ℕ, true, length};
+ghost use Rattle.vme_lanes.specs.declared.location.Location.{Location};
+ghost use Rattle.vme_lanes.specs.Rows.{row_of};
+ghost use Rattle.vme_lanes.specs.Lanes.{byte_on, placed, carries, picked};
+
+use crate::location::Location;
+use arrayvec::ArrayVec;
+
+/// The bytes of one cycle, in order of address.
+pub type Datum = ArrayVec<u8, 8>;
+
+/// The data lines by lanes, from D31-D24 to D07-D00: each carries a byte or nothing.
+#[derive(Clone, Copy, Debug, PartialEq, Eq)]
+pub struct DataLines {
+    pub lanes: [Option<u8>; 4],
+}
+
+impl DataLines {
+    /// The lines while nothing drives them.
+    pub const IDLE: DataLines = DataLines { lanes: [None; 4] };
+
+    /// Whether each lane of the location carries a byte.
+    pub fn carries(&self, location: Location) -> bool
+        ensures { result ≡ carries location self.now.lanes }
+    {
+        let first = location.lane();
+        let len = usize::from(location.len());
+        self.lanes[first..first + len].iter().all(|lane| lane.is_some())
+    }
+}
+
+/// Puts bytes on the lanes of a location, in order of address; the other lanes carry nothing.
+pub fn place(location: Location, bytes: &[u8]) -> DataLines
+    requires { length bytes.now ≡ (row_of location).len }
+    ensures { result.lanes ≡ placed location bytes.now }
+{
+    let first = location.lane();
+    DataLines {
+        lanes: [0, 1, 2, 3].map(|lane| byte_on(first, bytes, lane)),
+    }
+}
+
+/// What a lane carries, where the bytes begin at lane `first`.
+fn byte_on(first: usize, bytes: &[u8], lane: usize) -> Option<u8>
+    ensures { result ≡ byte_on first bytes.now lane }
+{
+    if lane < first {
+        None
+    } else {
+        bytes.get(lane - first).copied()
+    }
+}
+
+/// Takes the bytes from the lanes of a location, in order of address.
+pub fn pick(location: Location, lines: DataLines) -> Datum
+    requires { carries location lines.lanes ≡ true }
+    ensures { result.items ≡ picked location lines.lanes }
+{
+    let first = location.lane();
+    let len = usize::from(location.len());
+    let mut datum = Datum::new();
+    for lane in &lines.lanes[first..first + len] {
+        if let Some(byte) = lane {
+            datum.push(*byte);
+        }
+    }
+    datum
+}
+
+/// What is placed on the lanes of a location is picked from them.
+pub fn placed_is_picked()
+    ensures carries { (l : Location) (bytes : List ℕ) → length bytes ≡ (row_of l).len → carries l (placed l bytes) ≡ true }
+    ensures picked { (l : Location) (bytes : List ℕ) → length bytes ≡ (row_of l).len → picked l (placed l bytes) ≡ bytes }
+{
+}

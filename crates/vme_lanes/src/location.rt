@@ -1,0 +1,121 @@
+ghost use Rattle.std.specs.Prelude.{◌≡◌, ◌+◌, ◌%◌, ◌≤◌, Some, IfSome};
+ghost use Rattle.vme_lanes.specs.Rows.{row_of, location_at, location_sensed};
+
+/// The bytes of a group of four that one cycle reaches, by their addresses modulo four.
+#[derive(Clone, Copy, Debug, PartialEq, Eq)]
+pub enum Location {
+    Byte0,
+    Byte1,
+    Byte2,
+    Byte3,
+    Bytes01,
+    Bytes23,
+    Bytes03,
+}
+
+impl Location {
+    /// The location of `n` bytes from `addr` on, or `None` where no single cycle reaches these bytes.
+    #[tactic(auto, unfolding(crate::specs::Rows::location_at))]
+    pub fn of(addr: u32, n: u8) -> Option<Location>
+        ensures value { result ≡ location_at addr n }
+        ensures row { IfSome result (λ l. ((row_of l).first ≡ addr % 4) × ((row_of l).len ≡ n)) }
+    {
+        match (addr % 4, n) {
+            (0, 1) => Some(Location::Byte0),
+            (1, 1) => Some(Location::Byte1),
+            (2, 1) => Some(Location::Byte2),
+            (3, 1) => Some(Location::Byte3),
+            (0, 2) => Some(Location::Bytes01),
+            (2, 2) => Some(Location::Bytes23),
+            (0, 4) => Some(Location::Bytes03),
+            _ => None,
+        }
+    }
+
+    /// The location that a slave reads off the strobes, or `None` where they choose no bytes.
+    #[tactic(auto, unfolding(crate::specs::Rows::location_sensed, crate::specs::Rows::location_at))]
+    pub fn sense(strobes: Strobes) -> Option<Location>
+        ensures value { result ≡ location_sensed strobes }
+        ensures row { IfSome result (λ l. (row_of l).strobes ≡ strobes) }
+    {
+        let half = if strobes.a01 { 2 } else { 0 };
+        match (strobes.lword, strobes.ds1, strobes.ds0) {
+            (true, false, true) => Location::of(half, 1),
+            (true, true, false) => Location::of(half + 1, 1),
+            (true, false, false) => Location::of(half, 2),
+            (false, false, false) => Location::of(half, 4),
+            _ => None,
+        }
+    }
+
+    /// The address of its first byte, modulo four.
+    pub fn first(self) -> u8
+        ensures { result ≡ (row_of self).first }
+    {
+        match self {
+            Location::Byte0 | Location::Bytes01 | Location::Bytes03 => 0,
+            Location::Byte1 => 1,
+            Location::Byte2 | Location::Bytes23 => 2,
+            Location::Byte3 => 3,
+        }
+    }
+
+    /// How many bytes it has.
+    pub fn len(self) -> u8
+        ensures { result ≡ (row_of self).len }
+    {
+        match self {
+            Location::Byte0 | Location::Byte1 | Location::Byte2 | Location::Byte3 => 1,
+            Location::Bytes01 | Location::Bytes23 => 2,
+            Location::Bytes03 => 4,
+        }
+    }
+
+    /// The lane of its first byte, counted from D31-D24: quad bytes use all four lanes, shorter
+    /// locations D15-D08 for an even and D07-D00 for an odd byte.
+    pub(crate) fn lane(self) -> usize
+        ensures value { result ≡ (row_of self).lane }
+        ensures fits { (row_of self).lane + (row_of self).len ≤ 4 }
+    {
+        if Strobes::of(self).lword {
+            2 + usize::from(self.first() % 2)
+        } else {
+            usize::from(self.first())
+        }
+    }
+}
+
+/// The levels of the lines that choose byte locations; `true` is high.
+#[derive(Clone, Copy, Debug, PartialEq, Eq)]
+pub struct Strobes {
+    pub ds1: bool,
+    pub ds0: bool,
+    pub a01: bool,
+    pub lword: bool,
+}
+
+impl Strobes {
+    /// The strobes of a location.
+    ///
+    /// DS1* is low for an even byte and DS0* for an odd one; A01 is high in the upper half of the
+    /// group of four, and LWORD* low where the bytes lie in both halves.
+    pub fn of(location: Location) -> Strobes
+        ensures { result ≡ (row_of location).strobes }
+    {
+        let first = location.first();
+        let last = first + location.len() - 1;
+        Strobes {
+            ds1: first % 2 == 1 && last % 2 == 1,
+            ds0: first % 2 == 0 && last % 2 == 0,
+            a01: first >= 2,
+            lword: first >= 2 || last < 2,
+        }
+    }
+}
+
+/// Each location is sensed from its own strobes: no two rows have the same.
+#[tactic(auto, unfolding(crate::specs::Rows::location_sensed))]
+pub fn strobes_are_sensed()
+    ensures { (l : Location) → location_sensed (row_of l).strobes ≡ Some l }
+{
+}
