@@ -1,13 +1,14 @@
-// A library with one function.
+//! Requests of a master, the plan of a lawful one, and the signals that the plan drives.
+//! Which requests are lawful, and which refusal the others get, is this project's profile of the data
+//! transfer bus of ANSI/IEEE Std 1014-1987, chapter 2.
 #![tactic(auto)]
 
-ghost use Rattle.std.specs.Prelude.{◌≡◌};
-ghost use Rattle.vme_cycle.specs.Echo.{echo_of};
+mod fault;
+mod plan;
+mod request;
+mod signals;
 
-// The `ensures` clause is the contract: what `echo` returns is `echo_of` of its argument, a definition
-// in `specs/Echo.antt`, which a caller's clause can cite too.
-pub fn echo(x: usize) -> usize
-    ensures { result ≡ echo_of x }
-{
-    x
-}
+pub use fault::CycleFault;
+pub use plan::Plan;
+pub use request::Request;
+pub use signals::Signals;

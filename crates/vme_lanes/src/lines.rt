@@ -1,4 +1,4 @@
-ghost use Rattle.std.specs.Prelude.{◌≡◌, List, ℕ, true, length};
+ghost use Rattle.std.specs.Prelude.{◌≡◌, List, ℕ, length, IsTrue};
 ghost use Rattle.vme_lanes.specs.declared.location.Location.{Location};
 ghost use Rattle.vme_lanes.specs.Rows.{row_of};
 ghost use Rattle.vme_lanes.specs.Lanes.{byte_on, placed, carries, picked};
@@ -53,7 +53,7 @@ fn byte_on(first: usize, bytes: &[u8], lane: usize) -> Option<u8>
 
 /// Takes the bytes from the lanes of a location, in order of address.
 pub fn pick(location: Location, lines: DataLines) -> Datum
-    requires { carries location lines.lanes ≡ true }
+    requires { IsTrue (carries location lines.lanes) }
     ensures { result.items ≡ picked location lines.lanes }
 {
     let first = location.lane();
@@ -69,7 +69,7 @@ pub fn pick(location: Location, lines: DataLines) -> Datum
 
 /// What is placed on the lanes of a location is picked from them.
 pub fn placed_is_picked()
-    ensures carries { (l : Location) (bytes : List ℕ) → length bytes ≡ (row_of l).len → carries l (placed l bytes) ≡ true }
+    ensures carries { (l : Location) (bytes : List ℕ) → length bytes ≡ (row_of l).len → IsTrue (carries l (placed l bytes)) }
     ensures picked { (l : Location) (bytes : List ℕ) → length bytes ≡ (row_of l).len → picked l (placed l bytes) ≡ bytes }
 {
 }

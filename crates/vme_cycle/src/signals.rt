@@ -1,0 +1,128 @@
+ghost use Rattle.std.specs.Prelude.{◌≡◌, ◌%◌, ◌<◌, Some, IfSome, IsNone, ◌↔◌};
+ghost use Rattle.vme_am.specs.Spaces.{addresses_of};
+ghost use Rattle.vme_lanes.specs.Rows.{row_of, location_sensed};
+
+use std::marker::Model;
+use vme_am::Am;
+use vme_lanes::{DataLines, Location, Strobes};
+
+/// The lines of one cycle: the address modifier, the address lines from A02 up, the strobes with A01
+/// and LWORD*, WRITE*, and the data lines. The strobes are always those of a byte location.
+#[derive(Debug, Drop)]
+pub struct Signals {
+    am: Am,
+    addr: u32,
+    location: Location,
+    write: bool,
+    lines: DataLines,
+}
+
+impl Model for Signals {
+    ghost use Rattle.std.specs.Prelude.{◌≡◌, ◌%◌, ◌<◌};
+    ghost use Rattle.vme_am.specs.Spaces.{addresses_of};
+    ghost use Rattle.vme_lanes.specs.Rows.{row_of};
+    ghost use Rattle.vme_cycle.specs.Lines.{Lines};
+
+    ghost Value = { Lines };
+
+    ghost view = { λ s. record { am = s.am; addr = s.addr; strobes = (row_of s.location).strobes; write = s.write; lanes = s.lines.lanes } };
+
+    ghost invariant = { λ s. (s.addr % 4 ≡ 0) × (s.addr < addresses_of s.am.space) };
+}
+
+impl Signals {
+    /// The signals that these lines show, or `None` where the strobes choose no bytes. `addr` has the
+    /// address lines from A02 up, as the address of a group of four; `write` is the level of WRITE*,
+    /// `true` for high, as in a read.
+    pub fn from_lines(
+        am: Am,
+        addr: u32,
+        strobes: Strobes,
+        write: bool,
+        lines: DataLines,
+    ) -> Option<Signals>
+        requires aligned { addr % 4 ≡ 0 }
+        requires in_space { addr < addresses_of am.space }
+        ensures none { IsNone result ↔ IsNone (location_sensed strobes) }
+        ensures lines { IfSome result (λ s. s ≡ record { am = am; addr = addr; strobes = strobes; write = write; lanes = lines.lanes }) }
+    {
+        let location = Location::sense(strobes)?;
+        Some(Signals {
+            am,
+            addr,
+            location,
+            write,
+            lines,
+        })
+    }
+
+    /// The signals of a cycle at a byte location.
+    pub(crate) fn new(
+        am: Am,
+        addr: u32,
+        location: Location,
+        write: bool,
+        lines: DataLines,
+    ) -> Signals
+        requires aligned { addr % 4 ≡ 0 }
+        requires in_space { addr < addresses_of am.space }
+        ensures { result ≡ record { am = am; addr = addr; strobes = (row_of location).strobes; write = write; lanes = lines.lanes } }
+    {
+        Signals {
+            am,
+            addr,
+            location,
+            write,
+            lines,
+        }
+    }
+
+    pub fn am(&self) -> Am
+        ensures { result ≡ self.now.am }
+    {
+        self.am
+    }
+
+    /// The address lines from A02 up, as the address of a group of four.
+    pub fn addr(&self) -> u32
+        ensures value { result ≡ self.now.addr }
+        ensures aligned { result % 4 ≡ 0 }
+        ensures in_space { result < addresses_of self.now.am.space }
+    {
+        self.addr
+    }
+
+    pub fn strobes(&self) -> Strobes
+        ensures { result ≡ self.now.strobes }
+    {
+        Strobes::of(self.location)
+    }
+
+    /// The byte location that the strobes choose.
+    #[tactic(auto, unfolding(vme_lanes::specs::Rows::location_sensed))]
+    pub fn location(&self) -> Location
+        ensures { location_sensed self.now.strobes ≡ Some result }
+    {
+        self.location
+    }
+
+    /// The level of WRITE*: low, `false`, for a write.
+    pub fn write(&self) -> bool
+        ensures { result ≡ self.now.write }
+    {
+        self.write
+    }
+
+    pub fn lines(&self) -> DataLines
+        ensures { result.lanes ≡ self.now.lanes }
+    {
+        self.lines
+    }
+
+    /// The same signals with other data lines, as where a slave drives them.
+    pub fn with_lines(self, lines: DataLines) -> Signals
+        ensures { result ≡ record self { lanes = lines.lanes } }
+    {
+        Signals { lines, ..self }
+    }
+}
