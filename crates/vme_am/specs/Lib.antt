@@ -1,3 +1,4 @@
 pub mod Spaces
+pub mod Kinds
 pub mod Codes
 pub mod Bits

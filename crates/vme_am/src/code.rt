@@ -1,5 +1,6 @@
 ghost use Rattle.std.specs.Prelude.{◌≡◌};
 ghost use Rattle.vme_am.specs.Spaces.{addresses_of};
+ghost use Rattle.vme_am.specs.Kinds.{is_block};
 ghost use Rattle.vme_am.specs.Bits.{space_by_bits, kind_by_bits};
 
 use std::marker::Model;
@@ -35,6 +36,15 @@ pub enum Kind {
     ProgramAccess,
     BlockAccess,
     ShortAccess,
+}
+
+impl Kind {
+    /// Whether the access is a block transfer.
+    pub fn is_block(self) -> bool
+        ensures { result ≡ is_block self }
+    {
+        self == Kind::BlockAccess
+    }
 }
 
 /// The greatest number that six lines show.
@@ -107,7 +117,8 @@ impl Model for Am {
 }
 
 impl Am {
-    ghost use Rattle.vme_am.specs.Codes.{read_code};
+    ghost use Rattle.std.specs.Prelude.{Some};
+    ghost use Rattle.vme_am.specs.Codes.{entry_at, read_code};
 
     /// Reads a code of the address modifier table.
     ///
@@ -136,7 +147,8 @@ impl Am {
 
     /// The number on AM5 to AM0, AM5 most significant.
     pub fn code(self) -> u8
-        ensures { result ≡ self.code }
+        ensures value { result ≡ self.code }
+        ensures row { entry_at self.code ≡ Some self }
     {
         self.code
     }

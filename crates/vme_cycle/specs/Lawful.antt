@@ -1,9 +1,8 @@
 -- Lawful requests: the cycle of one, and the order in which all others are refused.
 use Rattle.std.specs.Prelude.{◌≡◌, ℕ, ◌+◌, ◌≤◌, nat_lt, nat_le, Bool, true, false, not, ◌&&◌, if◌then◌else◌, List, Option, Some, None, Result, Ok, Err}
-use Rattle.vme_am.specs.declared.code.Kind.{Kind}
-use Rattle.vme_am.specs.declared.code.Kind.TheVariants.{DataAccess, ProgramAccess, BlockAccess, ShortAccess}
 use Rattle.vme_am.specs.declared.code.AmFault.{AmFault}
 use Rattle.vme_am.specs.Spaces.{addresses_of}
+use Rattle.vme_am.specs.Kinds.{is_block}
 use Rattle.vme_am.specs.Codes.{Entry, read_code}
 use Rattle.vme_lanes.specs.declared.location.Location.{Location}
 use Rattle.vme_lanes.specs.Rows.{location_at}
@@ -33,12 +32,6 @@ refuse false fault = Ok tt
 abbrev pub lawful_code : Result Entry AmFault → Result Entry CycleFault
 lawful_code (Ok entry) = Ok entry
 lawful_code (Err fault) = Err (Code fault)
-
-abbrev pub is_block : Kind → Bool
-is_block BlockAccess = true
-is_block DataAccess = false
-is_block ProgramAccess = false
-is_block ShortAccess = false
 
 -- the location, where there is one
 abbrev pub found : Option Location → Result Location CycleFault

@@ -6,7 +6,7 @@ use crate::fault::CycleFault;
 use crate::request::Request;
 use crate::signals::Signals;
 use std::marker::Model;
-use vme_am::{Am, Kind};
+use vme_am::Am;
 use vme_lanes::{DataLines, Location, place};
 
 /// How a lawful request goes over the bus: the cycle that each of its data is.
@@ -40,7 +40,7 @@ impl<'a> Plan<'a> {
         ensures lawful { IsOk result ↔ IsLawful request.now }
     {
         let am = Am::from_code(request.code())?;
-        if am.kind() == Kind::BlockAccess {
+        if am.kind().is_block() {
             return Err(CycleFault::WrongKindOfCode);
         }
         let n = request.len();

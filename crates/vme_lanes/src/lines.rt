@@ -52,9 +52,11 @@ fn byte_on(first: usize, bytes: &[u8], lane: usize) -> Option<u8>
 }
 
 /// Takes the bytes from the lanes of a location, in order of address.
+#[tactic(auto, using(crate::proofs::Full::length_bytes_of))]
 pub fn pick(location: Location, lines: DataLines) -> Datum
     requires { IsTrue (carries location lines.lanes) }
-    ensures { result.items ≡ picked location lines.lanes }
+    ensures value { result.items ≡ picked location lines.lanes }
+    ensures len { length result.items ≡ (row_of location).len }
 {
     let first = location.lane();
     let len = usize::from(location.len());

@@ -1,13 +1,11 @@
-// A library with one function.
+//! The memory of one board, and how its slave answers the cycles of the data transfer bus
+//! (ANSI/IEEE Std 1014-1987, section 2.2: D08(EO), D16 and D32 slaves).
 #![tactic(auto)]
 
-ghost use Rattle.std.specs.Prelude.{◌≡◌};
-ghost use Rattle.vme_memory.specs.Echo.{echo_of};
+mod board;
+mod class;
+mod reply;
 
-// The `ensures` clause is the contract: what `echo` returns is `echo_of` of its argument, a definition
-// in `specs/Echo.antt`, which a caller's clause can cite too.
-pub fn echo(x: usize) -> usize
-    ensures { result ≡ echo_of x }
-{
-    x
-}
+pub use board::{ByteMemory, MemoryFault, written_is_read};
+pub use class::{Class, Width8To32};
+pub use reply::Reply;

@@ -1,0 +1,11 @@
+-- The kinds of access.
+use Rattle.std.specs.Prelude.{Bool, true, false}
+use Rattle.vme_am.specs.declared.code.Kind.{Kind}
+use Rattle.vme_am.specs.declared.code.Kind.TheVariants.{DataAccess, ProgramAccess, BlockAccess, ShortAccess}
+
+-- whether an access is a block transfer (IEEE 1014, section 2.3)
+abbrev pub is_block : Kind → Bool
+is_block DataAccess = false
+is_block ProgramAccess = false
+is_block BlockAccess = true
+is_block ShortAccess = false

@@ -1,0 +1,20 @@
+-- A board's memory: its bytes by offset, and its class.
+use Rattle.std.specs.Prelude.{ℕ, ◌+◌, ◌%◌, nat_le, Bool, ◌==◌, ◌&&◌, List, ◌++◌, length, take, drop, replicate}
+use Rattle.vme_memory.specs.declared.class.Class.{Class}
+
+-- the bytes, each at its offset, and what the slave is able to answer (this project's own)
+pub record Board : Type 0 where
+  pub bytes : List ℕ
+  pub class : Class
+
+-- the sizes of boards: 4 to 1,048,576 bytes, a multiple of four (this project's own)
+abbrev pub is_board_size : ℕ → Bool
+is_board_size size = nat_le 4 size && nat_le size 1048576 && size % 4 == 0
+
+-- that many zero bytes
+unfoldable pub zeros : ℕ → List ℕ
+zeros size = replicate size 0
+
+-- the bytes with new ones in the place of those from at on
+abbrev pub overwritten : List ℕ → ℕ → List ℕ → List ℕ
+overwritten bytes at new = take at bytes ++ new ++ drop (at + length new) bytes

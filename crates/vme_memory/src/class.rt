@@ -1,0 +1,37 @@
+use vme_lanes::Location;
+
+/// How many data lines a slave uses; each width answers what the narrower ones do.
+#[derive(Clone, Copy, Debug, PartialEq, Eq)]
+pub enum Width8To32 {
+    /// Single even and odd bytes, D08(EO).
+    D08,
+    D16,
+    D32,
+}
+
+/// What a board's slave is able to answer.
+#[derive(Clone, Copy, Debug, PartialEq, Eq)]
+pub struct Class {
+    pub width: Width8To32,
+    /// Unaligned cycles.
+    pub uat: bool,
+    /// Block transfers.
+    pub blt: bool,
+    /// Read-modify-write cycles.
+    pub rmw: bool,
+}
+
+impl Class {
+    ghost use Rattle.std.specs.Prelude.{◌≡◌};
+    ghost use Rattle.vme_memory.specs.Classes.{answers};
+
+    pub(crate) fn answers(self, location: Location) -> bool
+        ensures { result ≡ answers self location }
+    {
+        match location {
+            Location::Byte0 | Location::Byte1 | Location::Byte2 | Location::Byte3 => true,
+            Location::Bytes01 | Location::Bytes23 => self.width != Width8To32::D08,
+            Location::Bytes03 => self.width == Width8To32::D32,
+        }
+    }
+}
