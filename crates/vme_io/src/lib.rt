@@ -1,13 +1,13 @@
-// A library with one function.
+//! Devices: sources of bytes and sinks for them. Each has a mark that a failure sets, and tells its bytes
+//! as a list or not at all, so that a contract can say what was read and written, and when a failure came.
 #![tactic(auto)]
 
-ghost use Rattle.std.specs.Prelude.{◌≡◌};
-ghost use Rattle.vme_io.specs.Echo.{echo_of};
+mod memory;
+mod sink;
+mod source;
+mod system;
 
-// The `ensures` clause is the contract: what `echo` returns is `echo_of` of its argument, a definition
-// in `specs/Echo.antt`, which a caller's clause can cite too.
-pub fn echo(x: usize) -> usize
-    ensures { result ≡ echo_of x }
-{
-    x
-}
+pub use memory::{RoomSink, SliceSource};
+pub use sink::{Sink, write_all};
+pub use source::{Failed, Source};
+pub use system::Io;
