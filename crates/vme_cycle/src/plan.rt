@@ -69,6 +69,13 @@ impl<'a> Plan<'a> {
         1
     }
 
+    /// The address modifier.
+    pub fn am(&self) -> Am
+        ensures { result ≡ self.now.am }
+    {
+        self.am
+    }
+
     /// The address of the first byte.
     pub fn addr(&self) -> u32
         ensures { result ≡ self.now.addr }

@@ -1,10 +1,10 @@
-ghost use Rattle.std.specs.Prelude.{◌≡◌, ◌%◌, ◌<◌, Some, IfSome, IsNone, ◌↔◌};
+ghost use Rattle.std.specs.Prelude.{◌≡◌, ◌%◌, ◌<◌, Some, IfSome, IsNone, ◌↔◌, length};
 ghost use Rattle.vme_am.specs.Spaces.{addresses_of};
 ghost use Rattle.vme_lanes.specs.Rows.{row_of, location_sensed};
 
 use std::marker::Model;
 use vme_am::Am;
-use vme_lanes::{DataLines, Location, Strobes};
+use vme_lanes::{DataLines, Location, Strobes, place};
 
 /// The lines of one cycle: the address modifier, the address lines from A02 up, the strobes with A01
 /// and LWORD*, WRITE*, and the data lines. The strobes are always those of a byte location.
@@ -31,6 +31,8 @@ impl Model for Signals {
 }
 
 impl Signals {
+    ghost use Rattle.vme_cycle.specs.Lines.{row_len, answered};
+
     /// The signals that these lines show, or `None` where the strobes choose no bytes. `addr` has the
     /// address lines from A02 up, as the address of a group of four; `write` is the level of WRITE*,
     /// `true` for high, as in a read.
@@ -119,10 +121,12 @@ impl Signals {
         self.lines
     }
 
-    /// The same signals with other data lines, as where a slave drives them.
-    pub fn with_lines(self, lines: DataLines) -> Signals
-        ensures { result ≡ record self { lanes = lines.lanes } }
+    /// The signals once a slave has answered a read: the bytes on the lanes of the location.
+    pub fn answered(self, bytes: &[u8]) -> Signals
+        requires { row_len self.strobes ≡ Some (length bytes.now) }
+        ensures { result ≡ answered self bytes.now }
     {
+        let lines = place(self.location(), bytes);
         Signals { lines, ..self }
     }
 }

@@ -2,10 +2,11 @@
 use Rattle.std.specs.Prelude.{◌≡◌, ℕ, ◌+◌, ◌%◌, nat_le, Bool, ◌==◌, ◌&&◌, false, if◌then◌else◌, List, length, slice_range, Option, Some, None}
 use Rattle.std.specs.Option.{option_map_or, option_and_then}
 use Rattle.vme_lanes.specs.declared.location.Location.{Location}
+use Rattle.vme_lanes.specs.declared.location.Strobes.{Strobes}
 use Rattle.vme_lanes.specs.Rows.{row_of, location_at, location_sensed}
 use Rattle.vme_lanes.specs.Lanes.{carries, picked}
 use Rattle.vme_am.specs.Kinds.{is_block}
-use Rattle.vme_cycle.specs.Lines.{Lines}
+use Rattle.vme_cycle.specs.Lines.{Lines, row_len}
 use Rattle.vme_memory.specs.declared.class.Class.{Class}
 use Rattle.vme_memory.specs.declared.reply.Reply.{Reply}
 use Rattle.vme_memory.specs.declared.reply.Reply.TheVariants.{Bytes, Done, Berr}
@@ -59,8 +60,8 @@ answer board None = (Berr, board)
 unfoldable pub cycle : Board → Lines → ℕ → Reply × Board
 cycle board s at = answer board (command_of s at)
 
--- a reply to a read has this many bytes
-abbrev pub HasLen : Reply → ℕ → Type 0
-HasLen (Bytes datum) n = length datum.items ≡ n
-HasLen Done n = Unit {0}
-HasLen Berr n = Unit {0}
+-- a reply with bytes has as many as the strobes choose
+abbrev pub HasLen : Reply → Strobes → Type 0
+HasLen (Bytes datum) strobes = row_len strobes ≡ Some (length datum.items)
+HasLen Done strobes = Unit {0}
+HasLen Berr strobes = Unit {0}

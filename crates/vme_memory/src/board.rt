@@ -1,5 +1,6 @@
 ghost use Rattle.std.specs.Prelude.{◌≡◌, ◌↔◌, ◌+◌, ◌%◌, ◌≤◌, ◌<◌, ◌⊎◌, ℕ, List, length, slice_get, slice_range, true, false, Some, IsTrue, IfOk, OnOk, IsErrOf};
 ghost use Rattle.vme_lanes.specs.declared.location.Location.{Location};
+ghost use Rattle.vme_lanes.specs.declared.location.Strobes.{Strobes};
 ghost use Rattle.vme_lanes.specs.Rows.{row_of, location_sensed};
 ghost use Rattle.vme_memory.specs.Boards.{is_board_size, zeros, overwritten};
 
@@ -77,7 +78,8 @@ impl ByteMemory {
     pub fn cycle(&mut self, signals: &Signals, at: u32) -> Reply
         ensures reply { result ≡ (cycle self.old signals.now at).0 }
         ensures memory { self.new ≡ (cycle self.old signals.now at).1 }
-        ensures len { (l : Location) → location_sensed signals.now.strobes ≡ Some l → HasLen result (row_of l).len }
+        ensures berr { result ≡ Reply.Berr → self.new ≡ self.old }
+        ensures len { HasLen result signals.now.strobes }
     {
         let location = signals.location();
         if signals.am().kind().is_block() || u32::from(location.first()) != at % 4 {
@@ -102,7 +104,7 @@ impl ByteMemory {
     fn read(&self, location: Location, at: u32) -> Reply
         requires { (row_of location).first ≡ at % 4 }
         ensures reply { result ≡ (step self.now (Read at (row_of location).len)).0 }
-        ensures len { HasLen result (row_of location).len }
+        ensures len { (strobes : Strobes) → location_sensed strobes ≡ Some location → HasLen result strobes }
     {
         if !self.can_answer(location, at) {
             return Reply::Berr;
@@ -115,7 +117,7 @@ impl ByteMemory {
         requires { (row_of location).first ≡ at % 4 }
         ensures reply { result ≡ (answer self.old (written location at lines.lanes)).0 }
         ensures memory { self.new ≡ (answer self.old (written location at lines.lanes)).1 }
-        ensures len { (n : ℕ) → HasLen result n }
+        ensures len { (strobes : Strobes) → HasLen result strobes }
     {
         if !lines.carries(location) {
             return Reply::Berr;

@@ -1,0 +1,39 @@
+-- How a run ends: its faults by the part of the run that they come from, and the exit status.
+use Rattle.std.specs.Prelude.{ℕ, Result, Ok, Err}
+use Rattle.vme.specs.declared.status.Status.{Status}
+use Rattle.vme.specs.declared.status.Status.TheVariants.{Clean, Marked}
+use Rattle.vme.specs.declared.status.ProgramFault.{ProgramFault}
+use Rattle.vme.specs.declared.status.ProgramFault.TheVariants.{Read, TooLong, Write, Memory}
+
+-- marked where one of the two is
+abbrev pub worse : Status → Status → Status
+worse Clean status = status
+worse Marked status = Marked
+
+-- the faults of reading the input
+abbrev pub IsInputFault : ProgramFault → Type 0
+IsInputFault Read = Unit {0}
+IsInputFault TooLong = Unit {0}
+IsInputFault Write = ⊥
+IsInputFault Memory = Unit {0}
+
+-- the faults of answering it
+abbrev pub IsAnswerFault : ProgramFault → Type 0
+IsAnswerFault Read = ⊥
+IsAnswerFault TooLong = ⊥
+IsAnswerFault Write = Unit {0}
+IsAnswerFault Memory = Unit {0}
+
+-- the run ended before anything could be written
+abbrev pub IsReadingFault : Result Status ProgramFault → Type 0
+IsReadingFault (Ok status) = ⊥
+IsReadingFault (Err Read) = Unit {0}
+IsReadingFault (Err TooLong) = Unit {0}
+IsReadingFault (Err Write) = ⊥
+IsReadingFault (Err Memory) = ⊥
+
+-- the exit status of the program (this project's own)
+abbrev pub exit_status_of : Result Status ProgramFault → ℕ
+exit_status_of (Ok Clean) = 0
+exit_status_of (Ok Marked) = 1
+exit_status_of (Err fault) = 3

@@ -1,0 +1,89 @@
+-- The text of signals, replies and refusals.
+use Rattle.std.specs.Prelude.{ℕ, ◌/◌, ◌%◌, Bool, true, false, not, List, [], ◌∷◌, ◌++◌, flat_map, slice_index, Option, Some, None, codes}
+use Rattle.std.specs.Int.{w32, to_be_bytes}
+use Rattle.vme_am.specs.declared.code.AmFault.{AmFault}
+use Rattle.vme_am.specs.declared.code.AmFault.TheVariants.{TooLarge, UserDefined, Reserved}
+use Rattle.vme_cycle.specs.declared.fault.CycleFault.{CycleFault}
+use Rattle.vme_cycle.specs.declared.fault.CycleFault.TheVariants.{Code, WrongKindOfCode, BadCount, OutsideSpace, NoCycle}
+use Rattle.vme_cycle.specs.Lines.{Lines}
+use Rattle.vme_memory.specs.declared.reply.Reply.{Reply}
+use Rattle.vme_memory.specs.declared.reply.Reply.TheVariants.{Bytes, Done, Berr}
+use Rattle.vme.specs.declared.parse.LineFault.{LineFault}
+use Rattle.vme.specs.declared.parse.LineFault.TheVariants.{LineTooLong, UnknownWord, WordCount, BadCode, BadAddress, BadNumber, BadBytes}
+
+-- the digit of a number below 16, in lower case
+abbrev pub digit : ℕ → ℕ
+digit n = slice_index (codes "0123456789abcdef") n
+
+-- a byte as two digits
+abbrev pub hex_byte : ℕ → List ℕ
+hex_byte byte = digit (byte / 16) ∷ digit (byte % 16) ∷ []
+
+-- bytes as two digits each
+abbrev pub hex_text : List ℕ → List ℕ
+hex_text bytes = flat_map hex_byte bytes
+
+-- the level of a line: 0 is low, 1 is high
+abbrev pub level : Bool → ℕ
+level true = 49
+level false = 48
+
+-- a name and the level of the line that has it
+abbrev pub level_text : List ℕ → Bool → List ℕ
+level_text name high = name ++ level high ∷ []
+
+-- a lane: two digits, or two dashes where the cycle carries nothing
+abbrev pub lane_text : Option ℕ → List ℕ
+lane_text None = codes "--"
+lane_text (Some byte) = hex_byte byte
+
+-- the lanes from D31-D24 to D07-D00
+abbrev pub lanes_text : List (Option ℕ) → List ℕ
+lanes_text lanes = flat_map lane_text lanes
+
+-- the code, and the address lines as an address of eight digits
+unfoldable pub address_text : ℕ → ℕ → List ℕ
+address_text code addr = codes "am=" ++ (hex_byte code ++ (codes " a=" ++ hex_text (to_be_bytes w32 addr)))
+
+unfoldable pub levels_text : Lines → List ℕ
+levels_text s =
+    level_text (codes " ds1=") s.strobes.ds1 ++ (level_text (codes " ds0=") s.strobes.ds0
+    ++ (level_text (codes " a01=") s.strobes.a01 ++ (level_text (codes " lword=") s.strobes.lword
+    ++ level_text (codes " write=") s.write)))
+
+unfoldable pub data_text : Lines → List ℕ
+data_text s = codes " data=" ++ lanes_text s.lanes
+
+-- the signals of a cycle (this project's own)
+unfoldable pub signals_text : Lines → List ℕ
+signals_text s = address_text s.am.code s.addr ++ (levels_text s ++ data_text s)
+
+-- what a board's reply is told as (this project's own)
+unfoldable pub reply_text : Reply → List ℕ
+reply_text (Bytes datum) = codes "read " ++ hex_text datum.items
+reply_text Done = codes "done"
+reply_text Berr = codes "berr 0"
+
+-- the numbers of the refusals of a request (this project's own)
+abbrev pub cycle_fault_text : CycleFault → List ℕ
+cycle_fault_text (Code TooLarge) = codes "K9"
+cycle_fault_text (Code UserDefined) = codes "K2"
+cycle_fault_text (Code Reserved) = codes "K1"
+cycle_fault_text WrongKindOfCode = codes "K5"
+cycle_fault_text BadCount = codes "K8"
+cycle_fault_text OutsideSpace = codes "K4"
+cycle_fault_text NoCycle = codes "K3"
+
+-- the numbers of the refusals of a line (this project's own)
+abbrev pub line_fault_text : LineFault → List ℕ
+line_fault_text LineTooLong = codes "S1"
+line_fault_text UnknownWord = codes "S2"
+line_fault_text WordCount = codes "S3"
+line_fault_text BadCode = codes "S4"
+line_fault_text BadAddress = codes "S5"
+line_fault_text BadNumber = codes "S6"
+line_fault_text BadBytes = codes "S7"
+
+-- a line of output
+abbrev pub ended : List ℕ → List ℕ
+ended text = text ++ 10 ∷ []
