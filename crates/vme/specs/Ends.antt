@@ -4,6 +4,8 @@ use Rattle.vme.specs.declared.status.Status.{Status}
 use Rattle.vme.specs.declared.status.Status.TheVariants.{Clean, Marked}
 use Rattle.vme.specs.declared.status.ProgramFault.{ProgramFault}
 use Rattle.vme.specs.declared.status.ProgramFault.TheVariants.{Read, TooLong, Write, Memory}
+use Rattle.vme.specs.declared.words.WordsFault.{WordsFault}
+use Rattle.vme.specs.declared.words.WordsFault.TheVariants as words
 
 -- marked where one of the two is
 abbrev pub worse : Status → Status → Status
@@ -37,3 +39,8 @@ abbrev pub exit_status_of : Result Status ProgramFault → ℕ
 exit_status_of (Ok Clean) = 0
 exit_status_of (Ok Marked) = 1
 exit_status_of (Err fault) = 3
+
+-- the exit status for words that can't be read (this project's own)
+abbrev pub words_status_of : WordsFault → ℕ
+words_status_of words.Usage = 2
+words_status_of words.Memory = 3

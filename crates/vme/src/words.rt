@@ -1,0 +1,61 @@
+//! The words of the command line.
+ghost use Rattle.std.specs.Prelude.{◌≡◌};
+ghost use Rattle.vme.specs.Ends.{words_status_of};
+
+use clap::error::{Error, ErrorKind};
+use clap::{ArgMatches, Command};
+use std::alloc::Global;
+use thiserror::Error as Fault;
+
+/// What the program is asked to do.
+#[derive(Debug, Drop, PartialEq)]
+pub enum Form {
+    /// `vme cycles`
+    Cycles,
+}
+
+/// Why the words ask for nothing.
+#[derive(Clone, Copy, Debug, PartialEq, Eq, Fault)]
+pub enum WordsFault {
+    /// They are none of the forms.
+    #[error("usage: vme cycles")]
+    Usage,
+    /// There is no memory to read them.
+    #[error("memory")]
+    Memory,
+}
+
+impl WordsFault {
+    /// The exit status of the program.
+    pub fn exit_status(self) -> u8
+        ensures { result ≡ words_status_of self }
+    {
+        match self {
+            WordsFault::Usage => 2,
+            WordsFault::Memory => 3,
+        }
+    }
+}
+
+/// Reads the words of a command line, the program's name first.
+pub fn read_words(alloc: Global, words: &[String]) -> Result<Form, WordsFault> {
+    match parsed(alloc, words) {
+        Ok(matches) => chosen(&matches),
+        Err(error) if error.kind() == ErrorKind::OutOfMemory => Err(WordsFault::Memory),
+        Err(_) => Err(WordsFault::Usage),
+    }
+}
+
+fn parsed<'a>(alloc: Global, words: &'a [String]) -> Result<ArgMatches<'a>, Error> {
+    Command::new(alloc, "vme")
+        .subcommand_required(true)
+        .subcommand(Command::new(alloc, "cycles"))?
+        .try_get_matches_from(words)
+}
+
+fn chosen(matches: &ArgMatches<'_>) -> Result<Form, WordsFault> {
+    match matches.subcommand() {
+        Some(("cycles", _)) => Ok(Form::Cycles),
+        _ => Err(WordsFault::Usage),
+    }
+}
