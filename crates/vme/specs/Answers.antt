@@ -5,7 +5,7 @@ use Rattle.vme_am.specs.declared.code.Space.TheVariants.{A16, A24, A32}
 use Rattle.vme_cycle.specs.declared.request.Request.{Request}
 use Rattle.vme_cycle.specs.declared.fault.CycleFault.{CycleFault}
 use Rattle.vme_cycle.specs.Lawful.{Cycle, cycle_of}
-use Rattle.vme_cycle.specs.Lines.{Lines, answered}
+use Rattle.vme_cycle.specs.SignalLines.{SignalLines, answered}
 use Rattle.vme_cycle.specs.Plans.{signals_of}
 use Rattle.vme_memory.specs.declared.reply.Reply.{Reply}
 use Rattle.vme_memory.specs.declared.reply.Reply.TheVariants.{Bytes, Done, Berr}
@@ -29,7 +29,7 @@ status_of Done = Clean
 status_of Berr = Marked
 
 -- what the lines show in the end: in a read what the board drives, else what they showed before
-abbrev pub shown : Lines → Reply → Lines
+abbrev pub shown : SignalLines → Reply → SignalLines
 shown s (Bytes datum) = answered s datum.items
 shown s Done = s
 shown s Berr = s

@@ -1,8 +1,6 @@
 -- The text of a whole input, and its status.
 use Rattle.std.specs.Prelude.{ℕ, true, List, [], ◌∷◌, ◌++◌}
 use Rattle.std.specs.Str.Lines.{lines}
-use Rattle.vme_memory.specs.declared.class.Class.{Class}
-use Rattle.vme_memory.specs.declared.class.Width8To32.{Width8To32}
 use Rattle.vme_memory.specs.declared.class.Width8To32.TheVariants.{D32}
 use Rattle.vme_memory.specs.Boards.{Board, zeros}
 use Rattle.vme.specs.declared.status.Status.{Status}

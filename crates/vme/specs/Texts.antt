@@ -1,11 +1,10 @@
 -- The text of signals, replies and refusals.
-use Rattle.std.specs.Prelude.{ℕ, ◌/◌, ◌%◌, Bool, true, false, not, List, [], ◌∷◌, ◌++◌, flat_map, slice_index, Option, Some, None, codes}
+use Rattle.std.specs.Prelude.{ℕ, ◌/◌, ◌%◌, Bool, true, false, List, [], ◌∷◌, ◌++◌, flat_map, slice_index, Option, Some, None, codes}
 use Rattle.std.specs.Int.{w32, to_be_bytes}
-use Rattle.vme_am.specs.declared.code.AmFault.{AmFault}
 use Rattle.vme_am.specs.declared.code.AmFault.TheVariants.{TooLarge, UserDefined, Reserved}
 use Rattle.vme_cycle.specs.declared.fault.CycleFault.{CycleFault}
 use Rattle.vme_cycle.specs.declared.fault.CycleFault.TheVariants.{Code, WrongKindOfCode, BadCount, OutsideSpace, NoCycle}
-use Rattle.vme_cycle.specs.Lines.{Lines}
+use Rattle.vme_cycle.specs.SignalLines.{SignalLines}
 use Rattle.vme_memory.specs.declared.reply.Reply.{Reply}
 use Rattle.vme_memory.specs.declared.reply.Reply.TheVariants.{Bytes, Done, Berr}
 use Rattle.vme.specs.declared.parse.LineFault.{LineFault}
@@ -45,17 +44,17 @@ lanes_text lanes = flat_map lane_text lanes
 unfoldable pub address_text : ℕ → ℕ → List ℕ
 address_text code addr = codes "am=" ++ (hex_byte code ++ (codes " a=" ++ hex_text (to_be_bytes w32 addr)))
 
-unfoldable pub levels_text : Lines → List ℕ
+unfoldable pub levels_text : SignalLines → List ℕ
 levels_text s =
     level_text (codes " ds1=") s.strobes.ds1 ++ (level_text (codes " ds0=") s.strobes.ds0
     ++ (level_text (codes " a01=") s.strobes.a01 ++ (level_text (codes " lword=") s.strobes.lword
     ++ level_text (codes " write=") s.write)))
 
-unfoldable pub data_text : Lines → List ℕ
+unfoldable pub data_text : SignalLines → List ℕ
 data_text s = codes " data=" ++ lanes_text s.lanes
 
 -- the signals of a cycle (this project's own)
-unfoldable pub signals_text : Lines → List ℕ
+unfoldable pub signals_text : SignalLines → List ℕ
 signals_text s = address_text s.am.code s.addr ++ (levels_text s ++ data_text s)
 
 -- what a board's reply is told as (this project's own)

@@ -76,11 +76,7 @@ fn read_input<R: Source>(alloc: Global, reader: &mut R) -> Result<Vec<u8>, Progr
 }
 
 /// Answers each line of a text. Its answers are gathered and written in large pieces.
-fn answer_all<W: Sink>(
-    alloc: Global,
-    input: &[u8],
-    writer: &mut W,
-) -> Result<Status, ProgramFault>
+fn answer_all<W: Sink>(alloc: Global, input: &[u8], writer: &mut W) -> Result<Status, ProgramFault>
     ensures text { OnOk result (Appends (W.contents writer.old) (W.contents writer.new) (cycles_text input.now)) }
     ensures front { OnErr result (AppendsFront (W.contents writer.old) (W.contents writer.new) (cycles_text input.now)) }
     ensures status { IfOk result (λ status. status ≡ cycles_status input.now) }

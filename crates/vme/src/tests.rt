@@ -114,7 +114,13 @@ fn cuts_lines_and_words(rt: HostRuntime) -> Result<(), Fail> {
     let long = "#23456789 123456789 123456789 123456789 123456789 123456789 123456789 123456789 ";
     check(&rt, rt.alloc(), long, "", Status::Clean)?;
     let longer = format!(in rt.alloc(); "{long}1\r\n")?;
-    check(&rt, rt.alloc(), longer.as_str(), "line refused S1\n", Status::Marked)?;
+    check(
+        &rt,
+        rt.alloc(),
+        longer.as_str(),
+        "line refused S1\n",
+        Status::Marked,
+    )?;
     Ok(())
 }
 
@@ -125,11 +131,19 @@ fn knows_fourteen_codes(rt: HostRuntime) -> Result<(), Fail> {
     let block = [0x0b, 0x0f, 0x3b, 0x3f];
     for code in 0..=255u8 {
         let input = format!(in rt.alloc(); "r {code:02x} 00000001 1\n")?;
-        let lines = format!(in rt.alloc(); "am={code:02x} a=00000000 ds1=1 ds0=0 a01=0 lword=1 write=1 data=------")?;
+        let lines = format!(in rt.alloc();
+            "am={code:02x} a=00000000 ds1=1 ds0=0 a01=0 lword=1 write=1 data=------"
+        )?;
         let (text, status) = if extended.contains(&code) {
-            (format!(in rt.alloc(); "{lines}00\nread 00\n")?, Status::Clean)
+            (
+                format!(in rt.alloc(); "{lines}00\nread 00\n")?,
+                Status::Clean,
+            )
         } else if unselected.contains(&code) {
-            (format!(in rt.alloc(); "{lines}--\nberr 0\n")?, Status::Marked)
+            (
+                format!(in rt.alloc(); "{lines}--\nberr 0\n")?,
+                Status::Marked,
+            )
         } else if block.contains(&code) {
             ("refused K5\n".to_string(rt.alloc())?, Status::Marked)
         } else if code >= 0x40 {
@@ -147,7 +161,10 @@ fn knows_fourteen_codes(rt: HostRuntime) -> Result<(), Fail> {
 #[test]
 fn limits_its_input(rt: HostRuntime) -> Result<(), Fail> {
     let mut input = vec![in rt.alloc(); b'\n'; INPUT_LIMIT]?;
-    for (end, byte) in [(Ok(Status::Clean), b' '), (Err(ProgramFault::TooLong), b' ')] {
+    for (end, byte) in [
+        (Ok(Status::Clean), b' '),
+        (Err(ProgramFault::TooLong), b' '),
+    ] {
         let mut source = SliceSource::new(input.as_slice(), usize::MAX, usize::MAX);
         let mut sink = RoomSink::new(rt.alloc(), usize::MAX, 16)?;
         assert_eq!(rt; cycles_engine(rt.alloc(), &mut source, &mut sink), end);
@@ -171,7 +188,14 @@ fn stops_where_a_device_fails(rt: HostRuntime) -> Result<(), Fail> {
         let mut sink = RoomSink::new(rt.alloc(), 1, room)?;
         let end = cycles_engine(rt.alloc(), &mut source, &mut sink);
         let fits = room == QUAD_TEXT.len();
-        assert_eq!(rt; end, if fits { Ok(Status::Clean) } else { Err(ProgramFault::Write) });
+        assert_eq!(rt;
+            end,
+            if fits {
+                Ok(Status::Clean)
+            } else {
+                Err(ProgramFault::Write)
+            }
+        );
         assert_eq!(rt; sink.bytes(), &QUAD_TEXT.as_bytes()[..room]);
     }
     Ok(())
@@ -198,7 +222,11 @@ fn runs_over_readers_and_writers_of_std(rt: HostRuntime) -> Result<(), Fail> {
     let end = cycles_engine(rt.alloc(), &mut reader, &mut Io::new(&mut written));
     assert_eq!(rt; end, Ok(Status::Clean));
     assert_eq!(rt; written.as_slice(), QUAD_TEXT.as_bytes());
-    let end = cycles_engine(rt.alloc(), &mut Io::new(QUAD.as_bytes()), &mut Io::new(Full));
+    let end = cycles_engine(
+        rt.alloc(),
+        &mut Io::new(QUAD.as_bytes()),
+        &mut Io::new(Full),
+    );
     assert_eq!(rt; end, Err(ProgramFault::Write));
     Ok(())
 }
@@ -239,8 +267,14 @@ fn tells_faults(rt: HostRuntime) -> Result<(), Fail> {
         assert_eq!(rt; fault.to_string(rt.alloc())?.as_str(), text);
         assert_eq!(rt; exit_status(&Err(fault)), 3);
     }
-    assert_eq!(rt; WordsFault::Usage.to_string(rt.alloc())?.as_str(), "usage: vme cycles");
-    assert_eq!(rt; WordsFault::Memory.to_string(rt.alloc())?.as_str(), "memory");
+    assert_eq!(rt;
+        WordsFault::Usage.to_string(rt.alloc())?.as_str(),
+        "usage: vme cycles"
+    );
+    assert_eq!(rt;
+        WordsFault::Memory.to_string(rt.alloc())?.as_str(),
+        "memory"
+    );
     let lines = [
         (LineFault::LineTooLong, "S1"),
         (LineFault::UnknownWord, "S2"),

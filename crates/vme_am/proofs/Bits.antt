@@ -1,5 +1,5 @@
 -- What the bits of a code say is what the table says.
-use Rattle.std.proofs.Common.{◌≡◌, ℕ, ◌<◌, ◌+◌, ◌⊎◌, zero, suc, not, nat_eq, bit_and, Option, Some, Result, Ok, refl, ap, arith, rules, inl, inr, subst, ◌∙◌, sym}
+use Rattle.std.proofs.Common.{◌≡◌, ℕ, ◌<◌, zero, suc, not, nat_eq, bit_and, Option, Some, Ok, ap, arith, rules, inl, inr, subst, ◌∙◌, sym}
 use Rattle.std.proofs.lemmas.Bool.Decides.{eqb_tells}
 use Rattle.std.specs.Option.{option_map, option_and_then, ok_or}
 use Rattle.vme_am.specs.declared.code.Space.{Space}

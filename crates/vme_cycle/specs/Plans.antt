@@ -4,7 +4,7 @@ use Rattle.vme_lanes.specs.declared.location.Location.{Location}
 use Rattle.vme_lanes.specs.Rows.{row_of}
 use Rattle.vme_lanes.specs.Lanes.{placed}
 use Rattle.vme_cycle.specs.Lawful.{Cycle}
-use Rattle.vme_cycle.specs.Lines.{Lines}
+use Rattle.vme_cycle.specs.SignalLines.{SignalLines}
 
 -- a read or a write is one datum
 abbrev pub datum_count : Cycle → ℕ
@@ -17,11 +17,11 @@ driven location None = None ∷ None ∷ None ∷ None ∷ []
 
 -- what the lines show before a slave answers: the address lines leave out the last two bits, and WRITE* is low for a
 -- write (IEEE 1014, sections 2.2 and 2.3)
-abbrev pub signals_of : Cycle → Lines
+abbrev pub signals_of : Cycle → SignalLines
 signals_of c = record {
-    am = c.am;
-    addr = c.addr - c.addr % 4;
-    strobes = (row_of c.location).strobes;
-    write = is_none c.bytes;
-    lanes = driven c.location c.bytes;
-  }
+  am = c.am;
+  addr = c.addr - c.addr % 4;
+  strobes = (row_of c.location).strobes;
+  write = is_none c.bytes;
+  lanes = driven c.location c.bytes;
+}

@@ -92,6 +92,8 @@ impl<'a> Plan<'a> {
             Some(bytes) => place(self.location, bytes),
             None => DataLines::IDLE,
         };
-        Signals::new(self.am, self.addr - self.addr % 4, self.location, self.bytes.is_none(), lines)
+        let group = self.addr - self.addr % 4;
+        let read = self.bytes.is_none();
+        Signals::new(self.am, group, self.location, read, lines)
     }
 }

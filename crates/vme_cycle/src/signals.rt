@@ -21,9 +21,9 @@ impl Model for Signals {
     ghost use Rattle.std.specs.Prelude.{◌≡◌, ◌%◌, ◌<◌};
     ghost use Rattle.vme_am.specs.Spaces.{addresses_of};
     ghost use Rattle.vme_lanes.specs.Rows.{row_of};
-    ghost use Rattle.vme_cycle.specs.Lines.{Lines};
+    ghost use Rattle.vme_cycle.specs.SignalLines.{SignalLines};
 
-    ghost Value = { Lines };
+    ghost Value = { SignalLines };
 
     ghost view = { λ s. record { am = s.am; addr = s.addr; strobes = (row_of s.location).strobes; write = s.write; lanes = s.lines.lanes } };
 
@@ -31,7 +31,7 @@ impl Model for Signals {
 }
 
 impl Signals {
-    ghost use Rattle.vme_cycle.specs.Lines.{row_len, answered};
+    ghost use Rattle.vme_cycle.specs.SignalLines.{row_len, answered};
 
     /// The signals that these lines show, or `None` where the strobes choose no bytes. `addr` has the
     /// address lines from A02 up, as the address of a group of four; `write` is the level of WRITE*,

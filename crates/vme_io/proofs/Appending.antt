@@ -33,8 +33,8 @@ pub AppendsFront-more :
     (a b c : Option (List ℕ)) (front bytes rest all : List ℕ) → Appends a b front → AppendsFront b c bytes → (front ++ bytes) ++ rest ≡ all
     → AppendsFront a c all
 AppendsFront-more a b c front bytes rest all first next whole = record {
-    front = front ++ next.front;
-    rest = next.rest ++ rest;
-    split = sym whole ∙ ap (λ bs. (front ++ bs) ++ rest) next.split ∙ simp append_assoc;
-    appends = Appends-more a b c front next.front first next.appends;
-  }
+  front = front ++ next.front;
+  rest = next.rest ++ rest;
+  split = sym whole ∙ ap (λ bs. (front ++ bs) ++ rest) next.split ∙ simp append_assoc;
+  appends = Appends-more a b c front next.front first next.appends;
+}

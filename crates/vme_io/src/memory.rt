@@ -16,10 +16,15 @@ pub struct SliceSource<'a> {
 }
 
 impl<'a> SliceSource<'a> {
+    ghost use Rattle.vme_io.specs.Devices.{most_given, left_to_give};
+
+    /// A source of these bytes, with the mark clear.
     pub fn new(bytes: &'a [u8], most: usize, fails_after: usize) -> SliceSource<'a>
         requires { 0 < most }
         ensures bytes { ⟦<SliceSource<'a> as Source>⟧.remaining result ≡ Some bytes.now }
         ensures unmarked { ⟦<SliceSource<'a> as Source>⟧.is_marked result ≡ false }
+        ensures most { most_given result ≡ most }
+        ensures fails { left_to_give result ≡ fails_after }
     {
         SliceSource {
             rest: bytes,
@@ -31,16 +36,39 @@ impl<'a> SliceSource<'a> {
 }
 
 impl Source for SliceSource<'_> {
+    ghost use Rattle.std.specs.Prelude.{◌≡◌, ◌+◌, ◌<◌, ◌≤◌, Ok, Some, true, length, take, IsOk, IsErr, IfOk, OnOk, OnErr};
+    ghost use Rattle.std.specs.Io.KnownBytes.{Keeps, Consumes, IsAtEnd};
+    ghost use Rattle.vme_io.specs.Devices.{told_by, is_marked_source, most_given, left_to_give};
+
     ghost is_marked = { λ s. s.marked };
 
     ghost remaining = { λ s. Some s.rest.now };
 
-    fn read(&mut self, buffer: &mut [u8]) -> Result<usize, Failed> {
+    /// Gives as many bytes as it has, as fit, as it gives in a call and as it gives before it fails.
+    fn read(&mut self, buffer: &mut [u8]) -> Result<usize, Failed>
+        requires { 0 < length buffer.old }
+        ensures count { IfOk result (λ n. n ≤ length buffer.new) }
+        ensures bytes { IfOk result (λ n. Consumes (Some (told_by self.old)) (Some (told_by self.new)) (take n buffer.new)) }
+        ensures end { result ≡ Ok 0 → IsAtEnd (Some (told_by self.new)) }
+        ensures none_lost { OnErr result (Keeps (Some (told_by self.old)) (Some (told_by self.new))) }
+        ensures unmarked { OnOk result (is_marked_source self.new ≡ is_marked_source self.old) }
+        ensures marked { OnErr result (is_marked_source self.new ≡ true) }
+
+        // It fails just where it has given its bytes.
+        ensures most { IfOk result (λ n. n ≤ most_given self.old) }
+        ensures left { IfOk result (λ n. left_to_give self.new + n ≡ left_to_give self.old) }
+        ensures gives { 0 < left_to_give self.old → IsOk result }
+        ensures fails { left_to_give self.old ≡ 0 → IsErr result }
+    {
         if self.left == 0 {
             self.marked = true;
             return Err(Failed);
         }
-        let count = buffer.len().min(self.most).min(self.left).min(self.rest.len());
+        let count = buffer
+            .len()
+            .min(self.most)
+            .min(self.left)
+            .min(self.rest.len());
         let (front, rest) = self.rest.split_at(count);
         buffer[..count].copy_from_slice(front);
         self.rest = rest;
@@ -62,10 +90,15 @@ pub struct RoomSink {
 }
 
 impl RoomSink {
+    ghost use Rattle.vme_io.specs.Devices.{most_taken, left_to_take};
+
+    /// An empty sink, with the mark clear.
     pub fn new(alloc: Global, most: usize, room: usize) -> Result<RoomSink, AllocError>
         requires { 0 < most }
         ensures empty { IfOk result (λ sink. ⟦<RoomSink as Sink>⟧.contents sink ≡ Some []) }
         ensures unmarked { IfOk result (λ sink. ⟦<RoomSink as Sink>⟧.is_marked sink ≡ false) }
+        ensures most { IfOk result (λ sink. most_taken sink ≡ most) }
+        ensures fails { IfOk result (λ sink. left_to_take sink ≡ room) }
     {
         Ok(RoomSink {
             bytes: Vec::with_capacity(alloc, room)?,
@@ -84,11 +117,29 @@ impl RoomSink {
 }
 
 impl Sink for RoomSink {
+    ghost use Rattle.std.specs.Prelude.{◌≡◌, ◌+◌, ◌<◌, ◌≤◌, Some, true, length, take, IsOk, IsErr, IfOk, OnOk, OnErr};
+    ghost use Rattle.std.specs.Io.KnownBytes.{Keeps, Appends};
+    ghost use Rattle.vme_io.specs.Devices.{taken_by, is_marked_sink, most_taken, left_to_take};
+
     ghost is_marked = { λ s. s.marked };
 
     ghost contents = { λ s. Some s.bytes.items };
 
-    fn write(&mut self, bytes: &[u8]) -> Result<usize, Failed> {
+    /// Takes as many bytes as it takes in a call and before it fails.
+    fn write(&mut self, bytes: &[u8]) -> Result<usize, Failed>
+        requires { 0 < length bytes.now }
+        ensures count { IfOk result (λ n. (1 ≤ n) × (n ≤ length bytes.now)) }
+        ensures bytes { IfOk result (λ n. Appends (Some (taken_by self.old)) (Some (taken_by self.new)) (take n bytes.now)) }
+        ensures none { OnErr result (Keeps (Some (taken_by self.old)) (Some (taken_by self.new))) }
+        ensures unmarked { OnOk result (is_marked_sink self.new ≡ is_marked_sink self.old) }
+        ensures marked { OnErr result (is_marked_sink self.new ≡ true) }
+
+        // It fails just where its room is full.
+        ensures most { IfOk result (λ n. n ≤ most_taken self.old) }
+        ensures left { IfOk result (λ n. left_to_take self.new + n ≡ left_to_take self.old) }
+        ensures takes { 0 < left_to_take self.old → IsOk result }
+        ensures fails { left_to_take self.old ≡ 0 → IsErr result }
+    {
         if self.room == 0 {
             self.marked = true;
             return Err(Failed);

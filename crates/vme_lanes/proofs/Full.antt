@@ -1,5 +1,5 @@
 -- Lanes that each carry a byte have as many bytes.
-use Rattle.std.proofs.Common.{◌≡◌, ℕ, ◌+◌, List, [], ◌∷◌, length, Option, None, Some, true, is_some, refl, ap, arith}
+use Rattle.std.proofs.Common.{◌≡◌, ℕ, List, [], ◌∷◌, length, Option, None, Some, true, is_some, refl, arith}
 use Rattle.std.specs.List.{list_all}
 use Rattle.vme_lanes.specs.Lanes.{bytes_of}
 

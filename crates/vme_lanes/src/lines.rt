@@ -25,7 +25,9 @@ impl DataLines {
     {
         let first = location.lane();
         let len = usize::from(location.len());
-        self.lanes[first..first + len].iter().all(|lane| lane.is_some())
+        self.lanes[first..first + len]
+            .iter()
+            .all(|lane| lane.is_some())
     }
 }
 
@@ -73,5 +75,4 @@ pub fn pick(location: Location, lines: DataLines) -> Datum
 pub fn placed_is_picked()
     ensures carries { (l : Location) (bytes : List ℕ) → length bytes ≡ (row_of l).len → IsTrue (carries l (placed l bytes)) }
     ensures picked { (l : Location) (bytes : List ℕ) → length bytes ≡ (row_of l).len → picked l (placed l bytes) ≡ bytes }
-{
-}
+{}

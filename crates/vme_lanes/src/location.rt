@@ -117,5 +117,4 @@ impl Strobes {
 #[tactic(auto, unfolding(crate::specs::Rows::location_sensed))]
 pub fn strobes_are_sensed()
     ensures { (l : Location) → location_sensed (row_of l).strobes ≡ Some l }
-{
-}
+{}

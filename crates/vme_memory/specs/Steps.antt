@@ -6,8 +6,7 @@ use Rattle.vme_lanes.specs.declared.location.Strobes.{Strobes}
 use Rattle.vme_lanes.specs.Rows.{row_of, location_at, location_sensed}
 use Rattle.vme_lanes.specs.Lanes.{carries, picked}
 use Rattle.vme_am.specs.Kinds.{is_block}
-use Rattle.vme_cycle.specs.Lines.{Lines, row_len}
-use Rattle.vme_memory.specs.declared.class.Class.{Class}
+use Rattle.vme_cycle.specs.SignalLines.{SignalLines, row_len}
 use Rattle.vme_memory.specs.declared.reply.Reply.{Reply}
 use Rattle.vme_memory.specs.declared.reply.Reply.TheVariants.{Bytes, Done, Berr}
 use Rattle.vme_memory.specs.Classes.{answers}
@@ -40,7 +39,7 @@ written l at lanes = if carries l lanes then Some (Write at (picked l lanes)) el
 
 -- the command at an offset of a cycle that shows a location, if it is one: no block, at that location's place in the
 -- group of four, and in a write a byte on each of its lanes
-abbrev pub command_at : Lines → ℕ → Location → Option Command
+abbrev pub command_at : SignalLines → ℕ → Location → Option Command
 command_at s at l =
     if is_block s.am.kind then None else
     (if (row_of l).first == at % 4
@@ -48,7 +47,7 @@ command_at s at l =
     else None)
 
 -- the command that a cycle stands for, if any (IEEE 1014, section 2.2: strobes and WRITE* say what a cycle does)
-abbrev pub command_of : Lines → ℕ → Option Command
+abbrev pub command_of : SignalLines → ℕ → Option Command
 command_of s at = option_and_then (command_at s at) (location_sensed s.strobes)
 
 -- a cycle that stands for no command is answered by a bus error
@@ -57,7 +56,7 @@ answer board (Some command) = step board command
 answer board None = (Berr, board)
 
 -- what a board does in a cycle whose first byte is at an offset: its reply, and the memory after it
-unfoldable pub cycle : Board → Lines → ℕ → Reply × Board
+unfoldable pub cycle : Board → SignalLines → ℕ → Reply × Board
 cycle board s at = answer board (command_of s at)
 
 -- a reply with bytes has as many as the strobes choose

@@ -98,7 +98,8 @@ impl ByteMemory {
         requires { (row_of location).first ≡ at % 4 }
         ensures { result ≡ can_answer self.now at (row_of location).len }
     {
-        self.class.answers(location) && at as usize + usize::from(location.len()) <= self.bytes.len()
+        self.class.answers(location)
+            && at as usize + usize::from(location.len()) <= self.bytes.len()
     }
 
     fn read(&self, location: Location, at: u32) -> Reply
@@ -150,5 +151,4 @@ pub fn written_is_read()
     ensures same { (bytes new : List ℕ) (at : ℕ) → at + length new ≤ length bytes → slice_range (overwritten bytes at new) at (at + length new) ≡ new }
     ensures others { (bytes new : List ℕ) (at k : ℕ) → at + length new ≤ length bytes → (k < at) ⊎ (at + length new ≤ k) → slice_get (overwritten bytes at new) k ≡ slice_get bytes k }
     ensures len { (bytes new : List ℕ) (at : ℕ) → at + length new ≤ length bytes → length (overwritten bytes at new) ≡ length bytes }
-{
-}
+{}

@@ -1,5 +1,5 @@
 -- The number has room for a digit more.
-use Rattle.std.proofs.Common.{◌<◌, ◌^◌, arith}
+use Rattle.std.proofs.Common.{◌<◌, arith}
 use Rattle.vme.proofs.Digits.{below_28_bits}
 use Rattle.vme.proofs.numbers.hex_number.Goals as goal
 
