@@ -1,7 +1,11 @@
 -- Digits read one after another.
-use Rattle.std.proofs.Common.{◌≡◌, ℕ, ◌+◌, ◌*◌, ◌^◌, ◌<◌, ◌≤◌, List, [], ◌∷◌, ◌++◌, length, get_or, drop, Option, None, Some, refl, ap, ◌∙◌, append_assoc, arith}
+use Rattle.std.proofs.Common.{◌≡◌, ℕ, ◌+◌, ◌*◌, ◌^◌, ◌<◌, ◌≤◌, List, [], ◌∷◌, ◌++◌, length, get_or, drop, Option, None, Some, option_map, refl, ap, ◌∙◌, append_assoc, arith}
 use Rattle.std.proofs.Math.Nat.{pow-le-pow_right}
-use Rattle.vme.specs.Numbers.{hex_digit, hex_pairs, with_front}
+use Rattle.vme.specs.Numbers.{hex_digit, hex_pairs}
+
+-- some bytes, and then those that were read
+abbrev pub with_front : List ℕ → Option (List ℕ) → Option (List ℕ)
+with_front front bytes = option_map (λ bs. front ++ bs) bytes
 
 -- bytes before the bytes that were read
 with_front-append : (front bytes : List ℕ) (read : Option (List ℕ)) → with_front (front ++ bytes) read ≡ with_front front (with_front bytes read)

@@ -17,23 +17,25 @@ use Rattle.vme.specs.declared.status.Status.TheVariants.{Clean, Marked}
 use Rattle.vme.specs.Grammar.{line_request}
 use Rattle.vme.specs.Texts.{signals_text, reply_text, cycle_fault_text, line_fault_text, ended}
 
+-- what a line is answered (this project's own)
 pub record Answer : Type 0 where
   pub text : List ℕ
   pub board : Board
   pub status : Status
 
--- whether a reply is a good one
+-- whether a reply is a good one (this project's own)
 abbrev pub status_of : Reply → Status
 status_of (Bytes datum) = Clean
 status_of Done = Clean
 status_of Berr = Marked
 
--- what the lines show in the end: in a read what the board drives, else what they showed before
+-- what the lines show in the end: in a read what the board drives, else what they showed before (this project's own)
 abbrev pub shown : SignalLines → Reply → SignalLines
 shown s (Bytes datum) = answered s datum.items
 shown s Done = s
 shown s Berr = s
 
+-- whether a space is the extended one (this project's own)
 abbrev pub is_a32 : Space → Bool
 is_a32 A16 = false
 is_a32 A24 = false
@@ -44,11 +46,11 @@ abbrev pub is_selected : Cycle → Bool
 is_selected c = is_a32 c.am.space && nat_lt c.addr 4096
 
 -- the reply to a cycle and the board after it; the bus timer drives BERR* where no board is selected
--- (IEEE 1014, section 2.2: the bus timer)
+-- (IEEE 1014, section 2.3.3)
 abbrev pub reply_to : Board → Cycle → Reply × Board
 reply_to board c = if is_selected c then cycle board (signals_of c) c.addr else (Berr, board)
 
--- the answer to a lawful cycle: its signals, and the reply
+-- the answer to a lawful cycle: its signals, and the reply (this project's own)
 unfoldable pub cycle_answer : Board → Cycle → Answer
 cycle_answer board c =
     let reply = reply_to board c in
@@ -58,15 +60,16 @@ cycle_answer board c =
       status = status_of reply.0;
     }
 
--- a refused request has no signals
+-- the answer to a plan, or the refusal: a refused request has no signals (this project's own)
 abbrev pub planned_answer : Board → Result Cycle CycleFault → Answer
 planned_answer board (Ok c) = cycle_answer board c
 planned_answer board (Err fault) = record { text = ended (codes "refused " ++ cycle_fault_text fault); board = board; status = Marked }
 
+-- the answer to a request (this project's own)
 abbrev pub request_answer : Board → Request → Answer
 request_answer board request = planned_answer board (cycle_of request)
 
--- an empty line and a comment have no answer
+-- the answer to what a line asks for: an empty line and a comment have none (this project's own)
 abbrev pub read_answer : Board → Result (Option Request) LineFault → Answer
 read_answer board (Ok None) = record { text = []; board = board; status = Clean }
 read_answer board (Ok (Some request)) = request_answer board request

@@ -7,26 +7,26 @@ use Rattle.vme.specs.declared.status.ProgramFault.TheVariants.{Read, TooLong, Wr
 use Rattle.vme.specs.declared.words.WordsFault.{WordsFault}
 use Rattle.vme.specs.declared.words.WordsFault.TheVariants as words
 
--- marked where one of the two is
+-- marked where one of the two is (this project's own)
 abbrev pub worse : Status → Status → Status
 worse Clean status = status
 worse Marked status = Marked
 
--- the faults of reading the input
+-- the faults of reading the input (this project's own)
 abbrev pub IsInputFault : ProgramFault → Type 0
 IsInputFault Read = Unit {0}
 IsInputFault TooLong = Unit {0}
 IsInputFault Write = ⊥
 IsInputFault Memory = Unit {0}
 
--- the faults of answering it
+-- the faults of answering it (this project's own)
 abbrev pub IsAnswerFault : ProgramFault → Type 0
 IsAnswerFault Read = ⊥
 IsAnswerFault TooLong = ⊥
 IsAnswerFault Write = Unit {0}
 IsAnswerFault Memory = Unit {0}
 
--- the run ended before anything could be written
+-- the run ended before anything could be written (this project's own)
 abbrev pub IsReadingFault : Result Status ProgramFault → Type 0
 IsReadingFault (Ok status) = ⊥
 IsReadingFault (Err Read) = Unit {0}

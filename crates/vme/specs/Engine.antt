@@ -12,12 +12,12 @@ use Rattle.vme.specs.Ends.{worse}
 unfoldable pub fresh_board : Board
 fresh_board = record { bytes = zeros 4096; class = record { width = D32; uat = true; blt = true; rmw = true } }
 
--- the answers to lines, one after another, each on the board that the one before left
+-- the answers to lines, one after another, each on the board that the one before left (this project's own)
 abbrev pub text_of : Board → List (List ℕ) → List ℕ
 text_of board [] = []
 text_of board (line ∷ more) = (answer board line).text ++ text_of (answer board line).board more
 
--- clean where every reply is a good one
+-- clean where every reply is a good one (this project's own)
 abbrev pub status_after : Board → List (List ℕ) → Status
 status_after board [] = Clean
 status_after board (line ∷ more) = worse (answer board line).status (status_after (answer board line).board more)
@@ -26,6 +26,6 @@ status_after board (line ∷ more) = worse (answer board line).status (status_af
 abbrev pub cycles_text : List ℕ → List ℕ
 cycles_text input = text_of fresh_board (lines input)
 
--- and the status that it ends with
+-- and the status that it ends with (this project's own)
 abbrev pub cycles_status : List ℕ → Status
 cycles_status input = status_after fresh_board (lines input)

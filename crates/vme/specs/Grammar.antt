@@ -10,11 +10,12 @@ use Rattle.vme.specs.Words.{words}
 use Rattle.vme.specs.Numbers.{hex_number, hex_bytes, small_number}
 
 infixl 10 ◌>>=◌
+-- one refusal after another: the first that is met is told (this project's own)
 abbrev pub ◌>>=◌ : {A B : Type 0} → Result A LineFault → (A → Result B LineFault) → Result B LineFault
 (Ok x) >>= f = f x
 (Err fault) >>= f = Err fault
 
--- just three words
+-- just three words (this project's own)
 abbrev pub three : List (List ℕ) → Option (List ℕ × List ℕ × List ℕ)
 three [] = None
 three (a ∷ []) = None
@@ -40,12 +41,12 @@ write_request words = do
   bytes ← ok_or (hex_bytes three.2) BadBytes
   Ok (Write am addr (record { items = bytes }))
 
--- a line that asks for something
+-- a line that asks for something (this project's own)
 abbrev pub asks : Result Request LineFault → Result (Option Request) LineFault
 asks (Ok request) = Ok (Some request)
 asks (Err fault) = Err fault
 
--- what the words of a line ask for, by the first of them
+-- what the words of a line ask for, by the first of them (this project's own)
 unfoldable pub request_of : List (List ℕ) → Result (Option Request) LineFault
 request_of [] = Ok None
 request_of (word ∷ words) =

@@ -2,14 +2,14 @@
 use Rattle.std.specs.Prelude.{ℕ, ◌+◌, ◌-◌, ◌*◌, nat_le, ◌==◌, ◌&&◌, if◌then◌else◌, List, [], ◌∷◌, ◌++◌, length, slice_index, Option, Some, None}
 use Rattle.std.specs.Option.{option_map, option_and_then}
 
--- the value of a hexadecimal digit of either case: 0 to 9, a to f, A to F
+-- the value of a hexadecimal digit of either case: 0 to 9, a to f, A to F (this project's own)
 abbrev pub hex_digit : ℕ → Option ℕ
 hex_digit c =
     if nat_le 48 c && nat_le c 57 then Some (c - 48) else
     (if nat_le 97 c && nat_le c 102 then Some (c - 87) else
     (if nat_le 65 c && nat_le c 70 then Some (c - 55) else None))
 
--- the number that goes on with these digits
+-- the number that goes on with these digits (this project's own)
 abbrev pub hex_from : ℕ → List ℕ → Option ℕ
 hex_from n [] = Some n
 hex_from n (c ∷ cs) = option_and_then (λ d. hex_from (16 * n + d) cs) (hex_digit c)
@@ -18,7 +18,7 @@ hex_from n (c ∷ cs) = option_and_then (λ d. hex_from (16 * n + d) cs) (hex_di
 unfoldable pub hex_number : ℕ → List ℕ → Option ℕ
 hex_number len word = if length word == len then hex_from 0 word else None
 
--- the bytes that pairs of hexadecimal digits spell
+-- the bytes that pairs of hexadecimal digits spell (this project's own)
 abbrev pub hex_pairs : List ℕ → Option (List ℕ)
 hex_pairs [] = Some []
 hex_pairs (c ∷ []) = None
@@ -34,7 +34,3 @@ unfoldable pub small_number : List ℕ → Option ℕ
 small_number word =
     let c = slice_index word 0 in
     if length word == 1 && nat_le 49 c && nat_le c 56 then Some (c - 48) else None
-
--- some bytes, and then those that were read
-abbrev pub with_front : List ℕ → Option (List ℕ) → Option (List ℕ)
-with_front front bytes = option_map (λ bs. front ++ bs) bytes

@@ -10,46 +10,48 @@ use Rattle.vme_memory.specs.declared.reply.Reply.TheVariants.{Bytes, Done, Berr}
 use Rattle.vme.specs.declared.parse.LineFault.{LineFault}
 use Rattle.vme.specs.declared.parse.LineFault.TheVariants.{LineTooLong, UnknownWord, WordCount, BadCode, BadAddress, BadNumber, BadBytes}
 
--- the digit of a number below 16, in lower case
+-- the digit of a number below 16, in lower case (this project's own)
 abbrev pub digit : ℕ → ℕ
 digit n = slice_index (codes "0123456789abcdef") n
 
--- a byte as two digits
+-- a byte as two digits (this project's own)
 abbrev pub hex_byte : ℕ → List ℕ
 hex_byte byte = digit (byte / 16) ∷ digit (byte % 16) ∷ []
 
--- bytes as two digits each
+-- bytes as two digits each (this project's own)
 abbrev pub hex_text : List ℕ → List ℕ
 hex_text bytes = flat_map hex_byte bytes
 
--- the level of a line: 0 is low, 1 is high
+-- the level of a line: 0 is low, 1 is high (this project's own)
 abbrev pub level : Bool → ℕ
 level true = 49
 level false = 48
 
--- a name and the level of the line that has it
+-- a name and the level of the line that has it (this project's own)
 abbrev pub level_text : List ℕ → Bool → List ℕ
 level_text name high = name ++ level high ∷ []
 
--- a lane: two digits, or two dashes where the cycle carries nothing
+-- a lane: two digits, or two dashes where the cycle carries nothing (this project's own)
 abbrev pub lane_text : Option ℕ → List ℕ
 lane_text None = codes "--"
 lane_text (Some byte) = hex_byte byte
 
--- the lanes from D31-D24 to D07-D00
+-- the lanes from D31-D24 to D07-D00 (this project's own)
 abbrev pub lanes_text : List (Option ℕ) → List ℕ
 lanes_text lanes = flat_map lane_text lanes
 
--- the code, and the address lines as an address of eight digits
+-- the code, and the address lines as an address of eight digits (this project's own)
 unfoldable pub address_text : ℕ → ℕ → List ℕ
 address_text code addr = codes "am=" ++ (hex_byte code ++ (codes " a=" ++ hex_text (to_be_bytes w32 addr)))
 
+-- the levels of the strobes, A01, LWORD* and WRITE* (this project's own)
 unfoldable pub levels_text : SignalLines → List ℕ
 levels_text s =
     level_text (codes " ds1=") s.strobes.ds1 ++ (level_text (codes " ds0=") s.strobes.ds0
     ++ (level_text (codes " a01=") s.strobes.a01 ++ (level_text (codes " lword=") s.strobes.lword
     ++ level_text (codes " write=") s.write)))
 
+-- the data lines (this project's own)
 unfoldable pub data_text : SignalLines → List ℕ
 data_text s = codes " data=" ++ lanes_text s.lanes
 
@@ -83,6 +85,6 @@ line_fault_text BadAddress = codes "S5"
 line_fault_text BadNumber = codes "S6"
 line_fault_text BadBytes = codes "S7"
 
--- a line of output
+-- a line of output ends at LF (this project's own)
 abbrev pub ended : List ℕ → List ℕ
 ended text = text ++ 10 ∷ []

@@ -41,7 +41,8 @@ fn answer_request(
     request: &Request,
     text: &mut Vec<u8>,
 ) -> Result<Status, AllocError>
-    ensures text { OnOk result (text.new.items ≡ text.old.items ++ (request_answer memory.old request.now).text) }
+    ensures text { OnOk result
+        (text.new.items ≡ text.old.items ++ (request_answer memory.old request.now).text) }
     ensures board { OnOk result (memory.new ≡ (request_answer memory.old request.now).board) }
     ensures status { IfOk result (λ status. status ≡ (request_answer memory.old request.now).status) }
 {

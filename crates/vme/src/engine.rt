@@ -23,8 +23,8 @@ const WRITE_SIZE: usize = 65_536;
 
 /// Answers each line of the input, in order.
 ///
-/// The input is read first, to its end or to one byte past `INPUT_LIMIT`; nothing is written before that.
-/// Of a reader or a writer that tells no bytes only the faults are promised.
+/// The input is read first, to its end or to one byte past `INPUT_LIMIT`; nothing is written
+/// before that. Of a reader or a writer that tells no bytes only the faults are promised.
 pub fn cycles_engine<R: Source, W: Sink>(
     alloc: Global,
     reader: &mut R,
@@ -34,14 +34,18 @@ pub fn cycles_engine<R: Source, W: Sink>(
     requires writer_unmarked { W.is_marked writer.old ≡ false }
 
     // What is written is the text of the input, or a front of it before a fault.
-    ensures text { IfSome (R.remaining reader.old) (λ input. OnOk result (Appends (W.contents writer.old) (W.contents writer.new) (cycles_text input))) }
-    ensures front { IfSome (R.remaining reader.old) (λ input. OnErr result (AppendsFront (W.contents writer.old) (W.contents writer.new) (cycles_text input))) }
+    ensures text { IfSome (R.remaining reader.old) (λ input.
+        OnOk result (Appends (W.contents writer.old) (W.contents writer.new) (cycles_text input))) }
+    ensures front { IfSome (R.remaining reader.old) (λ input.
+        OnErr result (AppendsFront (W.contents writer.old) (W.contents writer.new) (cycles_text input))) }
     ensures nothing { IsReadingFault result → writer.new ≡ writer.old }
-    ensures status { IfSome (R.remaining reader.old) (λ input. IfOk result (λ status. status ≡ cycles_status input)) }
+    ensures status { IfSome (R.remaining reader.old) (λ input.
+        IfOk result (λ status. status ≡ cycles_status input)) }
 
     // When each fault comes; `Memory` comes where a growth is refused.
     ensures read { result ≡ Err ProgramFault.Read → R.is_marked reader.new ≡ true }
-    ensures too_long { result ≡ Err ProgramFault.TooLong → IfSome (R.remaining reader.old) (λ input. INPUT_LIMIT < length input) }
+    ensures too_long { result ≡ Err ProgramFault.TooLong →
+        IfSome (R.remaining reader.old) (λ input. INPUT_LIMIT < length input) }
     ensures within { IfSome (R.remaining reader.old) (λ input. OnOk result (length input ≤ INPUT_LIMIT)) }
     ensures write { result ≡ Err ProgramFault.Write → W.is_marked writer.new ≡ true }
     ensures unmarked { OnOk result ((R.is_marked reader.new ≡ false) × (W.is_marked writer.new ≡ false)) }
@@ -52,9 +56,11 @@ pub fn cycles_engine<R: Source, W: Sink>(
 
 /// Reads to the end, or to one byte past the limit.
 fn read_input<R: Source>(alloc: Global, reader: &mut R) -> Result<Vec<u8>, ProgramFault>
-    ensures whole { IfOk result (λ input. IfSome (R.remaining reader.old) (λ bytes. bytes ≡ input.items)) }
+    ensures whole { IfOk result (λ input.
+        IfSome (R.remaining reader.old) (λ bytes. bytes ≡ input.items)) }
     ensures limit { IfOk result (λ input. vec_len input ≤ INPUT_LIMIT) }
-    ensures too_long { result ≡ Err ProgramFault.TooLong → IfSome (R.remaining reader.old) (λ bytes. INPUT_LIMIT < length bytes) }
+    ensures too_long { result ≡ Err ProgramFault.TooLong →
+        IfSome (R.remaining reader.old) (λ bytes. INPUT_LIMIT < length bytes) }
     ensures read { result ≡ Err ProgramFault.Read → R.is_marked reader.new ≡ true }
     ensures unmarked { OnOk result (R.is_marked reader.new ≡ R.is_marked reader.old) }
     ensures faults { IfErr result IsInputFault }
@@ -77,8 +83,10 @@ fn read_input<R: Source>(alloc: Global, reader: &mut R) -> Result<Vec<u8>, Progr
 
 /// Answers each line of a text. Its answers are gathered and written in large pieces.
 fn answer_all<W: Sink>(alloc: Global, input: &[u8], writer: &mut W) -> Result<Status, ProgramFault>
-    ensures text { OnOk result (Appends (W.contents writer.old) (W.contents writer.new) (cycles_text input.now)) }
-    ensures front { OnErr result (AppendsFront (W.contents writer.old) (W.contents writer.new) (cycles_text input.now)) }
+    ensures text { OnOk result
+        (Appends (W.contents writer.old) (W.contents writer.new) (cycles_text input.now)) }
+    ensures front { OnErr result
+        (AppendsFront (W.contents writer.old) (W.contents writer.new) (cycles_text input.now)) }
     ensures status { IfOk result (λ status. status ≡ cycles_status input.now) }
     ensures write { result ≡ Err ProgramFault.Write → W.is_marked writer.new ≡ true }
     ensures unmarked { OnOk result (W.is_marked writer.new ≡ W.is_marked writer.old) }

@@ -19,7 +19,8 @@ fn place_of(text: &[u8], byte: u8) -> Option<usize>
 /// What stands before the first such byte, and after it.
 #[tactic(auto, using(crate::proofs::Cutting::cut_at, crate::proofs::Cutting::uncut))]
 fn cut(text: &[u8], byte: u8) -> Option<(&[u8], &[u8])>
-    ensures { MatchOption result (IsUncut byte text.now) (λ parts. IsCut byte text.now parts.0.now parts.1.now) }
+    ensures { MatchOption result (IsUncut byte text.now) (λ parts.
+        IsCut byte text.now parts.0.now parts.1.now) }
 {
     let end = place_of(text, byte)?;
     Some((text.split_at(end).0, text.split_at(end + 1).1))
@@ -69,10 +70,12 @@ fn split_word(line: &[u8]) -> Option<(&[u8], &[u8])>
 /// The lines of a text: each ends at LF or at the end of the text, and loses one CR before LF.
 #[derive(Clone, Copy)]
 pub struct Lines<'a> {
+    /// The text that is left.
     pub rest: &'a [u8],
 }
 
 impl<'a> Lines<'a> {
+    /// The lines of a text.
     pub fn new(text: &'a [u8]) -> Lines<'a>
         ensures { result.rest.now ≡ text.now }
     {
@@ -100,10 +103,12 @@ impl<'a> Iterator for Lines<'a> {
 /// The words of a line: the longest runs of bytes other than space.
 #[derive(Clone, Copy)]
 pub struct Words<'a> {
+    /// What is left of the line.
     pub rest: &'a [u8],
 }
 
 impl<'a> Words<'a> {
+    /// The words of a line.
     pub fn new(line: &'a [u8]) -> Words<'a>
         ensures { result.rest.now ≡ line.now }
     {

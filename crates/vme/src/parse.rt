@@ -61,7 +61,8 @@ pub fn parse_line(line: &[u8]) -> Result<Option<Request>, LineFault>
 }
 
 fn three_words(mut operands: Words<'_>) -> Option<(&[u8], &[u8], &[u8])>
-    ensures { option_map (λ r. (r.0.now, r.1.now, r.2.now)) result ≡ three (words operands.entry.rest.now) }
+    ensures { option_map (λ r. (r.0.now, r.1.now, r.2.now)) result
+        ≡ three (words operands.entry.rest.now) }
 {
     match (
         operands.next(),

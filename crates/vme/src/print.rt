@@ -126,7 +126,8 @@ pub fn print_reply(text: &mut Vec<u8>, reply: &Reply) -> Result<(), AllocError>
 
 /// Appends the line that tells why a request is refused.
 pub fn print_refusal(text: &mut Vec<u8>, fault: CycleFault) -> Result<(), AllocError>
-    ensures { OnOk result (text.new.items ≡ text.old.items ++ ended (codes "refused " ++ cycle_fault_text fault)) }
+    ensures { OnOk result
+        (text.new.items ≡ text.old.items ++ ended (codes "refused " ++ cycle_fault_text fault)) }
 {
     push_text(text, b"refused ")?;
     push_text(text, &cycle_fault_number(fault))?;
@@ -135,7 +136,8 @@ pub fn print_refusal(text: &mut Vec<u8>, fault: CycleFault) -> Result<(), AllocE
 
 /// Appends the line that tells why a line is refused.
 pub fn print_line_refusal(text: &mut Vec<u8>, fault: LineFault) -> Result<(), AllocError>
-    ensures { OnOk result (text.new.items ≡ text.old.items ++ ended (codes "line refused " ++ line_fault_text fault)) }
+    ensures { OnOk result
+        (text.new.items ≡ text.old.items ++ ended (codes "line refused " ++ line_fault_text fault)) }
 {
     push_text(text, b"line refused ")?;
     push_text(text, &line_fault_number(fault))?;

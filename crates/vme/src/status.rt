@@ -17,6 +17,7 @@ pub enum Status {
 impl Status {
     ghost use Rattle.vme.specs.Ends.{worse};
 
+    /// `Marked` where one of the two is.
     pub fn worse(self, other: Status) -> Status
         ensures { result ≡ worse self other }
     {

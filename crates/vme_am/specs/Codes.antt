@@ -8,18 +8,18 @@ use Rattle.vme_am.specs.declared.code.Kind.TheVariants.{DataAccess, ProgramAcces
 use Rattle.vme_am.specs.declared.code.AmFault.{AmFault}
 use Rattle.vme_am.specs.declared.code.AmFault.TheVariants.{TooLarge, UserDefined, Reserved}
 
--- one row of the address modifier table (IEEE 1014, section 2.3)
+-- one row of the address modifier table (IEEE 1014, section 2.2.2)
 pub record Entry : Type 0 where
   pub code : ℕ
   pub space : Space
   pub kind : Kind
   pub supervisory : Bool
 
--- a row, by place
+-- a row, by place: code, space, kind, privilege (this project's own)
 abbrev pub row : ℕ → Space → Kind → Bool → Entry
 row code space kind supervisory = record { code = code; space = space; kind = kind; supervisory = supervisory }
 
--- the address modifier table (IEEE 1014, section 2.3)
+-- the address modifier table (IEEE 1014, section 2.2.2)
 abbrev pub table : List Entry
 table =
     row 0x29 A16 ShortAccess false ∷ row 0x2d A16 ShortAccess true
@@ -29,11 +29,11 @@ table =
     ∷ row 0x0d A32 DataAccess true ∷ row 0x0e A32 ProgramAccess true ∷ row 0x0f A32 BlockAccess true
     ∷ []
 
--- the row of a code, if the table has one (IEEE 1014, section 2.3)
+-- the row of a code, if the table has one (IEEE 1014, section 2.2.2)
 abbrev pub entry_at : ℕ → Option Entry
 entry_at code = find (λ entry. entry.code == code) table
 
--- why a code without a row is refused: 10 to 1f are user-defined (IEEE 1014, section 2.3), six lines show no number above 3f
+-- why a code without a row is refused: 10 to 1f are user-defined (IEEE 1014, section 2.2.2), six lines show no number above 3f
 abbrev pub fault_of : ℕ → AmFault
 fault_of code = if nat_lt 0x3f code then TooLarge else (if nat_le 0x10 code && nat_le code 0x1f then UserDefined else Reserved)
 

@@ -3,7 +3,7 @@ use Rattle.std.specs.Prelude.{Bool, true, false}
 use Rattle.vme_am.specs.declared.code.Kind.{Kind}
 use Rattle.vme_am.specs.declared.code.Kind.TheVariants.{DataAccess, ProgramAccess, BlockAccess, ShortAccess}
 
--- whether an access is a block transfer (IEEE 1014, section 2.3)
+-- whether an access is a block transfer (IEEE 1014, section 2.2.2)
 abbrev pub is_block : Kind → Bool
 is_block DataAccess = false
 is_block ProgramAccess = false

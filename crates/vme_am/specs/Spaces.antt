@@ -3,7 +3,7 @@ use Rattle.std.specs.Prelude.{ℕ, ◌^◌}
 use Rattle.vme_am.specs.declared.code.Space.{Space}
 use Rattle.vme_am.specs.declared.code.Space.TheVariants.{A16, A24, A32}
 
--- the number of byte addresses of a space (IEEE 1014, section 2.3: short, standard and extended addressing)
+-- the number of byte addresses of a space (IEEE 1014, section 2.3.5: short, standard and extended addressing)
 abbrev pub addresses_of : Space → ℕ
 addresses_of A16 = 2 ^ 16
 addresses_of A24 = 2 ^ 24

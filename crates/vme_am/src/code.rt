@@ -32,9 +32,13 @@ impl Space {
 /// What a code lets a cycle reach.
 #[derive(Clone, Copy, Debug, PartialEq, Eq)]
 pub enum Kind {
+    /// Data, in the standard or the extended space.
     DataAccess,
+    /// Programs, in the standard or the extended space.
     ProgramAccess,
+    /// Block transfers, in the standard or the extended space.
     BlockAccess,
+    /// Anything in the short space.
     ShortAccess,
 }
 
@@ -70,7 +74,8 @@ fn space_of(code: u8) -> Option<Space>
     }
 }
 
-/// The kind of access that AM1 and AM0 name in a space, or `None` where AM3 is low or they name none.
+/// The kind of access that AM1 and AM0 name in a space, or `None` where AM3 is low or they name
+/// none.
 fn kind_of(space: Space, code: u8) -> Option<Kind>
     ensures { result ≡ kind_by_bits space code }
 {
@@ -113,7 +118,12 @@ impl Model for Am {
 
     ghost invariant = { λ a. entry_at a.code ≡ Some (row a.code a.space a.kind a.supervisory) };
 
-    ghost inverse = { λ e. record { code = e.code; space = e.space; kind = e.kind; supervisory = e.supervisory } };
+    ghost inverse = { λ e. record {
+      code = e.code;
+      space = e.space;
+      kind = e.kind;
+      supervisory = e.supervisory;
+    } };
 }
 
 impl Am {
@@ -122,8 +132,8 @@ impl Am {
 
     /// Reads a code of the address modifier table.
     ///
-    /// The table is laid out by bits: AM5 and AM4 name the space or leave the code to the user, AM3 is
-    /// high in each row, AM2 is the privilege, and AM1 with AM0 names the kind of access.
+    /// The table is laid out by bits: AM5 and AM4 name the space or leave the code to the user,
+    /// AM3 is high in each row, AM2 is the privilege, and AM1 with AM0 names the kind of access.
     #[tactic(auto, unfolding(crate::specs::Codes::read_code))]
     pub fn from_code(code: u8) -> Result<Am, AmFault>
         ensures { result ≡ read_code code }
@@ -153,12 +163,14 @@ impl Am {
         self.code
     }
 
+    /// The space that the address lines name a byte of.
     pub fn space(self) -> Space
         ensures { result ≡ self.space }
     {
         self.space
     }
 
+    /// The kind of access.
     pub fn kind(self) -> Kind
         ensures { result ≡ self.kind }
     {

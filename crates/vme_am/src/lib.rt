@@ -1,5 +1,5 @@
-//! Address modifiers of the data transfer bus: what the six lines AM5 to AM0 say of a cycle.
-//! The table is that of ANSI/IEEE Std 1014-1987, section 2.3 (address modifier lines); the codes of
+//! Address modifiers of the data transfer bus: what the six lines AM5 to AM0 say of a cycle. The
+//! table is that of ANSI/IEEE Std 1014-1987, section 2.2.2 (address modifier lines); the codes of
 //! its fourteen rows are read here from their bits.
 #![tactic(auto)]
 

@@ -19,21 +19,22 @@ pub record Cycle : Type 0 where
   pub bytes : Option (List ℕ)
 
 infixl 10 ◌>>=◌
+-- one refusal after another: the first that is met is told (this project's own)
 abbrev pub ◌>>=◌ : {A B : Type 0} → Result A CycleFault → (A → Result B CycleFault) → Result B CycleFault
 (Ok x) >>= f = f x
 (Err fault) >>= f = Err fault
 
--- refused with the fault where the test holds
+-- refused with the fault where the test holds (this project's own)
 abbrev pub refuse : Bool → CycleFault → Result (Unit {0}) CycleFault
 refuse true fault = Err fault
 refuse false fault = Ok tt
 
--- the row of a lawful code
+-- the row of a lawful code (this project's own)
 abbrev pub lawful_code : Result Entry AmFault → Result Entry CycleFault
 lawful_code (Ok entry) = Ok entry
 lawful_code (Err fault) = Err (Code fault)
 
--- the location, where there is one
+-- the location, where there is one (this project's own)
 abbrev pub found : Option Location → Result Location CycleFault
 found (Some location) = Ok location
 found None = Err NoCycle

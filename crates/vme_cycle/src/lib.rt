@@ -1,5 +1,5 @@
-//! Requests of a master, the plan of a lawful one, and the signals that the plan drives.
-//! Which requests are lawful, and which refusal the others get, is this project's profile of the data
+//! Requests of a master, the plan of a lawful one, and the signals that the plan drives. Which
+//! requests are lawful, and which refusal the others get, is this project's profile of the data
 //! transfer bus of ANSI/IEEE Std 1014-1987, chapter 2.
 #![tactic(auto)]
 

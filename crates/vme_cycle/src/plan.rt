@@ -27,9 +27,15 @@ impl<'a> Model for Plan<'a> {
 
     ghost Value = { Cycle };
 
-    ghost view = { λ p. record { am = p.am; addr = p.addr; location = p.location; bytes = option_map (λ b. b.now) p.bytes } };
+    ghost view = { λ p. record {
+      am = p.am;
+      addr = p.addr;
+      location = p.location;
+      bytes = option_map (λ b. b.now) p.bytes;
+    } };
 
-    ghost invariant = { λ p. (p.addr + (row_of p.location).len ≤ addresses_of p.am.space) × ForSome p.bytes (λ b. length b.now ≡ (row_of p.location).len) };
+    ghost invariant = { λ p. (p.addr + (row_of p.location).len ≤ addresses_of p.am.space)
+        × ForSome p.bytes (λ b. length b.now ≡ (row_of p.location).len) };
 }
 
 impl<'a> Plan<'a> {

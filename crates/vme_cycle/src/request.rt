@@ -1,10 +1,12 @@
 use vme_lanes::Datum;
 
-/// What a master asks of the bus. `am` is the address modifier code, `addr` the address of the first
-/// byte, `n` a number of bytes.
+/// What a master asks of the bus. `am` is the address modifier code, `addr` the address of the
+/// first byte, `n` a number of bytes.
 #[derive(Debug, Drop)]
 pub enum Request {
+    /// A read of `n` bytes.
     Read { am: u8, addr: u32, n: u8 },
+    /// A write of these bytes.
     Write { am: u8, addr: u32, bytes: Datum },
 }
 

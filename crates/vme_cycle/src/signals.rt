@@ -6,8 +6,8 @@ use std::marker::Model;
 use vme_am::Am;
 use vme_lanes::{DataLines, Location, Strobes, place};
 
-/// The lines of one cycle: the address modifier, the address lines from A02 up, the strobes with A01
-/// and LWORD*, WRITE*, and the data lines. The strobes are always those of a byte location.
+/// The lines of one cycle: the address modifier, the address lines from A02 up, the strobes with
+/// A01 and LWORD*, WRITE*, and the data lines. The strobes are always those of a byte location.
 #[derive(Debug, Drop)]
 pub struct Signals {
     am: Am,
@@ -25,7 +25,13 @@ impl Model for Signals {
 
     ghost Value = { SignalLines };
 
-    ghost view = { λ s. record { am = s.am; addr = s.addr; strobes = (row_of s.location).strobes; write = s.write; lanes = s.lines.lanes } };
+    ghost view = { λ s. record {
+      am = s.am;
+      addr = s.addr;
+      strobes = (row_of s.location).strobes;
+      write = s.write;
+      lanes = s.lines.lanes;
+    } };
 
     ghost invariant = { λ s. (s.addr % 4 ≡ 0) × (s.addr < addresses_of s.am.space) };
 }
@@ -33,9 +39,9 @@ impl Model for Signals {
 impl Signals {
     ghost use Rattle.vme_cycle.specs.SignalLines.{row_len, answered};
 
-    /// The signals that these lines show, or `None` where the strobes choose no bytes. `addr` has the
-    /// address lines from A02 up, as the address of a group of four; `write` is the level of WRITE*,
-    /// `true` for high, as in a read.
+    /// The signals that these lines show, or `None` where the strobes choose no bytes. `addr` has
+    /// the address lines from A02 up, as the address of a group of four; `write` is the level of
+    /// WRITE*, `true` for high, as in a read.
     pub fn from_lines(
         am: Am,
         addr: u32,
@@ -46,7 +52,13 @@ impl Signals {
         requires aligned { addr % 4 ≡ 0 }
         requires in_space { addr < addresses_of am.space }
         ensures none { IsNone result ↔ IsNone (location_sensed strobes) }
-        ensures lines { IfSome result (λ s. s ≡ record { am = am; addr = addr; strobes = strobes; write = write; lanes = lines.lanes }) }
+        ensures lines { IfSome result (λ s. s ≡ record {
+          am = am;
+          addr = addr;
+          strobes = strobes;
+          write = write;
+          lanes = lines.lanes;
+        }) }
     {
         let location = Location::sense(strobes)?;
         Some(Signals {
@@ -68,7 +80,13 @@ impl Signals {
     ) -> Signals
         requires aligned { addr % 4 ≡ 0 }
         requires in_space { addr < addresses_of am.space }
-        ensures { result ≡ record { am = am; addr = addr; strobes = (row_of location).strobes; write = write; lanes = lines.lanes } }
+        ensures { result ≡ record {
+          am = am;
+          addr = addr;
+          strobes = (row_of location).strobes;
+          write = write;
+          lanes = lines.lanes;
+        } }
     {
         Signals {
             am,
@@ -79,6 +97,7 @@ impl Signals {
         }
     }
 
+    /// The address modifier.
     pub fn am(&self) -> Am
         ensures { result ≡ self.now.am }
     {
@@ -94,6 +113,7 @@ impl Signals {
         self.addr
     }
 
+    /// DS1*, DS0*, A01 and LWORD*.
     pub fn strobes(&self) -> Strobes
         ensures { result ≡ self.now.strobes }
     {
@@ -115,6 +135,7 @@ impl Signals {
         self.write
     }
 
+    /// The data lines.
     pub fn lines(&self) -> DataLines
         ensures { result.lanes ≡ self.now.lanes }
     {

@@ -1,5 +1,6 @@
-//! Devices: sources of bytes and sinks for them. Each has a mark that a failure sets, and tells its bytes
-//! as a list or not at all, so that a contract can say what was read and written, and when a failure came.
+//! Devices: sources of bytes and sinks for them. Each has a mark that a failure sets, and tells
+//! its bytes as a list or not at all, so that a contract can say what was read and written, and
+//! when a failure came.
 #![tactic(auto)]
 
 mod memory;

@@ -4,8 +4,8 @@ use crate::sink::Sink;
 use crate::source::{Failed, Source};
 use std::alloc::{AllocError, Global};
 
-/// A source over bytes in memory, for tests: it gives at most `most` bytes a call, and fails at the first
-/// call after it has given `fails_after`.
+/// A source over bytes in memory, for tests: it gives at most `most` bytes a call, and fails at
+/// the first call after it has given `fails_after`.
 #[derive(Drop)]
 pub struct SliceSource<'a> {
     rest: &'a [u8],
@@ -44,11 +44,13 @@ impl Source for SliceSource<'_> {
 
     ghost remaining = { λ s. Some s.rest.now };
 
-    /// Gives as many bytes as it has, as fit, as it gives in a call and as it gives before it fails.
+    /// Gives as many bytes as it has, as fit, as it gives in a call and as it gives before it
+    /// fails.
     fn read(&mut self, buffer: &mut [u8]) -> Result<usize, Failed>
         requires { 0 < length buffer.old }
         ensures count { IfOk result (λ n. n ≤ length buffer.new) }
-        ensures bytes { IfOk result (λ n. Consumes (Some (told_by self.old)) (Some (told_by self.new)) (take n buffer.new)) }
+        ensures bytes { IfOk result (λ n.
+            Consumes (Some (told_by self.old)) (Some (told_by self.new)) (take n buffer.new)) }
         ensures end { result ≡ Ok 0 → IsAtEnd (Some (told_by self.new)) }
         ensures none_lost { OnErr result (Keeps (Some (told_by self.old)) (Some (told_by self.new))) }
         ensures unmarked { OnOk result (is_marked_source self.new ≡ is_marked_source self.old) }
@@ -77,8 +79,9 @@ impl Source for SliceSource<'_> {
     }
 }
 
-/// A sink into memory, for tests: it takes at most `most` bytes a call, and fails at the first call after
-/// it has taken `room`. Its room is reserved when it is made, so that its writes take no memory.
+/// A sink into memory, for tests: it takes at most `most` bytes a call, and fails at the first
+/// call after it has taken `room`. Its room is reserved when it is made, so that its writes take
+/// no memory.
 #[derive(Drop)]
 pub struct RoomSink {
     bytes: Vec<u8>,
@@ -129,7 +132,8 @@ impl Sink for RoomSink {
     fn write(&mut self, bytes: &[u8]) -> Result<usize, Failed>
         requires { 0 < length bytes.now }
         ensures count { IfOk result (λ n. (1 ≤ n) × (n ≤ length bytes.now)) }
-        ensures bytes { IfOk result (λ n. Appends (Some (taken_by self.old)) (Some (taken_by self.new)) (take n bytes.now)) }
+        ensures bytes { IfOk result (λ n.
+            Appends (Some (taken_by self.old)) (Some (taken_by self.new)) (take n bytes.now)) }
         ensures none { OnErr result (Keeps (Some (taken_by self.old)) (Some (taken_by self.new))) }
         ensures unmarked { OnOk result (is_marked_sink self.new ≡ is_marked_sink self.old) }
         ensures marked { OnErr result (is_marked_sink self.new ≡ true) }

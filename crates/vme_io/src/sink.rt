@@ -16,7 +16,8 @@ pub trait Sink {
     fn write(&mut self, bytes: &[u8]) -> Result<usize, Failed>
         requires { 0 < length bytes.now }
         ensures count { IfOk result (λ n. (1 ≤ n) × (n ≤ length bytes.now)) }
-        ensures bytes { IfOk result (λ n. Appends (contents self.old) (contents self.new) (take n bytes.now)) }
+        ensures bytes { IfOk result (λ n.
+            Appends (contents self.old) (contents self.new) (take n bytes.now)) }
         ensures none { OnErr result (Keeps (contents self.old) (contents self.new)) }
         ensures unmarked { OnOk result (is_marked self.new ≡ is_marked self.old) }
         ensures marked { OnErr result (is_marked self.new ≡ true) };

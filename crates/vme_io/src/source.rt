@@ -17,7 +17,8 @@ pub trait Source {
     fn read(&mut self, buffer: &mut [u8]) -> Result<usize, Failed>
         requires { 0 < length buffer.old }
         ensures count { IfOk result (λ n. n ≤ length buffer.new) }
-        ensures bytes { IfOk result (λ n. Consumes (remaining self.old) (remaining self.new) (take n buffer.new)) }
+        ensures bytes { IfOk result (λ n.
+            Consumes (remaining self.old) (remaining self.new) (take n buffer.new)) }
         ensures end { result ≡ Ok 0 → IsAtEnd (remaining self.new) }
         ensures none_lost { OnErr result (Keeps (remaining self.old) (remaining self.new)) }
         ensures unmarked { OnOk result (is_marked self.new ≡ is_marked self.old) }

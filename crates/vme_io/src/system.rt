@@ -4,8 +4,8 @@ use crate::sink::Sink;
 use crate::source::{Failed, Source};
 use std::io::{Read, Write};
 
-/// A reader or a writer of std as a device. It tells no bytes. It fails where the thing itself fails, an
-/// interrupted call included, and where a write takes no byte.
+/// A reader or a writer of std as a device. It tells no bytes. It fails where the thing itself
+/// fails, an interrupted call included, and where a write takes no byte.
 #[derive(Drop)]
 pub struct Io<T> {
     inner: T,
@@ -15,6 +15,7 @@ pub struct Io<T> {
 impl<T> Io<T> {
     ghost use Rattle.vme_io.specs.Devices.{mark_of, inner_of};
 
+    /// A device over a reader or a writer, with the mark clear.
     pub fn new(inner: T) -> Io<T>
         ensures unmarked { mark_of result ≡ false }
         ensures inner { inner_of result ≡ inner }
@@ -41,9 +42,11 @@ impl<T: Read> Source for Io<T> {
         ensures count { IfOk result (λ n. n ≤ length buffer.new) }
         ensures unmarked { OnOk result (mark_of self.new ≡ mark_of self.old) }
         ensures marked { OnErr result (mark_of self.new ≡ true) }
-        ensures inner { IfOk result (λ n. Consumes (T.remaining (inner_of self.old)) (T.remaining (inner_of self.new)) (take n buffer.new)) }
+        ensures inner { IfOk result (λ n.
+            Consumes (T.remaining (inner_of self.old)) (T.remaining (inner_of self.new)) (take n buffer.new)) }
         ensures inner_end { result ≡ Ok 0 → IsAtEnd (T.remaining (inner_of self.new)) }
-        ensures inner_kept { OnErr result (Keeps (T.remaining (inner_of self.old)) (T.remaining (inner_of self.new))) }
+        ensures inner_kept { OnErr result
+            (Keeps (T.remaining (inner_of self.old)) (T.remaining (inner_of self.new))) }
     {
         match self.inner.read(buffer) {
             Ok(count) => Ok(count),
@@ -70,8 +73,10 @@ impl<T: Write> Sink for Io<T> {
         ensures count { IfOk result (λ n. (1 ≤ n) × (n ≤ length bytes.now)) }
         ensures unmarked { OnOk result (mark_of self.new ≡ mark_of self.old) }
         ensures marked { OnErr result (mark_of self.new ≡ true) }
-        ensures inner { IfOk result (λ n. Appends (T.contents (inner_of self.old)) (T.contents (inner_of self.new)) (take n bytes.now)) }
-        ensures inner_kept { OnErr result (Keeps (T.contents (inner_of self.old)) (T.contents (inner_of self.new))) }
+        ensures inner { IfOk result (λ n.
+            Appends (T.contents (inner_of self.old)) (T.contents (inner_of self.new)) (take n bytes.now)) }
+        ensures inner_kept { OnErr result
+            (Keeps (T.contents (inner_of self.old)) (T.contents (inner_of self.new))) }
     {
         match self.inner.write(bytes) {
             Ok(count) if 0 < count => Ok(count),

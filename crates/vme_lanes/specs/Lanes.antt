@@ -4,26 +4,26 @@ use Rattle.std.specs.List.{list_all, filter_map}
 use Rattle.vme_lanes.specs.declared.location.Location.{Location}
 use Rattle.vme_lanes.specs.Rows.{row_of}
 
--- what a lane carries, where the bytes begin at lane first (IEEE 1014, section 2.2: the lowest address on the highest lane)
+-- what a lane carries, where the bytes begin at lane first (IEEE 1014, section 2.2.3: the lowest address on the highest lane)
 abbrev pub byte_on : ℕ → List ℕ → ℕ → Option ℕ
 byte_on first bytes lane = if nat_lt lane first then None else slice_get bytes (lane - first)
 
--- the four lanes, with bytes placed on those of a location
+-- the four lanes, with bytes placed on those of a location (IEEE 1014, section 2.2.3)
 abbrev pub placed : Location → List ℕ → List (Option ℕ)
 placed l bytes = map (byte_on (row_of l).lane bytes) (0 ∷ 1 ∷ 2 ∷ 3 ∷ [])
 
--- what the location's own lanes carry
+-- what the location's own lanes carry (IEEE 1014, section 2.2.3)
 abbrev pub carried : Location → List (Option ℕ) → List (Option ℕ)
 carried l lanes = slice_range lanes (row_of l).lane ((row_of l).lane + (row_of l).len)
 
--- whether each of them carries a byte
+-- whether each of them carries a byte (this project's own)
 abbrev pub carries : Location → List (Option ℕ) → Bool
 carries l lanes = list_all is_some (carried l lanes)
 
--- the bytes on some lanes, in order
+-- the bytes on some lanes, in order (this project's own)
 abbrev pub bytes_of : List (Option ℕ) → List ℕ
 bytes_of lanes = filter_map (λ lane. lane) lanes
 
--- the bytes on the location's own lanes, in order of address
+-- the bytes on the location's own lanes, in order of address (IEEE 1014, section 2.2.3)
 abbrev pub picked : Location → List (Option ℕ) → List ℕ
 picked l lanes = bytes_of (carried l lanes)

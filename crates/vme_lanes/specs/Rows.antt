@@ -6,26 +6,27 @@ use Rattle.vme_lanes.specs.declared.location.Location.TheVariants.{Byte0, Byte1,
 use Rattle.vme_lanes.specs.declared.location.Strobes.{Strobes}
 
 -- one row of the table: its first byte, its length, its strobes, and its first lane, counted from D31-D24
--- (IEEE 1014, section 2.2)
+-- (IEEE 1014, section 2.2.1)
 pub record Row : Type 0 where
   pub first : ℕ
   pub len : ℕ
   pub strobes : Strobes
   pub lane : ℕ
 
--- the levels of a line
+-- the levels of a line: high (this project's own)
 abbrev pub H : Bool
 H = true
 
+-- and low (this project's own)
 abbrev pub L : Bool
 L = false
 
--- a row, by place: first byte, length, DS1*, DS0*, A01, LWORD*, first lane
+-- a row, by place: first byte, length, DS1*, DS0*, A01, LWORD*, first lane (this project's own)
 abbrev pub row : ℕ → ℕ → Bool → Bool → Bool → Bool → ℕ → Row
 row first len ds1 ds0 a01 lword lane =
     record { first = first; len = len; strobes = record { ds1 = ds1; ds0 = ds0; a01 = a01; lword = lword }; lane = lane }
 
--- the byte location table (IEEE 1014, section 2.2)
+-- the byte location table (IEEE 1014, section 2.2.1)
 abbrev pub row_of : Location → Row
 row_of Byte0 = row 0 1 L H L H 2
 row_of Byte1 = row 1 1 H L L H 3
@@ -35,18 +36,18 @@ row_of Bytes01 = row 0 2 L L L H 2
 row_of Bytes23 = row 2 2 L L H H 2
 row_of Bytes03 = row 0 4 L L L L 0
 
--- all rows, for looking one up
+-- all rows, for looking one up (IEEE 1014, section 2.2.1)
 abbrev pub locations : List Location
 locations = Byte0 ∷ Byte1 ∷ Byte2 ∷ Byte3 ∷ Bytes01 ∷ Bytes23 ∷ Bytes03 ∷ []
 
--- all four lines have the same level
+-- all four lines have the same level (this project's own)
 abbrev pub same_strobes : Strobes → Strobes → Bool
 same_strobes a b = beq a.ds1 b.ds1 && beq a.ds0 b.ds0 && beq a.a01 b.a01 && beq a.lword b.lword
 
--- the row that has n bytes from an address on (IEEE 1014, section 2.2)
+-- the row that has n bytes from an address on (IEEE 1014, section 2.2.1)
 unfoldable pub location_at : ℕ → ℕ → Option Location
 location_at addr n = find (λ l. (row_of l).first == addr % 4 && (row_of l).len == n) locations
 
--- the row that has these strobes (IEEE 1014, section 2.2)
+-- the row that has these strobes (IEEE 1014, section 2.2.1)
 unfoldable pub location_sensed : Strobes → Option Location
 location_sensed strobes = find (λ l. same_strobes (row_of l).strobes strobes) locations

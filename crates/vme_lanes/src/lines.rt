@@ -12,6 +12,7 @@ pub type Datum = ArrayVec<u8, 8>;
 /// The data lines by lanes, from D31-D24 to D07-D00: each carries a byte or nothing.
 #[derive(Clone, Copy, Debug, PartialEq, Eq)]
 pub struct DataLines {
+    /// D31-D24, D23-D16, D15-D08 and D07-D00.
     pub lanes: [Option<u8>; 4],
 }
 
@@ -73,6 +74,8 @@ pub fn pick(location: Location, lines: DataLines) -> Datum
 
 /// What is placed on the lanes of a location is picked from them.
 pub fn placed_is_picked()
-    ensures carries { (l : Location) (bytes : List ℕ) → length bytes ≡ (row_of l).len → IsTrue (carries l (placed l bytes)) }
-    ensures picked { (l : Location) (bytes : List ℕ) → length bytes ≡ (row_of l).len → picked l (placed l bytes) ≡ bytes }
+    ensures carries { (l : Location) (bytes : List ℕ) →
+        length bytes ≡ (row_of l).len → IsTrue (carries l (placed l bytes)) }
+    ensures picked { (l : Location) (bytes : List ℕ) →
+        length bytes ≡ (row_of l).len → picked l (placed l bytes) ≡ bytes }
 {}

@@ -4,17 +4,22 @@ ghost use Rattle.vme_lanes.specs.Rows.{row_of, location_at, location_sensed};
 /// The bytes of a group of four that one cycle reaches, by their addresses modulo four.
 #[derive(Clone, Copy, Debug, PartialEq, Eq)]
 pub enum Location {
+    /// BYTE(0), and so on.
     Byte0,
     Byte1,
     Byte2,
     Byte3,
+    /// BYTE(0-1)
     Bytes01,
+    /// BYTE(2-3)
     Bytes23,
+    /// BYTE(0-3)
     Bytes03,
 }
 
 impl Location {
-    /// The location of `n` bytes from `addr` on, or `None` where no single cycle reaches these bytes.
+    /// The location of `n` bytes from `addr` on, or `None` where no single cycle reaches these
+    /// bytes.
     #[tactic(auto, unfolding(crate::specs::Rows::location_at))]
     pub fn of(addr: u32, n: u8) -> Option<Location>
         ensures value { result ≡ location_at addr n }
@@ -88,9 +93,12 @@ impl Location {
 /// The levels of the lines that choose byte locations; `true` is high.
 #[derive(Clone, Copy, Debug, PartialEq, Eq)]
 pub struct Strobes {
+    /// DS1*
     pub ds1: bool,
+    /// DS0*
     pub ds0: bool,
     pub a01: bool,
+    /// LWORD*
     pub lword: bool,
 }
 

@@ -11,10 +11,10 @@ pub record Board : Type 0 where
 abbrev pub is_board_size : ℕ → Bool
 is_board_size size = nat_le 4 size && nat_le size 1048576 && size % 4 == 0
 
--- that many zero bytes
+-- that many zero bytes (this project's own)
 unfoldable pub zeros : ℕ → List ℕ
 zeros size = replicate size 0
 
--- the bytes with new ones in the place of those from at on
+-- the bytes with new ones in the place of those from at on (this project's own)
 abbrev pub overwritten : List ℕ → ℕ → List ℕ → List ℕ
 overwritten bytes at new = take at bytes ++ new ++ drop (at + length new) bytes

@@ -6,19 +6,19 @@ use Rattle.vme_memory.specs.declared.class.Class.{Class}
 use Rattle.vme_memory.specs.declared.class.Width8To32.{Width8To32}
 use Rattle.vme_memory.specs.declared.class.Width8To32.TheVariants.{D08, D16, D32}
 
--- the widths that answer double bytes (IEEE 1014, section 2.2: D16 slaves and wider)
+-- the widths that answer double bytes (IEEE 1014, section 2.3.6: D16 slaves and wider)
 abbrev pub answers_doubles : Width8To32 → Bool
 answers_doubles D08 = false
 answers_doubles D16 = true
 answers_doubles D32 = true
 
--- the widths that answer quad bytes (IEEE 1014, section 2.2: D32 slaves)
+-- the widths that answer quad bytes (IEEE 1014, section 2.3.6: D32 slaves)
 abbrev pub answers_quads : Width8To32 → Bool
 answers_quads D08 = false
 answers_quads D16 = false
 answers_quads D32 = true
 
--- whether a class is able to answer a location
+-- whether a class is able to answer a location (IEEE 1014, section 2.3.6)
 abbrev pub answers : Class → Location → Bool
 answers class Byte0 = true
 answers class Byte1 = true

@@ -16,6 +16,7 @@ use vme_lanes::{DataLines, Datum, Location, pick};
 pub enum MemoryFault {
     /// C5: not from 4 to 1,048,576 bytes, or no multiple of four.
     BadSize,
+    /// There is no memory for the bytes.
     OutOfMemory,
 }
 
@@ -72,8 +73,9 @@ impl ByteMemory {
         self.bytes.get(offset as usize).copied()
     }
 
-    /// Answers the cycle that the signals show, with its first byte at offset `at`. The reply and the
-    /// memory after it are those of the command that the cycle stands for; after `Berr` nothing has changed.
+    /// Answers the cycle that the signals show, with its first byte at offset `at`. The reply and
+    /// the memory after it are those of the command that the cycle stands for; after `Berr`
+    /// nothing has changed.
     #[tactic(auto, unfolding(crate::specs::Steps::cycle))]
     pub fn cycle(&mut self, signals: &Signals, at: u32) -> Reply
         ensures reply { result ≡ (cycle self.old signals.now at).0 }
@@ -105,7 +107,8 @@ impl ByteMemory {
     fn read(&self, location: Location, at: u32) -> Reply
         requires { (row_of location).first ≡ at % 4 }
         ensures reply { result ≡ (step self.now (Read at (row_of location).len)).0 }
-        ensures len { (strobes : Strobes) → location_sensed strobes ≡ Some location → HasLen result strobes }
+        ensures len { (strobes : Strobes) → location_sensed strobes ≡ Some location →
+            HasLen result strobes }
     {
         if !self.can_answer(location, at) {
             return Reply::Berr;
@@ -148,7 +151,10 @@ fn overwrite(bytes: &mut [u8], at: usize, new: &[u8])
 
 /// What is written is read again, and all other bytes stay.
 pub fn written_is_read()
-    ensures same { (bytes new : List ℕ) (at : ℕ) → at + length new ≤ length bytes → slice_range (overwritten bytes at new) at (at + length new) ≡ new }
-    ensures others { (bytes new : List ℕ) (at k : ℕ) → at + length new ≤ length bytes → (k < at) ⊎ (at + length new ≤ k) → slice_get (overwritten bytes at new) k ≡ slice_get bytes k }
-    ensures len { (bytes new : List ℕ) (at : ℕ) → at + length new ≤ length bytes → length (overwritten bytes at new) ≡ length bytes }
+    ensures same { (bytes new : List ℕ) (at : ℕ) → at + length new ≤ length bytes →
+        slice_range (overwritten bytes at new) at (at + length new) ≡ new }
+    ensures others { (bytes new : List ℕ) (at k : ℕ) → at + length new ≤ length bytes → (k < at) ⊎ (at + length new ≤ k) →
+        slice_get (overwritten bytes at new) k ≡ slice_get bytes k }
+    ensures len { (bytes new : List ℕ) (at : ℕ) → at + length new ≤ length bytes →
+        length (overwritten bytes at new) ≡ length bytes }
 {}

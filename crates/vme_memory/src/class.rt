@@ -5,7 +5,9 @@ use vme_lanes::Location;
 pub enum Width8To32 {
     /// Single even and odd bytes, D08(EO).
     D08,
+    /// Double bytes too.
     D16,
+    /// Quad bytes too.
     D32,
 }
 

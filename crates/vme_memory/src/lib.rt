@@ -1,5 +1,5 @@
 //! The memory of one board, and how its slave answers the cycles of the data transfer bus
-//! (ANSI/IEEE Std 1014-1987, section 2.2: D08(EO), D16 and D32 slaves).
+//! (ANSI/IEEE Std 1014-1987, section 2.3.6: D08(EO), D16 and D32 slaves).
 #![tactic(auto)]
 
 mod board;

@@ -1,5 +1,6 @@
 use Rattle.std.proofs.Common.{◌≡◌, ◌+◌, ◌*◌, ◌≤◌, length}
-use Rattle.vme.specs.Numbers.{hex_pairs, with_front}
+use Rattle.vme.specs.Numbers.{hex_pairs}
+use Rattle.vme.proofs.Digits.{with_front}
 use Rattle.vme.proofs.numbers.hex_bytes.Given as goal
 
 -- the bytes so far, with those that the rest spells, are those of the word
