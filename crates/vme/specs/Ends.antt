@@ -1,5 +1,7 @@
 -- How a run ends: its faults by the part of the run that they come from, and the exit status.
-use Rattle.std.specs.Prelude.{ℕ, Result, Ok, Err}
+use Rattle.std.specs.Prelude.{◌≡◌, ℕ, ◌+◌, List, length, Option, Result, Ok, Err}
+use Rattle.std.specs.Io.KnownBytes.{Consumes}
+use Rattle.vme.specs.declared.engine.TheConstants.{INPUT_LIMIT}
 use Rattle.vme.specs.declared.status.Status.{Status}
 use Rattle.vme.specs.declared.status.Status.TheVariants.{Clean, Marked}
 use Rattle.vme.specs.declared.status.ProgramFault.{ProgramFault}
@@ -33,6 +35,10 @@ IsReadingFault (Err Read) = Unit {0}
 IsReadingFault (Err TooLong) = Unit {0}
 IsReadingFault (Err Write) = ⊥
 IsReadingFault (Err Memory) = ⊥
+
+-- just one byte more was read than an input may have (this project's own)
+abbrev pub ReadsPastLimit : Option (List ℕ) → Option (List ℕ) → Type 0
+ReadsPastLimit old new = (bytes : List ℕ) × (length bytes ≡ INPUT_LIMIT + 1) × Consumes old new bytes
 
 -- the exit status of the program (this project's own)
 abbrev pub exit_status_of : Result Status ProgramFault → ℕ

@@ -1,5 +1,5 @@
 -- Numbers and bytes as words of a line.
-use Rattle.std.specs.Prelude.{ℕ, ◌+◌, ◌-◌, ◌*◌, nat_le, ◌==◌, ◌&&◌, if◌then◌else◌, List, [], ◌∷◌, ◌++◌, length, slice_index, Option, Some, None}
+use Rattle.std.specs.Prelude.{ℕ, ◌+◌, ◌-◌, ◌*◌, nat_le, ◌==◌, ◌&&◌, if◌then◌else◌, List, [], ◌∷◌, length, slice_index, Option, Some, None}
 use Rattle.std.specs.Option.{option_map, option_and_then}
 
 -- the value of a hexadecimal digit of either case: 0 to 9, a to f, A to F (this project's own)

@@ -3,7 +3,7 @@ ghost use Rattle.std.specs.Prelude.{◌≡◌, ◌++◌, ◌<◌, ◌≤◌, Err
 ghost use Rattle.std.specs.Io.KnownBytes.{Appends};
 ghost use Rattle.vme_io.specs.Fronts.{AppendsFront};
 ghost use Rattle.vme.specs.Engine.{fresh_board, cycles_text, cycles_status};
-ghost use Rattle.vme.specs.Ends.{IsInputFault, IsAnswerFault, IsReadingFault};
+ghost use Rattle.vme.specs.Ends.{IsInputFault, IsAnswerFault, IsReadingFault, ReadsPastLimit};
 
 use crate::answer::{BOARD_SIZE, answer_line};
 use crate::lines::Lines;
@@ -46,9 +46,13 @@ pub fn cycles_engine<R: Source, W: Sink>(
     ensures read { result ≡ Err ProgramFault.Read → R.is_marked reader.new ≡ true }
     ensures too_long { result ≡ Err ProgramFault.TooLong →
         IfSome (R.remaining reader.old) (λ input. INPUT_LIMIT < length input) }
-    ensures within { IfSome (R.remaining reader.old) (λ input. OnOk result (length input ≤ INPUT_LIMIT)) }
+    ensures no_further { result ≡ Err ProgramFault.TooLong →
+        ReadsPastLimit (R.remaining reader.old) (R.remaining reader.new) }
+    ensures within { IfSome (R.remaining reader.old) (λ input.
+        OnOk result (length input ≤ INPUT_LIMIT)) }
     ensures write { result ≡ Err ProgramFault.Write → W.is_marked writer.new ≡ true }
-    ensures unmarked { OnOk result ((R.is_marked reader.new ≡ false) × (W.is_marked writer.new ≡ false)) }
+    ensures unmarked { OnOk result
+        ((R.is_marked reader.new ≡ false) × (W.is_marked writer.new ≡ false)) }
 {
     let input = read_input(alloc, reader)?;
     answer_all(alloc, input.as_slice(), writer)
@@ -61,6 +65,8 @@ fn read_input<R: Source>(alloc: Global, reader: &mut R) -> Result<Vec<u8>, Progr
     ensures limit { IfOk result (λ input. vec_len input ≤ INPUT_LIMIT) }
     ensures too_long { result ≡ Err ProgramFault.TooLong →
         IfSome (R.remaining reader.old) (λ bytes. INPUT_LIMIT < length bytes) }
+    ensures no_further { result ≡ Err ProgramFault.TooLong →
+        ReadsPastLimit (R.remaining reader.old) (R.remaining reader.new) }
     ensures read { result ≡ Err ProgramFault.Read → R.is_marked reader.new ≡ true }
     ensures unmarked { OnOk result (R.is_marked reader.new ≡ R.is_marked reader.old) }
     ensures faults { IfErr result IsInputFault }
@@ -68,13 +74,15 @@ fn read_input<R: Source>(alloc: Global, reader: &mut R) -> Result<Vec<u8>, Progr
     let mut input = Vec::new(alloc);
     let mut chunk = [0; READ_SIZE];
     loop {
-        let Ok(count) = reader.read(&mut chunk) else {
+        let room = READ_SIZE.min(INPUT_LIMIT + 1 - input.len());
+        let buffer = &mut chunk[..room];
+        let Ok(count) = reader.read(buffer) else {
             return Err(ProgramFault::Read);
         };
         if count == 0 {
             return Ok(input);
         }
-        input.extend_from_slice(chunk.split_at(count).0)?;
+        input.extend_from_slice(buffer.split_at(count).0)?;
         if INPUT_LIMIT < input.len() {
             return Err(ProgramFault::TooLong);
         }

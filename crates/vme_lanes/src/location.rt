@@ -4,10 +4,13 @@ ghost use Rattle.vme_lanes.specs.Rows.{row_of, location_at, location_sensed};
 /// The bytes of a group of four that one cycle reaches, by their addresses modulo four.
 #[derive(Clone, Copy, Debug, PartialEq, Eq)]
 pub enum Location {
-    /// BYTE(0), and so on.
+    /// BYTE(0)
     Byte0,
+    /// BYTE(1)
     Byte1,
+    /// BYTE(2)
     Byte2,
+    /// BYTE(3)
     Byte3,
     /// BYTE(0-1)
     Bytes01,
@@ -97,6 +100,7 @@ pub struct Strobes {
     pub ds1: bool,
     /// DS0*
     pub ds0: bool,
+    /// A01
     pub a01: bool,
     /// LWORD*
     pub lword: bool,

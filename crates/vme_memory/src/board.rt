@@ -153,7 +153,8 @@ fn overwrite(bytes: &mut [u8], at: usize, new: &[u8])
 pub fn written_is_read()
     ensures same { (bytes new : List ℕ) (at : ℕ) → at + length new ≤ length bytes →
         slice_range (overwritten bytes at new) at (at + length new) ≡ new }
-    ensures others { (bytes new : List ℕ) (at k : ℕ) → at + length new ≤ length bytes → (k < at) ⊎ (at + length new ≤ k) →
+    ensures others { (bytes new : List ℕ) (at k : ℕ) → at + length new ≤ length bytes →
+        (k < at) ⊎ (at + length new ≤ k) →
         slice_get (overwritten bytes at new) k ≡ slice_get bytes k }
     ensures len { (bytes new : List ℕ) (at : ℕ) → at + length new ≤ length bytes →
         length (overwritten bytes at new) ≡ length bytes }

@@ -14,6 +14,7 @@ pub enum Width8To32 {
 /// What a board's slave is able to answer.
 #[derive(Clone, Copy, Debug, PartialEq, Eq)]
 pub struct Class {
+    /// How wide its cycles are at most.
     pub width: Width8To32,
     /// Unaligned cycles.
     pub uat: bool,
