@@ -22,19 +22,19 @@ abbrev pub L : Bool
 L = false
 
 -- a row, by place: first byte, length, DS1*, DS0*, A01, LWORD*, first lane (this project's own)
-abbrev pub row : ℕ → ℕ → Bool → Bool → Bool → Bool → ℕ → Row
-row first len ds1 ds0 a01 lword lane =
+abbrev pub row_with : ℕ → ℕ → Bool → Bool → Bool → Bool → ℕ → Row
+row_with first len ds1 ds0 a01 lword lane =
     record { first = first; len = len; strobes = record { ds1 = ds1; ds0 = ds0; a01 = a01; lword = lword }; lane = lane }
 
 -- the byte location table (IEEE 1014, section 2.2.1)
 abbrev pub row_of : Location → Row
-row_of Byte0 = row 0 1 L H L H 2
-row_of Byte1 = row 1 1 H L L H 3
-row_of Byte2 = row 2 1 L H H H 2
-row_of Byte3 = row 3 1 H L H H 3
-row_of Bytes01 = row 0 2 L L L H 2
-row_of Bytes23 = row 2 2 L L H H 2
-row_of Bytes03 = row 0 4 L L L L 0
+row_of Byte0 = row_with 0 1 L H L H 2
+row_of Byte1 = row_with 1 1 H L L H 3
+row_of Byte2 = row_with 2 1 L H H H 2
+row_of Byte3 = row_with 3 1 H L H H 3
+row_of Bytes01 = row_with 0 2 L L L H 2
+row_of Bytes23 = row_with 2 2 L L H H 2
+row_of Bytes03 = row_with 0 4 L L L L 0
 
 -- all rows, for looking one up (IEEE 1014, section 2.2.1)
 abbrev pub locations : List Location
