@@ -1,5 +1,5 @@
-ghost use Rattle.std.specs.Prelude.{◌≡◌, ◌<◌, ◌≤◌, ◌↔◌, IsOk};
-ghost use Rattle.vme_cycle.specs.Lawful.{Cycle, cycle_of, IsLawful};
+ghost use Rattle.std.specs.Prelude.{◌≡◌, ◌<◌, ◌≤◌, ◌↔◌, Some, None, IsOk, IfErr};
+ghost use Rattle.vme_cycle.specs.Lawful.{first_refusal, cycle_of};
 ghost use Rattle.vme_cycle.specs.Plans.{datum_count, signals_of};
 
 use crate::fault::CycleFault;
@@ -40,10 +40,11 @@ impl<'a> Model for Plan<'a> {
 
 impl<'a> Plan<'a> {
     /// The plan of a lawful request, or else the first refusal.
-    #[tactic(auto, unfolding(crate::specs::Lawful::cycle_of))]
+    #[tactic(auto, unfolding(crate::specs::Lawful::cycle_of, crate::specs::Lawful::first_refusal))]
     pub fn of(request: &'a Request) -> Result<Plan<'a>, CycleFault>
         ensures plan { result ≡ cycle_of request.now }
-        ensures lawful { IsOk result ↔ IsLawful request.now }
+        ensures lawful { IsOk result ↔ (first_refusal request.now ≡ None) }
+        ensures refused { IfErr result (λ fault. first_refusal request.now ≡ Some fault) }
     {
         let am = Am::from_code(request.code())?;
         if am.kind().is_block() {
