@@ -100,7 +100,7 @@ pub enum AmFault {
 }
 
 /// An address modifier: a code of the table, with what the table says of it.
-#[derive(Clone, Copy, Debug)]
+#[derive(Clone, Copy, Debug, PartialEq, Eq)]
 pub struct Am {
     code: u8,
     space: Space,

@@ -44,7 +44,7 @@ refusals request =
     ∷ where_true (is_none (location_at (addr_of request) (len_of request))) NoCycle
     ∷ []
 
--- the first that there is
+-- the first that there is (this project's own)
 abbrev pub first_of : List (Option CycleFault) → Option CycleFault
 first_of [] = None
 first_of (Some fault ∷ more) = Some fault

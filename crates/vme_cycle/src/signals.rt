@@ -8,7 +8,7 @@ use vme_lanes::{DataLines, Location, Strobes, place};
 
 /// The lines of one cycle: the address modifier, the address lines from A02 up, the strobes with
 /// A01 and LWORD*, WRITE*, and the data lines. The strobes are always those of a byte location.
-#[derive(Debug, Drop)]
+#[derive(Clone, Copy, Debug)]
 pub struct Signals {
     am: Am,
     addr: u32,
@@ -19,9 +19,11 @@ pub struct Signals {
 
 impl Model for Signals {
     ghost use Rattle.std.specs.Prelude.{◌≡◌, ◌%◌, ◌<◌};
+    ghost use Rattle.std.proofs.Common.{ap};
     ghost use Rattle.vme_am.specs.Spaces.{addresses_of};
     ghost use Rattle.vme_lanes.specs.Rows.{row_of};
     ghost use Rattle.vme_cycle.specs.SignalLines.{SignalLines};
+    ghost use Rattle.vme_cycle.specs.Inverse.{location_of, location_of-strobes};
 
     ghost Value = { SignalLines };
 
@@ -34,6 +36,16 @@ impl Model for Signals {
     } };
 
     ghost invariant = { λ s. (s.addr % 4 ≡ 0) × (s.addr < addresses_of s.am.space) };
+
+    ghost inverse = { λ v. record {
+      am = v.am;
+      addr = v.addr;
+      location = location_of v.strobes;
+      write = v.write;
+      lines = record { lanes = v.lanes };
+    } };
+
+    ghost inverse_ok = { λ s _. ap (λ l. record s { location = l }) (location_of-strobes s.location) };
 }
 
 impl Signals {
