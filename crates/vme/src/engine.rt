@@ -1,5 +1,5 @@
 //! The engine of `vme cycles`: from the bytes of its input to the bytes of its output.
-ghost use Rattle.std.specs.Prelude.{◌≡◌, ◌++◌, ◌<◌, ◌≤◌, Err, false, true, length, vec_len, IfOk, IfErr, IfSome, OnOk, OnErr};
+ghost use Rattle.std.specs.Prelude.{◌≡◌, ◌<◌, ◌≤◌, Err, false, true, length, vec_len, IfOk, IfErr, IfSome, OnOk, OnErr};
 ghost use Rattle.std.specs.Io.KnownBytes.{Appends};
 ghost use Rattle.vme_io.specs.Fronts.{AppendsFront};
 ghost use Rattle.vme.specs.Engine.{fresh_board, cycles_text, cycles_status};

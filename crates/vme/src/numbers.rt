@@ -1,5 +1,5 @@
 //! Numbers and bytes as words of a line.
-ghost use Rattle.std.specs.Prelude.{◌≡◌, ◌<◌, ◌≤◌, ◌^◌, length, IfSome};
+ghost use Rattle.std.specs.Prelude.{◌≡◌, ◌<◌, ◌≤◌, ◌^◌, IfSome};
 ghost use Rattle.std.specs.Option.{option_map};
 ghost use Rattle.vme.specs.Numbers.{hex_digit, hex_number, hex_bytes, small_number};
 

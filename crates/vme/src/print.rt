@@ -1,7 +1,6 @@
 //! The text of signals, replies and refusals, appended to a buffer.
 ghost use Rattle.std.specs.Prelude.{◌≡◌, ◌++◌, ◌<◌, [], ◌∷◌, OnOk, codes};
-ghost use Rattle.std.specs.Int.{w32, to_be_bytes};
-ghost use Rattle.vme.specs.Texts.{digit, hex_byte, hex_text, level, level_text, lane_text, lanes_text, address_text, levels_text, data_text, signals_text, reply_text, cycle_fault_text, line_fault_text, ended};
+ghost use Rattle.vme.specs.Texts.{digit, hex_byte, hex_text, level_text, lanes_text, address_text, levels_text, data_text, signals_text, reply_text, cycle_fault_text, line_fault_text, ended};
 
 use crate::parse::LineFault;
 use std::alloc::AllocError;

@@ -1,5 +1,4 @@
-ghost use Rattle.std.specs.Prelude.{◌≡◌, ◌↔◌, ◌+◌, ◌%◌, ◌≤◌, ◌<◌, ◌⊎◌, ℕ, List, length, slice_get, slice_range, true, false, Some, IsTrue, IfOk, OnOk, IsErrOf};
-ghost use Rattle.vme_lanes.specs.declared.location.Location.{Location};
+ghost use Rattle.std.specs.Prelude.{◌≡◌, ◌↔◌, ◌+◌, ◌%◌, ◌≤◌, length, slice_get, true, false, Some, IfOk, OnOk, IsErrOf};
 ghost use Rattle.vme_lanes.specs.declared.location.Strobes.{Strobes};
 ghost use Rattle.vme_lanes.specs.Rows.{row_of, location_sensed};
 ghost use Rattle.vme_memory.specs.Boards.{is_board_size, zeros, overwritten};
@@ -148,14 +147,3 @@ fn overwrite(bytes: &mut [u8], at: usize, new: &[u8])
 {
     bytes[at..at + new.len()].copy_from_slice(new);
 }
-
-/// What is written is read again, and all other bytes stay.
-pub fn written_is_read()
-    ensures same { (bytes new : List ℕ) (at : ℕ) → at + length new ≤ length bytes →
-        slice_range (overwritten bytes at new) at (at + length new) ≡ new }
-    ensures others { (bytes new : List ℕ) (at k : ℕ) → at + length new ≤ length bytes →
-        (k < at) ⊎ (at + length new ≤ k) →
-        slice_get (overwritten bytes at new) k ≡ slice_get bytes k }
-    ensures len { (bytes new : List ℕ) (at : ℕ) → at + length new ≤ length bytes →
-        length (overwritten bytes at new) ≡ length bytes }
-{}

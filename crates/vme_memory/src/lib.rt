@@ -4,8 +4,10 @@
 
 mod board;
 mod class;
+mod laws;
 mod reply;
 
-pub use board::{ByteMemory, MemoryFault, written_is_read};
+pub use board::{ByteMemory, MemoryFault};
 pub use class::{Class, Width8To32};
+pub use laws::{bytes_are_overwritten, written_is_read};
 pub use reply::Reply;
