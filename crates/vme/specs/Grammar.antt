@@ -23,23 +23,28 @@ three (a ∷ b ∷ []) = None
 three (a ∷ b ∷ c ∷ []) = Some (a, b, c)
 three (a ∷ b ∷ c ∷ d ∷ more) = None
 
+-- the code and the address that two words spell: AM ADDR (this project's own)
+unfoldable pub place_of : List ℕ → List ℕ → Result (ℕ × ℕ) LineFault
+place_of am addr = do
+  code ← ok_or (hex_number 2 am) BadCode
+  address ← ok_or (hex_number 8 addr) BadAddress
+  Ok (code, address)
+
 -- what the words after `r` ask for: AM ADDR N (this project's own)
 unfoldable pub read_request : List (List ℕ) → Result Request LineFault
 read_request words = do
   three ← ok_or (three words) WordCount
-  am ← ok_or (hex_number 2 three.0) BadCode
-  addr ← ok_or (hex_number 8 three.1) BadAddress
+  place ← place_of three.0 three.1
   n ← ok_or (small_number three.2) BadNumber
-  Ok (Read am addr n)
+  Ok (Read place.0 place.1 n)
 
 -- what the words after `w` ask for: AM ADDR HEX (this project's own)
 unfoldable pub write_request : List (List ℕ) → Result Request LineFault
 write_request words = do
   three ← ok_or (three words) WordCount
-  am ← ok_or (hex_number 2 three.0) BadCode
-  addr ← ok_or (hex_number 8 three.1) BadAddress
+  place ← place_of three.0 three.1
   bytes ← ok_or (hex_bytes three.2) BadBytes
-  Ok (Write am addr (record { items = bytes }))
+  Ok (Write place.0 place.1 (record { items = bytes }))
 
 -- a line that asks for something (this project's own)
 abbrev pub asks : Result Request LineFault → Result (Option Request) LineFault

@@ -2,7 +2,7 @@
 ghost use Rattle.std.specs.Prelude.{◌≡◌};
 ghost use Rattle.std.specs.Option.{option_map};
 ghost use Rattle.vme.specs.Words.{words};
-ghost use Rattle.vme.specs.Grammar.{three, read_request, write_request, line_request};
+ghost use Rattle.vme.specs.Grammar.{three, place_of, read_request, write_request, line_request};
 
 use crate::lines::Words;
 use crate::numbers::{hex_bytes, hex_number, small_number};
@@ -75,14 +75,23 @@ fn three_words(mut operands: Words<'_>) -> Option<(&[u8], &[u8], &[u8])>
     }
 }
 
+/// The code and the address that two words spell.
+#[tactic(auto, unfolding(crate::specs::Grammar::place_of))]
+fn place_of(am: &[u8], addr: &[u8]) -> Result<(u8, u32), LineFault>
+    ensures { result ≡ place_of am.now addr.now }
+{
+    let am = hex_number(2, am).ok_or(LineFault::BadCode)? as u8;
+    let addr = hex_number(8, addr).ok_or(LineFault::BadAddress)?;
+    Ok((am, addr))
+}
+
 /// What the words after `r` ask for.
 #[tactic(auto, unfolding(crate::specs::Grammar::read_request))]
 fn read_request(operands: Words<'_>) -> Result<Request, LineFault>
     ensures { result ≡ read_request (words operands.entry.rest.now) }
 {
     let (am, addr, n) = three_words(operands).ok_or(LineFault::WordCount)?;
-    let am = hex_number(2, am).ok_or(LineFault::BadCode)? as u8;
-    let addr = hex_number(8, addr).ok_or(LineFault::BadAddress)?;
+    let (am, addr) = place_of(am, addr)?;
     let n = small_number(n).ok_or(LineFault::BadNumber)?;
     Ok(Request::Read { am, addr, n })
 }
@@ -93,8 +102,7 @@ fn write_request(operands: Words<'_>) -> Result<Request, LineFault>
     ensures { result ≡ write_request (words operands.entry.rest.now) }
 {
     let (am, addr, bytes) = three_words(operands).ok_or(LineFault::WordCount)?;
-    let am = hex_number(2, am).ok_or(LineFault::BadCode)? as u8;
-    let addr = hex_number(8, addr).ok_or(LineFault::BadAddress)?;
+    let (am, addr) = place_of(am, addr)?;
     let bytes = hex_bytes(bytes).ok_or(LineFault::BadBytes)?;
     Ok(Request::Write { am, addr, bytes })
 }
