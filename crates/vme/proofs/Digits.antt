@@ -1,6 +1,5 @@
 -- Digits read one after another.
-use Rattle.std.proofs.Common.{◌≡◌, ℕ, ◌+◌, ◌*◌, ◌^◌, ◌<◌, ◌≤◌, List, [], ◌∷◌, ◌++◌, length, get_or, drop, Option, None, Some, option_map, refl, ap, ◌∙◌, append_assoc, arith}
-use Rattle.std.proofs.Math.Nat.{pow-le-pow_right}
+use Rattle.std.proofs.Common.{◌≡◌, ℕ, ◌+◌, ◌*◌, ◌≤◌, List, [], ◌∷◌, ◌++◌, length, get_or, drop, Option, None, Some, option_map, refl, ap, ◌∙◌, append_assoc, arith}
 use Rattle.vme.specs.Numbers.{hex_digit, hex_pairs}
 
 -- some bytes, and then those that were read
@@ -23,9 +22,3 @@ hex_pairs-more bytes new (c ∷ d ∷ cs) tail high low long first second pushed
     ∙ ap (λ t. with_front (bytes ++ (16 * high + low) ∷ []) (hex_pairs t)) cut
     ∙ with_front-append bytes ((16 * high + low) ∷ []) (hex_pairs cs)
     ∙ rw (first, second) refl
-
--- a number of fewer than eight digits has room for one more
-pub below_28_bits : (n i : ℕ) → n < 16 ^ i → i < 8 → n < 2 ^ 28
-below_28_bits n i small few =
-    let high : 16 ^ i ≤ 16 ^ 7 = pow-le-pow_right {n = 16} (omega arith) {i = i} {j = 7} (omega arith) in
-    omega (arith, high, small)

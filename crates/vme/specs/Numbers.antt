@@ -25,12 +25,29 @@ hex_pairs (c ∷ []) = None
 hex_pairs (c ∷ d ∷ cs) =
     option_and_then (λ high. option_and_then (λ low. option_map (λ bytes. (16 * high + low) ∷ bytes) (hex_pairs cs)) (hex_digit d)) (hex_digit c)
 
--- the one to eight bytes that a word spells (this project's own)
-unfoldable pub hex_bytes : List ℕ → Option (List ℕ)
-hex_bytes word = if nat_le 1 (length word) && nat_le (length word) 16 then hex_pairs word else None
+-- the bytes that a word spells, from one to so many (this project's own)
+unfoldable pub hex_bytes : ℕ → List ℕ → Option (List ℕ)
+hex_bytes most word = if nat_le 1 (length word) && nat_le (length word) (2 * most) then hex_pairs word else None
+
+-- the bytes that a word spells, just so many and at most eight (this project's own)
+unfoldable pub exact_bytes : ℕ → List ℕ → Option (List ℕ)
+exact_bytes len word = if length word == 2 * len then hex_bytes 8 word else None
 
 -- the number that one digit from 1 to 8 spells (this project's own)
 unfoldable pub small_number : List ℕ → Option ℕ
 small_number word =
     let c = slice_index word 0 in
     if length word == 1 && nat_le 49 c && nat_le c 56 then Some (c - 48) else None
+
+-- the value of a decimal digit (this project's own)
+abbrev pub decimal_digit : ℕ → Option ℕ
+decimal_digit c = if nat_le 48 c && nat_le c 57 then Some (c - 48) else None
+
+-- the number that goes on with these digits (this project's own)
+abbrev pub decimal_from : ℕ → List ℕ → Option ℕ
+decimal_from n [] = Some n
+decimal_from n (c ∷ cs) = option_and_then (λ d. decimal_from (10 * n + d) cs) (decimal_digit c)
+
+-- the number that one to four decimal digits spell (this project's own)
+unfoldable pub count_number : List ℕ → Option ℕ
+count_number word = if nat_le 1 (length word) && nat_le (length word) 4 then decimal_from 0 word else None

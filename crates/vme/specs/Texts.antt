@@ -1,12 +1,11 @@
 -- The text of signals, replies and refusals.
 use Rattle.std.specs.Prelude.{ℕ, ◌/◌, ◌%◌, Bool, true, false, List, [], ◌∷◌, ◌++◌, flat_map, slice_index, Option, Some, None, codes}
+use Rattle.std.specs.Fmt.{decimal}
 use Rattle.std.specs.Int.{w32, to_be_bytes}
 use Rattle.vme_am.specs.declared.code.AmFault.TheVariants.{TooLarge, UserDefined, Reserved}
 use Rattle.vme_cycle.specs.declared.fault.CycleFault.{CycleFault}
-use Rattle.vme_cycle.specs.declared.fault.CycleFault.TheVariants.{Code, WrongKindOfCode, BadCount, OutsideSpace, NoCycle}
+use Rattle.vme_cycle.specs.declared.fault.CycleFault.TheVariants.{Code, WrongKindOfCode, ProgramModify, BadCount, OutsideSpace, NoCycle, CrossesBoundary}
 use Rattle.vme_cycle.specs.SignalLines.{SignalLines}
-use Rattle.vme_memory.specs.declared.reply.Reply.{Reply}
-use Rattle.vme_memory.specs.declared.reply.Reply.TheVariants.{Bytes, Done, Berr}
 use Rattle.vme.specs.declared.parse.LineFault.{LineFault}
 use Rattle.vme.specs.declared.parse.LineFault.TheVariants.{LineTooLong, UnknownWord, WordCount, BadCode, BadAddress, BadNumber, BadBytes}
 
@@ -52,18 +51,32 @@ levels_text s =
     ++ level_text (codes " write=") s.write)))
 
 -- the data lines (this project's own)
-unfoldable pub data_text : SignalLines → List ℕ
-data_text s = codes " data=" ++ lanes_text s.lanes
+unfoldable pub data_text : List (Option ℕ) → List ℕ
+data_text lanes = codes " data=" ++ lanes_text lanes
 
 -- the signals of a cycle (this project's own)
 unfoldable pub signals_text : SignalLines → List ℕ
-signals_text s = address_text s.am.code s.addr ++ (levels_text s ++ data_text s)
+signals_text s = address_text s.am.code s.addr ++ (levels_text s ++ data_text s.lanes)
 
--- what a board's reply is told as (this project's own)
-unfoldable pub reply_text : Reply → List ℕ
-reply_text (Bytes datum) = codes "read " ++ hex_text datum.items
-reply_text Done = codes "done"
-reply_text Berr = codes "berr 0"
+-- how a transfer ends: with all bytes that were read, with all data written, with the old bytes of a read-modify-write, or
+-- with a bus error after so many data, and what was read by then (this project's own)
+pub data Outcome : Type 0 where
+  Read : List ℕ → Outcome
+  Done : Outcome
+  Old : List ℕ → Outcome
+  Berr : ℕ → List ℕ → Outcome
+
+-- a space and bytes, where there are any (this project's own)
+abbrev pub more_bytes : List ℕ → List ℕ
+more_bytes [] = []
+more_bytes (byte ∷ bytes) = 32 ∷ hex_text (byte ∷ bytes)
+
+-- what the end of a transfer is told as (this project's own)
+unfoldable pub outcome_text : Outcome → List ℕ
+outcome_text (Read bytes) = codes "read " ++ hex_text bytes
+outcome_text Done = codes "done"
+outcome_text (Old bytes) = codes "old " ++ hex_text bytes
+outcome_text (Berr count bytes) = codes "berr " ++ (decimal count ++ more_bytes bytes)
 
 -- the numbers of the refusals of a request (this project's own)
 abbrev pub cycle_fault_text : CycleFault → List ℕ
@@ -71,9 +84,11 @@ cycle_fault_text (Code TooLarge) = codes "K9"
 cycle_fault_text (Code UserDefined) = codes "K2"
 cycle_fault_text (Code Reserved) = codes "K1"
 cycle_fault_text WrongKindOfCode = codes "K5"
+cycle_fault_text ProgramModify = codes "K7"
 cycle_fault_text BadCount = codes "K8"
 cycle_fault_text OutsideSpace = codes "K4"
 cycle_fault_text NoCycle = codes "K3"
+cycle_fault_text CrossesBoundary = codes "K6"
 
 -- the numbers of the refusals of a line (this project's own)
 abbrev pub line_fault_text : LineFault → List ℕ

@@ -2,15 +2,15 @@
 ghost use Rattle.std.specs.Prelude.{◌≡◌, ◌<◌, ◌≤◌, Err, false, true, length, vec_len, IfOk, IfErr, IfSome, OnOk, OnErr};
 ghost use Rattle.std.specs.Io.KnownBytes.{Appends};
 ghost use Rattle.vme_io.specs.Fronts.{AppendsFront};
-ghost use Rattle.vme.specs.Engine.{fresh_board, cycles_text, cycles_status};
+ghost use Rattle.vme.specs.Engine.{cycles_text, cycles_status};
 ghost use Rattle.vme.specs.Ends.{IsInputFault, IsAnswerFault, IsReadingFault, ReadsPastLimit};
 
-use crate::answer::{BOARD_SIZE, answer_line};
+use crate::answer::answer_line;
+use crate::bus::Bus;
 use crate::lines::Lines;
 use crate::status::{ProgramFault, Status};
 use std::alloc::Global;
 use vme_io::{Sink, Source, write_all};
-use vme_memory::{ByteMemory, Class, Width8To32};
 
 /// The greatest number of bytes of an input.
 pub const INPUT_LIMIT: usize = 1_048_576;
@@ -100,11 +100,11 @@ fn answer_all<W: Sink>(alloc: Global, input: &[u8], writer: &mut W) -> Result<St
     ensures unmarked { OnOk result (W.is_marked writer.new ≡ W.is_marked writer.old) }
     ensures faults { IfErr result IsAnswerFault }
 {
-    let mut memory = fresh_memory(alloc)?;
+    let mut bus = Bus::new(alloc)?;
     let mut text = Vec::with_capacity(alloc, WRITE_SIZE)?;
     let mut status = Status::Clean;
     for line in Lines::new(input) {
-        status = status.worse(answer_line(&mut memory, line, &mut text)?);
+        status = status.worse(answer_line(&mut bus, line, &mut text)?);
         if WRITE_SIZE <= text.len() {
             write_text(writer, text.as_slice())?;
             text.clear();
@@ -112,24 +112,6 @@ fn answer_all<W: Sink>(alloc: Global, input: &[u8], writer: &mut W) -> Result<St
     }
     write_text(writer, text.as_slice())?;
     Ok(status)
-}
-
-/// The one board: all zero, width 32, all switches on.
-#[tactic(auto, unfolding(crate::specs::Engine::fresh_board))]
-fn fresh_memory(alloc: Global) -> Result<ByteMemory, ProgramFault>
-    ensures board { IfOk result (λ memory. memory ≡ fresh_board) }
-    ensures faults { IfErr result (λ fault. fault ≡ ProgramFault.Memory) }
-{
-    let class = Class {
-        width: Width8To32::D32,
-        uat: true,
-        blt: true,
-        rmw: true,
-    };
-    match ByteMemory::new(alloc, BOARD_SIZE, class) {
-        Ok(memory) => Ok(memory),
-        Err(_) => Err(ProgramFault::Memory),
-    }
 }
 
 fn write_text<W: Sink>(writer: &mut W, text: &[u8]) -> Result<(), ProgramFault>

@@ -1,8 +1,9 @@
 //! Numbers and bytes as words of a line.
 ghost use Rattle.std.specs.Prelude.{◌≡◌, ◌<◌, ◌≤◌, ◌^◌, IfSome};
 ghost use Rattle.std.specs.Option.{option_map};
-ghost use Rattle.vme.specs.Numbers.{hex_digit, hex_number, hex_bytes, small_number};
+ghost use Rattle.vme.specs.Numbers.{hex_digit, hex_number, hex_bytes, exact_bytes, small_number, decimal_digit, count_number};
 
+use arrayvec::ArrayVec;
 use vme_lanes::Datum;
 
 fn hex_digit(c: u8) -> Option<u8>
@@ -34,21 +35,33 @@ pub fn hex_number(len: usize, word: &[u8]) -> Option<u32>
     Some(number)
 }
 
-/// The one to eight bytes that a word spells.
+/// The one to `MOST` bytes that a word spells.
 #[tactic(auto, unfolding(crate::specs::Numbers::hex_bytes))]
-pub fn hex_bytes(word: &[u8]) -> Option<Datum>
-    ensures { option_map (λ d. d.items) result ≡ hex_bytes word.now }
+pub fn hex_bytes<const MOST: usize>(word: &[u8]) -> Option<ArrayVec<u8, MOST>>
+    requires { MOST ≤ 256 }
+    ensures { option_map (λ bytes. bytes.items) result ≡ hex_bytes MOST word.now }
 {
-    if word.is_empty() || 16 < word.len() {
+    if word.is_empty() || 2 * MOST < word.len() {
         return None;
     }
-    let mut bytes = Datum::new();
+    let mut bytes = ArrayVec::new();
     let mut rest = word;
     while let [high, low, tail @ ..] = rest {
         bytes.push(16 * hex_digit(*high)? + hex_digit(*low)?);
         rest = tail;
     }
     if rest.is_empty() { Some(bytes) } else { None }
+}
+
+/// The `len` bytes that a word spells, at most eight.
+#[tactic(auto, unfolding(crate::specs::Numbers::exact_bytes))]
+pub fn exact_bytes(len: u8, word: &[u8]) -> Option<Datum>
+    ensures { option_map (λ bytes. bytes.items) result ≡ exact_bytes len word.now }
+{
+    if word.len() != 2 * usize::from(len) {
+        return None;
+    }
+    hex_bytes(word)
 }
 
 /// The number that one digit from 1 to 8 spells.
@@ -60,4 +73,29 @@ pub fn small_number(word: &[u8]) -> Option<u8>
         [digit @ b'1'..=b'8'] => Some(*digit - b'0'),
         _ => None,
     }
+}
+
+fn decimal_digit(c: u8) -> Option<u8>
+    ensures value { result ≡ decimal_digit c }
+    ensures small { IfSome result (λ d. d < 10) }
+{
+    match c {
+        b'0'..=b'9' => Some(c - b'0'),
+        _ => None,
+    }
+}
+
+/// The number that one to four decimal digits spell.
+#[tactic(auto, unfolding(crate::specs::Numbers::count_number))]
+pub fn count_number(word: &[u8]) -> Option<u16>
+    ensures { result ≡ count_number word.now }
+{
+    if word.is_empty() || 4 < word.len() {
+        return None;
+    }
+    let mut number: u16 = 0;
+    for digit in word {
+        number = 10 * number + u16::from(decimal_digit(*digit)?);
+    }
+    Some(number)
 }

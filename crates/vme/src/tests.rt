@@ -29,7 +29,7 @@ read 04
 ";
 
 /// Runs an input in memory and compares what it writes and how it ends.
-fn check(
+pub fn check(
     rt: &impl Abort,
     alloc: Global,
     input: &str,
@@ -37,7 +37,7 @@ fn check(
     status: Status,
 ) -> Result<(), AllocError> {
     let mut source = SliceSource::new(input.as_bytes(), usize::MAX, usize::MAX);
-    let mut sink = RoomSink::new(alloc, usize::MAX, 4096)?;
+    let mut sink = RoomSink::new(alloc, usize::MAX, 65_536)?;
     let end = cycles_engine(alloc, &mut source, &mut sink);
     assert_eq!(rt; end, Ok(status), "{input}");
     assert_eq!(rt; sink.bytes(), text.as_bytes(), "{input}");
@@ -93,7 +93,7 @@ fn refuses_requests_and_lines(rt: HostRuntime) -> Result<(), Fail> {
         ("w 0d 00000000 5", "line refused S7\n"),
         ("w 0d 00000000 010203040506070809", "line refused S7\n"),
         ("r 0g 0000 9", "line refused S4\n"),
-        ("br 0b 00000000 4 1", "line refused S2\n"),
+        ("lr 00000000 1", "line refused S2\n"),
     ];
     for (input, text) in cases {
         check(&rt, rt.alloc(), input, text, Status::Marked)?;

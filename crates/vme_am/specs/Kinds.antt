@@ -9,3 +9,10 @@ is_block DataAccess = false
 is_block ProgramAccess = false
 is_block BlockAccess = true
 is_block ShortAccess = false
+
+-- whether an access is to programs (IEEE 1014, section 2.2.2)
+abbrev pub is_program : Kind → Bool
+is_program DataAccess = false
+is_program ProgramAccess = true
+is_program BlockAccess = false
+is_program ShortAccess = false

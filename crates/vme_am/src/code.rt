@@ -1,6 +1,6 @@
 ghost use Rattle.std.specs.Prelude.{◌≡◌};
 ghost use Rattle.vme_am.specs.Spaces.{addresses_of};
-ghost use Rattle.vme_am.specs.Kinds.{is_block};
+ghost use Rattle.vme_am.specs.Kinds.{is_block, is_program};
 ghost use Rattle.vme_am.specs.Bits.{space_by_bits, kind_by_bits};
 
 use std::marker::Model;
@@ -48,6 +48,13 @@ impl Kind {
         ensures { result ≡ is_block self }
     {
         self == Kind::BlockAccess
+    }
+
+    /// Whether the access is to programs.
+    pub fn is_program(self) -> bool
+        ensures { result ≡ is_program self }
+    {
+        self == Kind::ProgramAccess
     }
 }
 

@@ -1,0 +1,3 @@
+mod Lawful
+mod Blocks
+pub mod Numbers

@@ -1,22 +1,22 @@
--- Lawful requests: the refusals in their order, and the cycle of a request that has none.
-use Rattle.std.specs.Prelude.{ℕ, ◌+◌, nat_lt, nat_le, Bool, true, false, not, ◌&&◌, List, [], ◌∷◌, is_none, Option, Some, None, Result, Ok, Err}
+-- Lawful requests: the refusals in their order, and the transfer of a request that has none.
+use Rattle.std.specs.Prelude.{◌+◌, ◌-◌, ◌/◌, ◌%◌, nat_lt, Bool, false, not, ◌==◌, ◌&&◌, ◌||◌, if◌then◌else◌, List, [], ◌∷◌, is_none, is_some, Option, Some, None, Result, Ok, Err}
+use Rattle.std.specs.Bool.{beq}
 use Rattle.vme_am.specs.declared.code.AmFault.{AmFault}
 use Rattle.vme_am.specs.Spaces.{addresses_of}
-use Rattle.vme_am.specs.Kinds.{is_block}
+use Rattle.vme_am.specs.Kinds.{is_block, is_program}
 use Rattle.vme_am.specs.Codes.{Entry, read_code}
 use Rattle.vme_lanes.specs.declared.location.Location.{Location}
 use Rattle.vme_lanes.specs.Rows.{location_at}
 use Rattle.vme_cycle.specs.declared.request.Request.{Request}
 use Rattle.vme_cycle.specs.declared.fault.CycleFault.{CycleFault}
-use Rattle.vme_cycle.specs.declared.fault.CycleFault.TheVariants.{Code, WrongKindOfCode, BadCount, OutsideSpace, NoCycle}
-use Rattle.vme_cycle.specs.Requests.{code_of, addr_of, len_of, written}
+use Rattle.vme_cycle.specs.declared.fault.CycleFault.TheVariants.{Code, WrongKindOfCode, ProgramModify, BadCount, OutsideSpace, NoCycle, CrossesBoundary}
+use Rattle.vme_cycle.specs.Refusals.{where_true, first_of}
+use Rattle.vme_cycle.specs.Requests.{code_of, addr_of, datum_len, span_of, is_block_request, function_of, is_counted}
 
--- the cycle of a lawful request (this project's own)
-pub record Cycle : Type 0 where
+-- a lawful request, with the row of its code (this project's own)
+pub record Transfer : Type 0 where
   pub am : Entry
-  pub addr : ℕ
-  pub location : Location
-  pub bytes : Option (List ℕ)
+  pub request : Request
 
 -- the refusal of a code, if it has no row (this project's own)
 abbrev pub code_refusal : Result Entry AmFault → Option CycleFault
@@ -28,46 +28,51 @@ abbrev pub row_passes : (Entry → Bool) → Result Entry AmFault → Bool
 row_passes test (Ok row) = test row
 row_passes test (Err fault) = false
 
--- a refusal, where the test holds (this project's own)
-abbrev pub where_true : Bool → CycleFault → Option CycleFault
-where_true true fault = Some fault
-where_true false fault = None
+-- whether its first address has to be a multiple of the length of its data, as in a block and a read-modify-write
+-- (this project's own)
+abbrev pub is_aligned_kind : Request → Bool
+is_aligned_kind request = is_block_request request || is_some (function_of request)
 
--- the refusals that hold of a request, in the order in which they are told: a code without a row; a block code; a number
--- of bytes other than one to four; a byte outside the code's space; bytes that no location has (this project's own)
+-- the byte location of the first datum (IEEE 1014, section 2.2.1)
+abbrev pub first_location : Request → Option Location
+first_location request =
+    if is_aligned_kind request && not (addr_of request % datum_len request == 0) then None
+    else location_at (addr_of request) (datum_len request)
+
+-- whether a block's first and last byte lie in different units of 256 bytes (IEEE 1014, section 2.3.6: a block crosses no
+-- 256-byte boundary)
+abbrev pub crosses_boundary : Request → Bool
+crosses_boundary request =
+    is_block_request request && not (addr_of request / 256 == (addr_of request + span_of request - 1) / 256)
+
+-- the refusals that hold of a request, in the order in which they are told: a code without a row; a block without a block
+-- code, or a block code without a block; a read-modify-write with a program code; numbers or bytes that do not agree; a byte outside the code's space; a first
+-- datum that no location has; a block over a boundary (this project's own)
 abbrev pub refusals : Request → List (Option CycleFault)
 refusals request =
     code_refusal (read_code (code_of request))
-    ∷ where_true (row_passes (λ row. is_block row.kind) (read_code (code_of request))) WrongKindOfCode
-    ∷ where_true (not (nat_le 1 (len_of request) && nat_le (len_of request) 4)) BadCount
-    ∷ where_true (row_passes (λ row. nat_lt (addresses_of row.space) (addr_of request + len_of request)) (read_code (code_of request))) OutsideSpace
-    ∷ where_true (is_none (location_at (addr_of request) (len_of request))) NoCycle
+    ∷ where_true (row_passes (λ row. not (beq (is_block row.kind) (is_block_request request))) (read_code (code_of request))) WrongKindOfCode
+    ∷ where_true (row_passes (λ row. is_some (function_of request) && is_program row.kind) (read_code (code_of request))) ProgramModify
+    ∷ where_true (not (is_counted request)) BadCount
+    ∷ where_true (row_passes (λ row. nat_lt (addresses_of row.space) (addr_of request + span_of request)) (read_code (code_of request))) OutsideSpace
+    ∷ where_true (is_none (first_location request)) NoCycle
+    ∷ where_true (crosses_boundary request) CrossesBoundary
     ∷ []
-
--- the first that there is (this project's own)
-abbrev pub first_of : List (Option CycleFault) → Option CycleFault
-first_of [] = None
-first_of (Some fault ∷ more) = Some fault
-first_of (None ∷ more) = first_of more
 
 -- the first refusal; a request is lawful where it has none (this project's own)
 unfoldable pub first_refusal : Request → Option CycleFault
 first_refusal request = first_of (refusals request)
 
--- the cycle of a request without a refusal: by the row of its code, and by the location of its bytes
--- (this project's own)
-abbrev pub planned : Request → Result Entry AmFault → Option Location → Result Cycle CycleFault
-planned request (Ok row) (Some location) = Ok (record { am = row; addr = addr_of request; location = location; bytes = written request })
-planned request (Ok row) None = Err NoCycle
-planned request (Err fault) found = Err (Code fault)
+-- a request with the row of its code (this project's own)
+abbrev pub planned : Request → Result Entry AmFault → Result Transfer CycleFault
+planned request (Ok row) = Ok (record { am = row; request = request })
+planned request (Err fault) = Err (Code fault)
 
 -- a refusal, or what there is without one (this project's own)
-abbrev pub refused_or : Option CycleFault → Result Cycle CycleFault → Result Cycle CycleFault
-refused_or (Some fault) cycle = Err fault
-refused_or None cycle = cycle
+abbrev pub refused_or : Option CycleFault → Result Transfer CycleFault → Result Transfer CycleFault
+refused_or (Some fault) transfer = Err fault
+refused_or None transfer = transfer
 
--- the cycle of a lawful request, or else its first refusal (this project's own)
-unfoldable pub cycle_of : Request → Result Cycle CycleFault
-cycle_of request =
-    refused_or (first_refusal request)
-    (planned request (read_code (code_of request)) (location_at (addr_of request) (len_of request)))
+-- the transfer of a lawful request, or else its first refusal (this project's own)
+unfoldable pub transfer_of : Request → Result Transfer CycleFault
+transfer_of request = refused_or (first_refusal request) (planned request (read_code (code_of request)))

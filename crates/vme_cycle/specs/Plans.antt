@@ -1,27 +1,44 @@
--- The signals of a lawful cycle.
-use Rattle.std.specs.Prelude.{ℕ, ◌-◌, ◌%◌, List, [], ◌∷◌, Option, Some, None, is_none}
+-- The signals of the data of a lawful request.
+use Rattle.std.specs.Prelude.{ℕ, ◌-◌, ◌%◌, false, List, [], ◌∷◌, Option, Some, None, is_none, unwrap_or}
 use Rattle.vme_lanes.specs.declared.location.Location.{Location}
-use Rattle.vme_lanes.specs.Rows.{row_of}
+use Rattle.vme_lanes.specs.declared.location.Location.TheVariants.{Byte0}
+use Rattle.vme_lanes.specs.declared.location.Strobes.{Strobes}
+use Rattle.vme_lanes.specs.Rows.{row_of, location_at}
 use Rattle.vme_lanes.specs.Lanes.{placed}
-use Rattle.vme_cycle.specs.Lawful.{Cycle}
+use Rattle.vme_cycle.specs.Requests.{addr_of, datum_len, datum_of, address_of}
+use Rattle.vme_cycle.specs.Lawful.{Transfer}
 use Rattle.vme_cycle.specs.SignalLines.{SignalLines}
 
--- a read or a write is one datum (this project's own)
-abbrev pub datum_count : Cycle → ℕ
-datum_count c = 1
+-- the location of n bytes from an address on; that of a lawful request's datum is in the table, and the first row stands
+-- for none (IEEE 1014, section 2.2.1)
+unfoldable pub location_from : ℕ → ℕ → Location
+location_from addr n = unwrap_or (location_at addr n) Byte0
+
+-- the location of datum i by itself (IEEE 1014, section 2.2.1)
+abbrev pub own_location : Transfer → ℕ → Location
+own_location t i = location_from (address_of t.request i) (datum_len t.request)
+
+-- the strobes of a datum by itself, but for A01 and LWORD*, which stay those of the first datum (this project's own)
+abbrev pub held : Strobes → Strobes → Strobes
+held first own = record { ds1 = own.ds1; ds0 = own.ds0; a01 = first.a01; lword = first.lword }
 
 -- the master drives the lanes in a write alone (IEEE 1014, section 2.2.3)
 abbrev pub driven : Location → Option (List ℕ) → List (Option ℕ)
 driven location (Some bytes) = placed location bytes
 driven location None = None ∷ None ∷ None ∷ None ∷ []
 
--- what the lines show before a slave answers: the address lines leave out the last two bits, and WRITE* is low for a
--- write (IEEE 1014, sections 2.2.1 and 2.2.4)
-abbrev pub signals_of : Cycle → SignalLines
-signals_of c = record {
-  am = c.am;
-  addr = c.addr - c.addr % 4;
-  strobes = (row_of c.location).strobes;
-  write = is_none c.bytes;
-  lanes = driven c.location c.bytes;
+-- what the lines show of datum i before a slave answers: the address lines are those of the first datum and leave out the
+-- last two bits, and WRITE* is low for a write (IEEE 1014, sections 2.2.1 and 2.2.4)
+unfoldable pub signals_of : Transfer → ℕ → SignalLines
+signals_of t i = record {
+  am = t.am;
+  addr = addr_of t.request - addr_of t.request % 4;
+  strobes = held (row_of (own_location t 0)).strobes (row_of (own_location t i)).strobes;
+  write = is_none (datum_of t.request i);
+  lanes = driven (own_location t i) (datum_of t.request i);
 }
+
+-- what the lines show in the write half of a read-modify-write: those of its read half, but WRITE* low and the bytes driven
+-- (IEEE 1014, section 2.3.6)
+unfoldable pub write_half_of : Transfer → List ℕ → SignalLines
+write_half_of t bytes = record (signals_of t 0) { write = false; lanes = placed (own_location t 0) bytes }

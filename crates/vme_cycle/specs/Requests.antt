@@ -1,24 +1,97 @@
 -- What a request asks for, by cases.
-use Rattle.std.specs.Prelude.{ℕ, List, length, Option, Some, None}
+use Rattle.std.specs.Prelude.{ℕ, ◌+◌, ◌*◌, ◌/◌, ◌%◌, Bool, true, false, ◌==◌, ◌&&◌, List, length, slice_range, Option, Some, None}
 use Rattle.vme_cycle.specs.declared.request.Request.{Request}
-use Rattle.vme_cycle.specs.declared.request.Request.TheVariants.{Read, Write}
+use Rattle.vme_cycle.specs.declared.request.Request.TheVariants.{Read, Write, BlockRead, BlockWrite, BlockFill, Modify}
+use Rattle.vme_cycle.specs.declared.modify.Modify as functions
+use Rattle.vme_cycle.specs.Functions.{has_len}
+use Rattle.vme_cycle.specs.Counts.{is_single_len, is_block_len, is_block_count}
 
 -- the address modifier code of a request (this project's own)
 abbrev pub code_of : Request → ℕ
 code_of (Read am addr n) = am
 code_of (Write am addr bytes) = am
+code_of (BlockRead am addr n count) = am
+code_of (BlockWrite am addr n bytes) = am
+code_of (BlockFill am addr n count bytes) = am
+code_of (Modify am addr n f) = am
 
 -- the address of its first byte (this project's own)
 abbrev pub addr_of : Request → ℕ
 addr_of (Read am addr n) = addr
 addr_of (Write am addr bytes) = addr
+addr_of (BlockRead am addr n count) = addr
+addr_of (BlockWrite am addr n bytes) = addr
+addr_of (BlockFill am addr n count bytes) = addr
+addr_of (Modify am addr n f) = addr
 
--- how many bytes a request reads or writes (this project's own)
-abbrev pub len_of : Request → ℕ
-len_of (Read am addr n) = n
-len_of (Write am addr bytes) = length bytes.items
+-- whether it is a block transfer (IEEE 1014, section 2.3.6: block transfer cycles)
+abbrev pub is_block_request : Request → Bool
+is_block_request (Read am addr n) = false
+is_block_request (Write am addr bytes) = false
+is_block_request (BlockRead am addr n count) = true
+is_block_request (BlockWrite am addr n bytes) = true
+is_block_request (BlockFill am addr n count bytes) = true
+is_block_request (Modify am addr n f) = false
 
--- the bytes that a request writes, if it writes (this project's own)
-abbrev pub written : Request → Option (List ℕ)
-written (Read am addr n) = None
-written (Write am addr bytes) = Some bytes.items
+-- the function of a read-modify-write, if it is one (IEEE 1014, section 2.3.6: read-modify-write cycles)
+abbrev pub function_of : Request → Option functions.Modify
+function_of (Read am addr n) = None
+function_of (Write am addr bytes) = None
+function_of (BlockRead am addr n count) = None
+function_of (BlockWrite am addr n bytes) = None
+function_of (BlockFill am addr n count bytes) = None
+function_of (Modify am addr n f) = Some f
+
+-- whether it reads alone (this project's own)
+abbrev pub reads : Request → Bool
+reads (Read am addr n) = true
+reads (Write am addr bytes) = false
+reads (BlockRead am addr n count) = true
+reads (BlockWrite am addr n bytes) = false
+reads (BlockFill am addr n count bytes) = false
+reads (Modify am addr n f) = false
+
+-- how many bytes each of its data has (this project's own)
+abbrev pub datum_len : Request → ℕ
+datum_len (Read am addr n) = n
+datum_len (Write am addr bytes) = length bytes.items
+datum_len (BlockRead am addr n count) = n
+datum_len (BlockWrite am addr n bytes) = n
+datum_len (BlockFill am addr n count bytes) = n
+datum_len (Modify am addr n f) = n
+
+-- how many data it has (this project's own)
+abbrev pub count_of : Request → ℕ
+count_of (Read am addr n) = 1
+count_of (Write am addr bytes) = 1
+count_of (BlockRead am addr n count) = count
+count_of (BlockWrite am addr n bytes) = length bytes.items / n
+count_of (BlockFill am addr n count bytes) = count
+count_of (Modify am addr n f) = 1
+
+-- the bytes that it drives as datum i, if it writes alone: a block write is cut into data, a fill has one datum again and
+-- again (this project's own)
+abbrev pub datum_of : Request → ℕ → Option (List ℕ)
+datum_of (Read am addr n) i = None
+datum_of (Write am addr bytes) i = Some bytes.items
+datum_of (BlockRead am addr n count) i = None
+datum_of (BlockWrite am addr n bytes) i = Some (slice_range bytes.items (i * n) (i * n + n))
+datum_of (BlockFill am addr n count bytes) i = Some bytes.items
+datum_of (Modify am addr n f) i = None
+
+-- whether its numbers and its bytes agree (this project's own)
+abbrev pub is_counted : Request → Bool
+is_counted (Read am addr n) = is_single_len n
+is_counted (Write am addr bytes) = is_single_len (length bytes.items)
+is_counted (BlockRead am addr n count) = is_block_len n && is_block_count count
+is_counted (BlockWrite am addr n bytes) = is_block_len n && is_block_count (length bytes.items / n) && length bytes.items % n == 0
+is_counted (BlockFill am addr n count bytes) = is_block_len n && is_block_count count && length bytes.items == n
+is_counted (Modify am addr n f) = is_block_len n && has_len f n
+
+-- how many bytes it reads or writes in all (this project's own)
+abbrev pub span_of : Request → ℕ
+span_of request = datum_len request * count_of request
+
+-- the address of the first byte of datum i (this project's own)
+abbrev pub address_of : Request → ℕ → ℕ
+address_of request i = addr_of request + i * datum_len request

@@ -1,7 +1,9 @@
 -- What the lines of a cycle show.
-use Rattle.std.specs.Prelude.{ℕ, Bool, List, Option}
+use Rattle.std.specs.Prelude.{ℕ, ◌+◌, ◌%◌, nat_le, Bool, if◌then◌else◌, List, Option}
 use Rattle.std.specs.Option.{option_map, option_map_or}
 use Rattle.vme_am.specs.Codes.{Entry}
+use Rattle.vme_am.specs.Kinds.{is_block}
+use Rattle.vme_lanes.specs.declared.location.Location.{Location}
 use Rattle.vme_lanes.specs.declared.location.Strobes.{Strobes}
 use Rattle.vme_lanes.specs.Rows.{row_of, location_sensed}
 use Rattle.vme_lanes.specs.Lanes.{placed}
@@ -18,6 +20,24 @@ pub record SignalLines : Type 0 where
 -- how many bytes the strobes choose (IEEE 1014, section 2.2.1)
 abbrev pub row_len : Strobes → Option ℕ
 row_len strobes = option_map (λ l. (row_of l).len) (location_sensed strobes)
+
+-- the address of the first byte: the address lines from A02 up, and its place in the group of four, which the strobes choose
+-- (IEEE 1014, section 2.2.1)
+abbrev pub first_byte : SignalLines → Option ℕ
+first_byte s = option_map (λ l. s.addr + (row_of l).first) (location_sensed s.strobes)
+
+-- the strobes that a slave goes by at an address or an offset: in a block it counts the address on by itself, and takes
+-- A01 from bit 1 of where it is (IEEE 1014, section 2.3.6: the slave increments the address)
+abbrev pub strobes_at : SignalLines → ℕ → Strobes
+strobes_at s at = if is_block s.am.kind then record s.strobes { a01 = nat_le 2 (at % 4) } else s.strobes
+
+-- the location that it senses there, if any (IEEE 1014, section 2.2.1)
+abbrev pub sensed_at : SignalLines → ℕ → Option Location
+sensed_at s at = location_sensed (strobes_at s at)
+
+-- how many bytes that location has (IEEE 1014, section 2.2.1)
+abbrev pub len_at : SignalLines → ℕ → Option ℕ
+len_at s at = row_len (strobes_at s at)
 
 -- the lines once a slave has answered a read: it drives the bytes on the lanes that the strobes choose
 -- (IEEE 1014, section 2.2.3)

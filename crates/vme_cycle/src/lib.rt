@@ -1,14 +1,17 @@
-//! Requests of a master, the plan of a lawful one, and the signals that the plan drives. Which
+//! Requests of a master, single or of a block, the plan of a lawful one, and the signals that the
+//! plan drives. Which
 //! requests are lawful, and which refusal the others get, is this project's profile of the data
 //! transfer bus of ANSI/IEEE Std 1014-1987, chapter 2.
 #![tactic(auto)]
 
 mod fault;
+mod modify;
 mod plan;
 mod request;
 mod signals;
 
 pub use fault::CycleFault;
+pub use modify::Modify;
 pub use plan::Plan;
-pub use request::Request;
+pub use request::{Block, Request};
 pub use signals::Signals;

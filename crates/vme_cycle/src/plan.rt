@@ -1,79 +1,111 @@
-ghost use Rattle.std.specs.Prelude.{◌≡◌, ◌<◌, ◌≤◌, ◌↔◌, Some, None, IsOk, IfErr};
-ghost use Rattle.vme_cycle.specs.Lawful.{first_refusal, cycle_of};
-ghost use Rattle.vme_cycle.specs.Plans.{datum_count, signals_of};
+ghost use Rattle.std.specs.Prelude.{◌≡◌, ◌<◌, ◌≤◌, ◌*◌, ◌-◌, ◌%◌, ◌↔◌, length, Some, None, IsSome, IsTrue, IsOk, IfErr, IfSome};
+ghost use Rattle.vme_am.specs.Spaces.{addresses_of};
+ghost use Rattle.vme_lanes.specs.Rows.{row_of, location_at};
+ghost use Rattle.std.specs.Option.{option_map};
+ghost use Rattle.vme_cycle.specs.Functions.{has_len};
+ghost use Rattle.vme_cycle.specs.Requests.{addr_of, function_of, reads, datum_len, count_of, address_of};
+ghost use Rattle.vme_cycle.specs.Lawful.{first_refusal, transfer_of};
+ghost use Rattle.vme_cycle.specs.Parts.{IsLawful};
+ghost use Rattle.vme_cycle.specs.SignalLines.{row_len, first_byte, sensed_at, len_at};
+ghost use Rattle.vme_cycle.specs.Plans.{held, own_location, signals_of, write_half_of};
 
 use crate::fault::CycleFault;
+use crate::modify::Modify;
 use crate::request::Request;
 use crate::signals::Signals;
 use std::marker::Model;
 use vme_am::Am;
-use vme_lanes::{DataLines, Location, place};
+use vme_lanes::{DataLines, Datum, Location, place};
 
 /// How a lawful request goes over the bus: the cycle that each of its data is.
 #[derive(Debug, Drop)]
 pub struct Plan<'a> {
     am: Am,
-    addr: u32,
-    location: Location,
-    bytes: Option<&'a [u8]>,
+    request: &'a Request,
 }
 
 impl<'a> Model for Plan<'a> {
-    ghost use Rattle.std.specs.Prelude.{◌≡◌, ◌+◌, ◌≤◌, length};
-    ghost use Rattle.std.specs.Option.{option_map, ForSome};
-    ghost use Rattle.vme_am.specs.Spaces.{addresses_of};
-    ghost use Rattle.vme_lanes.specs.Rows.{row_of};
-    ghost use Rattle.vme_cycle.specs.Lawful.{Cycle};
+    ghost use Rattle.std.specs.Prelude.{◌≡◌, Ok, None};
+    ghost use Rattle.vme_am.specs.Codes.{read_code};
+    ghost use Rattle.vme_cycle.specs.Requests.{code_of};
+    ghost use Rattle.vme_cycle.specs.Lawful.{Transfer, first_refusal};
 
-    ghost Value = { Cycle };
+    ghost Value = { Transfer };
 
-    ghost view = { λ p. record {
-      am = p.am;
-      addr = p.addr;
-      location = p.location;
-      bytes = option_map (λ b. b.now) p.bytes;
-    } };
+    ghost view = { λ p. record { am = p.am; request = p.request.now } };
 
-    ghost invariant = { λ p. (p.addr + (row_of p.location).len ≤ addresses_of p.am.space)
-        × ForSome p.bytes (λ b. length b.now ≡ (row_of p.location).len) };
+    ghost invariant = { λ p. (read_code (code_of p.request.now) ≡ Ok p.am) × (first_refusal p.request.now ≡ None) };
 }
 
 impl<'a> Plan<'a> {
     /// The plan of a lawful request, or else the first refusal.
-    #[tactic(auto, unfolding(crate::specs::Lawful::cycle_of, crate::specs::Lawful::first_refusal))]
+    #[tactic(auto, unfolding(crate::specs::Lawful::transfer_of, crate::specs::Lawful::first_refusal))]
     pub fn of(request: &'a Request) -> Result<Plan<'a>, CycleFault>
-        ensures plan { result ≡ cycle_of request.now }
+        ensures plan { result ≡ transfer_of request.now }
         ensures lawful { IsOk result ↔ (first_refusal request.now ≡ None) }
         ensures refused { IfErr result (λ fault. first_refusal request.now ≡ Some fault) }
     {
         let am = Am::from_code(request.code())?;
-        if am.kind().is_block() {
+        if am.kind().is_block() != request.is_block() {
             return Err(CycleFault::WrongKindOfCode);
         }
-        let n = request.len();
-        if n < 1 || n > 4 {
+        if request.function().is_some() && am.kind().is_program() {
+            return Err(CycleFault::ProgramModify);
+        }
+        if !request.is_counted() {
             return Err(CycleFault::BadCount);
         }
-        let addr = request.addr();
-        if u64::from(addr) + u64::from(n) > am.space().addresses() {
+        if request.end() > am.space().addresses() {
             return Err(CycleFault::OutsideSpace);
         }
-        let Some(location) = Location::of(addr, n) else {
+        if request.first_location().is_none() {
             return Err(CycleFault::NoCycle);
-        };
-        Ok(Plan {
-            am,
-            addr,
-            location,
-            bytes: request.written(),
-        })
+        }
+        if request.crosses_boundary() {
+            return Err(CycleFault::CrossesBoundary);
+        }
+        Ok(Plan { am, request })
+    }
+
+    /// The request, which is lawful.
+    #[tactic(auto, using(crate::proofs::Lawful::lawful))]
+    fn request(&self) -> &'a Request
+        ensures value { result.now ≡ self.now.request }
+        ensures lawful { IsLawful self.now.am self.now.request }
+    {
+        self.request
     }
 
     /// The number of data, each a cycle of its own.
     pub fn len(&self) -> u16
-        ensures { result ≡ datum_count self.now }
+        ensures value { result ≡ count_of self.now.request }
+        ensures some { 0 < result }
+        ensures unit { datum_len self.now.request * result ≤ 256 }
     {
-        1
+        self.request().count()
+    }
+
+    /// The number of bytes of each datum.
+    pub fn datum_len(&self) -> u8
+        ensures value { result ≡ datum_len self.now.request }
+        ensures size { (1 ≤ result) × (result ≤ 4) }
+    {
+        self.request().datum_len()
+    }
+
+    /// The function of a read-modify-write, and `None` of another request.
+    pub fn modify(&self) -> Option<&Modify>
+        ensures value { option_map (λ f. f.now) result ≡ function_of self.now.request }
+        ensures len { IfSome result (λ f. IsTrue (has_len f.now (datum_len self.now.request))) }
+    {
+        self.request().function()
+    }
+
+    /// Whether it reads alone.
+    pub fn reads(&self) -> bool
+        ensures { result ≡ reads self.now.request }
+    {
+        self.request().reads()
     }
 
     /// The address modifier.
@@ -85,22 +117,91 @@ impl<'a> Plan<'a> {
 
     /// The address of the first byte.
     pub fn addr(&self) -> u32
-        ensures { result ≡ self.now.addr }
+        ensures { result ≡ addr_of self.now.request }
     {
-        self.addr
+        self.request().addr()
     }
 
     /// What the lines of datum `i` show before a slave answers.
+    ///
+    /// In a block the address lines, A01 and LWORD* stay those of the first datum; a slave that
+    /// counts the address on senses each datum's own location.
+    #[tactic(auto, unfolding(crate::specs::Plans::signals_of))]
     pub fn signals(&self, i: u16) -> Signals
-        requires { i < datum_count self.now }
-        ensures { result ≡ signals_of self.now }
+        requires { i < count_of self.now.request }
+        ensures value { result ≡ signals_of self.now i }
+        ensures sensed { sensed_at result (address_of self.now.request i)
+            ≡ location_at (address_of self.now.request i) (datum_len self.now.request) }
+        ensures first { i ≡ 0 → first_byte result ≡ Some (addr_of self.now.request) }
+        ensures len { (row_len result.strobes ≡ Some (datum_len self.now.request))
+            × (len_at result (address_of self.now.request i) ≡ Some (datum_len self.now.request)) }
     {
-        let lines = match self.bytes {
-            Some(bytes) => place(self.location, bytes),
+        let bytes = self.request().datum(i);
+        let location = shown(self.location(0), self.location(i));
+        let read = bytes.is_none();
+        let lines = match bytes {
+            Some(bytes) => place(location, bytes),
             None => DataLines::IDLE,
         };
-        let group = self.addr - self.addr % 4;
-        let read = self.bytes.is_none();
-        Signals::new(self.am, group, self.location, read, lines)
+        Signals::new(self.am(), self.group(), location, read, lines)
+    }
+
+    /// What the lines of a read-modify-write show in its write half, with these bytes driven. The
+    /// read half is `signals(0)`.
+    #[tactic(auto, unfolding(crate::specs::Plans::signals_of, crate::specs::Plans::write_half_of))]
+    pub fn write_half(&self, bytes: &Datum) -> Signals
+        requires modify { IsSome (function_of self.now.request) }
+        requires len { length bytes.now.items ≡ datum_len self.now.request }
+        ensures { result ≡ write_half_of self.now bytes.now.items }
+    {
+        let location = self.location(0);
+        let lines = place(location, bytes.as_slice());
+        Signals::new(self.am(), self.group(), location, false, lines)
+    }
+
+    /// The address lines from A02 up, as the address of a group of four.
+    fn group(&self) -> u32
+        ensures value { result ≡ addr_of self.now.request - addr_of self.now.request % 4 }
+        ensures aligned { result % 4 ≡ 0 }
+        ensures in_space { result < addresses_of self.now.am.space }
+    {
+        let addr = self.request().addr();
+        addr - addr % 4
+    }
+
+    /// The location of datum `i` by itself.
+    #[tactic(auto, unfolding(crate::specs::Plans::location_from))]
+    fn location(&self, i: u16) -> Location
+        requires { i < count_of self.now.request }
+        ensures value { result ≡ own_location self.now i }
+        ensures found { location_at (address_of self.now.request i) (datum_len self.now.request)
+            ≡ Some result }
+        ensures first { (row_of result).first ≡ address_of self.now.request i % 4 }
+        ensures len { (row_of result).len ≡ datum_len self.now.request }
+    {
+        let request = self.request();
+        let n = request.datum_len();
+        let address = request.addr() + u32::from(i) * u32::from(n);
+        Location::of(address, n).unwrap()
+    }
+}
+
+/// The location whose strobes a datum shows: DS1* and DS0* are its own, A01 and LWORD* those of
+/// the first datum.
+fn shown(first: Location, own: Location) -> Location
+    requires len { (row_of first).len ≡ (row_of own).len }
+    requires lword { (row_of first).strobes.lword ≡ (row_of own).strobes.lword }
+    ensures strobes { (row_of result).strobes ≡ held (row_of first).strobes (row_of own).strobes }
+    ensures lane { (row_of result).lane ≡ (row_of own).lane }
+    ensures len { (row_of result).len ≡ (row_of own).len }
+{
+    match (first, own) {
+        (Location::Byte0 | Location::Byte1, Location::Byte2) => Location::Byte0,
+        (Location::Byte0 | Location::Byte1, Location::Byte3) => Location::Byte1,
+        (Location::Byte2 | Location::Byte3, Location::Byte0) => Location::Byte2,
+        (Location::Byte2 | Location::Byte3, Location::Byte1) => Location::Byte3,
+        (Location::Bytes01, Location::Bytes23) => Location::Bytes01,
+        (Location::Bytes23, Location::Bytes01) => Location::Bytes23,
+        _ => own,
     }
 }

@@ -1,25 +1,99 @@
-use vme_lanes::Datum;
+ghost use Rattle.std.specs.Prelude.{◌≡◌, ◌+◌, ◌<◌, length, IfSome, IsTrue};
+ghost use Rattle.vme_cycle.specs.Counts.{is_single_len, is_block_len, is_block_count};
+
+use crate::modify::Modify;
+use arrayvec::ArrayVec;
+use vme_lanes::{Datum, Location};
+
+/// The bytes of a block, in order of address.
+pub type Block = ArrayVec<u8, 256>;
+
+/// How many addresses lie between the boundaries that no block crosses.
+const BOUNDARY: u64 = 256;
 
 /// What a master asks of the bus. `am` is the address modifier code, `addr` the address of the
-/// first byte, `n` a number of bytes.
+/// first byte, `n` the number of bytes of each datum.
 #[derive(Debug, Drop)]
 pub enum Request {
     /// A read of `n` bytes.
-    Read { am: u8, addr: u32, n: u8 },
+    Read {
+        am: u8,
+        addr: u32,
+        n: u8,
+    },
     /// A write of these bytes.
-    Write { am: u8, addr: u32, bytes: Datum },
+    Write {
+        am: u8,
+        addr: u32,
+        bytes: Datum,
+    },
+    /// A block of `count` data, read.
+    BlockRead {
+        am: u8,
+        addr: u32,
+        n: u8,
+        count: u16,
+    },
+    /// A block write of these bytes, cut into data.
+    BlockWrite {
+        am: u8,
+        addr: u32,
+        n: u8,
+        bytes: Block,
+    },
+    /// A block write of one datum, `count` times.
+    BlockFill {
+        am: u8,
+        addr: u32,
+        n: u8,
+        count: u16,
+        bytes: Datum,
+    },
+    /// A read-modify-write of `n` bytes.
+    Modify {
+        am: u8,
+        addr: u32,
+        n: u8,
+        f: Modify,
+    },
+}
+
+/// The lengths of the data of a block, and of a read-modify-write.
+fn is_block_len(n: u8) -> bool
+    ensures { result ≡ is_block_len n }
+{
+    n == 1 || n == 2 || n == 4
+}
+
+/// The lengths of a single datum.
+fn is_single_len(n: usize) -> bool
+    ensures { result ≡ is_single_len n }
+{
+    1 <= n && n <= 4
+}
+
+/// The numbers of data of a block.
+fn is_block_count(count: usize) -> bool
+    ensures { result ≡ is_block_count count }
+{
+    1 <= count && count <= 256
 }
 
 impl Request {
-    ghost use Rattle.std.specs.Prelude.{◌≡◌};
     ghost use Rattle.std.specs.Option.{option_map};
-    ghost use Rattle.vme_cycle.specs.Requests.{code_of, addr_of, len_of, written};
+    ghost use Rattle.vme_cycle.specs.Requests.{code_of, addr_of, is_block_request, function_of, reads, datum_len, count_of, is_counted, datum_of, span_of};
+    ghost use Rattle.vme_cycle.specs.Lawful.{is_aligned_kind, first_location, crosses_boundary};
 
     pub(crate) fn code(&self) -> u8
         ensures { result ≡ code_of self.now }
     {
         match self {
-            Request::Read { am, .. } | Request::Write { am, .. } => *am,
+            Request::Read { am, .. }
+            | Request::Write { am, .. }
+            | Request::BlockRead { am, .. }
+            | Request::BlockWrite { am, .. }
+            | Request::BlockFill { am, .. }
+            | Request::Modify { am, .. } => *am,
         }
     }
 
@@ -27,27 +101,160 @@ impl Request {
         ensures { result ≡ addr_of self.now }
     {
         match self {
-            Request::Read { addr, .. } | Request::Write { addr, .. } => *addr,
+            Request::Read { addr, .. }
+            | Request::Write { addr, .. }
+            | Request::BlockRead { addr, .. }
+            | Request::BlockWrite { addr, .. }
+            | Request::BlockFill { addr, .. }
+            | Request::Modify { addr, .. } => *addr,
         }
     }
 
-    /// The number of bytes asked for or given.
-    pub(crate) fn len(&self) -> u8
-        ensures { result ≡ len_of self.now }
+    pub(crate) fn is_block(&self) -> bool
+        ensures { result ≡ is_block_request self.now }
     {
         match self {
-            Request::Read { n, .. } => *n,
+            Request::Read { .. } | Request::Write { .. } | Request::Modify { .. } => false,
+            Request::BlockRead { .. } | Request::BlockWrite { .. } | Request::BlockFill { .. } =>
+                true,
+        }
+    }
+
+    /// The function of a read-modify-write.
+    pub(crate) fn function(&self) -> Option<&Modify>
+        ensures { option_map (λ f. f.now) result ≡ function_of self.now }
+    {
+        match self {
+            Request::Modify { f, .. } => Some(f),
+            Request::Read { .. }
+            | Request::Write { .. }
+            | Request::BlockRead { .. }
+            | Request::BlockWrite { .. }
+            | Request::BlockFill { .. } => None,
+        }
+    }
+
+    /// Whether it reads alone.
+    pub(crate) fn reads(&self) -> bool
+        ensures { result ≡ reads self.now }
+    {
+        match self {
+            Request::Read { .. } | Request::BlockRead { .. } => true,
+            Request::Write { .. }
+            | Request::BlockWrite { .. }
+            | Request::BlockFill { .. }
+            | Request::Modify { .. } => false,
+        }
+    }
+
+    /// The number of bytes of each datum.
+    pub(crate) fn datum_len(&self) -> u8
+        ensures { result ≡ datum_len self.now }
+    {
+        match self {
+            Request::Read { n, .. }
+            | Request::BlockRead { n, .. }
+            | Request::BlockWrite { n, .. }
+            | Request::BlockFill { n, .. }
+            | Request::Modify { n, .. } => *n,
             Request::Write { bytes, .. } => bytes.as_slice().len() as u8,
         }
     }
 
-    /// The bytes to write, of a write.
-    pub(crate) fn written(&self) -> Option<&[u8]>
-        ensures { option_map (λ bytes. bytes.now) result ≡ written self.now }
+    /// The number of data.
+    pub(crate) fn count(&self) -> u16
+        requires { 0 < datum_len self.now }
+        ensures { result ≡ count_of self.now }
     {
         match self {
-            Request::Read { .. } => None,
-            Request::Write { bytes, .. } => Some(bytes.as_slice()),
+            Request::Read { .. } | Request::Write { .. } | Request::Modify { .. } => 1,
+            Request::BlockRead { count, .. } | Request::BlockFill { count, .. } => *count,
+            Request::BlockWrite { n, bytes, .. } => {
+                (bytes.as_slice().len() / usize::from(*n)) as u16
+            }
         }
+    }
+
+    /// Whether its numbers and its bytes agree.
+    pub(crate) fn is_counted(&self) -> bool
+        ensures { result ≡ is_counted self.now }
+    {
+        match self {
+            Request::Read { n, .. } => is_single_len(usize::from(*n)),
+            Request::Write { bytes, .. } => is_single_len(bytes.len()),
+            Request::BlockRead { n, count, .. } => {
+                is_block_len(*n) && is_block_count(usize::from(*count))
+            }
+            Request::BlockWrite { n, bytes, .. } => {
+                let len = bytes.len();
+                is_block_len(*n)
+                    && is_block_count(len / usize::from(*n))
+                    && len % usize::from(*n) == 0
+            }
+            Request::BlockFill {
+                n,
+                count,
+                bytes,
+                ..
+            } => {
+                is_block_len(*n)
+                    && is_block_count(usize::from(*count))
+                    && bytes.len() == usize::from(*n)
+            }
+            Request::Modify { n, f, .. } => is_block_len(*n) && f.has_len(*n),
+        }
+    }
+
+    /// The bytes to write as datum `i`, of a write.
+    pub(crate) fn datum(&self, i: u16) -> Option<&[u8]>
+        requires counted { IsTrue (is_counted self.now) }
+        requires in_count { i < count_of self.now }
+        ensures value { option_map (λ bytes. bytes.now) result ≡ datum_of self.now i }
+        ensures len { IfSome result (λ bytes. length bytes.now ≡ datum_len self.now) }
+    {
+        match self {
+            Request::Read { .. } | Request::BlockRead { .. } | Request::Modify { .. } => None,
+            Request::Write { bytes, .. } | Request::BlockFill { bytes, .. } => {
+                Some(bytes.as_slice())
+            }
+            Request::BlockWrite { n, bytes, .. } => {
+                let start = usize::from(i) * usize::from(*n);
+                Some(&bytes.as_slice()[start..start + usize::from(*n)])
+            }
+        }
+    }
+
+    /// The address after its last byte.
+    pub(crate) fn end(&self) -> u64
+        requires { IsTrue (is_counted self.now) }
+        ensures { result ≡ addr_of self.now + span_of self.now }
+    {
+        u64::from(self.addr()) + u64::from(self.datum_len()) * u64::from(self.count())
+    }
+
+    /// Whether its first address has to be a multiple of the length of its data.
+    fn is_aligned_kind(&self) -> bool
+        ensures { result ≡ is_aligned_kind self.now }
+    {
+        self.is_block() || self.function().is_some()
+    }
+
+    /// The byte location of the first datum.
+    pub(crate) fn first_location(&self) -> Option<Location>
+        requires { IsTrue (is_counted self.now) }
+        ensures { result ≡ first_location self.now }
+    {
+        if self.is_aligned_kind() && self.addr() % u32::from(self.datum_len()) != 0 {
+            return None;
+        }
+        Location::of(self.addr(), self.datum_len())
+    }
+
+    /// Whether a block's first and last byte lie in different units of 256 bytes.
+    pub(crate) fn crosses_boundary(&self) -> bool
+        requires { IsTrue (is_counted self.now) }
+        ensures { result ≡ crosses_boundary self.now }
+    {
+        self.is_block() && u64::from(self.addr()) / BOUNDARY != (self.end() - 1) / BOUNDARY
     }
 }

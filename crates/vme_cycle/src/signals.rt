@@ -49,7 +49,7 @@ impl Model for Signals {
 }
 
 impl Signals {
-    ghost use Rattle.vme_cycle.specs.SignalLines.{row_len, answered};
+    ghost use Rattle.vme_cycle.specs.SignalLines.{row_len, answered, sensed_at};
 
     /// The signals that these lines show, or `None` where the strobes choose no bytes. `addr` has
     /// the address lines from A02 up, as the address of a group of four; `write` is the level of
@@ -138,6 +138,20 @@ impl Signals {
         ensures { location_sensed self.now.strobes ≡ Some result }
     {
         self.location
+    }
+
+    /// The byte location that a slave senses where it has counted the address to `at`, or `None`
+    /// where there is none: in a block it takes A01 from bit 1 of `at`.
+    pub fn sensed_at(&self, at: u32) -> Option<Location>
+        ensures { result ≡ sensed_at self.now at }
+    {
+        if !self.am.kind().is_block() {
+            return Some(self.location());
+        }
+        Location::sense(Strobes {
+            a01: at % 4 >= 2,
+            ..self.strobes()
+        })
     }
 
     /// The level of WRITE*: low, `false`, for a write.

@@ -1,9 +1,8 @@
--- The byte location table, without its three unaligned rows: which bytes, which strobes, which lanes; and how it is
--- looked up.
+-- The byte location table: which bytes, which strobes, which lanes; and how it is looked up.
 use Rattle.std.specs.Prelude.{ℕ, ◌%◌, Bool, true, false, ◌==◌, ◌&&◌, List, [], ◌∷◌, find, Option}
 use Rattle.std.specs.Bool.{beq}
 use Rattle.vme_lanes.specs.declared.location.Location.{Location}
-use Rattle.vme_lanes.specs.declared.location.Location.TheVariants.{Byte0, Byte1, Byte2, Byte3, Bytes01, Bytes23, Bytes03}
+use Rattle.vme_lanes.specs.declared.location.Location.TheVariants.{Byte0, Byte1, Byte2, Byte3, Bytes01, Bytes23, Bytes03, Bytes02, Bytes13, Bytes12}
 use Rattle.vme_lanes.specs.declared.location.Strobes.{Strobes}
 
 -- one row of the table: its first byte, its length, its strobes, and its first lane, counted from D31-D24
@@ -27,7 +26,7 @@ abbrev pub row_with : ℕ → ℕ → Bool → Bool → Bool → Bool → ℕ �
 row_with first len ds1 ds0 a01 lword lane =
     record { first = first; len = len; strobes = record { ds1 = ds1; ds0 = ds0; a01 = a01; lword = lword }; lane = lane }
 
--- the aligned rows of the byte location table (IEEE 1014, section 2.2.1)
+-- the byte location table (IEEE 1014, section 2.2.1)
 abbrev pub row_of : Location → Row
 row_of Byte0 = row_with 0 1 L H L H 2
 row_of Byte1 = row_with 1 1 H L L H 3
@@ -36,10 +35,13 @@ row_of Byte3 = row_with 3 1 H L H H 3
 row_of Bytes01 = row_with 0 2 L L L H 2
 row_of Bytes23 = row_with 2 2 L L H H 2
 row_of Bytes03 = row_with 0 4 L L L L 0
+row_of Bytes02 = row_with 0 3 L H L L 0
+row_of Bytes13 = row_with 1 3 H L L L 1
+row_of Bytes12 = row_with 1 2 L L H L 1
 
--- all of these rows, for looking one up (IEEE 1014, section 2.2.1)
+-- all ten rows, for looking one up (IEEE 1014, section 2.2.1)
 abbrev pub locations : List Location
-locations = Byte0 ∷ Byte1 ∷ Byte2 ∷ Byte3 ∷ Bytes01 ∷ Bytes23 ∷ Bytes03 ∷ []
+locations = Byte0 ∷ Byte1 ∷ Byte2 ∷ Byte3 ∷ Bytes01 ∷ Bytes23 ∷ Bytes03 ∷ Bytes02 ∷ Bytes13 ∷ Bytes12 ∷ []
 
 -- all four lines have the same level (this project's own)
 abbrev pub same_strobes : Strobes → Strobes → Bool

@@ -1,7 +1,7 @@
 //! Byte locations: which strobes say which bytes of a group of four a cycle reaches, and which
 //! data lines carry them. The table is that of ANSI/IEEE Std 1014-1987, section 2.2.1 (byte
-//! locations, data strobes, A01 and LWORD*), without its three unaligned rows so far; strobes are
-//! computed from address and length, and the reverse.
+//! locations, data strobes, A01 and LWORD*); strobes are computed from address and length, and the
+//! reverse.
 #![tactic(auto)]
 
 mod lines;

@@ -18,6 +18,12 @@ pub enum Location {
     Bytes23,
     /// BYTE(0-3)
     Bytes03,
+    /// BYTE(0-2)
+    Bytes02,
+    /// BYTE(1-3)
+    Bytes13,
+    /// BYTE(1-2)
+    Bytes12,
 }
 
 impl Location {
@@ -36,6 +42,9 @@ impl Location {
             (0, 2) => Some(Location::Bytes01),
             (2, 2) => Some(Location::Bytes23),
             (0, 4) => Some(Location::Bytes03),
+            (0, 3) => Some(Location::Bytes02),
+            (1, 3) => Some(Location::Bytes13),
+            (1, 2) => Some(Location::Bytes12),
             _ => None,
         }
     }
@@ -51,7 +60,10 @@ impl Location {
             (true, false, true) => Location::of(half, 1),
             (true, true, false) => Location::of(half + 1, 1),
             (true, false, false) => Location::of(half, 2),
-            (false, false, false) => Location::of(half, 4),
+            (false, false, false) if strobes.a01 => Location::of(1, 2),
+            (false, false, false) => Location::of(0, 4),
+            (false, false, true) => Location::of(half, 3),
+            (false, true, false) => Location::of(half + 1, 3),
             _ => None,
         }
     }
@@ -61,8 +73,8 @@ impl Location {
         ensures { result ≡ (row_of self).first }
     {
         match self {
-            Location::Byte0 | Location::Bytes01 | Location::Bytes03 => 0,
-            Location::Byte1 => 1,
+            Location::Byte0 | Location::Bytes01 | Location::Bytes03 | Location::Bytes02 => 0,
+            Location::Byte1 | Location::Bytes13 | Location::Bytes12 => 1,
             Location::Byte2 | Location::Bytes23 => 2,
             Location::Byte3 => 3,
         }
@@ -74,13 +86,14 @@ impl Location {
     {
         match self {
             Location::Byte0 | Location::Byte1 | Location::Byte2 | Location::Byte3 => 1,
-            Location::Bytes01 | Location::Bytes23 => 2,
+            Location::Bytes01 | Location::Bytes23 | Location::Bytes12 => 2,
+            Location::Bytes02 | Location::Bytes13 => 3,
             Location::Bytes03 => 4,
         }
     }
 
-    /// The lane of its first byte, counted from D31-D24: quad bytes use all four lanes, shorter
-    /// locations D15-D08 for an even and D07-D00 for an odd byte.
+    /// The lane of its first byte, counted from D31-D24: where LWORD* is low each byte has the lane
+    /// of its own place in the group of four, else an even byte has D15-D08 and an odd one D07-D00.
     pub(crate) fn lane(self) -> usize
         ensures value { result ≡ (row_of self).lane }
         ensures fits { (row_of self).lane + (row_of self).len ≤ 4 }
@@ -109,8 +122,10 @@ pub struct Strobes {
 impl Strobes {
     /// The strobes of a location.
     ///
-    /// DS1* is low for an even byte and DS0* for an odd one; A01 is high in the upper half of the
-    /// group of four, and LWORD* low where the bytes lie in both halves.
+    /// Where the bytes lie in one half of the group of four, LWORD* is high, A01 is high for the
+    /// upper half, DS1* is low for an even byte and DS0* for an odd one. Where they lie in both,
+    /// LWORD* is low, DS1* is high where byte 0 alone is left out, DS0* where byte 3 alone is, and
+    /// A01 where both are.
     pub fn of(location: Location) -> Strobes
         ensures { result ≡ (row_of location).strobes }
     {
@@ -119,7 +134,7 @@ impl Strobes {
         Strobes {
             ds1: first % 2 == 1 && last % 2 == 1,
             ds0: first % 2 == 0 && last % 2 == 0,
-            a01: first >= 2,
+            a01: first >= 2 || first == 1 && last == 2,
             lword: first >= 2 || last < 2,
         }
     }

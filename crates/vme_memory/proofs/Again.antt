@@ -1,10 +1,10 @@
 -- What a command writes, a command reads again.
-use Rattle.std.proofs.Common.{◌≡◌, ℕ, ◌+◌, ◌≤◌, true, List, length, slice_range, ap, arith, inl, inr}
+use Rattle.std.proofs.Common.{◌≡◌, ℕ, ◌+◌, ◌≤◌, Bool, true, false, List, length, slice_range, refl, ap, ◌∙◌, arith, inl, inr}
 use Rattle.std.proofs.lemmas.Bool.{cases_Bool, and_parts, leb-true}
 use Rattle.std.proofs.lemmas.Grind.{common_steps}
 use Rattle.vme_memory.specs.declared.reply.Reply.TheVariants.{Bytes, Done}
 use Rattle.vme_memory.specs.Boards.{Board, overwritten}
-use Rattle.vme_memory.specs.Steps.{can_answer, step, Read, Write}
+use Rattle.vme_memory.specs.Steps.{Command, can_answer, performed, read_at, write_at, step, LocalRead, LocalWrite, Read, Write, BlockRead, BlockWrite}
 
 same_bytes : (bytes new : List ℕ) (at : ℕ) → at + length new ≤ length bytes → slice_range (overwritten bytes at new) at (at + length new) ≡ new
 same_bytes bytes new at fits = grind (arith, common_steps)
@@ -16,26 +16,57 @@ same_len bytes new at fits = grind (arith, common_steps)
 after : Board → ℕ → List ℕ → Board
 after board at new = record board { bytes = overwritten board.bytes at new }
 
-fits_in : (board : Board) (at len : ℕ) → can_answer board at len ≡ true → at + len ≤ length board.bytes
-fits_in board at len can = leb-true (at + len) (length board.bytes) (and_parts _ _ can).0
-
-still_answers : (board : Board) (at : ℕ) (new : List ℕ) → can_answer board at (length new) ≡ true → can_answer (after board at new) at (length new) ≡ true
+-- a write that is answered leaves the bytes there
+left_there :
+    (board : Board) (command : Command) (at : ℕ) (new : List ℕ) → can_answer board command ≡ true → performed board command ≡ write_at board at new
+    → (step board command).1 ≡ after board at new
 unfolding after
-still_answers board at new can = rw (same_len board.bytes new at (fits_in board at (length new) can)) can
+left_there board command at new can does = rw can (ap (λ p. p.1) does)
 
-read_back :
-    (board : Board) (at : ℕ) (new : List ℕ) → can_answer board at (length new) ≡ true
-    → (step (after board at new) (Read at (length new))).0 ≡ Bytes (record { items = new })
+-- what is read there, where the read is answered
+read_there :
+    (board : Board) (command : Command) (at : ℕ) (new : List ℕ) → at + length new ≤ length board.bytes → can_answer (after board at new) command ≡ true
+    → performed (after board at new) command ≡ read_at (after board at new) at (length new)
+    → (step (after board at new) command).0 ≡ Bytes (record { items = new })
 unfolding after
-read_back board at new can =
-    rw (still_answers board at new can) (ap (λ bytes. Bytes (record { items = bytes })) (same_bytes board.bytes new at (fits_in board at (length new) can)))
+read_there board command at new fits can does =
+    rw can (ap (λ p. p.0) does ∙ ap (λ bytes. Bytes (record { items = bytes })) (same_bytes board.bytes new at fits))
 
-pub command_again :
+pub written_again :
     (board : Board) (at : ℕ) (new : List ℕ) → (step board (Write at new)).0 ≡ Done
     → (step (step board (Write at new)).1 (Read at (length new))).0 ≡ Bytes (record { items = new })
 unfolding after
-command_again board at new done =
-    elim (cases_Bool (can_answer board at (length new))) [
-      | inl can ↦ rw can (read_back board at new can)
+written_again board at new done =
+    elim (cases_Bool (can_answer board (Write at new))) [
+      | inl can ↦
+          let fit = leb-true (at + length new) (length board.bytes) (and_parts _ _ can).0 in
+          rw (left_there board (Write at new) at new can refl)
+          (read_there board (Read at (length new)) at new fit (rw (same_len board.bytes new at fit) can) refl)
+      | inr refused ↦ let bad = rw refused at done in cc
+    ]
+
+pub block_again :
+    (board : Board) (at : ℕ) (new : List ℕ) → (step board (BlockWrite at new)).0 ≡ Done
+    → (step (step board (BlockWrite at new)).1 (BlockRead at (length new))).0 ≡ Bytes (record { items = new })
+unfolding after
+block_again board at new done =
+    elim (cases_Bool (can_answer board (BlockWrite at new))) [
+      | inl can ↦
+          let fit = leb-true (at + length new) (length board.bytes) (and_parts _ _ (and_parts _ _ (and_parts _ _ can).0).0).0 in
+          rw (left_there board (BlockWrite at new) at new can refl)
+          (read_there board (BlockRead at (length new)) at new fit (rw (same_len board.bytes new at fit) can) refl)
+      | inr refused ↦ let bad = rw refused at done in cc
+    ]
+
+pub local_again :
+    (board : Board) (at : ℕ) (new : List ℕ) → (step board (LocalWrite at new)).0 ≡ Done
+    → (step (step board (LocalWrite at new)).1 (LocalRead at (length new))).0 ≡ Bytes (record { items = new })
+unfolding after
+local_again board at new done =
+    elim (cases_Bool (can_answer board (LocalWrite at new))) [
+      | inl can ↦
+          let fit = leb-true (at + length new) (length board.bytes) (and_parts _ _ can).0 in
+          rw (left_there board (LocalWrite at new) at new can refl)
+          (read_there board (LocalRead at (length new)) at new fit (rw (same_len board.bytes new at fit) can) refl)
       | inr refused ↦ let bad = rw refused at done in cc
     ]

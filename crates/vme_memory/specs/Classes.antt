@@ -1,7 +1,8 @@
 -- What a slave of each width is able to answer.
-use Rattle.std.specs.Prelude.{Bool, true, false}
+use Rattle.std.specs.Prelude.{ℕ, ◌%◌, Bool, true, false, ◌==◌, ◌&&◌}
 use Rattle.vme_lanes.specs.declared.location.Location.{Location}
-use Rattle.vme_lanes.specs.declared.location.Location.TheVariants.{Byte0, Byte1, Byte2, Byte3, Bytes01, Bytes23, Bytes03}
+use Rattle.vme_lanes.specs.declared.location.Location.TheVariants.{Byte0, Byte1, Byte2, Byte3, Bytes01, Bytes23, Bytes03, Bytes02, Bytes13, Bytes12}
+use Rattle.vme_cycle.specs.Counts.{is_block_len}
 use Rattle.vme_memory.specs.declared.class.Class.{Class}
 use Rattle.vme_memory.specs.declared.class.Width8To32.{Width8To32}
 use Rattle.vme_memory.specs.declared.class.Width8To32.TheVariants.{D08, D16, D32}
@@ -18,7 +19,7 @@ answers_quads D08 = false
 answers_quads D16 = false
 answers_quads D32 = true
 
--- whether a class is able to answer a location (IEEE 1014, section 2.3.6)
+-- whether a class is able to answer a location: the unaligned ones want a switch of their own (IEEE 1014, section 2.3.6)
 abbrev pub answers : Class → Location → Bool
 answers class Byte0 = true
 answers class Byte1 = true
@@ -27,3 +28,10 @@ answers class Byte3 = true
 answers class Bytes01 = answers_doubles class.width
 answers class Bytes23 = answers_doubles class.width
 answers class Bytes03 = answers_quads class.width
+answers class Bytes02 = answers_quads class.width && class.uat
+answers class Bytes13 = answers_quads class.width && class.uat
+answers class Bytes12 = answers_quads class.width && class.uat
+
+-- where one datum of a block may be: one, two or four bytes at a multiple of their number (IEEE 1014, section 2.3.6)
+abbrev pub is_block_place : ℕ → ℕ → Bool
+is_block_place at len = is_block_len len && at % len == 0

@@ -1,67 +1,121 @@
--- The step of a board's memory on a command, and the command that a cycle stands for.
-use Rattle.std.specs.Prelude.{◌≡◌, ℕ, ◌+◌, ◌%◌, nat_le, Bool, ◌==◌, ◌&&◌, false, if◌then◌else◌, List, length, slice_range, Option, Some, None}
-use Rattle.std.specs.Option.{option_map_or, option_and_then}
+-- The step of a board's memory on a command, and the command that a cycle or a call of the local port stands for.
+use Rattle.std.specs.Prelude.{◌≡◌, ℕ, ◌+◌, ◌%◌, nat_le, Bool, true, false, ◌==◌, ◌&&◌, if◌then◌else◌, List, length, slice_range, Option, Some, None}
+use Rattle.std.specs.Option.{option_map, option_map_or, option_and_then}
 use Rattle.vme_lanes.specs.declared.location.Location.{Location}
-use Rattle.vme_lanes.specs.declared.location.Strobes.{Strobes}
-use Rattle.vme_lanes.specs.Rows.{row_of, location_at, location_sensed}
+use Rattle.vme_lanes.specs.Rows.{row_of, location_at}
 use Rattle.vme_lanes.specs.Lanes.{carries, picked}
 use Rattle.vme_am.specs.Kinds.{is_block}
-use Rattle.vme_cycle.specs.SignalLines.{SignalLines, row_len}
+use Rattle.vme_cycle.specs.declared.modify.Modify as functions
+use Rattle.vme_cycle.specs.Functions.{value, has_len}
+use Rattle.vme_cycle.specs.Counts.{is_block_len}
+use Rattle.vme_cycle.specs.SignalLines.{SignalLines, sensed_at}
 use Rattle.vme_memory.specs.declared.reply.Reply.{Reply}
 use Rattle.vme_memory.specs.declared.reply.Reply.TheVariants.{Bytes, Done, Berr}
-use Rattle.vme_memory.specs.Classes.{answers}
+use Rattle.vme_memory.specs.Classes.{answers, is_block_place}
 use Rattle.vme_memory.specs.Boards.{Board, overwritten}
 
--- a command of the bus: a read of some bytes from an offset on, or a write of these bytes there (this project's own)
+-- a command, with the offset of its first byte: a read of so many bytes, a write of these, or a read-modify-write of so
+-- many with a function, by the local port or by the bus; or one datum of a block (this project's own)
 pub data Command : Type 0 where
+  LocalRead : ℕ → ℕ → Command
+  LocalWrite : ℕ → List ℕ → Command
+  LocalModify : ℕ → ℕ → functions.Modify → Command
   Read : ℕ → ℕ → Command
   Write : ℕ → List ℕ → Command
+  Modify : ℕ → ℕ → functions.Modify → Command
+  BlockRead : ℕ → ℕ → Command
+  BlockWrite : ℕ → List ℕ → Command
 
--- whether a board answers len bytes from an offset on: all of them lie within it, some byte location has them, and
--- its class is able to answer that location (this project's own)
-abbrev pub can_answer : Board → ℕ → ℕ → Bool
-can_answer board at len = nat_le (at + len) (length board.bytes) && option_map_or (answers board.class) (location_at at len) false
+-- whether bytes lie within a board (this project's own)
+abbrev pub fits : Board → ℕ → ℕ → Bool
+fits board at len = nat_le (at + len) (length board.bytes)
+
+-- whether some byte location has bytes, and the board's class is able to answer it (IEEE 1014, section 2.3.6)
+abbrev pub has_cycle : Board → ℕ → ℕ → Bool
+has_cycle board at len = option_map_or (answers board.class) (location_at at len) false
+
+-- whether a board answers a command: all bytes lie within it; the length is allowed there; its class has the cycle, for
+-- which the local port does not ask; and the data of a function have that length (this project's own)
+abbrev pub can_answer : Board → Command → Bool
+can_answer board (LocalRead at len) = fits board at len && is_block_len len
+can_answer board (LocalWrite at new) = fits board at (length new) && is_block_len (length new)
+can_answer board (LocalModify at len f) = fits board at len && is_block_len len && has_len f len
+can_answer board (Read at len) = fits board at len && has_cycle board at len
+can_answer board (Write at new) = fits board at (length new) && has_cycle board at (length new)
+can_answer board (Modify at len f) =
+    fits board at len && has_cycle board at len && is_block_place at len && board.class.rmw && has_len f len
+can_answer board (BlockRead at len) = fits board at len && has_cycle board at len && is_block_place at len && board.class.blt
+can_answer board (BlockWrite at new) =
+    fits board at (length new) && has_cycle board at (length new) && is_block_place at (length new) && board.class.blt
+
+-- the bytes from an offset on (this project's own)
+abbrev pub bytes_at : Board → ℕ → ℕ → List ℕ
+bytes_at board at len = slice_range board.bytes at (at + len)
+
+-- what a read does (this project's own)
+abbrev pub read_at : Board → ℕ → ℕ → Reply × Board
+read_at board at len = (Bytes (record { items = bytes_at board at len }), board)
+
+-- what a write does (this project's own)
+abbrev pub write_at : Board → ℕ → List ℕ → Reply × Board
+write_at board at new = (Done, record board { bytes = overwritten board.bytes at new })
+
+-- what a read-modify-write does: it replies the old bytes (this project's own)
+abbrev pub modify_at : Board → ℕ → ℕ → functions.Modify → Reply × Board
+modify_at board at len f = (
+  Bytes (record { items = bytes_at board at len }),
+  record board { bytes = overwritten board.bytes at (value f (bytes_at board at len)) },
+)
+
+-- what a command does that is answered (this project's own)
+abbrev pub performed : Board → Command → Reply × Board
+performed board (LocalRead at len) = read_at board at len
+performed board (LocalWrite at new) = write_at board at new
+performed board (LocalModify at len f) = modify_at board at len f
+performed board (Read at len) = read_at board at len
+performed board (Write at new) = write_at board at new
+performed board (Modify at len f) = modify_at board at len f
+performed board (BlockRead at len) = read_at board at len
+performed board (BlockWrite at new) = write_at board at new
 
 -- the step of a board's memory: its reply, and the memory after it (this project's own)
 abbrev pub step : Board → Command → Reply × Board
-step board (Read at len) =
-    if can_answer board at len
-    then (Bytes (record { items = slice_range board.bytes at (at + len) }), board)
-    else (Berr, board)
-step board (Write at new) =
-    if can_answer board at (length new)
-    then (Done, record board { bytes = overwritten board.bytes at new })
-    else (Berr, board)
+step board command = if can_answer board command then performed board command else (Berr, board)
 
--- the write that the lanes of a location carry, if each of them carries a byte (this project's own)
-abbrev pub written : Location → ℕ → List (Option ℕ) → Option Command
-written l at lanes = if carries l lanes then Some (Write at (picked l lanes)) else None
+-- the bytes that the lanes of a location carry, if each of them carries one (this project's own)
+abbrev pub driven_bytes : Location → List (Option ℕ) → Option (List ℕ)
+driven_bytes l lanes = if carries l lanes then Some (picked l lanes) else None
 
--- the command at an offset of a cycle that shows a location, if it is one: no block, at that location's place in the
--- group of four, and in a write a byte on each of its lanes (this project's own)
-abbrev pub command_at : SignalLines → ℕ → Location → Option Command
-command_at s at l =
-    if is_block s.am.kind then None else
-    (if (row_of l).first == at % 4
-    then (if s.write then Some (Read at (row_of l).len) else written l at s.lanes)
-    else None)
+-- the command of a cycle at a location's own place, by whether its code is a block code, the level of WRITE*, and whether
+-- it comes with a function (IEEE 1014, section 2.2.4)
+abbrev pub command_at : Bool → Bool → Option functions.Modify → ℕ → Location → List (Option ℕ) → Option Command
+command_at false true None at l lanes = Some (Read at (row_of l).len)
+command_at false false None at l lanes = option_map (Write at) (driven_bytes l lanes)
+command_at false true (Some f) at l lanes = Some (Modify at (row_of l).len f)
+command_at false false (Some f) at l lanes = None
+command_at true true None at l lanes = Some (BlockRead at (row_of l).len)
+command_at true false None at l lanes = option_map (BlockWrite at) (driven_bytes l lanes)
+command_at true true (Some f) at l lanes = None
+command_at true false (Some f) at l lanes = None
 
--- the command that a cycle stands for, if any (IEEE 1014, sections 2.2.1 and 2.2.4)
-abbrev pub command_of : SignalLines → ℕ → Option Command
-command_of s at = option_and_then (command_at s at) (location_sensed s.strobes)
+-- the command that a cycle at an offset stands for, if any: by the location that the board senses there, at that location's
+-- place in the group of four (IEEE 1014, sections 2.2.1 and 2.2.4)
+abbrev pub command_of : SignalLines → ℕ → Option functions.Modify → Option Command
+command_of s at f =
+    option_and_then (λ l. if (row_of l).first == at % 4 then command_at (is_block s.am.kind) s.write f at l s.lanes else None) (sensed_at s at)
 
--- a cycle that stands for no command is answered by a bus error (this project's own)
+-- what stands for no command is answered by a bus error (this project's own)
 abbrev pub answer : Board → Option Command → Reply × Board
 answer board (Some command) = step board command
 answer board None = (Berr, board)
 
--- what a board does in a cycle whose first byte is at an offset: its reply, and the memory after it
+-- what a board does in a cycle whose first byte is at an offset, perhaps with a function: its reply, and the memory after it
 -- (this project's own)
-unfoldable pub cycle : Board → SignalLines → ℕ → Reply × Board
-cycle board s at = answer board (command_of s at)
+unfoldable pub cycle : Board → SignalLines → ℕ → Option functions.Modify → Reply × Board
+cycle board s at f = answer board (command_of s at f)
 
--- a reply with bytes has as many as the strobes choose (IEEE 1014, section 2.2.1)
-abbrev pub HasLen : Reply → Strobes → Type 0
-HasLen (Bytes datum) strobes = row_len strobes ≡ Some (length datum.items)
-HasLen Done strobes = Unit {0}
-HasLen Berr strobes = Unit {0}
+-- a reply with bytes has so many (this project's own)
+abbrev pub HasLen : Reply → ℕ → Type 0
+HasLen (Bytes datum) len = length datum.items ≡ len
+HasLen Done len = Unit {0}
+HasLen Berr len = Unit {0}

@@ -1,13 +1,15 @@
-ghost use Rattle.std.specs.Prelude.{◌≡◌, ◌↔◌, ◌+◌, ◌%◌, ◌≤◌, length, slice_get, true, false, Some, IfOk, OnOk, IsErrOf};
-ghost use Rattle.vme_lanes.specs.declared.location.Strobes.{Strobes};
-ghost use Rattle.vme_lanes.specs.Rows.{row_of, location_sensed};
+ghost use Rattle.std.specs.Prelude.{ℕ, ◌≡◌, ◌↔◌, ◌+◌, ◌%◌, ◌≤◌, length, slice_get, true, false, Some, IsTrue, ◌&&◌, IfOk, OnOk, IsErrOf};
+ghost use Rattle.vme_lanes.specs.Rows.{row_of};
+ghost use Rattle.vme_cycle.specs.SignalLines.{len_at};
+ghost use Rattle.vme_memory.specs.Classes.{is_block_place};
 ghost use Rattle.vme_memory.specs.Boards.{is_board_size, zeros, overwritten};
 
 use crate::class::Class;
+use crate::command::BoardCmd;
 use crate::reply::Reply;
 use std::alloc::Global;
 use std::marker::Model;
-use vme_cycle::Signals;
+use vme_cycle::{Modify, Signals};
 use vme_lanes::{DataLines, Datum, Location, pick};
 
 /// Why there is no memory of a size.
@@ -27,7 +29,7 @@ pub struct ByteMemory {
 }
 
 impl Model for ByteMemory {
-    ghost use Rattle.std.specs.Prelude.{◌≡◌, true, length};
+    ghost use Rattle.std.specs.Prelude.{ℕ, ◌≡◌, true, length};
     ghost use Rattle.vme_memory.specs.Boards.{Board, is_board_size};
 
     ghost Value = { Board };
@@ -38,8 +40,13 @@ impl Model for ByteMemory {
 }
 
 impl ByteMemory {
-    ghost use Rattle.vme_memory.specs.Steps.{can_answer, step, written, answer, cycle, HasLen};
-    ghost use Rattle.vme_memory.specs.Steps.{Read};
+    ghost use Rattle.std.specs.Option.{option_map};
+    ghost use Rattle.vme_cycle.specs.Functions.{has_len};
+    ghost use Rattle.vme_cycle.specs.Counts.{is_block_len};
+    ghost use Rattle.vme_memory.specs.Steps as Steps;
+    ghost use Rattle.vme_memory.specs.Steps.{fits, has_cycle, bytes_at, modify_at, step, answer, cycle, HasLen};
+    ghost use Rattle.vme_memory.specs.Commands.{read_command, written};
+    ghost use Rattle.vme_memory.specs.Locals.{answer_given};
 
     /// A memory of `size` bytes, all zero.
     #[tactic(auto, unfolding(crate::specs::Boards::zeros))]
@@ -72,65 +79,209 @@ impl ByteMemory {
         self.bytes.get(offset as usize).copied()
     }
 
-    /// Answers the cycle that the signals show, with its first byte at offset `at`. The reply and
-    /// the memory after it are those of the command that the cycle stands for; after `Berr`
-    /// nothing has changed.
+    /// Answers the cycle that the signals show, with its first byte at offset `at`, and with the
+    /// function of a read-modify-write. The reply and the memory after it are those of the command
+    /// that the cycle stands for; after `Berr` nothing has changed.
+    ///
+    /// Of a block this is one datum: the board counts the address on, and takes A01 from `at`. A
+    /// read-modify-write shows its read half, and is answered by the old bytes.
     #[tactic(auto, unfolding(crate::specs::Steps::cycle))]
-    pub fn cycle(&mut self, signals: &Signals, at: u32) -> Reply
-        ensures reply { result ≡ (cycle self.old signals.now at).0 }
-        ensures memory { self.new ≡ (cycle self.old signals.now at).1 }
+    pub fn cycle(&mut self, signals: &Signals, at: u32, f: Option<&Modify>) -> Reply
+        ensures reply { result ≡ (cycle self.old signals.now at (option_map (λ f. f.now) f.entry)).0 }
+        ensures memory { self.new ≡ (cycle self.old signals.now at (option_map (λ f. f.now) f.entry)).1 }
         ensures berr { result ≡ Reply.Berr → self.new ≡ self.old }
-        ensures len { HasLen result signals.now.strobes }
+        ensures len { (len : ℕ) → len_at signals.now at ≡ Some len → HasLen result len }
     {
-        let location = signals.location();
-        if signals.am().kind().is_block() || u32::from(location.first()) != at % 4 {
+        let Some(location) = signals.sensed_at(at) else {
+            return Reply::Berr;
+        };
+        if u32::from(location.first()) != at % 4 {
             return Reply::Berr;
         }
-        if signals.write() {
-            self.read(location, at)
-        } else {
-            self.write(location, at, signals.lines())
+        let block = signals.am().kind().is_block();
+        match (block, signals.write(), f) {
+            (_, true, None) => self.read(block, location, at),
+            (false, false, None) => self.write(false, location, at, signals.lines()),
+            (true, false, None) => self.write(true, location, at, signals.lines()),
+            (false, true, Some(f)) => self.modify(location, at, f),
+            (_, _, Some(_)) => Reply::Berr,
         }
     }
 
-    /// Whether the board answers a location with its first byte at `at`.
+    /// Answers a command by the port that it names. The reply and the memory after it are those of
+    /// the command; after `Berr` nothing has changed. The local port asks for no switch of the
+    /// board's class, and takes any offset.
+    #[tactic(auto, unfolding(crate::specs::Locals::answer_given, crate::specs::Steps::cycle))]
+    pub fn local(&mut self, command: &BoardCmd) -> Reply
+        ensures reply { result ≡ (answer_given self.old command.now).0 }
+        ensures memory { self.new ≡ (answer_given self.old command.now).1 }
+        ensures berr { result ≡ Reply.Berr → self.new ≡ self.old }
+    {
+        match command {
+            BoardCmd::LocalRead { offset, n } => self.local_read(*offset, *n),
+            BoardCmd::LocalWrite { offset, bytes } => self.local_write(*offset, bytes),
+            BoardCmd::LocalModify { offset, n, f } => self.local_modify(*offset, *n, f),
+            BoardCmd::Cycle { signals, at, f } => self.cycle(signals, *at, f.as_ref()),
+        }
+    }
+
+    /// Whether the bytes of a location, from `at` on, lie within the board and its class has the
+    /// cycle.
     #[tactic(auto, using(crate::proofs::Places::place_found))]
-    fn can_answer(&self, location: Location, at: u32) -> bool
+    fn has_cycle(&self, location: Location, at: u32) -> bool
         requires { (row_of location).first ≡ at % 4 }
-        ensures { result ≡ can_answer self.now at (row_of location).len }
+        ensures { result ≡ (fits self.now at (row_of location).len
+            && has_cycle self.now at (row_of location).len) }
     {
-        self.class.answers(location)
-            && at as usize + usize::from(location.len()) <= self.bytes.len()
+        self.fits(at, location.len()) && self.class.answers(location)
     }
 
-    fn read(&self, location: Location, at: u32) -> Reply
-        requires { (row_of location).first ≡ at % 4 }
-        ensures reply { result ≡ (step self.now (Read at (row_of location).len)).0 }
-        ensures len { (strobes : Strobes) → location_sensed strobes ≡ Some location →
-            HasLen result strobes }
+    fn fits(&self, at: u32, len: u8) -> bool
+        ensures { result ≡ fits self.now at len }
     {
-        if !self.can_answer(location, at) {
+        at as usize + usize::from(len) <= self.bytes.len()
+    }
+
+    fn read(&self, block: bool, location: Location, at: u32) -> Reply
+        requires { (row_of location).first ≡ at % 4 }
+        ensures reply { result ≡ (step self.now (read_command block at (row_of location).len)).0 }
+        ensures memory { self.now ≡ (step self.now (read_command block at (row_of location).len)).1 }
+        ensures len { HasLen result (row_of location).len }
+    {
+        if !self.has_cycle(location, at) {
             return Reply::Berr;
         }
-        let start = at as usize;
-        Reply::Bytes(datum_of(&self.bytes[start..start + usize::from(location.len())]))
+        if block && !self.has_block(location, at) {
+            return Reply::Berr;
+        }
+        Reply::Bytes(self.datum_at(at, location.len()))
     }
 
-    fn write(&mut self, location: Location, at: u32, lines: DataLines) -> Reply
+    fn has_block(&self, location: Location, at: u32) -> bool
+        ensures { result ≡ (is_block_place at (row_of location).len && self.now.class.blt) }
+    {
+        is_block_place(location.len(), at) && self.class.blt
+    }
+
+    fn write(&mut self, block: bool, location: Location, at: u32, lines: DataLines) -> Reply
         requires { (row_of location).first ≡ at % 4 }
-        ensures reply { result ≡ (answer self.old (written location at lines.lanes)).0 }
-        ensures memory { self.new ≡ (answer self.old (written location at lines.lanes)).1 }
-        ensures len { (strobes : Strobes) → HasLen result strobes }
+        ensures reply { result ≡ (answer self.old (written block location at lines.lanes)).0 }
+        ensures memory { self.new ≡ (answer self.old (written block location at lines.lanes)).1 }
+        ensures len { (len : ℕ) → HasLen result len }
     {
         if !lines.carries(location) {
             return Reply::Berr;
         }
         let bytes = pick(location, lines);
-        if !self.can_answer(location, at) {
+        if !self.has_cycle(location, at) {
+            return Reply::Berr;
+        }
+        if block && !self.has_block(location, at) {
             return Reply::Berr;
         }
         overwrite(&mut self.bytes, at as usize, bytes.as_slice());
         Reply::Done
+    }
+
+    fn modify(&mut self, location: Location, at: u32, f: &Modify) -> Reply
+        requires { (row_of location).first ≡ at % 4 }
+        ensures reply { result ≡ (step self.old (Steps.Modify at (row_of location).len f.now)).0 }
+        ensures memory { self.new ≡ (step self.old (Steps.Modify at (row_of location).len f.now)).1 }
+        ensures len { HasLen result (row_of location).len }
+    {
+        if !self.has_cycle(location, at) {
+            return Reply::Berr;
+        }
+        if !self.has_modify(location, at, f) {
+            return Reply::Berr;
+        }
+        self.modify_at(at, location.len(), f)
+    }
+
+    fn has_modify(&self, location: Location, at: u32, f: &Modify) -> bool
+        ensures { result ≡ (is_block_place at (row_of location).len && self.now.class.rmw
+            && has_len f.now (row_of location).len) }
+    {
+        is_block_place(location.len(), at) && self.class.rmw && f.has_len(location.len())
+    }
+
+    fn local_read(&self, at: u32, n: u8) -> Reply
+        ensures reply { result ≡ (step self.now (Steps.LocalRead at n)).0 }
+        ensures memory { self.now ≡ (step self.now (Steps.LocalRead at n)).1 }
+    {
+        if !self.is_local_place(at, n) {
+            return Reply::Berr;
+        }
+        Reply::Bytes(self.datum_at(at, n))
+    }
+
+    fn local_write(&mut self, at: u32, bytes: &Datum) -> Reply
+        ensures reply { result ≡ (step self.old (Steps.LocalWrite at bytes.now.items)).0 }
+        ensures memory { self.new ≡ (step self.old (Steps.LocalWrite at bytes.now.items)).1 }
+    {
+        if !self.is_local_place(at, bytes.as_slice().len() as u8) {
+            return Reply::Berr;
+        }
+        overwrite(&mut self.bytes, at as usize, bytes.as_slice());
+        Reply::Done
+    }
+
+    fn local_modify(&mut self, at: u32, n: u8, f: &Modify) -> Reply
+        ensures reply { result ≡ (step self.old (Steps.LocalModify at n f.now)).0 }
+        ensures memory { self.new ≡ (step self.old (Steps.LocalModify at n f.now)).1 }
+    {
+        if !self.is_local_place(at, n) {
+            return Reply::Berr;
+        }
+        if !f.has_len(n) {
+            return Reply::Berr;
+        }
+        self.modify_at(at, n, f)
+    }
+
+    /// Whether the local port reaches `n` bytes from `at` on.
+    fn is_local_place(&self, at: u32, n: u8) -> bool
+        ensures { result ≡ (fits self.now at n && is_block_len n) }
+    {
+        self.fits(at, n) && (n == 1 || n == 2 || n == 4)
+    }
+
+    /// Writes the function's value in the place of the old bytes, which are the reply.
+    fn modify_at(&mut self, at: u32, len: u8, f: &Modify) -> Reply
+        requires fits { IsTrue (fits self.old at len) }
+        requires len { IsTrue (has_len f.now len) }
+        requires short { len ≤ 8 }
+        ensures reply { result ≡ (modify_at self.old at len f.now).0 }
+        ensures memory { self.new ≡ (modify_at self.old at len f.now).1 }
+        ensures len { HasLen result len }
+    {
+        let old = self.datum_at(at, len);
+        let new = f.value(&old);
+        overwrite(&mut self.bytes, at as usize, new.as_slice());
+        Reply::Bytes(old)
+    }
+
+    /// The `len` bytes from `at` on.
+    fn datum_at(&self, at: u32, len: u8) -> Datum
+        requires fits { IsTrue (fits self.now at len) }
+        requires short { len ≤ 8 }
+        ensures value { result.items ≡ bytes_at self.now at len }
+        ensures len { length result.items ≡ len }
+    {
+        let start = at as usize;
+        datum_of(&self.bytes[start..start + usize::from(len)])
+    }
+}
+
+/// Where one datum of a block, or a read-modify-write, may be: `len` bytes from `at` on.
+fn is_block_place(len: u8, at: u32) -> bool
+    ensures { result ≡ is_block_place at len }
+{
+    match len {
+        1 => true,
+        2 => at % 2 == 0,
+        4 => at % 4 == 0,
+        _ => false,
     }
 }
 

@@ -16,7 +16,7 @@ pub enum Width8To32 {
 pub struct Class {
     /// How wide its cycles are at most.
     pub width: Width8To32,
-    /// Unaligned cycles.
+    /// Unaligned cycles: three bytes, and two in the middle of a group of four. They want D32 too.
     pub uat: bool,
     /// Block transfers.
     pub blt: bool,
@@ -35,6 +35,9 @@ impl Class {
             Location::Byte0 | Location::Byte1 | Location::Byte2 | Location::Byte3 => true,
             Location::Bytes01 | Location::Bytes23 => self.width != Width8To32::D08,
             Location::Bytes03 => self.width == Width8To32::D32,
+            Location::Bytes02 | Location::Bytes13 | Location::Bytes12 => {
+                self.width == Width8To32::D32 && self.uat
+            }
         }
     }
 }

@@ -4,10 +4,14 @@
 
 mod board;
 mod class;
+mod command;
 mod laws;
 mod reply;
+#[cfg(test)]
+mod tests;
 
 pub use board::{ByteMemory, MemoryFault};
 pub use class::{Class, Width8To32};
+pub use command::BoardCmd;
 pub use laws::{bytes_are_overwritten, written_is_read};
 pub use reply::Reply;

@@ -11,7 +11,7 @@ pub returns-in_err-write_text-clause-front : goal.returns-in_err-write_text-clau
 returns-in_err-write_text-clause-front g c =
     let sofar = c.loop-line.invariant.text in
     let first : lines c.loop-line.line-iterator.rest.now ≡ c.in-Some.line.now ∷ lines c.next.new.self.rest.now = search rules in
-    let whole = text_more c.loop-line.memory c.answer_line.new.memory sofar.0 c.loop-line.text.items c.answer_line.new.text.items c.in-Some.line.now
+    let whole = text_more c.loop-line.bus c.answer_line.new.bus sofar.0 c.loop-line.text.items c.answer_line.new.text.items c.in-Some.line.now
     c.loop-line.line-iterator.rest.now c.next.new.self.rest.now (cycles_text c.args.input.now) sofar.2 first c.in_ok-answer_line.ensures.text c.in_ok-answer_line.ensures.board in
     let front : AppendsFront (g.W.Sink.contents c.args.writer.now) (g.W.Sink.contents c.write_text.new.writer) (cycles_text c.args.input.now)
     = AppendsFront-more _ _ _ sofar.0 _ _ _ sofar.1 (rw c.as_slice.ensures.value at c.in_err-write_text.ensures.front) whole in
@@ -21,7 +21,7 @@ pub loop-line-preserved-then-len-ge-WRITE_SIZE : goal.loop-line-preserved-then-l
 loop-line-preserved-then-len-ge-WRITE_SIZE g c =
     let sofar = c.loop-line.invariant.text in
     let first : lines c.loop-line.line-iterator.rest.now ≡ c.in-Some.line.now ∷ lines c.next.new.self.rest.now = search rules in
-    let whole = text_more c.loop-line.memory c.answer_line.new.memory sofar.0 c.loop-line.text.items c.answer_line.new.text.items c.in-Some.line.now
+    let whole = text_more c.loop-line.bus c.answer_line.new.bus sofar.0 c.loop-line.text.items c.answer_line.new.text.items c.in-Some.line.now
     c.loop-line.line-iterator.rest.now c.next.new.self.rest.now (cycles_text c.args.input.now) sofar.2 first c.in_ok-answer_line.ensures.text c.in_ok-answer_line.ensures.board in
     record {
       text = (
@@ -29,7 +29,7 @@ loop-line-preserved-then-len-ge-WRITE_SIZE g c =
         Appends-more _ _ _ _ _ sofar.1 (rw c.as_slice.ensures.value at c.in_ok-write_text.ensures.bytes),
         text_written sofar.0 c.answer_line.new.text.items c.clear.new.self.items _ _ whole c.clear.ensures.items,
       );
-      status = status_more c.loop-line.memory _ c.loop-line.status _ c.in_ok-answer_line.field-0 _ c.in-Some.line.now c.loop-line.line-iterator.rest.now
+      status = status_more c.loop-line.bus _ c.loop-line.status _ c.in_ok-answer_line.field-0 _ c.in-Some.line.now c.loop-line.line-iterator.rest.now
           c.next.new.self.rest.now c.loop-line.invariant.status first c.worse-status.ensures c.in_ok-answer_line.ensures.status c.in_ok-answer_line.ensures.board;
       mark = cc (c.in_ok-write_text.ensures.unmarked, c.loop-line.invariant.mark);
     }
@@ -45,5 +45,5 @@ pub returns-clause-text : goal.returns-clause-text
 returns-clause-text g c =
     let sofar = c.loop-line.invariant.text in
     let none : lines c.loop-line.line-iterator.rest.now ≡ [] = search rules in
-    let whole = text_done c.loop-line.memory sofar.0 c.loop-line.text.items c.loop-line.line-iterator.rest.now _ sofar.2 none in
+    let whole = text_done c.loop-line.bus sofar.0 c.loop-line.text.items c.loop-line.line-iterator.rest.now _ sofar.2 none in
     rw (← whole) (Appends-more _ _ _ _ _ sofar.1 (rw c.as_slice-2.ensures.value at c.in_ok-write_text-2.ensures.bytes))

@@ -9,7 +9,7 @@ use Rattle.vme.proofs.engine.answer_all.Given as goal
 abbrev pub invariant-loop-line : goal.invariant-loop-line
 invariant-loop-line g l = record {
   text : (front : List ℕ) × Appends (g.W.Sink.contents l.fn.writer) (g.W.Sink.contents l.writer) front
-      × ((front ++ l.text.items) ++ text_of l.memory (lines l.line-iterator.rest.now) ≡ cycles_text l.fn.input);
-  status : worse l.status (status_after l.memory (lines l.line-iterator.rest.now)) ≡ cycles_status l.fn.input;
+      × ((front ++ l.text.items) ++ text_of l.bus (lines l.line-iterator.rest.now) ≡ cycles_text l.fn.input);
+  status : worse l.status (status_after l.bus (lines l.line-iterator.rest.now)) ≡ cycles_status l.fn.input;
   mark : g.W.Sink.is_marked l.writer ≡ g.W.Sink.is_marked l.fn.writer;
 }

@@ -5,7 +5,7 @@ use Rattle.vme.proofs.Digits.{hex_pairs-more}
 use Rattle.vme.proofs.numbers.hex_bytes.Goals as goal
 
 pub loop-rest-preserved : goal.loop-rest-preserved
-loop-rest-preserved c =
+loop-rest-preserved g c =
     let rest = c.loop-rest.rest.now in
     record {
       bytes = hex_pairs-more c.loop-rest.bytes.items c.push.new.self.items rest _ c.in_ok-hex_digit.field-0 c.in_ok-hex_digit-2.field-0

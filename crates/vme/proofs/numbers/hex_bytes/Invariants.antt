@@ -5,10 +5,10 @@ use Rattle.vme.proofs.numbers.hex_bytes.Given as goal
 
 -- the bytes so far, with those that the rest spells, are those of the word
 abbrev pub invariant-loop-rest : goal.invariant-loop-rest
-invariant-loop-rest l = record {
+invariant-loop-rest g l = record {
   bytes : with_front l.bytes.items (hex_pairs l.rest) ≡ hex_pairs l.fn.word;
-  room : 2 * length l.bytes.items + length l.rest ≤ 16;
+  room : 2 * length l.bytes.items + length l.rest ≤ 2 * g.row.MOST;
 }
 
 abbrev pub decreases-loop-rest : goal.decreases-loop-rest
-decreases-loop-rest l = length l.rest
+decreases-loop-rest g l = length l.rest

@@ -1,0 +1,199 @@
+-- The locations of the data of a transfer, and what a slave that counts the address on senses.
+use Rattle.std.proofs.Common.{◌≡◌, ℕ, ◌+◌, ◌*◌, ◌-◌, ◌%◌, ◌<◌, ◌⊎◌, zero, suc, Bool, true, false, not, Option, None, Some, is_none, option_map, refl, ap, sym, subst, ◌∙◌, arith, inl, inr}
+use Rattle.std.specs.Prelude.{◌==◌, nat_le, if◌then◌else◌}
+use Rattle.std.proofs.lemmas.Bool.{cases_Bool, eqb-true}
+use Rattle.vme_lanes.specs.declared.location.Location.{Location}
+use Rattle.vme_lanes.specs.declared.location.Location.TheVariants.{Byte0, Byte1, Byte2, Byte3, Bytes01, Bytes23, Bytes03}
+use Rattle.vme_lanes.specs.declared.location.Strobes.{Strobes}
+use Rattle.vme_lanes.specs.Rows.{row_of, location_at, location_sensed}
+use Rattle.vme_am.specs.Codes.{Entry}
+use Rattle.vme_am.specs.Kinds.{is_block}
+use Rattle.vme_cycle.specs.declared.request.Request.{Request}
+use Rattle.vme_cycle.specs.Counts.{is_block_len}
+use Rattle.vme_cycle.specs.Requests.{addr_of, datum_len, count_of, is_block_request, address_of}
+use Rattle.vme_cycle.specs.Lawful.{first_location}
+use Rattle.vme_cycle.specs.SignalLines.{SignalLines, row_len, first_byte, sensed_at}
+use Rattle.vme_cycle.specs.Inverse.{own_sensed}
+use Rattle.vme_cycle.specs.Plans.{held}
+use Rattle.vme_cycle.specs.Parts.{IsLawful}
+use Rattle.vme_cycle.proofs.Lawful.{block_lens, block_datum, single}
+
+-- n bytes from an address on are those of a location
+pub record IsAt (addr n : ℕ) (l : Location) : Type 0 where
+  pub found : location_at addr n ≡ Some l
+  pub len : (row_of l).len ≡ n
+
+-- a row that the data of blocks have
+pub record IsBlockRow (addr n : ℕ) (l : Location) : Type 0 where
+  pub at : IsAt addr n l
+  pub lword : (row_of l).strobes.lword ≡ not (n == 4)
+  pub a01 : (row_of l).strobes.a01 ≡ nat_le 2 (addr % 4)
+
+residues : (r : ℕ) → r < 4 → (r ≡ 0) ⊎ ((r ≡ 1) ⊎ ((r ≡ 2) ⊎ (r ≡ 3)))
+residues zero less = inl refl
+residues (suc zero) less = inr (inl refl)
+residues (suc (suc zero)) less = inr (inr (inl refl))
+residues (suc (suc (suc zero))) less = inr (inr (inr refl))
+residues (suc (suc (suc (suc r)))) less = absurd (omega (arith, less))
+
+one_byte : (addr r : ℕ) → addr % 4 ≡ r → r < 4 → (l : Location) × IsBlockRow addr 1 l
+unfolding location_at
+one_byte addr r at less =
+    elim (residues r less) [
+      | inl zero' ↦ (Byte0, record { at = record { found = rw (at, zero') refl; len = refl }; lword = refl; a01 = rw (at, zero') refl })
+      | inr more ↦ elim more [
+        | inl one ↦ (Byte1, record { at = record { found = rw (at, one) refl; len = refl }; lword = refl; a01 = rw (at, one) refl })
+        | inr rest ↦ elim rest [
+          | inl two ↦ (Byte2, record { at = record { found = rw (at, two) refl; len = refl }; lword = refl; a01 = rw (at, two) refl })
+          | inr three ↦ (Byte3, record { at = record { found = rw (at, three) refl; len = refl }; lword = refl; a01 = rw (at, three) refl })
+        ]
+      ]
+    ]
+
+two_bytes : (addr r : ℕ) → addr % 4 ≡ r → r < 4 → addr % 2 ≡ 0 → (l : Location) × IsBlockRow addr 2 l
+unfolding location_at
+two_bytes addr r at less even =
+    elim (residues r less) [
+      | inl zero' ↦ (Bytes01, record { at = record { found = rw (at, zero') refl; len = refl }; lword = refl; a01 = rw (at, zero') refl })
+      | inr more ↦ elim more [
+        | inl one ↦ absurd (omega (arith, at, one, even))
+        | inr rest ↦ elim rest [
+          | inl two ↦ (Bytes23, record { at = record { found = rw (at, two) refl; len = refl }; lword = refl; a01 = rw (at, two) refl })
+          | inr three ↦ absurd (omega (arith, at, three, even))
+        ]
+      ]
+    ]
+
+four_bytes : (addr : ℕ) → addr % 4 ≡ 0 → (l : Location) × IsBlockRow addr 4 l
+unfolding location_at
+four_bytes addr at = (Bytes03, record { at = record { found = rw at refl; len = refl }; lword = refl; a01 = rw at refl })
+
+-- an aligned single, double or quad has a row
+block_row : (addr n : ℕ) → is_block_len n ≡ true → addr % n ≡ 0 → (l : Location) × IsBlockRow addr n l
+block_row addr n block aligned =
+    elim (block_lens n block) [
+      | inl one ↦ subst (λ m. (l : Location) × IsBlockRow addr m l) (sym one) (one_byte addr (addr % 4) refl (omega arith))
+      | inr more ↦ elim more [
+        | inl two ↦ subst (λ m. (l : Location) × IsBlockRow addr m l) (sym two)
+            (two_bytes addr (addr % 4) refl (omega arith) (rw two at aligned))
+        | inr four ↦ subst (λ m. (l : Location) × IsBlockRow addr m l) (sym four) (four_bytes addr (rw four at aligned))
+      ]
+    ]
+
+-- data of n bytes each begin at multiples of n where the first does
+stays_aligned : (addr i n : ℕ) → is_block_len n ≡ true → addr % n ≡ 0 → (addr + i * n) % n ≡ 0
+stays_aligned addr i n block aligned =
+    elim (block_lens n block) [
+      | inl one ↦ rw one (omega arith)
+      | inr more ↦ elim more [
+        | inl two ↦ rw two (let even : addr % 2 ≡ 0 = rw two at aligned in omega (arith, even))
+        | inr four ↦ rw four (let even : addr % 4 ≡ 0 = rw four at aligned in omega (arith, even))
+      ]
+    ]
+
+begins_aligned : (request : Request) → is_block_request request ≡ true → is_none (first_location request) ≡ false → addr_of request % datum_len request ≡ 0
+begins_aligned request block found =
+    elim (cases_Bool (addr_of request % datum_len request == 0)) [
+      | inl whole ↦ eqb-true _ _ whole
+      | inr part ↦ absurd (let bad = rw (block, part) at found in cc)
+    ]
+
+-- the row of datum i of a block
+block_datum_row :
+    (row : Entry) (request : Request) (i : ℕ) → IsLawful row request → is_block_request request ≡ true
+    → (l : Location) × IsBlockRow (address_of request i) (datum_len request) l
+block_datum_row row request i is block =
+    let counted = block_datum request block is.counted in
+    block_row (address_of request i) (datum_len request) counted
+    (stays_aligned (addr_of request) i (datum_len request) counted (begins_aligned request block is.found))
+
+some_of : {A : Type 0} (found : Option A) → is_none found ≡ false → (x : A) × (found ≡ Some x)
+some_of None h = absurd cc
+some_of (Some x) h = (x, refl)
+
+-- what a test leaves is what was there
+left_by : {A : Type 0} (test : Bool) (found : Option A) → is_none (if test then None else found) ≡ false → is_none found ≡ false
+left_by true found h = absurd cc
+left_by false found h = h
+
+-- the one datum of what is no block is at the first address
+first_alone : (request : Request) (i : ℕ) → is_block_request request ≡ false → i < count_of request → address_of request i ≡ addr_of request
+first_alone request i alone less = let one = single request alone in let none : i ≡ 0 = omega (arith, one, less) in rw none (omega arith)
+
+-- each datum has a location
+pub datum_found :
+    (row : Entry) (request : Request) (i : ℕ) → IsLawful row request → i < count_of request
+    → (l : Location) × (location_at (address_of request i) (datum_len request) ≡ Some l)
+datum_found row request i is less =
+    elim (cases_Bool (is_block_request request)) [
+      | inl block ↦ let there = block_datum_row row request i is block in (there.0, there.1.at.found)
+      | inr alone ↦ rw (first_alone request i alone less) (some_of _ (left_by _ _ is.found))
+    ]
+
+-- all data of a transfer have LWORD* alike
+pub same_lword :
+    (row : Entry) (request : Request) (i : ℕ) (first own : Location) → IsLawful row request → i < count_of request
+    → location_at (address_of request zero) (datum_len request) ≡ Some first → location_at (address_of request i) (datum_len request) ≡ Some own
+    → (row_of first).strobes.lword ≡ (row_of own).strobes.lword
+same_lword row request i first own is less at_first at_own =
+    elim (cases_Bool (is_block_request request)) [
+      | inl block ↦
+          let begin = block_datum_row row request zero is block in
+          let there = block_datum_row row request i is block in
+          let same_first : begin.0 ≡ first = cc (begin.1.at.found, at_first) in
+          let same_own : there.0 ≡ own = cc (there.1.at.found, at_own) in
+          let low = begin.1.lword in
+          let low_too = there.1.lword in
+          cc (same_first, same_own, low, low_too)
+      | inr alone ↦
+          let one = single request alone in
+          let none : i ≡ 0 = omega (arith, one, less) in
+          let same : first ≡ own = cc (none, at_own, at_first) in
+          cc same
+    ]
+
+-- strobes with the levels that they have
+same_levels : (strobes : Strobes) (a01 lword : Bool) → strobes.a01 ≡ a01 → lword ≡ strobes.lword
+    → record { ds1 = strobes.ds1; ds0 = strobes.ds0; a01 = a01; lword = lword } ≡ strobes
+same_levels strobes a01 lword high low = rw (← high, low) refl
+
+-- what a slave that counts the address on senses is the datum's own location
+pub counts_on :
+    (row : Entry) (request : Request) (i : ℕ) (first own : Location) (s : SignalLines) → IsLawful row request → i < count_of request
+    → location_at (address_of request zero) (datum_len request) ≡ Some first → location_at (address_of request i) (datum_len request) ≡ Some own
+    → s.am ≡ row → s.strobes ≡ held (row_of first).strobes (row_of own).strobes
+    → sensed_at s (address_of request i) ≡ Some own
+counts_on row request i first own s is less at_first at_own am shown =
+    let lword = same_lword row request i first own is less at_first at_own in
+    elim (cases_Bool (is_block_request request)) [
+      | inl block ↦
+          let there = block_datum_row row request i is block in
+          let same_own : there.0 ≡ own = cc (there.1.at.found, at_own) in
+          let a01 : (row_of own).strobes.a01 ≡ nat_le 2 (address_of request i % 4) = subst (λ l. (row_of l).strobes.a01 ≡ nat_le 2 (address_of request i % 4)) same_own there.1.a01 in
+          let kind : is_block s.am.kind ≡ true = rw am (is.kind ∙ block) in
+          rw (kind, shown) (ap location_sensed (same_levels (row_of own).strobes _ _ a01 lword) ∙ own_sensed own)
+      | inr alone ↦
+          let kind : is_block s.am.kind ≡ false = rw am (is.kind ∙ alone) in
+          let one = single request alone in
+          let none : i ≡ 0 = omega (arith, one, less) in
+          let same : first ≡ own = cc (none, at_own, at_first) in
+          rw (kind, shown, same) (own_sensed own)
+    ]
+
+-- strobes that choose a location choose its bytes
+pub len_of_strobes : (strobes : Strobes) (l : Location) (n : ℕ) → location_sensed strobes ≡ Some l → (row_of l).len ≡ n → row_len strobes ≡ Some n
+len_of_strobes strobes l n sensed long = ap (option_map (λ found. (row_of found).len)) sensed ∙ ap Some long
+
+-- the address of the first byte is shown by the address lines and the strobes
+pub first_shown :
+    (s : SignalLines) (own : Location) (addr : ℕ) → s.strobes ≡ (row_of own).strobes → s.addr ≡ addr - addr % 4 → (row_of own).first ≡ addr % 4
+    → first_byte s ≡ Some addr
+first_shown s own addr strobes group place =
+    ap (λ shown. option_map (λ l. s.addr + (row_of l).first) (location_sensed shown)) strobes
+    ∙ ap (option_map (λ l. s.addr + (row_of l).first)) (own_sensed own)
+    ∙ ap Some (omega (arith, group, place))
+
+-- strobes held by their own datum are its own
+pub held_by_itself : (first own : Location) (strobes : Strobes) → first ≡ own → strobes ≡ held (row_of first).strobes (row_of own).strobes
+    → strobes ≡ (row_of own).strobes
+held_by_itself first own strobes same shown = rw same at shown

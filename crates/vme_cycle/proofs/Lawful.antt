@@ -1,0 +1,143 @@
+-- What a request without a refusal is.
+use Rattle.std.proofs.Common.{◌≡◌, ℕ, List, ◌∷◌, length, ◌+◌, ◌*◌, ◌^◌, ◌-◌, ◌/◌, ◌≤◌, ◌<◌, ◌⊎◌, suc, Bool, true, false, not, Option, None, Ok, refl, arith, inl, inr, nat_lt}
+use Rattle.std.specs.Bool.{beq}
+use Rattle.std.proofs.Math.Nat.{mul-le-mul_left}
+use Rattle.std.proofs.lemmas.Bool.{cases_Bool, and_parts, leb-true, eqb-true}
+use Rattle.std.proofs.lemmas.Bool.Decides.{leb_tells, eqb_tells}
+use Rattle.vme_am.specs.Codes.{Entry, read_code}
+use Rattle.vme_am.specs.Spaces.{addresses_of}
+use Rattle.vme_am.specs.declared.code.Space.{Space}
+use Rattle.vme_am.specs.declared.code.Space.TheVariants.{A16, A24, A32}
+use Rattle.vme_cycle.specs.declared.fault.CycleFault.{CycleFault}
+use Rattle.vme_cycle.specs.declared.request.Request.{Request}
+use Rattle.vme_cycle.specs.declared.request.Request.TheVariants.{Read, Write, BlockRead, BlockWrite, BlockFill, Modify}
+use Rattle.vme_cycle.specs.Counts.{is_single_len, is_block_len, is_block_count}
+use Rattle.vme_cycle.specs.Requests.{code_of, address_of, addr_of, datum_len, count_of, span_of, is_block_request, is_counted}
+use Rattle.vme_cycle.specs.Parts.{IsLawful}
+use Rattle.vme_cycle.specs.Refusals.{where_true, first_of}
+use Rattle.vme_cycle.specs.Lawful.{first_refusal}
+
+beq_true : (a b : Bool) → not (beq a b) ≡ false → a ≡ b
+beq_true true true h = refl
+beq_true true false h = absurd cc
+beq_true false true h = absurd cc
+beq_true false false h = refl
+
+not_false : (b : Bool) → not b ≡ false → b ≡ true
+not_false true h = refl
+not_false false h = absurd cc
+
+-- where no refusal is told, the first does not hold and none of the others is told
+none_first :
+    (b : Bool) (fault : CycleFault) (more : List (Option CycleFault)) → first_of (where_true b fault ∷ more) ≡ None
+    → (b ≡ false) × (first_of more ≡ None)
+none_first true fault more h = absurd cc
+none_first false fault more h = (refl, h)
+
+pub lawful : (row : Entry) (request : Request) → read_code (code_of request) ≡ Ok row → first_refusal request ≡ None → IsLawful row request
+unfolding first_refusal
+lawful row request code none =
+    let kind = none_first _ _ _ (rw code at none) in
+    let no_program = none_first _ _ _ kind.1 in
+    let counted = none_first _ _ _ no_program.1 in
+    let within = none_first _ _ _ counted.1 in
+    let found = none_first _ _ _ within.1 in
+    let inside = none_first _ _ _ found.1 in
+    record {
+      kind = beq_true _ _ kind.0;
+      no_program = no_program.0;
+      counted = not_false _ counted.0;
+      within = le_of_not_lt _ _ within.0;
+      found = found.0;
+      inside = inside.0;
+    }
+  where
+    le_of_not_lt : (a b : ℕ) → nat_lt a b ≡ false → b ≤ a
+    le_of_not_lt a b h = elim (leb_tells (suc a) b) [ inl less ↦ absurd cc | inr more ↦ omega (arith, more.1) ]
+
+-- a single datum has one to four bytes
+single_lens : (n : ℕ) → is_single_len n ≡ true → (1 ≤ n) × (n ≤ 4)
+single_lens n h = let parts = and_parts _ _ h in (leb-true 1 n parts.0, leb-true n 4 parts.1)
+
+-- a block's datum has one, two or four
+pub block_lens : (n : ℕ) → is_block_len n ≡ true → (n ≡ 1) ⊎ ((n ≡ 2) ⊎ (n ≡ 4))
+block_lens n h =
+    elim (eqb_tells n 1) [
+      | inl one ↦ inl one.1
+      | inr more ↦ elim (eqb_tells n 2) [
+        | inl two ↦ inr (inl two.1)
+        | inr other ↦ inr (inr (eqb-true n 4 (rw (more.0, other.0) at h)))
+      ]
+    ]
+
+block_small : (n : ℕ) → is_block_len n ≡ true → (1 ≤ n) × (n ≤ 4)
+block_small n h = elim (block_lens n h) [ inl one ↦ (omega (arith, one), omega (arith, one)) | inr more ↦ elim more [ inl two ↦ (omega (arith, two), omega (arith, two)) | inr four ↦ (omega (arith, four), omega (arith, four)) ] ]
+
+-- the length of a datum
+pub datum_small : (request : Request) → is_counted request ≡ true → (1 ≤ datum_len request) × (datum_len request ≤ 4)
+datum_small (Read am addr n) h = single_lens n h
+datum_small (Write am addr bytes) h = single_lens (length bytes.items) h
+datum_small (BlockRead am addr n count) h = block_small n (and_parts _ _ h).0
+datum_small (BlockWrite am addr n bytes) h = block_small n (and_parts _ _ (and_parts _ _ h).0).0
+datum_small (BlockFill am addr n count bytes) h = block_small n (and_parts _ _ (and_parts _ _ h).0).0
+datum_small (Modify am addr n f) h = block_small n (and_parts _ _ h).0
+
+some_count : (count : ℕ) → is_block_count count ≡ true → 0 < count
+some_count count h = let some = leb-true 1 count (and_parts _ _ h).0 in omega (arith, some)
+
+-- there is a datum
+pub some_data : (request : Request) → is_counted request ≡ true → 0 < count_of request
+some_data (Read am addr n) h = omega arith
+some_data (Write am addr bytes) h = omega arith
+some_data (BlockRead am addr n count) h = some_count count (and_parts _ _ h).1
+some_data (BlockWrite am addr n bytes) h = some_count (length bytes.items / n) (and_parts _ _ (and_parts _ _ h).0).1
+some_data (BlockFill am addr n count bytes) h = some_count count (and_parts _ _ (and_parts _ _ h).0).1
+some_data (Modify am addr n f) h = omega arith
+
+-- what is no block has one datum
+pub single : (request : Request) → is_block_request request ≡ false → count_of request ≡ 1
+single (Read am addr n) h = refl
+single (Write am addr bytes) h = refl
+single (BlockRead am addr n count) h = absurd cc
+single (BlockWrite am addr n bytes) h = absurd cc
+single (BlockFill am addr n count bytes) h = absurd cc
+single (Modify am addr n f) h = refl
+
+-- a block's datum has a block's length
+pub block_datum : (request : Request) → is_block_request request ≡ true → is_counted request ≡ true → is_block_len (datum_len request) ≡ true
+block_datum (Read am addr n) b h = absurd cc
+block_datum (Write am addr bytes) b h = absurd cc
+block_datum (BlockRead am addr n count) b h = (and_parts _ _ h).0
+block_datum (BlockWrite am addr n bytes) b h = (and_parts _ _ (and_parts _ _ h).0).0
+block_datum (BlockFill am addr n count bytes) b h = (and_parts _ _ (and_parts _ _ h).0).0
+block_datum (Modify am addr n f) b h = absurd cc
+
+same_unit : (addr span : ℕ) → addr / 256 ≡ (addr + span - 1) / 256 → span ≤ 256
+same_unit addr span h = omega (arith, h)
+
+-- all bytes lie in one unit of 256
+pub one_unit : (row : Entry) (request : Request) → IsLawful row request → span_of request ≤ 256
+one_unit row request is =
+    elim (cases_Bool (is_block_request request)) [
+      | inl block ↦ same_unit (addr_of request) (span_of request) (eqb-true _ _ (not_false _ (rw block at is.inside)))
+      | inr alone ↦ let small = datum_small request is.counted in let one = single request alone in rw one (omega (arith, small))
+    ]
+
+-- each datum lies in the code's space
+pub datum_within :
+    (row : Entry) (request : Request) (i : ℕ) → IsLawful row request → i < count_of request
+    → address_of request i + datum_len request ≤ addresses_of row.space
+datum_within row request i is less =
+    let upto : datum_len request * suc i ≤ span_of request = mul-le-mul_left (datum_len request) less in
+    let split : datum_len request * suc i ≡ datum_len request + i * datum_len request = grind arith in
+    omega (arith, upto, split, is.within)
+
+space_small : (space : Space) → addresses_of space ≤ 2 ^ 32
+space_small A16 = omega arith
+space_small A24 = omega arith
+space_small A32 = omega arith
+
+-- and so its address has 32 bits
+pub datum_below :
+    (row : Entry) (request : Request) (i : ℕ) → IsLawful row request → i < count_of request → address_of request i + datum_len request ≤ 2 ^ 32
+datum_below row request i is less = let within = datum_within row request i is less in let small = space_small row.space in omega (arith, within, small)

@@ -1,0 +1,34 @@
+-- The signals of each datum of a lawful request.
+use Rattle.std.proofs.Common.{◌%◌, ◌≡◌, sym, ◌∙◌, rules}
+use Rattle.vme_lanes.specs.Rows.{row_of}
+use Rattle.vme_cycle.specs.Requests.{addr_of}
+use Rattle.vme_cycle.specs.Inverse.{own_sensed}
+use Rattle.vme_cycle.proofs.Blocks.{same_lword, counts_on, len_of_strobes, first_shown, held_by_itself}
+use Rattle.vme_cycle.proofs.plan.Plan.signals.Goals as goal
+
+pub shown-location-requires-clause-lword : goal.shown-location-requires-clause-lword
+shown-location-requires-clause-lword c =
+    same_lword c.args.self.now.am c.args.self.now.request c.args.i c.location.result c.location-2.result c.request.ensures.lawful c.requires
+    c.location.ensures.found c.location-2.ensures.found
+
+pub returns-clause-sensed : goal.returns-clause-sensed
+returns-clause-sensed c =
+    counts_on c.args.self.now.am c.args.self.now.request c.args.i c.location.result c.location-2.result c.new.result c.request.ensures.lawful c.requires
+    c.location.ensures.found c.location-2.ensures.found (search rules) (search rules)
+    ∙ sym c.location-2.ensures.found
+
+pub returns-clause-first : goal.returns-clause-first
+returns-clause-first c = λ none.
+    let same : c.location.result ≡ c.location-2.result = search rules in
+    let place : (row_of c.location-2.result).first ≡ addr_of c.args.self.now.request % 4 = search rules in
+    first_shown c.new.result c.location-2.result (addr_of c.args.self.now.request)
+    (held_by_itself c.location.result c.location-2.result c.new.result.strobes same (search rules)) (search rules) place
+
+pub returns-clause-len : goal.returns-clause-len
+returns-clause-len c =
+    let at = counts_on c.args.self.now.am c.args.self.now.request c.args.i c.location.result c.location-2.result c.new.result c.request.ensures.lawful
+    c.requires c.location.ensures.found c.location-2.ensures.found (search rules) (search rules) in (
+      rw c.new.ensures
+          (len_of_strobes _ c.shown-location.result _ (own_sensed c.shown-location.result) (c.shown-location.ensures.len ∙ c.location-2.ensures.len)),
+      len_of_strobes _ c.location-2.result _ at c.location-2.ensures.len,
+    )

@@ -1,0 +1,106 @@
+ghost use Rattle.std.specs.Prelude.{◌≡◌, ◌<◌, ◌≤◌, ◌^◌, [], length};
+ghost use Rattle.vme_cycle.specs.Functions.{number_from, bytes_onto, sum_of, with_top_bit};
+
+use vme_lanes::Datum;
+
+/// The function of a read-modify-write cycle: what is written in the place of what was read.
+#[derive(Debug, Drop)]
+pub enum Modify {
+    /// Bit 7 of the byte at the lowest address is set.
+    Set,
+    /// These bytes take the place of the old ones.
+    Exchange(Datum),
+    /// The sum with this number, modulo two to the power of the number of bits.
+    Add(Datum),
+    /// `put` where the old bytes are those of `expect`; else the old ones are written back.
+    Compare { expect: Datum, put: Datum },
+}
+
+impl Modify {
+    ghost use Rattle.std.specs.Prelude.{IsTrue};
+    ghost use Rattle.vme_cycle.specs.Functions.{value, has_len};
+
+    /// What is written in the place of `old`.
+    pub fn value(&self, old: &Datum) -> Datum
+        requires { IsTrue (has_len self.now (length old.now.items)) }
+        ensures value { result.items ≡ value self.now old.now.items }
+        ensures len { length result.items ≡ length old.now.items }
+    {
+        match self {
+            Modify::Set => with_top_bit(old),
+            Modify::Exchange(put) => copy(put),
+            Modify::Add(by) => sum_of(old, by),
+            Modify::Compare { expect, put } => {
+                if old.as_slice() == expect.as_slice() {
+                    copy(put)
+                } else {
+                    copy(old)
+                }
+            }
+        }
+    }
+
+    /// Whether each datum of the function has `len` bytes.
+    pub fn has_len(&self, len: u8) -> bool
+        ensures { result ≡ has_len self.now len }
+    {
+        let len = usize::from(len);
+        match self {
+            Modify::Set => true,
+            Modify::Exchange(datum) | Modify::Add(datum) => datum.len() == len,
+            Modify::Compare { expect, put } => expect.len() == len && put.len() == len,
+        }
+    }
+}
+
+fn copy(datum: &Datum) -> Datum
+    ensures { result.items ≡ datum.now.items }
+{
+    Datum::try_from(datum.as_slice()).unwrap()
+}
+
+fn with_top_bit(old: &Datum) -> Datum
+    ensures { result.items ≡ with_top_bit old.now.items }
+{
+    let mut new = copy(old);
+    if let Some(first) = new.as_mut_slice().first_mut() {
+        *first |= 0x80;
+    }
+    new
+}
+
+#[tactic(auto, unfolding(crate::specs::Functions::sum_of))]
+fn sum_of(a: &Datum, b: &Datum) -> Datum
+    ensures value { result.items ≡ sum_of a.now.items b.now.items }
+    ensures len { length result.items ≡ length a.now.items }
+{
+    spelled(a.len(), number_of(a.as_slice()) + number_of(b.as_slice()))
+}
+
+/// The number that bytes spell, the first most significant.
+fn number_of(bytes: &[u8]) -> u128
+    requires { length bytes.now ≤ 8 }
+    ensures value { result ≡ number_from 0 bytes.now }
+    ensures small { result < 2 ^ 64 }
+{
+    let mut number: u128 = 0;
+    for byte in bytes {
+        number = 256 * number + u128::from(*byte);
+    }
+    number
+}
+
+/// The last `len` bytes of a number.
+fn spelled(len: usize, number: u128) -> Datum
+    requires { len ≤ 8 }
+    ensures value { result.items ≡ bytes_onto len number [] }
+    ensures len { length result.items ≡ len }
+{
+    let mut bytes = Datum::new();
+    let mut rest = number;
+    for _place in 0..len {
+        bytes.insert(0, (rest % 256) as u8);
+        rest /= 256;
+    }
+    bytes
+}

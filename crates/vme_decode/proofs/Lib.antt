@@ -1,0 +1,4 @@
+mod Ranges
+mod Apart
+mod Found
+mod Selection

@@ -1,0 +1,30 @@
+-- What an entry of an address map covers, and whom it admits.
+use Rattle.std.specs.Prelude.{ℕ, ◌+◌, nat_lt, nat_le, min, max, Bool, true, false, not, ◌&&◌, ◌||◌}
+use Rattle.vme_am.specs.declared.code.Space.{Space}
+use Rattle.vme_am.specs.declared.code.Space.TheVariants.{A16, A24, A32}
+use Rattle.vme_am.specs.Codes.{Entry as CodeRow}
+use Rattle.vme_decode.specs.declared.entry.Entry.{Entry}
+
+-- whether two spaces are one (this project's own)
+abbrev pub same_space : Space → Space → Bool
+same_space A16 A16 = true
+same_space A24 A24 = true
+same_space A32 A32 = true
+same_space a b = false
+
+-- the address after the last one of an entry (this project's own)
+abbrev pub end_of : Entry → ℕ
+end_of entry = entry.base + entry.size
+
+-- whether an entry covers an address: one of its own space, from its base on and below its end (IEEE 1014, section 2.3.5)
+abbrev pub covers : Entry → Space → ℕ → Bool
+covers entry space addr = same_space entry.space space && nat_le entry.base addr && nat_lt addr (end_of entry)
+
+-- a supervisory entry admits supervisory codes alone, any other admits all codes (IEEE 1014, section 2.2.2)
+abbrev pub admits : Entry → CodeRow → Bool
+admits entry code = code.supervisory || not entry.supervisory
+
+-- whether two entries share an address: they are of one space, and the greater base is below the lesser end
+-- (this project's own)
+abbrev pub overlap : Entry → Entry → Bool
+overlap a b = same_space a.space b.space && nat_lt (max a.base b.base) (min (end_of a) (end_of b))

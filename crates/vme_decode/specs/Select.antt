@@ -1,0 +1,32 @@
+-- Which entry of a map a cycle selects.
+use Rattle.std.specs.Prelude.{◌≡◌, ℕ, ◌+◌, ◌-◌, ◌<◌, Bool, ◌&&◌, List, find, Option, Some, option_map, option_and_then, slice_get, IsTrue}
+use Rattle.std.specs.List.{enumerate_from}
+use Rattle.vme_am.specs.Codes.{Entry as CodeRow}
+use Rattle.vme_cycle.specs.SignalLines.{SignalLines, first_byte}
+use Rattle.vme_decode.specs.declared.entry.Entry.{Entry}
+use Rattle.vme_decode.specs.Entries.{covers, admits}
+
+-- whether an entry responds to a code and an address: it covers the address in the code's space, and admits the code
+-- (IEEE 1014, section 2.3.5)
+abbrev pub responds : Entry → CodeRow → ℕ → Bool
+responds entry code addr = covers entry code.space addr && admits entry code
+
+-- the place of the first entry that responds, and the address counted from its base; in a map without a refusal no other
+-- entry responds (this project's own)
+abbrev pub selected_at : List Entry → CodeRow → ℕ → Option (ℕ × ℕ)
+selected_at entries code addr =
+    option_map (λ found. (found.0, addr - found.1.base)) (find (λ found. responds found.1 code addr) (enumerate_from 0 entries))
+
+-- the place of the entry that a cycle selects by its first byte, and the offset of that byte (this project's own)
+unfoldable pub selected : List Entry → SignalLines → Option (ℕ × ℕ)
+selected entries s = option_and_then (selected_at entries s.am) (first_byte s)
+
+-- a cycle selects the entry at a place: the entry is of the code's space, admits the code, and has the first byte at an
+-- offset below its size (IEEE 1014, section 2.3.5)
+pub record IsSelected (entries : List Entry) (s : SignalLines) (place offset : ℕ) : Type 0 where
+  pub entry : Entry
+  pub there : slice_get entries place ≡ Some entry
+  pub space : entry.space ≡ s.am.space
+  pub admits : IsTrue (admits entry s.am)
+  pub first : first_byte s ≡ Some (entry.base + offset)
+  pub within : offset < entry.size

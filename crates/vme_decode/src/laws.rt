@@ -1,0 +1,31 @@
+ghost use Rattle.std.specs.Prelude.{◌≡◌, ◌↔◌, ℕ, List, Some, None, IsTrue, slice_get};
+ghost use Rattle.vme_am.specs.declared.code.Space.{Space};
+ghost use Rattle.vme_cycle.specs.SignalLines.{SignalLines};
+ghost use Rattle.vme_decode.specs.declared.entry.Entry.{Entry};
+ghost use Rattle.vme_decode.specs.Entries.{covers, overlap};
+ghost use Rattle.vme_decode.specs.Lawful.{first_refusal};
+ghost use Rattle.vme_decode.specs.Select.{selected, IsSelected};
+
+/// Two entries overlap exactly where both cover some address of some space.
+#[tactic(auto, using(crate::proofs::Ranges::overlap_shared, crate::proofs::Ranges::shared_overlap))]
+pub fn overlap_is_a_shared_address()
+    ensures { (a b : Entry) → IsTrue (overlap a b) ↔
+        ((space : Space) × (addr : ℕ) × IsTrue (covers a space addr) × IsTrue (covers b space addr)) }
+{}
+
+/// In a map without a refusal, at most one entry covers an address of a space.
+#[tactic(auto, using(crate::proofs::Apart::one_place))]
+pub fn one_entry_covers()
+    ensures { (entries : List Entry) (i j : ℕ) (a b : Entry) (space : Space) (addr : ℕ) →
+        first_refusal entries ≡ None →
+        slice_get entries i ≡ Some a → slice_get entries j ≡ Some b →
+        IsTrue (covers a space addr) → IsTrue (covers b space addr) → i ≡ j }
+{}
+
+/// In a map without a refusal, what is selected is the one entry that the cycle selects, wherever
+/// in the list it stands.
+pub fn selected_is_the_one()
+    ensures { (entries : List Entry) (s : SignalLines) (place offset : ℕ) →
+        first_refusal entries ≡ None →
+        (selected entries s ≡ Some (place, offset)) ↔ IsSelected entries s place offset }
+{}

@@ -1,0 +1,130 @@
+ghost use Rattle.std.specs.Prelude.{◌≡◌, ◌≢◌, ◌↔◌, ◌<◌, ◌≤◌, length, Some, None, IsOk, IfOk, IfErr, IfSome, IfNone, IsOkUnless};
+ghost use Rattle.vme_decode.specs.Lawful.{some_overlap, first_refusal};
+ghost use Rattle.vme_cycle.specs.SignalLines.{first_byte};
+ghost use Rattle.vme_decode.specs.Select.{selected_at, selected, IsSelected};
+
+use crate::entry::Entry;
+use crate::fault::MapFault;
+use std::alloc::Global;
+use std::marker::Model;
+use vme_am::Am;
+use vme_cycle::Signals;
+
+/// The number of entries that a map has at most: a backplane has 21 slots.
+const MOST_ENTRIES: usize = 21;
+
+/// The entries of the boards on one bus, none of which covers an address of another.
+#[derive(Debug, Drop)]
+pub struct AddressMap {
+    entries: Vec<Entry>,
+}
+
+impl Model for AddressMap {
+    ghost use Rattle.std.specs.Prelude.{◌≡◌, List, None};
+    ghost use Rattle.vme_decode.specs.declared.entry.Entry.{Entry};
+    ghost use Rattle.vme_decode.specs.Lawful.{first_refusal};
+
+    ghost Value = { List Entry };
+
+    ghost view = { λ m. m.entries.items };
+
+    ghost invariant = { λ m. first_refusal m.entries.items ≡ None };
+}
+
+impl AddressMap {
+    /// The map of some entries, or else their first fault: C4; then entry by entry, in the caller's
+    /// order, C3 and C2 of that entry; then C1; and `OutOfMemory` where there is none of these. A
+    /// map without entries takes no memory.
+    pub fn new(alloc: Global, entries: &[Entry]) -> Result<AddressMap, MapFault>
+        ensures refused { IfSome (first_refusal entries.now) (λ fault. result ≡ Err fault) }
+        ensures lawful { IfNone (first_refusal entries.now) (IsOkUnless result MapFault.OutOfMemory) }
+        ensures memory { result ≡ Err MapFault.OutOfMemory → first_refusal entries.now ≡ None }
+        ensures empty { length entries.now ≡ 0 → result ≢ Err MapFault.OutOfMemory }
+        ensures map { IfOk result (λ map. map ≡ entries.now) }
+    {
+        check(entries)?;
+        let mut copy = Vec::with_capacity(alloc, entries.len())?;
+        copy.extend_from_slice(entries)?;
+        Ok(AddressMap { entries: copy })
+    }
+
+    /// The number of entries.
+    #[tactic(auto, unfolding(crate::specs::Lawful::first_refusal))]
+    pub fn len(&self) -> usize
+        ensures value { result ≡ length self.now }
+        ensures most { result ≤ 21 }
+    {
+        self.entries.len()
+    }
+
+    /// The entries, in the caller's order.
+    pub fn entries(&self) -> &[Entry]
+        ensures value { result.now ≡ self.now }
+        ensures lawful { first_refusal self.now ≡ None }
+    {
+        self.entries.as_slice()
+    }
+
+    /// The entry that a cycle selects (section 2.3.5), by its place in the caller's order, and the
+    /// offset in bytes of the datum's first byte from its base; `None` where no entry covers that
+    /// byte and admits the code.
+    #[tactic(auto, unfolding(crate::specs::Select::selected))]
+    pub fn select(&self, signals: &Signals) -> Option<(usize, u32)>
+        ensures value { result ≡ selected self.now signals.now }
+        ensures place { IfSome result (λ found. found.0 < length self.now) }
+        ensures entry { IfSome result (λ found. IsSelected self.now signals.now found.0 found.1) }
+    {
+        select_at(&self.entries, signals.am(), first_byte(signals))
+    }
+}
+
+/// The first fault of some entries.
+#[tactic(auto, unfolding(crate::specs::Lawful::first_refusal))]
+fn check(entries: &[Entry]) -> Result<(), MapFault>
+    ensures lawful { IsOk result ↔ (first_refusal entries.now ≡ None) }
+    ensures refused { IfErr result (λ fault. first_refusal entries.now ≡ Some fault) }
+    ensures not_memory { result ≢ Err MapFault.OutOfMemory }
+{
+    if entries.len() > MOST_ENTRIES {
+        return Err(MapFault::TooMany);
+    }
+    for entry in entries {
+        entry.check()?;
+    }
+    if some_overlap(entries) {
+        return Err(MapFault::Overlap);
+    }
+    Ok(())
+}
+
+/// Whether some entry shares an address with a later one.
+fn some_overlap(entries: &[Entry]) -> bool
+    ensures { result ≡ some_overlap entries.now }
+{
+    for (i, entry) in entries.iter().enumerate() {
+        if entry.overlaps_any(&entries[i + 1..]) {
+            return true;
+        }
+    }
+    false
+}
+
+/// The place of the entry that a code and an address select, and the address counted from its
+/// base.
+fn select_at(entries: &[Entry], am: Am, addr: u32) -> Option<(usize, u32)>
+    ensures { result ≡ selected_at entries.now am addr }
+{
+    for (place, entry) in entries.iter().enumerate() {
+        if entry.responds(am, addr) {
+            return Some((place, addr - entry.base));
+        }
+    }
+    None
+}
+
+/// The address of the datum's first byte.
+fn first_byte(signals: &Signals) -> u32
+    ensures { first_byte signals.now ≡ Some result }
+{
+    signals.addr() + u32::from(signals.location().first())
+}

@@ -1,0 +1,32 @@
+-- Histories compose, prefixes of legal ones are legal, and what one made is a part of the whole.
+use Rattle.std.proofs.Common.{◌≡◌, ℕ, ◌≤◌, ◌==◌, List, [], ◌∷◌, ◌++◌, length, refl}
+use Rattle.std.proofs.lemmas.List.Elements.{filter-append}
+use Rattle.std.proofs.lemmas.List.Sums.{length-filter, count_by-le-length}
+use Rattle.vme_object.specs.declared.history.Entry.{Entry}
+use Rattle.vme_object.specs.History.{replay, IsLegal, own}
+
+-- the replay of two histories, one after the other
+pub replay-append :
+    {S C R : Type 0} (step : S → C → S × R) (s : S) (a b : List (Entry C R)) → replay step s (a ++ b) ≡ replay step (replay step s a) b
+replay-append step s [] b = refl
+replay-append step s (e ∷ a) b = replay-append step (step s e.cmd).0 a b
+
+-- a legal history goes on by one that is legal from its end
+pub legal-append :
+    {S C R : Type 0} (step : S → C → S × R) (s : S) (a b : List (Entry C R)) → IsLegal step s a → IsLegal step (replay step s a) b
+    → IsLegal step s (a ++ b)
+legal-append step s [] b first then = then
+legal-append step s (e ∷ a) b first then = (first.0, legal-append step (step s e.cmd).0 a b first.1 then)
+
+-- a prefix of a legal history is legal
+pub legal-begins : {S C R : Type 0} (step : S → C → S × R) (s : S) (a b : List (Entry C R)) → IsLegal step s (a ++ b) → IsLegal step s a
+legal-begins step s [] b legal = tt
+legal-begins step s (e ∷ a) b legal = (legal.0, legal-begins step (step s e.cmd).0 a b legal.1)
+
+-- the entries of one in two histories, one after the other
+pub own-append : {C R : Type 0} (who : ℕ) (a b : List (Entry C R)) → own who (a ++ b) ≡ own who a ++ own who b
+own-append who a b = filter-append (λ e. e.who == who) a b
+
+-- the entries of one are never more than all
+pub own_within : {C R : Type 0} (who : ℕ) (h : List (Entry C R)) → length (own who h) ≤ length h
+own_within who h = rw (length-filter (λ e. e.who == who) h) (count_by-le-length (λ e. e.who == who) h)
