@@ -19,3 +19,7 @@ own who h = filter (λ e. e.who == who) h
 -- a is followed by some list in b (this project's own)
 abbrev pub Begins : {A : Type 0} → List A → List A → Type 0
 Begins {A} a b = (rest : List A) × (b ≡ a ++ rest)
+
+-- an entry by its parts (this project's own)
+abbrev pub entry : {C R : Type 0} → ℕ → C → R → Entry C R
+entry who cmd reply = record { who = who; cmd = cmd; reply = reply }
