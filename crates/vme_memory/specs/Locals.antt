@@ -16,3 +16,8 @@ command_given (given.Cycle signals at f) = command_of signals at f
 -- what a board does on a command given (this project's own)
 unfoldable pub answer_given : Board → BoardCmd → Reply × Board
 answer_given board command = answer board (command_given command)
+
+-- the same with the memory first, as the step of an object: the memory after a command given, and the reply
+-- (this project's own)
+abbrev pub board_step : Board → BoardCmd → Board × Reply
+board_step board command = ((answer_given board command).1, (answer_given board command).0)

@@ -2,6 +2,7 @@
 //! (ANSI/IEEE Std 1014-1987, section 2.3.6: D08(EO), D16 and D32 slaves).
 #![tactic(auto)]
 
+mod apply;
 mod board;
 mod class;
 mod command;

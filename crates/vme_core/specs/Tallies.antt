@@ -1,0 +1,19 @@
+-- An object with the number of its steps, and what going through a history does to both.
+use Rattle.std.specs.Prelude.{ℕ, ◌≡◌, ◌+◌, ◌<◌, List, length, slice_index_or}
+use Rattle.vme_object.specs.declared.history.Entry.{Entry}
+use Rattle.vme_object.specs.History.{replay, IsLegal, own}
+
+-- an object, the number of its steps, and how many of them each who made, by place (this project's own)
+pub record Tally (S : Type 0) : Type 0 where
+  pub object : S
+  pub steps : ℕ
+  pub made : List ℕ
+
+-- an object went through a history that is legal from where it stood, and each entry was counted, once in all and once
+-- for its who (this project's own)
+pub record Went {S C R : Type 0} (step : S → C → S × R) (h : List (Entry C R)) (before after : Tally S) : Type 0 where
+  pub legal : IsLegal step before.object h
+  pub object : after.object ≡ replay step before.object h
+  pub steps : after.steps ≡ before.steps + length h
+  pub whos : length after.made ≡ length before.made
+  pub made : (w : ℕ) → w < length before.made → slice_index_or after.made w 0 ≡ slice_index_or before.made w 0 + length (own w h)

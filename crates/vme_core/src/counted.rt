@@ -1,0 +1,67 @@
+ghost use Rattle.std.specs.Prelude.{◌≡◌, ◌<◌, ◌-◌, ◌^◌, ◌↔◌, ◌∷◌, [], length, slice_index_or, IsErr, IfOk, IfErr};
+ghost use Rattle.vme_object.specs.History.{entry};
+ghost use Rattle.vme_core.specs.Tallies.{Went};
+
+use std::marker::Model;
+use vme_object::{Object, next_count};
+
+/// An object has made as many steps as can be counted, 2^64 - 1.
+#[derive(Clone, Copy, Debug, PartialEq, Eq)]
+pub struct Spent;
+
+/// An object, with the number of its steps and of those that each who made.
+#[derive(Drop)]
+pub(crate) struct Counted<O> {
+    object: O,
+    steps: u64,
+    made: Vec<u64>,
+}
+
+impl<O> Model for Counted<O> {
+    ghost use Rattle.std.specs.Prelude.{◌≤◌, All};
+    ghost use Rattle.vme_core.specs.Tallies.{Tally};
+
+    ghost Value = { Tally O };
+
+    ghost view = { λ c. record { object = c.object; steps = c.steps; made = c.made.items } };
+
+    ghost invariant = { λ c. All (λ m. m ≤ c.steps) c.made.items };
+}
+
+impl<O: Object> Counted<O> {
+    /// Takes a command and counts it. Where no further step can be counted, nothing is done.
+    pub(crate) fn apply(&mut self, who: usize, cmd: &O::Cmd) -> Result<O::Reply, Spent>
+        requires who { who < length self.old.made }
+        ensures went { IfOk result (λ reply. Went O.step (entry who cmd.now reply ∷ []) self.old self.new) }
+        ensures spent { IsErr result ↔ (self.old.steps ≡ 2 ^ 64 - 1) }
+        ensures unchanged { IfErr result (λ _. self.new ≡ self.old) }
+    {
+        let Some(steps) = next_count(self.steps) else {
+            return Err(Spent);
+        };
+        let reply = self.object.apply(cmd);
+        self.steps = steps;
+        self.made[who] += 1;
+        Ok(reply)
+    }
+
+    pub(crate) fn object(&self) -> &O
+        ensures { result.now ≡ self.now.object }
+    {
+        &self.object
+    }
+
+    pub(crate) fn steps(&self) -> u64
+        ensures { result ≡ self.now.steps }
+    {
+        self.steps
+    }
+
+    /// How many of the steps `who` made.
+    pub(crate) fn made(&self, who: usize) -> u64
+        requires { who < length self.now.made }
+        ensures { result ≡ slice_index_or self.now.made who 0 }
+    {
+        self.made[who]
+    }
+}
