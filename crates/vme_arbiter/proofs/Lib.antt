@@ -1,0 +1,3 @@
+mod Listed
+mod Grants
+mod Steps

@@ -1,0 +1,136 @@
+ghost use Rattle.std.specs.Prelude.{◌≡◌, ◌≤◌, length};
+ghost use Rattle.vme_arbiter.specs.Requests.{is_slot};
+ghost use Rattle.vme_arbiter.specs.Arbitration.{free_bus, holds, pends, can_ask, ask_step, look_step, done_step};
+
+use crate::command::{ArbCmd, ArbReply};
+use crate::levels::{LEVELS, level_of, next_slot};
+use std::marker::Model;
+use vme_object::Object;
+
+/// The number of slots of a backplane. Slots are counted from 1.
+const SLOTS: u16 = 21;
+
+/// A place for each number of a slot; that of 0 stays empty.
+const PLACES: usize = 22;
+
+/// Who holds the data transfer bus, and who asks for it on which level. Contracts see it as its
+/// holder and the set of requests that pend.
+#[derive(Debug, Drop)]
+pub struct Arbiter {
+    holder: Option<u16>,
+    levels: [Option<u8>; PLACES],
+}
+
+impl Model for Arbiter {
+    ghost use Rattle.std.specs.Prelude.{◌≡◌, ◌<◌, ℕ, Some, slice_get};
+    ghost use Rattle.vme_arbiter.specs.Requests.{requests_of};
+    ghost use Rattle.vme_arbiter.specs.Arbitration.{Arbitration, arbitration};
+
+    ghost Value = { Arbitration };
+
+    ghost view = { λ a. arbitration a.holder (requests_of a.levels) };
+
+    ghost invariant = { λ a. (slot level : ℕ) → slice_get a.levels slot ≡ Some (Some level) → level < 4 };
+}
+
+impl Arbiter {
+    /// An arbiter of a bus that nobody holds and nobody asks for.
+    pub fn new() -> Arbiter
+        ensures { result ≡ free_bus }
+    {
+        Arbiter {
+            holder: None,
+            levels: [None; PLACES],
+        }
+    }
+
+    /// Whether a slot holds the bus.
+    fn holds(&self, slot: u16) -> bool
+        ensures { result ≡ holds self.now slot }
+    {
+        self.holder == Some(slot)
+    }
+
+    /// Whether a request of a slot pends.
+    fn pends(&self, slot: u16) -> bool
+        ensures { result ≡ pends self.now slot }
+    {
+        level_of(&self.levels, slot).is_some()
+    }
+
+    /// Whether a slot can ask on a level: both are in range, and it neither holds nor pends.
+    fn can_ask(&self, slot: u16, level: u8) -> bool
+        ensures { result ≡ can_ask self.now slot level }
+    {
+        is_slot(slot) && level < LEVELS && !self.holds(slot) && !self.pends(slot)
+    }
+
+    /// A slot asks for the bus on a level.
+    fn ask(&mut self, slot: u16, level: u8) -> ArbReply
+        ensures state { self.new ≡ (ask_step self.old slot level).0 }
+        ensures reply { result ≡ (ask_step self.old slot level).1 }
+    {
+        if !self.can_ask(slot, level) {
+            return ArbReply::Denied;
+        }
+        if self.holder.is_none() {
+            self.holder = Some(slot);
+            return ArbReply::Granted;
+        }
+        self.levels[usize::from(slot)] = Some(level);
+        ArbReply::Waiting
+    }
+
+    /// A slot looks whether it holds the bus.
+    fn look(&self, slot: u16) -> ArbReply
+        ensures { result ≡ (look_step self.now slot).1 }
+    {
+        if self.holds(slot) {
+            return ArbReply::Granted;
+        }
+        if self.pends(slot) {
+            return ArbReply::Waiting;
+        }
+        ArbReply::Denied
+    }
+
+    /// A slot gives the bus back, and it goes to the next.
+    fn done(&mut self, slot: u16) -> ArbReply
+        ensures state { self.new ≡ (done_step self.old slot).0 }
+        ensures reply { result ≡ (done_step self.old slot).1 }
+    {
+        if !self.holds(slot) {
+            return ArbReply::Denied;
+        }
+        self.holder = next_slot(&self.levels);
+        if let Some(next) = self.holder {
+            self.levels[usize::from(next)] = None;
+        }
+        ArbReply::Freed
+    }
+}
+
+/// Whether a slot has this number.
+fn is_slot(number: u16) -> bool
+    ensures { result ≡ is_slot number }
+{
+    1 <= number && number <= SLOTS
+}
+
+impl Object for Arbiter {
+    ghost use Rattle.vme_arbiter.specs.Arbitration.{turn_step};
+
+    type Cmd = ArbCmd;
+
+    type Reply = ArbReply;
+
+    ghost step = { turn_step };
+
+    fn apply(&mut self, cmd: &ArbCmd) -> ArbReply {
+        match *cmd {
+            ArbCmd::Ask { slot, level } => self.ask(slot, level),
+            ArbCmd::Look { slot } => self.look(slot),
+            ArbCmd::Done { slot } => self.done(slot),
+        }
+    }
+}

@@ -1,0 +1,14 @@
+//! The arbiter of the arbitration bus (ANSI/IEEE Std 1014-1987, chapter 3), priority option: slots
+//! ask for the data transfer bus on one of four levels, and at most one of them holds it. When the
+//! holder is done, the bus goes to the greatest level that has a request, and on it, by the grant
+//! daisy chain, to the lowest slot.
+#![tactic(auto)]
+
+mod arbiter;
+mod command;
+mod levels;
+#[cfg(test)]
+mod tests;
+
+pub use arbiter::Arbiter;
+pub use command::{ArbCmd, ArbReply};
