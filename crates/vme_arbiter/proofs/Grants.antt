@@ -119,14 +119,14 @@ pub next-granted : (pending : List Request) (next : Request) → IsNext pending 
 next-granted pending next is_next =
     let test = λ (r : Request). not (list_any (λ other. goes_before other r) pending) in
     let none = list_any_none (λ other. goes_before other next) pending
-        (All-weaker (IsBehind next) (λ other. goes_before other next ≡ false) (behind-not_before next) pending is_next.first) in
+    (All-weaker (IsBehind next) (λ other. goes_before other next ≡ false) (behind-not_before next) pending is_next.first) in
     find-sole test pending next is_next.pends.0 is_next.pends.1 is_next.pends.2 (not_from_false _ none)
     (All-weaker (IsBehind next) (λ x. test x ≡ true → x ≡ next)
     (λ x behind passes. elim (behind-before next x behind) [
       | inl same ↦ same
       | inr before ↦
           let one = list_any_at (λ other. goes_before other x) pending is_next.pends.0 next is_next.pends.1
-              (ap (λ r. goes_before r x) is_next.pends.2 ∙ before) in
+          (ap (λ r. goes_before r x) is_next.pends.2 ∙ before) in
           absurd (false≢true (sym (not_from_true _ one) ∙ passes))
     ]) pending is_next.first)
 
@@ -138,8 +138,8 @@ granted-next pending next is_granted =
     record {
       pends = found.0;
       first =
-        All-weaker (λ other. goes_before other next ≡ false) (IsBehind next) (not_before-behind next) pending
-        (each_fails (λ other. goes_before other next) pending (not-true _ found.1));
+          All-weaker (λ other. goes_before other next ≡ false) (IsBehind next) (not_before-behind next) pending
+          (each_fails (λ other. goes_before other next) pending (not-true _ found.1));
     }
 
 -- where something pends, one is before all others
@@ -149,20 +149,22 @@ some_next r [] =
 some_next r (s ∷ pending) =
     let rest = some_next s pending in
     elim (cases_Bool (goes_before r rest.0)) [
-      | inl before ↦
-          (r,
-          record {
-            pends = (0, omega arith, refl);
-            first =
+      | inl before ↦ (
+        r,
+        record {
+          pends = (0, omega arith, refl);
+          first =
               All-cons (IsBehind r) r (s ∷ pending) (inl refl)
               (All-weaker (IsBehind rest.0) (IsBehind r) (λ x behind. behind-later rest.0 x r behind before) (s ∷ pending) rest.1.first);
-          })
-      | inr not_before ↦
-          (rest.0,
-          record {
-            pends = (suc rest.1.pends.0, omega (arith, rest.1.pends.1), rest.1.pends.2);
-            first = All-cons (IsBehind rest.0) r (s ∷ pending) (not_before-behind rest.0 r not_before) rest.1.first;
-          })
+        },
+      )
+      | inr not_before ↦ (
+        rest.0,
+        record {
+          pends = (suc rest.1.pends.0, omega (arith, rest.1.pends.1), rest.1.pends.2);
+          first = All-cons (IsBehind rest.0) r (s ∷ pending) (not_before-behind rest.0 r not_before) rest.1.first;
+        },
+      )
     ]
 
 -- nothing is granted exactly where nothing pends

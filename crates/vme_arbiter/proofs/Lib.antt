@@ -1,3 +1,7 @@
 mod Listed
 mod Grants
 mod Steps
+mod Pending
+mod Orderly
+mod Holders
+mod Turns

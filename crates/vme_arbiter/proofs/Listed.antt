@@ -132,16 +132,16 @@ granted-listed slot level levels there lowest greatest =
       pends = contains_listed 0 slot slot level levels (omega arith) there;
       first = all_listed (IsBehind (request level slot)) 0 levels (λ k l at_k.
           let behind : IsBehind (request level slot) (request l k) =
-            elim (cases_order l level) [
-              | inl same ↦
-                  elim (cases_order k slot) [
-                    | inl at ↦ inl (ap (λ x. request x k) same ∙ ap (request level) at)
-                    | inr (inl lower) ↦ absurd (lowest k lower (at_k ∙ ap (λ x. Some (Some x)) same))
-                    | inr (inr greater) ↦ inr (inr (same, greater))
-                  ]
-              | inr (inl lower) ↦ inr (inl lower)
-              | inr (inr greater) ↦ absurd (omega (arith, greatest k l at_k))
-            ] in
+          elim (cases_order l level) [
+            | inl same ↦
+                elim (cases_order k slot) [
+                  | inl at ↦ inl (ap (λ x. request x k) same ∙ ap (request level) at)
+                  | inr (inl lower) ↦ absurd (lowest k lower (at_k ∙ ap (λ x. Some (Some x)) same))
+                  | inr (inr greater) ↦ inr (inr (same, greater))
+                ]
+            | inr (inl lower) ↦ inr (inl lower)
+            | inr (inr greater) ↦ absurd (omega (arith, greatest k l at_k))
+          ] in
           let at : k ≡ 0 + k = omega arith in
           subst (λ (x : ℕ). IsBehind (request level slot) (request l x)) at behind);
     })

@@ -1,3 +1,5 @@
 pub mod Requests
 pub mod Grants
 pub mod Arbitration
+pub mod Orderly
+pub mod Turns

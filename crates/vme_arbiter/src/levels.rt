@@ -37,7 +37,7 @@ fn lowest_slot(levels: &[Option<u8>], level: u8) -> Option<u16>
     ensures none { MatchOption result
         ((slot : ℕ) → slice_get levels.now slot ≢ Some (Some level))
         (λ lowest. (slice_get levels.now lowest ≡ Some (Some level))
-            × ((slot : ℕ) → slot < lowest → slice_get levels.now slot ≢ Some (Some level))) }
+        × ((slot : ℕ) → slot < lowest → slice_get levels.now slot ≢ Some (Some level))) }
 {
     for (slot, pending) in levels.iter().enumerate() {
         if *pending == Some(level) {

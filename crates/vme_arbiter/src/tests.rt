@@ -39,9 +39,15 @@ fn slots_and_levels_end_where_they_end(rt: HostRuntime) {
     let denied = [
         ArbCmd::Ask { slot: 0, level: 0 },
         ArbCmd::Ask { slot: 22, level: 3 },
-        ArbCmd::Ask { slot: u16::MAX, level: 3 },
+        ArbCmd::Ask {
+            slot: u16::MAX,
+            level: 3,
+        },
         ArbCmd::Ask { slot: 1, level: 4 },
-        ArbCmd::Ask { slot: 1, level: u8::MAX },
+        ArbCmd::Ask {
+            slot: 1,
+            level: u8::MAX,
+        },
         ArbCmd::Look { slot: u16::MAX },
         ArbCmd::Done { slot: u16::MAX },
     ];

@@ -1,0 +1,129 @@
+-- Masters that go by the replies are never denied.
+use Rattle.std.proofs.Common.{◌≡◌, ◌≢◌, ℕ, ◌<◌, Bool, true, false, ◌||◌, List, [], ◌∷◌, Option, Some, None, ap, subst, sym, ◌∙◌, refl, cond, eqb, inl, inr, ◌⊎◌}
+use Rattle.std.specs.Prelude.{IsTrue, All}
+use Rattle.std.proofs.lemmas.Bool.{cases_Bool, cases_eq, and_parts, and_from, eqb-true, eqb-false, eq-eqb, ne_eqb, or_left, not_from_false, false≢true}
+use Rattle.std.proofs.lemmas.Option.{same_Some}
+use Rattle.std.proofs.lemmas.List.Elements.{All-nil, All-cons, All-head, All-tail}
+use Rattle.vme_object.specs.declared.history.Entry.{Entry}
+use Rattle.vme_object.specs.History.{IsLegal, own}
+use Rattle.vme_arbiter.specs.declared.command.ArbCmd.{ArbCmd}
+use Rattle.vme_arbiter.specs.declared.command.ArbCmd.TheVariants.{Ask, Look, Done}
+use Rattle.vme_arbiter.specs.declared.command.ArbReply.{ArbReply}
+use Rattle.vme_arbiter.specs.declared.command.ArbReply.TheVariants.{Granted, Waiting, Freed, Denied}
+use Rattle.vme_arbiter.specs.Requests.{Request, request, is_slot, is_level, granted}
+use Rattle.vme_arbiter.specs.Arbitration.{Arbitration, arbitration, holds, pends, can_ask, ask_step, taken_up, handed_to, turn_step}
+use Rattle.vme_arbiter.specs.Orderly.{IsOrderly}
+use Rattle.vme_arbiter.specs.Turns.{slot_of, may_give, GoesByReplies}
+use Rattle.vme_arbiter.proofs.Grants.{none-granted}
+use Rattle.vme_arbiter.proofs.Pending.{has_slot, has_slot-with, has_slot-without_same, has_slot-without_other, granted-has_slot}
+use Rattle.vme_arbiter.proofs.Orderly.{orderly-step}
+
+-- whether a slot holds and whether it pends fit the last reply to it
+abbrev Fits : Bool → Bool → Option ArbReply → Type 0
+Fits held pending None = (held ≡ false) × (pending ≡ false)
+Fits held pending (Some Freed) = (held ≡ false) × (pending ≡ false)
+Fits held pending (Some Waiting) = (held ≡ true) ⊎ (pending ≡ true)
+Fits held pending (Some Granted) = held ≡ true
+Fits held pending (Some Denied) = ⊥
+
+-- where a slot stands fits the last reply to it
+abbrev FitsAt : Arbitration → ℕ → Option ArbReply → Type 0
+FitsAt bus slot last = Fits (holds bus slot) (pends bus slot) last
+
+-- a command that may be given names the slot
+may_give-slot : (slot : ℕ) (last : Option ArbReply) (cmd : ArbCmd) → may_give slot last cmd ≡ true → slot_of cmd ≡ slot
+may_give-slot slot None (Ask s level) may = eqb-true s slot (and_parts _ _ may).0
+may_give-slot slot (Some Freed) (Ask s level) may = eqb-true s slot (and_parts _ _ may).0
+may_give-slot slot (Some Waiting) (Look s) may = eqb-true s slot may
+may_give-slot slot (Some Granted) (Done s) may = eqb-true s slot may
+may_give-slot slot last cmd may = cc
+
+-- a slot that stands nowhere and asks holds or pends after that
+taken-fits : (holder : Option ℕ) (pending : List Request) (slot level : ℕ)
+    → FitsAt (taken_up holder pending (request level slot)).0 slot (Some (taken_up holder pending (request level slot)).1)
+taken-fits None pending slot level = eq-eqb slot slot refl
+taken-fits (Some h) pending slot level =
+    inr (has_slot-with slot (request level slot) pending ∙ or_left _ _ (eq-eqb slot slot refl))
+
+ask-fits : (bus : Arbitration) (slot level : ℕ) → is_slot slot ≡ true → is_level level ≡ true → holds bus slot ≡ false
+    → pends bus slot ≡ false → FitsAt (ask_step bus slot level).0 slot (Some (ask_step bus slot level).1)
+ask-fits bus slot level slot_ok level_ok not_holds not_pends =
+    let can : can_ask bus slot level ≡ true =
+      and_from _ _ (and_from _ _ (and_from _ _ slot_ok level_ok) (not_from_false _ not_holds)) (not_from_false _ not_pends) in
+    rw can (taken-fits bus.holder bus.pending slot level)
+
+-- a slot that does not pend stands nowhere when the bus is handed on
+handed-nowhere : (pending : List Request) (slot : ℕ) (first : Option Request) → granted pending ≡ first → has_slot slot pending ≡ false
+    → FitsAt (handed_to first pending) slot (Some Freed)
+handed-nowhere pending slot None is_first none = (refl, none)
+handed-nowhere pending slot (Some next) is_first none =
+    let other : next.slot ≢ slot =
+      λ same. false≢true (sym none ∙ ap (λ s. has_slot s pending) (sym same) ∙ granted-has_slot pending next is_first) in
+    (ne_eqb next.slot slot other, has_slot-without_other slot next.slot pending (λ same. other (sym same)) ∙ none)
+
+-- a slot that held nothing, and is granted now, fits what was told it
+promoted : (pending : Bool) (last : Option ArbReply) → pending ≡ true → Fits false pending last → (left : Bool) → Fits true left last
+promoted pending None one fits left = absurd (false≢true (sym fits.1 ∙ one))
+promoted pending (Some Freed) one fits left = absurd (false≢true (sym fits.1 ∙ one))
+promoted pending (Some Waiting) one fits left = inl refl
+promoted pending (Some Granted) one fits left = refl
+promoted pending (Some Denied) one fits left = fits
+
+-- another slot than the holder fits what was told it when the bus is handed on
+handed-other : (pending : List Request) (slot : ℕ) (last : Option ArbReply) (first : Option Request) → granted pending ≡ first
+    → Fits false (has_slot slot pending) last → FitsAt (handed_to first pending) slot last
+handed-other pending slot last None is_first fits = fits
+handed-other pending slot last (Some next) is_first fits =
+    elim (cases_eq next.slot slot) [
+      | inl same ↦
+          let one : has_slot slot pending ≡ true = ap (λ s. has_slot s pending) (sym same) ∙ granted-has_slot pending next is_first in
+          let held : eqb next.slot slot ≡ true = eq-eqb next.slot slot same in
+          rw held (promoted (has_slot slot pending) last one fits _)
+      | inr other ↦
+          let not_held : eqb next.slot slot ≡ false = ne_eqb next.slot slot other in
+          let stays = has_slot-without_other slot next.slot pending (λ same. other (sym same)) in
+          rw (not_held, stays) fits
+    ]
+
+-- another slot fits what was told it when a request is taken up
+taken-other : (holder : Option ℕ) (pending : List Request) (asks level slot : ℕ) (last : Option ArbReply) → asks ≢ slot
+    → FitsAt (arbitration holder pending) slot last → FitsAt (taken_up holder pending (request level asks)).0 slot last
+taken-other None pending asks level slot last other fits =
+    let not_held : eqb asks slot ≡ false = ne_eqb asks slot other in
+    rw not_held fits
+taken-other (Some h) pending asks level slot last other fits =
+    let not_slot : eqb asks slot ≡ false = ne_eqb asks slot other in
+    let stays : has_slot slot (with_request (request level asks) pending) ≡ has_slot slot pending =
+      has_slot-with slot (request level asks) pending ∙ ap (λ b. b || has_slot slot pending) not_slot in
+    rw stays fits
+
+-- of two slots one at most holds
+other-not_holds : (holder : Option ℕ) (a b : ℕ) → holds (arbitration holder []) a ≡ true → a ≢ b → holds (arbitration holder []) b ≡ false
+other-not_holds None a b held other = refl
+other-not_holds (Some h) a b held other = ne_eqb h b (λ same. other (sym (eqb-true h a held) ∙ same))
+
+-- one that holds does not pend
+holder-not_pends : (bus : Arbitration) (slot : ℕ) → IsOrderly bus → holds bus slot ≡ true → pends bus slot ≡ false
+holder-not_pends bus slot orderly held = ?
+
+-- a command that a slot may give leaves it where the reply says
+own-turn : (bus : Arbitration) (slot : ℕ) (last : Option ArbReply) (cmd : ArbCmd) → IsOrderly bus → is_slot slot ≡ true
+    → FitsAt bus slot last → may_give slot last cmd ≡ true → FitsAt (turn_step bus cmd).0 slot (Some (turn_step bus cmd).1)
+own-turn bus slot last cmd orderly slot_ok fits may = ?
+
+-- a command of another slot leaves it where the last reply said
+other-turn : (bus : Arbitration) (slot : ℕ) (last : Option ArbReply) (cmd : ArbCmd) → slot_of cmd ≢ slot → FitsAt bus slot last
+    → FitsAt (turn_step bus cmd).0 slot last
+other-turn bus slot last (Ask asks level) other fits =
+    elim (cases_Bool (can_ask bus asks level)) [
+      | inl can ↦ rw can (taken-other bus.holder bus.pending asks level slot last other fits)
+      | inr cannot ↦ rw cannot fits
+    ]
+other-turn bus slot last (Look looks) other fits = fits
+other-turn bus slot last (Done done) other fits =
+    elim (cases_Bool (holds bus done)) [
+      | inl held ↦
+          let not_held : holds bus slot ≡ false = other-not_holds bus.holder done slot held other in
+          rw held (handed-other bus.pending slot last (granted bus.pending) refl (rw not_held at fits))
+      | inr not_held ↦ rw not_held fits
+    ]

@@ -1,0 +1,41 @@
+-- Histories of the arbiter: what their commands name, and masters that go by the replies.
+use Rattle.std.specs.Prelude.{◌≡◌, ◌<◌, ℕ, Bool, false, ◌==◌, ◌&&◌, IsTrue, List, [], ◌∷◌, Option, Some, None, All}
+use Rattle.vme_object.specs.declared.history.Entry.{Entry}
+use Rattle.vme_object.specs.History.{own}
+use Rattle.vme_arbiter.specs.declared.command.ArbCmd.{ArbCmd}
+use Rattle.vme_arbiter.specs.declared.command.ArbCmd.TheVariants.{Ask, Look, Done}
+use Rattle.vme_arbiter.specs.declared.command.ArbReply.{ArbReply}
+use Rattle.vme_arbiter.specs.declared.command.ArbReply.TheVariants.{Granted, Waiting, Freed, Denied}
+use Rattle.vme_arbiter.specs.Requests.{is_slot, is_level}
+
+-- the slot that a command names (this project's own)
+abbrev pub slot_of : ArbCmd → ℕ
+slot_of (Ask slot level) = slot
+slot_of (Look slot) = slot
+slot_of (Done slot) = slot
+
+-- an entry by which a slot gives the bus back (this project's own)
+abbrev pub Frees : ℕ → Entry ArbCmd ArbReply → Type 0
+Frees slot e = (slot_of e.cmd ≡ slot) × (e.reply ≡ Freed)
+
+-- whether the master of a slot may give a command after this last reply to it: it asks on a level in range after none and
+-- after Freed, looks after Waiting, and is done after Granted (this project's own)
+abbrev pub may_give : ℕ → Option ArbReply → ArbCmd → Bool
+may_give slot None (Ask s level) = s == slot && is_level level
+may_give slot (Some Freed) (Ask s level) = s == slot && is_level level
+may_give slot (Some Waiting) (Look s) = s == slot
+may_give slot (Some Granted) (Done s) = s == slot
+may_give slot last cmd = false
+
+-- the master of a slot gives each of these commands as it may after the reply before it, and the first as it may after this
+-- last one (this project's own)
+abbrev pub GoesByReplies : ℕ → Option ArbReply → List (Entry ArbCmd ArbReply) → Type 0
+GoesByReplies slot last [] = Unit {0}
+GoesByReplies slot last (e ∷ h) = IsTrue (may_give slot last e.cmd) × GoesByReplies slot (Some e.reply) h
+
+-- the first k who are masters, each of a slot of its own, and each goes by its replies (this project's own)
+pub record TakeTurns (k : ℕ) (slots : ℕ → ℕ) (h : List (Entry ArbCmd ArbReply)) : Type 0 where
+  pub in_range : (who : ℕ) → who < k → IsTrue (is_slot (slots who))
+  pub apart : (v w : ℕ) → v < k → w < k → slots v ≡ slots w → v ≡ w
+  pub known : All (λ e. e.who < k) h
+  pub each : (who : ℕ) → who < k → GoesByReplies (slots who) None (own who h)

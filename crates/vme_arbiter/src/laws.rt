@@ -1,0 +1,66 @@
+ghost use Rattle.std.specs.Prelude.{◌≡◌, ◌≢◌, ◌↔◌, ◌++◌, ◌∷◌, [], ℕ, List, Some, None, All};
+ghost use Rattle.vme_object.specs.declared.history.Entry.{Entry};
+ghost use Rattle.vme_object.specs.History.{replay, IsLegal};
+ghost use Rattle.vme_arbiter.specs.declared.command.ArbCmd.{ArbCmd};
+ghost use Rattle.vme_arbiter.specs.declared.command.ArbCmd.TheVariants.{Look};
+ghost use Rattle.vme_arbiter.specs.declared.command.ArbReply.{ArbReply};
+ghost use Rattle.vme_arbiter.specs.declared.command.ArbReply.TheVariants.{Granted, Freed, Denied};
+ghost use Rattle.vme_arbiter.specs.Requests.{Request, granted};
+ghost use Rattle.vme_arbiter.specs.Grants.{IsNext};
+ghost use Rattle.vme_arbiter.specs.Arbitration.{Arbitration, free_bus, turn_step};
+ghost use Rattle.vme_arbiter.specs.Orderly.{IsOrderly};
+ghost use Rattle.vme_arbiter.specs.Turns.{slot_of, Frees, TakeTurns};
+
+/// The bus is granted to the request on the greatest level and, among these, of the lowest slot:
+/// there is one such request in every set of requests that is not empty.
+pub fn greatest_level_then_lowest_slot()
+    ensures next { (pending : List Request) (next : Request) →
+        (granted pending ≡ Some next) ↔ IsNext pending next }
+    ensures nobody { (pending : List Request) → (granted pending ≡ None) ↔ (pending ≡ []) }
+    ensures alone { (pending : List Request) (a b : Request) →
+        IsNext pending a → IsNext pending b → a ≡ b }
+{}
+
+/// In every state that the arbiter comes to, holder and requests are in range, the holder does not
+/// pend, no slot pends twice, and nothing pends where nobody holds the bus.
+pub fn states_are_orderly()
+    ensures { (h : List (Entry ArbCmd ArbReply)) → IsOrderly (replay turn_step free_bus h) }
+{}
+
+/// A reply tells who holds the bus: `Granted` is told to the holder alone, a look by the holder is
+/// told so, `Freed` is told to the slot that held it, and without that the holder stays.
+pub fn replies_tell_the_holder()
+    ensures granted { (bus : Arbitration) (cmd : ArbCmd) →
+        (turn_step bus cmd).1 ≡ Granted → (turn_step bus cmd).0.holder ≡ Some (slot_of cmd) }
+    ensures looks { (bus : Arbitration) (slot : ℕ) →
+        bus.holder ≡ Some slot → (turn_step bus (Look slot)).1 ≡ Granted }
+    ensures freed { (bus : Arbitration) (cmd : ArbCmd) →
+        (turn_step bus cmd).1 ≡ Freed → bus.holder ≡ Some (slot_of cmd) }
+    ensures stays { (bus : Arbitration) (cmd : ArbCmd) (slot : ℕ) → bus.holder ≡ Some slot →
+        (turn_step bus cmd).1 ≢ Freed → (turn_step bus cmd).0.holder ≡ Some slot }
+{}
+
+/// One slot at most holds the bus. In a legal history, a slot that is told `Granted` holds the bus
+/// until it is told `Freed`, and until then no other slot is told `Granted` or `Freed`.
+pub fn one_slot_holds_the_bus()
+    ensures holds { (before between : List (Entry ArbCmd ArbReply)) (first : Entry ArbCmd ArbReply) →
+        IsLegal turn_step free_bus (before ++ first ∷ between) → first.reply ≡ Granted →
+        All (λ e. Frees (slot_of first.cmd) e → ⊥) between →
+        (replay turn_step free_bus (before ++ first ∷ between)).holder ≡ Some (slot_of first.cmd) }
+    ensures granted { (before between : List (Entry ArbCmd ArbReply))
+        (first second : Entry ArbCmd ArbReply) →
+        IsLegal turn_step free_bus (before ++ first ∷ (between ++ second ∷ [])) →
+        first.reply ≡ Granted → All (λ e. Frees (slot_of first.cmd) e → ⊥) between →
+        second.reply ≡ Granted → slot_of second.cmd ≡ slot_of first.cmd }
+    ensures freed { (before between : List (Entry ArbCmd ArbReply))
+        (first second : Entry ArbCmd ArbReply) →
+        IsLegal turn_step free_bus (before ++ first ∷ (between ++ second ∷ [])) →
+        first.reply ≡ Granted → All (λ e. Frees (slot_of first.cmd) e → ⊥) between →
+        second.reply ≡ Freed → slot_of second.cmd ≡ slot_of first.cmd }
+{}
+
+/// Where each master has a slot of its own and goes by the replies, no reply is `Denied`.
+pub fn no_turn_is_denied()
+    ensures { (k : ℕ) (slots : ℕ → ℕ) (h : List (Entry ArbCmd ArbReply)) →
+        IsLegal turn_step free_bus h → TakeTurns k slots h → All (λ e. e.reply ≢ Denied) h }
+{}
