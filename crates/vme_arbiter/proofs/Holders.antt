@@ -7,7 +7,7 @@ use Rattle.std.proofs.lemmas.Option.{same_Some}
 use Rattle.std.proofs.lemmas.List.Elements.{All-head, All-tail}
 use Rattle.vme_object.specs.declared.history.Entry.{Entry}
 use Rattle.vme_object.specs.History.{replay, IsLegal}
-use Rattle.vme_object.proofs.Histories.{replay-append}
+use Rattle.vme_object.proofs.Histories.{replay-append, legal-begins}
 use Rattle.vme_arbiter.specs.declared.command.ArbCmd.{ArbCmd}
 use Rattle.vme_arbiter.specs.declared.command.ArbCmd.TheVariants.{Ask, Look, Done}
 use Rattle.vme_arbiter.specs.declared.command.ArbReply.{ArbReply}
@@ -60,4 +60,19 @@ pub same_holder : (bus : Arbitration) (before between : List (Entry ArbCmd ArbRe
     → IsLegal turn_step bus (before ++ first ∷ (between ++ second ∷ [])) → first.reply ≡ Granted
     → All (λ e. Frees (slot_of first.cmd) e → ⊥) between → (second.reply ≡ Granted) ⊎ (second.reply ≡ Freed)
     → slot_of second.cmd ≡ slot_of first.cmd
-same_holder bus before between first second legal granted keeps told = ?
+same_holder bus before between first second legal granted keeps told =
+    let then = replay turn_step bus before in
+    let from = legal-rest turn_step bus before (first ∷ (between ++ second ∷ [])) legal in
+    let after = (turn_step then first.cmd).0 in
+    let last = replay turn_step after between in
+    let held : last.holder ≡ Some (slot_of first.cmd) =
+      holder-kept after (slot_of first.cmd) between (told-granted then first.cmd (sym from.0 ∙ granted))
+      (legal-begins turn_step after between (second ∷ []) from.1) keeps in
+    let reply = (legal-rest turn_step after between (second ∷ []) from.1).0 in
+    elim told [
+      | inl again ↦
+          let is_granted = sym reply ∙ again in
+          let stays = holder-stays last second.cmd (slot_of first.cmd) held (λ freed. let both = sym is_granted ∙ freed in cc) in
+          same_Some _ _ (sym (told-granted last second.cmd is_granted) ∙ stays)
+      | inr freed ↦ same_Some _ _ (sym (told-freed last second.cmd (sym reply ∙ freed)) ∙ held)
+    ]

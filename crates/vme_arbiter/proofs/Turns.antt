@@ -10,13 +10,13 @@ use Rattle.vme_arbiter.specs.declared.command.ArbCmd.{ArbCmd}
 use Rattle.vme_arbiter.specs.declared.command.ArbCmd.TheVariants.{Ask, Look, Done}
 use Rattle.vme_arbiter.specs.declared.command.ArbReply.{ArbReply}
 use Rattle.vme_arbiter.specs.declared.command.ArbReply.TheVariants.{Granted, Waiting, Freed, Denied}
-use Rattle.vme_arbiter.specs.Requests.{Request, request, is_slot, is_level, granted}
-use Rattle.vme_arbiter.specs.Arbitration.{Arbitration, arbitration, holds, pends, can_ask, ask_step, taken_up, handed_to, turn_step}
-use Rattle.vme_arbiter.specs.Orderly.{IsOrderly}
-use Rattle.vme_arbiter.specs.Turns.{slot_of, may_give, GoesByReplies}
+use Rattle.vme_arbiter.specs.Requests.{Request, request, is_slot, is_level, granted, with_request}
+use Rattle.vme_arbiter.specs.Arbitration.{Arbitration, arbitration, free_bus, holds, pends, can_ask, ask_step, taken_up, handed_to, turn_step}
+use Rattle.vme_arbiter.specs.Orderly.{IsLawfulHolder, IsOrderly}
+use Rattle.vme_arbiter.specs.Turns.{slot_of, may_give, GoesByReplies, TakeTurns}
 use Rattle.vme_arbiter.proofs.Grants.{none-granted}
 use Rattle.vme_arbiter.proofs.Pending.{has_slot, has_slot-with, has_slot-without_same, has_slot-without_other, granted-has_slot}
-use Rattle.vme_arbiter.proofs.Orderly.{orderly-step}
+use Rattle.vme_arbiter.proofs.Orderly.{orderly-step, orderly-free}
 
 -- whether a slot holds and whether it pends fit the last reply to it
 abbrev Fits : Bool → Bool → Option ArbReply → Type 0
@@ -103,13 +103,43 @@ other-not_holds None a b held other = refl
 other-not_holds (Some h) a b held other = ne_eqb h b (λ same. other (sym (eqb-true h a held) ∙ same))
 
 -- one that holds does not pend
-holder-not_pends : (bus : Arbitration) (slot : ℕ) → IsOrderly bus → holds bus slot ≡ true → pends bus slot ≡ false
-holder-not_pends bus slot orderly held = ?
+holder-not_pends : (holder : Option ℕ) (pending : List Request) (slot : ℕ) → IsLawfulHolder (arbitration holder pending)
+    → holds (arbitration holder pending) slot ≡ true → has_slot slot pending ≡ false
+holder-not_pends None pending slot lawful held = cc
+holder-not_pends (Some h) pending slot lawful held = ap (λ s. has_slot s pending) (sym (eqb-true h slot held)) ∙ lawful.1
+
+-- a slot that holds or pends and looks is told so
+look-fits : (bus : Arbitration) (slot : ℕ) → (holds bus slot ≡ true) ⊎ (pends bus slot ≡ true)
+    → FitsAt (turn_step bus (Look slot)).0 slot (Some (turn_step bus (Look slot)).1)
+look-fits bus slot fits =
+    elim (cases_Bool (holds bus slot)) [
+      | inl held ↦ rw held refl
+      | inr not_held ↦
+          elim fits [
+            | inl held ↦ absurd (false≢true (sym not_held ∙ held))
+            | inr one ↦ rw (not_held, one) (inr refl)
+          ]
+    ]
+
+-- a slot that holds and is done stands nowhere after that
+done-fits : (bus : Arbitration) (slot : ℕ) → IsOrderly bus → holds bus slot ≡ true
+    → FitsAt (turn_step bus (Done slot)).0 slot (Some (turn_step bus (Done slot)).1)
+done-fits bus slot orderly held =
+    rw held (handed-nowhere bus.pending slot (granted bus.pending) refl
+    (holder-not_pends bus.holder bus.pending slot orderly.holder held))
 
 -- a command that a slot may give leaves it where the reply says
 own-turn : (bus : Arbitration) (slot : ℕ) (last : Option ArbReply) (cmd : ArbCmd) → IsOrderly bus → is_slot slot ≡ true
     → FitsAt bus slot last → may_give slot last cmd ≡ true → FitsAt (turn_step bus cmd).0 slot (Some (turn_step bus cmd).1)
-own-turn bus slot last cmd orderly slot_ok fits may = ?
+own-turn bus slot None (Ask s level) orderly slot_ok fits may =
+    let parts = and_parts _ _ may in
+    rw (eqb-true s slot parts.0) (ask-fits bus slot level slot_ok parts.1 fits.0 fits.1)
+own-turn bus slot (Some Freed) (Ask s level) orderly slot_ok fits may =
+    let parts = and_parts _ _ may in
+    rw (eqb-true s slot parts.0) (ask-fits bus slot level slot_ok parts.1 fits.0 fits.1)
+own-turn bus slot (Some Waiting) (Look s) orderly slot_ok fits may = rw (eqb-true s slot may) (look-fits bus slot fits)
+own-turn bus slot (Some Granted) (Done s) orderly slot_ok fits may = rw (eqb-true s slot may) (done-fits bus slot orderly fits)
+own-turn bus slot last cmd orderly slot_ok fits may = cc
 
 -- a command of another slot leaves it where the last reply said
 other-turn : (bus : Arbitration) (slot : ℕ) (last : Option ArbReply) (cmd : ArbCmd) → slot_of cmd ≢ slot → FitsAt bus slot last
@@ -127,3 +157,73 @@ other-turn bus slot last (Done done) other fits =
           rw held (handed-other bus.pending slot last (granted bus.pending) refl (rw not_held at fits))
       | inr not_held ↦ rw not_held fits
     ]
+
+-- the last reply to each who, after an entry
+told_last : (ℕ → Option ArbReply) → Entry ArbCmd ArbReply → ℕ → Option ArbReply
+told_last last e who = cond (eqb e.who who) (Some e.reply) (last who)
+
+-- the first k who are masters of slots of their own
+record AreMasters (k : ℕ) (slots : ℕ → ℕ) : Type 0 where
+  in_range : (who : ℕ) → who < k → IsTrue (is_slot (slots who))
+  apart : (v w : ℕ) → v < k → w < k → slots v ≡ slots w → v ≡ w
+
+-- each of them stands where the last reply says, and goes by the replies from there on
+record AreFit (k : ℕ) (slots : ℕ → ℕ) (bus : Arbitration) (last : ℕ → Option ArbReply) (h : List (Entry ArbCmd ArbReply)) : Type 0 where
+  fits : (who : ℕ) → who < k → FitsAt bus (slots who) (last who)
+  goes : (who : ℕ) → who < k → GoesByReplies (slots who) (last who) (own who h)
+
+-- what one goes by before an entry of its own, and before one of another
+goes_own : (slot : ℕ) (last : Option ArbReply) (e : Entry ArbCmd ArbReply) (h : List (Entry ArbCmd ArbReply))
+    → GoesByReplies slot last (own e.who (e ∷ h))
+    → (may_give slot last e.cmd ≡ true) × GoesByReplies slot (Some e.reply) (own e.who h)
+goes_own slot last e h goes = let same : eqb e.who e.who ≡ true = eq-eqb e.who e.who refl in rw same at goes
+
+-- an entry that legally follows leaves each where its last reply says
+fit_after : (k : ℕ) (slots : ℕ → ℕ) (bus : Arbitration) (last : ℕ → Option ArbReply) (e : Entry ArbCmd ArbReply)
+    (h : List (Entry ArbCmd ArbReply)) → AreMasters k slots → IsOrderly bus → e.who < k → e.reply ≡ (turn_step bus e.cmd).1
+    → AreFit k slots bus last (e ∷ h)
+    → FitsAt (turn_step bus e.cmd).0 (slots e.who) (Some e.reply) × AreFit k slots (turn_step bus e.cmd).0 (told_last last e) h
+unfolding told_last
+fit_after k slots bus last e h masters orderly within reply fit =
+    let goes = goes_own (slots e.who) (last e.who) e h (fit.goes e.who within) in
+    let names = may_give-slot (slots e.who) (last e.who) e.cmd goes.0 in
+    let own_fits : FitsAt (turn_step bus e.cmd).0 (slots e.who) (Some e.reply) =
+      rw reply (own-turn bus (slots e.who) (last e.who) e.cmd orderly (masters.in_range e.who within) (fit.fits e.who within) goes.0) in
+    (own_fits,
+    record {
+      fits = λ who below. elim (cases_Bool (eqb e.who who)) [
+          | inl same ↦
+              let at : e.who ≡ who = eqb-true e.who who same in
+              rw (same, ← at) own_fits
+          | inr other ↦
+              rw other (other-turn bus (slots who) (last who) e.cmd
+              (λ one. eqb-false e.who who other (masters.apart e.who who within below (sym names ∙ one))) (fit.fits who below))
+        ];
+      goes = λ who below. elim (cases_Bool (eqb e.who who)) [
+          | inl same ↦
+              let at : e.who ≡ who = eqb-true e.who who same in
+              rw (same, ← at) goes.1
+          | inr other ↦ rw other (rw other at (fit.goes who below))
+        ];
+    })
+
+-- so no reply is a denial
+none_denied : (k : ℕ) (slots : ℕ → ℕ) (bus : Arbitration) (last : ℕ → Option ArbReply) (h : List (Entry ArbCmd ArbReply))
+    → AreMasters k slots → IsOrderly bus → All (λ e. e.who < k) h → IsLegal turn_step bus h → AreFit k slots bus last h
+    → All (λ e. e.reply ≢ Denied) h
+none_denied k slots bus last [] masters orderly known legal fit = All-nil (λ e. e.reply ≢ Denied)
+none_denied k slots bus last (e ∷ h) masters orderly known legal fit =
+    let within = All-head (λ e. e.who < k) e h known in
+    let after = fit_after k slots bus last e h masters orderly within legal.0 fit in
+    All-cons (λ e. e.reply ≢ Denied) e h
+    (λ denied. subst (λ (r : ArbReply). FitsAt (turn_step bus e.cmd).0 (slots e.who) (Some r)) denied after.0)
+    (none_denied k slots (turn_step bus e.cmd).0 (told_last last e) h masters (orderly-step bus e.cmd orderly)
+    (All-tail (λ e. e.who < k) e h known) legal.1 after.1)
+
+-- from the opening state too
+pub turns_granted : (k : ℕ) (slots : ℕ → ℕ) (h : List (Entry ArbCmd ArbReply)) → IsLegal turn_step free_bus h
+    → TakeTurns k slots h → All (λ e. e.reply ≢ Denied) h
+turns_granted k slots h legal turns =
+    none_denied k slots free_bus (λ who. None) h
+    (record { in_range = turns.in_range; apart = turns.apart }) orderly-free turns.known legal
+    (record { fits = λ who below. (refl, refl); goes = turns.each })
