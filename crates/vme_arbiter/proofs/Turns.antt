@@ -194,7 +194,7 @@ fit_after k slots bus last e h masters orderly within reply fit =
       fits = λ who below. elim (cases_Bool (eqb e.who who)) [
           | inl same ↦
               let at : e.who ≡ who = eqb-true e.who who same in
-              rw (same, ← at) own_fits
+              rw same (subst (λ (w : ℕ). FitsAt (turn_step bus e.cmd).0 (slots w) (Some e.reply)) at own_fits)
           | inr other ↦
               rw other (other-turn bus (slots who) (last who) e.cmd
               (λ one. eqb-false e.who who other (masters.apart e.who who within below (sym names ∙ one))) (fit.fits who below))
@@ -202,7 +202,7 @@ fit_after k slots bus last e h masters orderly within reply fit =
       goes = λ who below. elim (cases_Bool (eqb e.who who)) [
           | inl same ↦
               let at : e.who ≡ who = eqb-true e.who who same in
-              rw (same, ← at) goes.1
+              rw same (subst (λ (w : ℕ). GoesByReplies (slots w) (Some e.reply) (own w h)) at goes.1)
           | inr other ↦ rw other (rw other at (fit.goes who below))
         ];
     })
