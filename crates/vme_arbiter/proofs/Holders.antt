@@ -1,19 +1,15 @@
 -- Who holds the bus, by the replies.
-use Rattle.std.proofs.Common.{◌≡◌, ◌≢◌, ℕ, Bool, true, false, List, [], ◌∷◌, ◌++◌, Option, Some, None, ap, sym, ◌∙◌, refl, inl, inr, ◌⊎◌, rules}
+use Rattle.std.proofs.Common.{◌≡◌, ◌≢◌, ℕ, List, [], ◌∷◌, ◌++◌, Some, ap, sym, ◌∙◌, inl, inr, ◌⊎◌, rules}
 use Rattle.std.specs.Prelude.{All}
-use Rattle.std.proofs.lemmas.Grind.{common_steps}
-use Rattle.std.proofs.lemmas.Bool.{cases_Bool}
 use Rattle.std.proofs.lemmas.Option.{same_Some}
 use Rattle.std.proofs.lemmas.List.Elements.{All-head, All-tail}
 use Rattle.vme_object.specs.declared.history.Entry.{Entry}
 use Rattle.vme_object.specs.History.{replay, IsLegal}
 use Rattle.vme_object.proofs.Histories.{replay-append, legal-begins}
 use Rattle.vme_arbiter.specs.declared.command.ArbCmd.{ArbCmd}
-use Rattle.vme_arbiter.specs.declared.command.ArbCmd.TheVariants.{Ask, Look, Done}
 use Rattle.vme_arbiter.specs.declared.command.ArbReply.{ArbReply}
-use Rattle.vme_arbiter.specs.declared.command.ArbReply.TheVariants.{Granted, Waiting, Freed, Denied}
-use Rattle.vme_arbiter.specs.Requests.{Request, request}
-use Rattle.vme_arbiter.specs.Arbitration.{Arbitration, arbitration, holds, can_ask, taken_up, turn_step}
+use Rattle.vme_arbiter.specs.declared.command.ArbReply.TheVariants.{Granted, Freed}
+use Rattle.vme_arbiter.specs.Arbitration.{Arbitration, turn_step}
 use Rattle.vme_arbiter.specs.Turns.{slot_of, Frees}
 
 -- what is told a slot
@@ -39,8 +35,8 @@ holder-kept : (bus : Arbitration) (slot : ℕ) (between : List (Entry ArbCmd Arb
 holder-kept bus slot [] held legal keeps = held
 holder-kept bus slot (e ∷ between) held legal keeps =
     let kept : (turn_step bus e.cmd).1 ≢ Freed =
-      λ freed. All-head (λ e. Frees slot e → ⊥) e between keeps
-      (same_Some _ _ (sym (told-freed bus e.cmd freed) ∙ held), legal.0 ∙ freed) in
+    λ freed. All-head (λ e. Frees slot e → ⊥) e between keeps
+    (same_Some _ _ (sym (told-freed bus e.cmd freed) ∙ held), legal.0 ∙ freed) in
     holder-kept (turn_step bus e.cmd).0 slot between (holder-stays bus e.cmd slot held kept) legal.1
     (All-tail (λ e. Frees slot e → ⊥) e between keeps)
 
@@ -66,8 +62,8 @@ same_holder bus before between first second legal granted keeps told =
     let after = (turn_step then first.cmd).0 in
     let last = replay turn_step after between in
     let held : last.holder ≡ Some (slot_of first.cmd) =
-      holder-kept after (slot_of first.cmd) between (told-granted then first.cmd (sym from.0 ∙ granted))
-      (legal-begins turn_step after between (second ∷ []) from.1) keeps in
+    holder-kept after (slot_of first.cmd) between (told-granted then first.cmd (sym from.0 ∙ granted))
+    (legal-begins turn_step after between (second ∷ []) from.1) keeps in
     let reply = (legal-rest turn_step after between (second ∷ []) from.1).0 in
     elim told [
       | inl again ↦

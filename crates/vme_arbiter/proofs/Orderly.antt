@@ -1,6 +1,5 @@
 -- The states that the arbiter comes to are orderly.
-use Rattle.std.proofs.Common.{◌≡◌, ℕ, Bool, true, false, List, [], ◌∷◌, Option, Some, None, sym, ◌∙◌, refl, eqb, inl, inr}
-use Rattle.std.specs.Prelude.{IsTrue, All}
+use Rattle.std.proofs.Common.{◌≡◌, ℕ, true, false, List, [], ◌∷◌, Option, Some, None, sym, ◌∙◌, refl, eqb, inl, inr}
 use Rattle.std.proofs.lemmas.Bool.{cases_Bool, and_parts, not-true, eqb-false, ne_eqb, or_from}
 use Rattle.std.proofs.lemmas.List.Elements.{All-nil, All-contains, All-filter}
 use Rattle.vme_object.specs.declared.history.Entry.{Entry}
@@ -12,7 +11,7 @@ use Rattle.vme_arbiter.specs.Requests.{Request, request, is_slot, is_level, gran
 use Rattle.vme_arbiter.specs.Arbitration.{Arbitration, arbitration, free_bus, holds, pends, can_ask, taken_up, handed_to, turn_step}
 use Rattle.vme_arbiter.specs.Orderly.{IsLawfulRequest, IsOrderly}
 use Rattle.vme_arbiter.proofs.Grants.{granted-next, none-granted}
-use Rattle.vme_arbiter.proofs.Pending.{has_slot, has_slot-with, has_slot-without_same, All-with, by_slot-with, by_slot-without}
+use Rattle.vme_arbiter.proofs.Pending.{has_slot-with, has_slot-without_same, All-with, by_slot-with, by_slot-without}
 
 -- what it is that a slot can ask on a level
 pub record CanAsk (bus : Arbitration) (slot level : ℕ) : Type 0 where

@@ -1,12 +1,11 @@
 -- What pends after a request is added or taken out.
-use Rattle.std.proofs.Common.{◌≡◌, ℕ, ◌<◌, Bool, true, false, ◌||◌, List, [], ◌∷◌, Option, Some, None, ap, sym, ◌∙◌, refl, arith, eqb, ltb, inl, inr, ◌⊎◌}
-use Rattle.std.specs.Prelude.{All, IfSome}
+use Rattle.std.proofs.Common.{◌≡◌, ℕ, ◌<◌, Bool, true, false, ◌||◌, List, [], ◌∷◌, Some, ap, sym, ◌∙◌, refl, arith, eqb, ltb, inl, inr}
+use Rattle.std.specs.Prelude.{All}
 use Rattle.std.specs.List.{list_any}
-use Rattle.std.proofs.lemmas.Bool.{cases_Bool, cases_eq, eqb-true, eqb-false, eq-eqb, ne_eqb, ltb-true, ltb-false, or_left, or_right, or_parts, or_from, false≢true}
+use Rattle.std.proofs.lemmas.Bool.{cases_Bool, eqb-true, eqb-false, eq-eqb, ne_eqb, ltb-true, ltb-false, or_parts, or_from}
 use Rattle.std.proofs.lemmas.List.Elements.{All-nil, All-cons, All-head, All-tail, All-weaker, All-filter}
 use Rattle.std.proofs.lemmas.List.Folds.{list_any_at}
 use Rattle.vme_arbiter.specs.Requests.{Request, granted, with_request, without_slot}
-use Rattle.vme_arbiter.specs.Grants.{IsNext}
 use Rattle.vme_arbiter.specs.Orderly.{IsBySlot}
 use Rattle.vme_arbiter.proofs.Grants.{granted-next}
 
@@ -48,7 +47,7 @@ has_slot-without_other slot gone (r ∷ pending) other =
     elim (cases_Bool (eqb r.slot gone)) [
       | inl same ↦
           let not_slot : eqb r.slot slot ≡ false =
-            ne_eqb r.slot slot (λ at. other (sym at ∙ eqb-true r.slot gone same)) in
+          ne_eqb r.slot slot (λ at. other (sym at ∙ eqb-true r.slot gone same)) in
           rw (same, not_slot) (has_slot-without_other slot gone pending other)
       | inr not_gone ↦ rw not_gone (ap (λ rest. eqb r.slot slot || rest) (has_slot-without_other slot gone pending other))
     ]
@@ -81,7 +80,7 @@ by_slot-with new (r ∷ pending) none by_slot =
       | inl first ↦
           let lower = ltb-true new.slot r.slot first in
           let lower_than_rest =
-            All-weaker (λ later. r.slot < later.slot) (λ later. new.slot < later.slot) (λ later below. omega arith) pending by_slot.0 in
+          All-weaker (λ later. r.slot < later.slot) (λ later. new.slot < later.slot) (λ later below. omega arith) pending by_slot.0 in
           rw first (All-cons (λ later. new.slot < later.slot) r pending lower lower_than_rest, by_slot)
       | inr later ↦
           let not_lower = ltb-false new.slot r.slot later in

@@ -2,7 +2,6 @@
 use Rattle.std.proofs.Common.{◌≡◌, ◌≢◌, ℕ, ◌<◌, Bool, true, false, ◌||◌, List, [], ◌∷◌, Option, Some, None, ap, subst, sym, ◌∙◌, refl, cond, eqb, inl, inr, ◌⊎◌}
 use Rattle.std.specs.Prelude.{IsTrue, All}
 use Rattle.std.proofs.lemmas.Bool.{cases_Bool, cases_eq, and_parts, and_from, eqb-true, eqb-false, eq-eqb, ne_eqb, or_left, not_from_false, false≢true}
-use Rattle.std.proofs.lemmas.Option.{same_Some}
 use Rattle.std.proofs.lemmas.List.Elements.{All-nil, All-cons, All-head, All-tail}
 use Rattle.vme_object.specs.declared.history.Entry.{Entry}
 use Rattle.vme_object.specs.History.{IsLegal, own}
@@ -14,8 +13,7 @@ use Rattle.vme_arbiter.specs.Requests.{Request, request, is_slot, is_level, gran
 use Rattle.vme_arbiter.specs.Arbitration.{Arbitration, arbitration, free_bus, holds, pends, can_ask, ask_step, taken_up, handed_to, turn_step}
 use Rattle.vme_arbiter.specs.Orderly.{IsLawfulHolder, IsOrderly}
 use Rattle.vme_arbiter.specs.Turns.{slot_of, may_give, GoesByReplies, TakeTurns}
-use Rattle.vme_arbiter.proofs.Grants.{none-granted}
-use Rattle.vme_arbiter.proofs.Pending.{has_slot, has_slot-with, has_slot-without_same, has_slot-without_other, granted-has_slot}
+use Rattle.vme_arbiter.proofs.Pending.{has_slot, has_slot-with, has_slot-without_other, granted-has_slot}
 use Rattle.vme_arbiter.proofs.Orderly.{orderly-step, orderly-free}
 
 -- whether a slot holds and whether it pends fit the last reply to it
@@ -49,7 +47,7 @@ ask-fits : (bus : Arbitration) (slot level : ℕ) → is_slot slot ≡ true → 
     → pends bus slot ≡ false → FitsAt (ask_step bus slot level).0 slot (Some (ask_step bus slot level).1)
 ask-fits bus slot level slot_ok level_ok not_holds not_pends =
     let can : can_ask bus slot level ≡ true =
-      and_from _ _ (and_from _ _ (and_from _ _ slot_ok level_ok) (not_from_false _ not_holds)) (not_from_false _ not_pends) in
+    and_from _ _ (and_from _ _ (and_from _ _ slot_ok level_ok) (not_from_false _ not_holds)) (not_from_false _ not_pends) in
     rw can (taken-fits bus.holder bus.pending slot level)
 
 -- a slot that does not pend stands nowhere when the bus is handed on
@@ -58,7 +56,7 @@ handed-nowhere : (pending : List Request) (slot : ℕ) (first : Option Request) 
 handed-nowhere pending slot None is_first none = (refl, none)
 handed-nowhere pending slot (Some next) is_first none =
     let other : next.slot ≢ slot =
-      λ same. false≢true (sym none ∙ ap (λ s. has_slot s pending) (sym same) ∙ granted-has_slot pending next is_first) in
+    λ same. false≢true (sym none ∙ ap (λ s. has_slot s pending) (sym same) ∙ granted-has_slot pending next is_first) in
     (ne_eqb next.slot slot other, has_slot-without_other slot next.slot pending (λ same. other (sym same)) ∙ none)
 
 -- a slot that held nothing, and is granted now, fits what was told it
@@ -94,7 +92,7 @@ taken-other None pending asks level slot last other fits =
 taken-other (Some h) pending asks level slot last other fits =
     let not_slot : eqb asks slot ≡ false = ne_eqb asks slot other in
     let stays : has_slot slot (with_request (request level asks) pending) ≡ has_slot slot pending =
-      has_slot-with slot (request level asks) pending ∙ ap (λ b. b || has_slot slot pending) not_slot in
+    has_slot-with slot (request level asks) pending ∙ ap (λ b. b || has_slot slot pending) not_slot in
     rw stays fits
 
 -- of two slots one at most holds
@@ -188,10 +186,10 @@ fit_after k slots bus last e h masters orderly within reply fit =
     let goes = goes_own (slots e.who) (last e.who) e h (fit.goes e.who within) in
     let names = may_give-slot (slots e.who) (last e.who) e.cmd goes.0 in
     let own_fits : FitsAt (turn_step bus e.cmd).0 (slots e.who) (Some e.reply) =
-      rw reply (own-turn bus (slots e.who) (last e.who) e.cmd orderly (masters.in_range e.who within) (fit.fits e.who within) goes.0) in
-    (own_fits,
-    record {
-      fits = λ who below. elim (cases_Bool (eqb e.who who)) [
+    rw reply (own-turn bus (slots e.who) (last e.who) e.cmd orderly (masters.in_range e.who within) (fit.fits e.who within) goes.0) in (
+      own_fits,
+      record {
+        fits = λ who below. elim (cases_Bool (eqb e.who who)) [
           | inl same ↦
               let at : e.who ≡ who = eqb-true e.who who same in
               rw same (subst (λ (w : ℕ). FitsAt (turn_step bus e.cmd).0 (slots w) (Some e.reply)) at own_fits)
@@ -199,13 +197,14 @@ fit_after k slots bus last e h masters orderly within reply fit =
               rw other (other-turn bus (slots who) (last who) e.cmd
               (λ one. eqb-false e.who who other (masters.apart e.who who within below (sym names ∙ one))) (fit.fits who below))
         ];
-      goes = λ who below. elim (cases_Bool (eqb e.who who)) [
+        goes = λ who below. elim (cases_Bool (eqb e.who who)) [
           | inl same ↦
               let at : e.who ≡ who = eqb-true e.who who same in
               rw same (subst (λ (w : ℕ). GoesByReplies (slots w) (Some e.reply) (own w h)) at goes.1)
           | inr other ↦ rw other (rw other at (fit.goes who below))
         ];
-    })
+      },
+    )
 
 -- so no reply is a denial
 none_denied : (k : ℕ) (slots : ℕ → ℕ) (bus : Arbitration) (last : ℕ → Option ArbReply) (h : List (Entry ArbCmd ArbReply))

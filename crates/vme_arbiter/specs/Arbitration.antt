@@ -8,7 +8,7 @@ use Rattle.vme_arbiter.specs.declared.command.ArbReply.{ArbReply}
 use Rattle.vme_arbiter.specs.declared.command.ArbReply.TheVariants.{Granted, Waiting, Freed, Denied}
 use Rattle.vme_arbiter.specs.Requests.{Request, request, is_slot, is_level, granted, with_request, without_slot}
 
--- at most one slot holds the bus, and a set of requests pends (IEEE 1014, section 3)
+-- at most one slot holds the bus, and a set of requests pends (IEEE 1014, section 3.3)
 pub record Arbitration : Type 0 where
   pub holder : Option ℕ
   pub pending : List Request
@@ -47,7 +47,7 @@ ask_step bus slot level =
 abbrev pub look_step : Arbitration → ℕ → Arbitration × ArbReply
 look_step bus slot = (bus, if holds bus slot then Granted else if pends bus slot then Waiting else Denied)
 
--- the bus goes to a request, which pends no more, or to nobody (IEEE 1014, section 3)
+-- the bus goes to a request, which pends no more, or to nobody (IEEE 1014, section 3.3)
 abbrev pub handed_to : Option Request → List Request → Arbitration
 handed_to None pending = arbitration None pending
 handed_to (Some next) pending = arbitration (Some next.slot) (without_slot next.slot pending)

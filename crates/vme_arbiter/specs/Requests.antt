@@ -2,7 +2,7 @@
 use Rattle.std.specs.Prelude.{ℕ, ◌+◌, nat_lt, nat_le, Bool, not, ◌==◌, ◌&&◌, ◌||◌, List, [], ◌∷◌, if◌then◌else◌, Option, Some, None, filter, find}
 use Rattle.std.specs.List.{list_any}
 
--- a pair (level, slot): a slot drives the bus request line of a level (IEEE 1014, section 3)
+-- a pair (level, slot): a slot drives the bus request line of a level (IEEE 1014, section 3.2)
 pub record Request : Type 0 where
   pub level : ℕ
   pub slot : ℕ
@@ -11,20 +11,20 @@ pub record Request : Type 0 where
 abbrev pub request : ℕ → ℕ → Request
 request level slot = record { level = level; slot = slot }
 
--- the slots of a backplane: 1 to 21 (IEEE 1014, section 3)
+-- the slots of a backplane: 1 to 21 (this project's own)
 abbrev pub is_slot : ℕ → Bool
 is_slot slot = nat_le 1 slot && nat_le slot 21
 
--- the levels of bus requests: BR0* to BR3* (IEEE 1014, section 3)
+-- the levels of bus requests: BR0* to BR3* (IEEE 1014, section 3.2)
 abbrev pub is_level : ℕ → Bool
 is_level level = nat_lt level 4
 
--- whether one request goes before another: its level is greater, or its level is the same and its slot is nearer to slot 1
--- on the grant daisy chain (IEEE 1014, section 3)
+-- whether one request goes before another: its level is greater, or its level is the same and its slot comes first on the
+-- grant daisy chain, which goes up from slot 1 (IEEE 1014, sections 3.2 and 3.3)
 abbrev pub goes_before : Request → Request → Bool
 goes_before a b = nat_lt b.level a.level || (a.level == b.level && nat_lt a.slot b.slot)
 
--- the request, if any, that the bus is granted to next: the one which none of them goes before (IEEE 1014, section 3)
+-- the request, if any, that the bus is granted to next: the one which none of them goes before (IEEE 1014, section 3.3)
 abbrev pub granted : List Request → Option Request
 granted pending = find (λ next. not (list_any (λ other. goes_before other next) pending)) pending
 

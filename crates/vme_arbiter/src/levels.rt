@@ -19,7 +19,7 @@ pub(crate) fn level_of(levels: &[Option<u8>], slot: u16) -> Option<u8>
 /// the greatest level that has one, the lowest slot.
 pub(crate) fn next_slot(levels: &[Option<u8>]) -> Option<u16>
     requires few { length levels.now ≤ 65536 }
-    requires levels { (slot level : ℕ) → slice_get levels.now slot ≡ Some (Some level) → level < 4 }
+    requires in_range { (slot level : ℕ) → slice_get levels.now slot ≡ Some (Some level) → level < 4 }
     ensures next { result ≡ option_map (λ next. next.slot) (granted (requests_of levels.now)) }
     ensures within { IfSome result (λ next. next < length levels.now) }
 {
@@ -34,7 +34,7 @@ pub(crate) fn next_slot(levels: &[Option<u8>]) -> Option<u16>
 /// The lowest slot whose request is on a level.
 fn lowest_slot(levels: &[Option<u8>], level: u8) -> Option<u16>
     requires few { length levels.now ≤ 65536 }
-    ensures none { MatchOption result
+    ensures { MatchOption result
         ((slot : ℕ) → slice_get levels.now slot ≢ Some (Some level))
         (λ lowest. (slice_get levels.now lowest ≡ Some (Some level))
         × ((slot : ℕ) → slot < lowest → slice_get levels.now slot ≢ Some (Some level))) }

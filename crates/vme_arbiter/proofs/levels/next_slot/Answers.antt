@@ -7,13 +7,13 @@ use Rattle.vme_arbiter.proofs.levels.next_slot.Goals as goal
 
 pub returns-in-Some-clause-next : goal.returns-in-Some-clause-next
 returns-in-Some-clause-next c =
-    let lowest = c.in-Some.ensures.none in
+    let lowest = c.in-Some.ensures in
     sym (ap (option_map (λ (next : Request). next.slot))
     (granted-listed c.in-Some.slot _ c.args.levels.now lowest.0 lowest.1 (λ k level there.
     let below = c.loop-level.invariant k level there in omega arith)))
 
 pub returns-in-Some-clause-within : goal.returns-in-Some-clause-within
-returns-in-Some-clause-within c = slice_get_within c.args.levels.now c.in-Some.slot _ c.in-Some.ensures.none.0
+returns-in-Some-clause-within c = slice_get_within c.args.levels.now c.in-Some.slot _ c.in-Some.ensures.0
 
 pub returns-clause-next : goal.returns-clause-next
 returns-clause-next c =
