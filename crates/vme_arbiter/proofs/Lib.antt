@@ -5,3 +5,4 @@ mod Pending
 mod Orderly
 mod Holders
 mod Turns
+mod Sets

@@ -8,15 +8,15 @@ abbrev pub IsBySlot : List Request → Type 0
 IsBySlot [] = Unit {0}
 IsBySlot (r ∷ pending) = All (λ later. r.slot < later.slot) pending × IsBySlot pending
 
--- a slot is lawful where the number is a slot's, and has no request (this project's own)
+-- the holder, if there is one, is in range and has no request (this project's own)
 abbrev pub IsLawfulHolder : Arbitration → Type 0
 IsLawfulHolder bus = IfSome bus.holder (λ slot. IsTrue (is_slot slot) × (pends bus slot ≡ false))
 
--- a request is lawful where its slot and its level are in range (this project's own)
+-- the slot and the level of a request are in range (this project's own)
 abbrev pub IsLawfulRequest : Request → Type 0
 IsLawfulRequest r = IsTrue (is_slot r.slot) × IsTrue (is_level r.level)
 
--- the holder is a slot that does not pend; requests are in range and no slot has two; and where nobody holds the bus,
+-- the holder is in range and does not pend; requests are in range and listed by slot; and where nobody holds the bus,
 -- nothing pends (this project's own)
 pub record IsOrderly (bus : Arbitration) : Type 0 where
   pub holder : IsLawfulHolder bus

@@ -1,14 +1,14 @@
-ghost use Rattle.std.specs.Prelude.{◌≡◌, ◌≢◌, ◌↔◌, ◌++◌, ◌∷◌, [], ℕ, List, Some, None, All};
+ghost use Rattle.std.specs.Prelude.{◌≡◌, ◌≢◌, ◌↔◌, ◌⊎◌, ◌++◌, ◌∷◌, [], ℕ, List, Some, None, All, Contains};
 ghost use Rattle.vme_object.specs.declared.history.Entry.{Entry};
 ghost use Rattle.vme_object.specs.History.{replay, IsLegal};
 ghost use Rattle.vme_arbiter.specs.declared.command.ArbCmd.{ArbCmd};
 ghost use Rattle.vme_arbiter.specs.declared.command.ArbCmd.TheVariants.{Look};
 ghost use Rattle.vme_arbiter.specs.declared.command.ArbReply.{ArbReply};
 ghost use Rattle.vme_arbiter.specs.declared.command.ArbReply.TheVariants.{Granted, Freed, Denied};
-ghost use Rattle.vme_arbiter.specs.Requests.{Request, granted};
+ghost use Rattle.vme_arbiter.specs.Requests.{Request, granted, with_request, without_slot};
 ghost use Rattle.vme_arbiter.specs.Grants.{IsNext};
 ghost use Rattle.vme_arbiter.specs.Arbitration.{Arbitration, free_bus, turn_step};
-ghost use Rattle.vme_arbiter.specs.Orderly.{IsOrderly};
+ghost use Rattle.vme_arbiter.specs.Orderly.{IsBySlot, IsOrderly};
 ghost use Rattle.vme_arbiter.specs.Turns.{slot_of, Frees, TakeTurns};
 
 /// The bus is granted to the request on the greatest level and, among these, of the lowest slot:
@@ -19,6 +19,18 @@ pub fn greatest_level_then_lowest_slot()
     ensures nobody { (pending : List Request) → (granted pending ≡ None) ↔ (pending ≡ []) }
     ensures alone { (pending : List Request) (a b : Request) →
         IsNext pending a → IsNext pending b → a ≡ b }
+{}
+
+/// The list of the requests that pend is a set: added to it, a request is in it beside all others;
+/// taken out of it, a slot has none and all others stay; and two such lists by slot with the same
+/// requests are the same list.
+pub fn pending_requests_are_a_set()
+    ensures added { (pending : List Request) (new r : Request) →
+        Contains (with_request new pending) r ↔ ((r ≡ new) ⊎ Contains pending r) }
+    ensures taken_out { (pending : List Request) (slot : ℕ) (r : Request) →
+        Contains (without_slot slot pending) r ↔ (Contains pending r × (r.slot ≢ slot)) }
+    ensures same { (a b : List Request) → IsBySlot a → IsBySlot b →
+        ((r : Request) → Contains a r ↔ Contains b r) → a ≡ b }
 {}
 
 /// In every state that the arbiter comes to, holder and requests are in range, the holder does not
