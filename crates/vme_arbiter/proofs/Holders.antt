@@ -1,5 +1,5 @@
 -- Who holds the bus, by the replies.
-use Rattle.std.proofs.Common.{◌≡◌, ◌≢◌, ℕ, List, [], ◌∷◌, ◌++◌, Some, ap, sym, ◌∙◌, inl, inr, ◌⊎◌, rules}
+use Rattle.std.proofs.Common.{◌≡◌, ◌≢◌, ℕ, List, [], ◌∷◌, ◌++◌, Some, ap, subst, sym, ◌∙◌, rules}
 use Rattle.std.specs.Prelude.{All}
 use Rattle.std.proofs.lemmas.Option.{same_Some}
 use Rattle.std.proofs.lemmas.List.Elements.{All-head, All-tail}
@@ -10,7 +10,7 @@ use Rattle.vme_arbiter.specs.declared.command.ArbCmd.{ArbCmd}
 use Rattle.vme_arbiter.specs.declared.command.ArbReply.{ArbReply}
 use Rattle.vme_arbiter.specs.declared.command.ArbReply.TheVariants.{Granted, Freed}
 use Rattle.vme_arbiter.specs.Arbitration.{Arbitration, turn_step}
-use Rattle.vme_arbiter.specs.Turns.{slot_of, Frees}
+use Rattle.vme_arbiter.specs.Turns.{slot_of, Frees, HasTheBus}
 
 -- what is told a slot
 pub told-granted : (bus : Arbitration) (cmd : ArbCmd) → (turn_step bus cmd).1 ≡ Granted → (turn_step bus cmd).0.holder ≡ Some (slot_of cmd)
@@ -40,35 +40,39 @@ holder-kept bus slot (e ∷ between) held legal keeps =
     holder-kept (turn_step bus e.cmd).0 slot between (holder-stays bus e.cmd slot held kept) legal.1
     (All-tail (λ e. Frees slot e → ⊥) e between keeps)
 
--- so does one that was told that it holds the bus
-pub granted-kept : (bus : Arbitration) (before between : List (Entry ArbCmd ArbReply)) (first : Entry ArbCmd ArbReply)
-    → IsLegal turn_step bus (before ++ first ∷ between) → first.reply ≡ Granted → All (λ e. Frees (slot_of first.cmd) e → ⊥) between
-    → (replay turn_step bus (before ++ first ∷ between)).holder ≡ Some (slot_of first.cmd)
-granted-kept bus before between first legal granted keeps =
-    let from = legal-rest turn_step bus before (first ∷ between) legal in
-    let then = replay turn_step bus before in
-    ap (λ (b : Arbitration). b.holder) (replay-append turn_step bus before (first ∷ between))
-    ∙ holder-kept (turn_step then first.cmd).0 (slot_of first.cmd) between
-    (told-granted then first.cmd (sym from.0 ∙ granted)) from.1 keeps
+-- the slot that by the replies has the bus is the holder
+pub has_bus-holder : (bus : Arbitration) (h : List (Entry ArbCmd ArbReply)) (slot : ℕ) → IsLegal turn_step bus h → HasTheBus slot h
+    → (replay turn_step bus h).holder ≡ Some slot
+has_bus-holder bus h slot legal has =
+    let then = replay turn_step bus has.before in
+    let from =
+    legal-rest turn_step bus has.before (has.told ∷ has.since)
+    (subst (λ (g : List (Entry ArbCmd ArbReply)). IsLegal turn_step bus g) has.whole legal) in
+    let held = told-granted then has.told.cmd (sym from.0 ∙ has.granted) ∙ ap (λ (s : ℕ). Some s) has.names in
+    ap (λ (g : List (Entry ArbCmd ArbReply)). (replay turn_step bus g).holder) has.whole
+    ∙ ap (λ (b : Arbitration). b.holder) (replay-append turn_step bus has.before (has.told ∷ has.since))
+    ∙ holder-kept (turn_step then has.told.cmd).0 slot has.since held from.1 has.kept
 
--- a slot that is told that it holds or held the bus held or holds it, as the one that was told so before
-pub same_holder : (bus : Arbitration) (before between : List (Entry ArbCmd ArbReply)) (first second : Entry ArbCmd ArbReply)
-    → IsLegal turn_step bus (before ++ first ∷ (between ++ second ∷ [])) → first.reply ≡ Granted
-    → All (λ e. Frees (slot_of first.cmd) e → ⊥) between → (second.reply ≡ Granted) ⊎ (second.reply ≡ Freed)
-    → slot_of second.cmd ≡ slot_of first.cmd
-same_holder bus before between first second legal granted keeps told =
-    let then = replay turn_step bus before in
-    let from = legal-rest turn_step bus before (first ∷ (between ++ second ∷ [])) legal in
-    let after = (turn_step then first.cmd).0 in
-    let last = replay turn_step after between in
-    let held : last.holder ≡ Some (slot_of first.cmd) =
-    holder-kept after (slot_of first.cmd) between (told-granted then first.cmd (sym from.0 ∙ granted))
-    (legal-begins turn_step after between (second ∷ []) from.1) keeps in
-    let reply = (legal-rest turn_step after between (second ∷ []) from.1).0 in
-    elim told [
-      | inl again ↦
-          let is_granted = sym reply ∙ again in
-          let stays = holder-stays last second.cmd (slot_of first.cmd) held (λ freed. let both = sym is_granted ∙ freed in cc) in
-          same_Some _ _ (sym (told-granted last second.cmd is_granted) ∙ stays)
-      | inr freed ↦ same_Some _ _ (sym (told-freed last second.cmd (sym reply ∙ freed)) ∙ held)
-    ]
+-- so there is one such slot at most
+pub has_bus-alone : (bus : Arbitration) (h : List (Entry ArbCmd ArbReply)) (a b : ℕ) → IsLegal turn_step bus h → HasTheBus a h
+    → HasTheBus b h → a ≡ b
+has_bus-alone bus h a b legal has_a has_b =
+    same_Some a b (sym (has_bus-holder bus h a legal has_a) ∙ has_bus-holder bus h b legal has_b)
+
+-- and no other slot is told that it holds the bus
+pub has_bus-granted : (bus : Arbitration) (h : List (Entry ArbCmd ArbReply)) (next : Entry ArbCmd ArbReply) (slot : ℕ)
+    → IsLegal turn_step bus (h ++ next ∷ []) → HasTheBus slot h → next.reply ≡ Granted → slot_of next.cmd ≡ slot
+has_bus-granted bus h next slot legal has granted =
+    let last = replay turn_step bus h in
+    let held = has_bus-holder bus h slot (legal-begins turn_step bus h (next ∷ []) legal) has in
+    let told = sym (legal-rest turn_step bus h (next ∷ []) legal).0 ∙ granted in
+    let stays = holder-stays last next.cmd slot held (λ freed. let both = sym told ∙ freed in cc) in
+    same_Some _ _ (sym (told-granted last next.cmd told) ∙ stays)
+
+-- or that it held it
+pub has_bus-freed : (bus : Arbitration) (h : List (Entry ArbCmd ArbReply)) (next : Entry ArbCmd ArbReply) (slot : ℕ)
+    → IsLegal turn_step bus (h ++ next ∷ []) → HasTheBus slot h → next.reply ≡ Freed → slot_of next.cmd ≡ slot
+has_bus-freed bus h next slot legal has freed =
+    let held = has_bus-holder bus h slot (legal-begins turn_step bus h (next ∷ []) legal) has in
+    let told = sym (legal-rest turn_step bus h (next ∷ []) legal).0 ∙ freed in
+    same_Some _ _ (sym (told-freed (replay turn_step bus h) next.cmd told) ∙ held)

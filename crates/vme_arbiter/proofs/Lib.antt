@@ -1,8 +1,8 @@
 mod Listed
-mod Grants
+pub mod Grants
 mod Steps
 mod Pending
-mod Orderly
-mod Holders
-mod Turns
+pub mod Orderly
+pub mod Holders
+pub mod Turns
 mod Sets

@@ -1,5 +1,5 @@
 -- Histories of the arbiter: what their commands name, and masters that go by the replies.
-use Rattle.std.specs.Prelude.{◌≡◌, ◌<◌, ℕ, Bool, false, ◌==◌, ◌&&◌, IsTrue, List, [], ◌∷◌, Option, Some, None, All}
+use Rattle.std.specs.Prelude.{◌≡◌, ◌<◌, ℕ, Bool, false, ◌==◌, ◌&&◌, IsTrue, List, [], ◌∷◌, ◌++◌, Option, Some, None, All}
 use Rattle.vme_object.specs.declared.history.Entry.{Entry}
 use Rattle.vme_object.specs.History.{own}
 use Rattle.vme_arbiter.specs.declared.command.ArbCmd.{ArbCmd}
@@ -14,9 +14,19 @@ slot_of (Ask slot level) = slot
 slot_of (Look slot) = slot
 slot_of (Done slot) = slot
 
--- an entry by which a slot gives the bus back (this project's own)
+-- an entry by which a slot is told that it held the bus and holds it no more (this project's own)
 abbrev pub Frees : ℕ → Entry ArbCmd ArbReply → Type 0
 Frees slot e = (slot_of e.cmd ≡ slot) × (e.reply ≡ Freed)
+
+-- by the replies a slot has the bus at the end of a history: it was told so, and was not freed since (this project's own)
+pub record HasTheBus (slot : ℕ) (h : List (Entry ArbCmd ArbReply)) : Type 0 where
+  pub before : List (Entry ArbCmd ArbReply)
+  pub told : Entry ArbCmd ArbReply
+  pub since : List (Entry ArbCmd ArbReply)
+  pub whole : h ≡ before ++ told ∷ since
+  pub names : slot_of told.cmd ≡ slot
+  pub granted : told.reply ≡ Granted
+  pub kept : All (λ e. Frees slot e → ⊥) since
 
 -- whether the master of a slot may give a command after this last reply to it: it asks on a level in range after none and
 -- after Freed, looks after Waiting, and is done after Granted (this project's own)

@@ -13,8 +13,8 @@ const SLOTS: u16 = 21;
 /// A place for each number of a slot; that of 0 stays empty.
 const PLACES: usize = 22;
 
-/// Who holds the data transfer bus, and who asks for it on which level. Contracts see it as its
-/// holder and the set of requests that pend.
+/// The arbiter (section 3.3), priority option: who holds the data transfer bus, and who asks for it
+/// on which level. Contracts see it as its holder and the set of requests that pend.
 #[derive(Debug, Drop)]
 pub struct Arbiter {
     holder: Option<u16>,

@@ -1,4 +1,5 @@
-/// What the arbiter is told. A slot is lawful from 1 to 21, a level from 0 to 3.
+/// What the arbiter is told. A slot is in range from 1 to 21, a level from 0 to 3 (BR0* to BR3*,
+/// section 3.2).
 #[derive(Clone, Copy, Debug, PartialEq, Eq)]
 pub enum ArbCmd {
     /// A slot asks for the bus, on the bus request line of a level.
@@ -29,6 +30,7 @@ pub enum ArbReply {
     Waiting,
     /// The slot held the bus, and holds it no more.
     Freed,
-    /// The command was none for this slot now; nothing changed.
+    /// Nothing changed: an ask out of range or by a slot that holds or waits, a look by a slot that
+    /// does neither, or a bus given back by a slot that does not hold it.
     Denied,
 }

@@ -9,7 +9,7 @@ ghost use Rattle.vme_arbiter.specs.Requests.{Request, granted, with_request, wit
 ghost use Rattle.vme_arbiter.specs.Grants.{IsNext};
 ghost use Rattle.vme_arbiter.specs.Arbitration.{Arbitration, free_bus, turn_step};
 ghost use Rattle.vme_arbiter.specs.Orderly.{IsBySlot, IsOrderly};
-ghost use Rattle.vme_arbiter.specs.Turns.{slot_of, Frees, TakeTurns};
+ghost use Rattle.vme_arbiter.specs.Turns.{slot_of, HasTheBus, TakeTurns};
 
 /// The bus is granted to the request on the greatest level and, among these, of the lowest slot:
 /// there is one such request in every set of requests that is not empty.
@@ -52,23 +52,21 @@ pub fn replies_tell_the_holder()
         (turn_step bus cmd).1 ≢ Freed → (turn_step bus cmd).0.holder ≡ Some slot }
 {}
 
-/// One slot at most holds the bus. In a legal history, a slot that is told `Granted` holds the bus
-/// until it is told `Freed`, and until then no other slot is told `Granted` or `Freed`.
-pub fn one_slot_holds_the_bus()
-    ensures holds { (before between : List (Entry ArbCmd ArbReply)) (first : Entry ArbCmd ArbReply) →
-        IsLegal turn_step free_bus (before ++ first ∷ between) → first.reply ≡ Granted →
-        All (λ e. Frees (slot_of first.cmd) e → ⊥) between →
-        (replay turn_step free_bus (before ++ first ∷ between)).holder ≡ Some (slot_of first.cmd) }
-    ensures granted { (before between : List (Entry ArbCmd ArbReply))
-        (first second : Entry ArbCmd ArbReply) →
-        IsLegal turn_step free_bus (before ++ first ∷ (between ++ second ∷ [])) →
-        first.reply ≡ Granted → All (λ e. Frees (slot_of first.cmd) e → ⊥) between →
-        second.reply ≡ Granted → slot_of second.cmd ≡ slot_of first.cmd }
-    ensures freed { (before between : List (Entry ArbCmd ArbReply))
-        (first second : Entry ArbCmd ArbReply) →
-        IsLegal turn_step free_bus (before ++ first ∷ (between ++ second ∷ [])) →
-        first.reply ≡ Granted → All (λ e. Frees (slot_of first.cmd) e → ⊥) between →
-        second.reply ≡ Freed → slot_of second.cmd ≡ slot_of first.cmd }
+/// One slot at most has the bus. In a legal history, a slot that was told `Granted` and not yet
+/// `Freed` is the holder; so there is one such slot at most, and no other one is told `Granted` or
+/// `Freed` next.
+pub fn one_slot_has_the_bus()
+    ensures holder { (h : List (Entry ArbCmd ArbReply)) (slot : ℕ) →
+        IsLegal turn_step free_bus h → HasTheBus slot h →
+        (replay turn_step free_bus h).holder ≡ Some slot }
+    ensures alone { (h : List (Entry ArbCmd ArbReply)) (a b : ℕ) →
+        IsLegal turn_step free_bus h → HasTheBus a h → HasTheBus b h → a ≡ b }
+    ensures granted { (h : List (Entry ArbCmd ArbReply)) (next : Entry ArbCmd ArbReply) (slot : ℕ) →
+        IsLegal turn_step free_bus (h ++ next ∷ []) → HasTheBus slot h →
+        next.reply ≡ Granted → slot_of next.cmd ≡ slot }
+    ensures freed { (h : List (Entry ArbCmd ArbReply)) (next : Entry ArbCmd ArbReply) (slot : ℕ) →
+        IsLegal turn_step free_bus (h ++ next ∷ []) → HasTheBus slot h →
+        next.reply ≡ Freed → slot_of next.cmd ≡ slot }
 {}
 
 /// Where each master has a slot of its own and goes by the replies, no reply is `Denied`.

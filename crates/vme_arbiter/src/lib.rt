@@ -14,6 +14,6 @@ mod tests;
 pub use arbiter::Arbiter;
 pub use command::{ArbCmd, ArbReply};
 pub use laws::{
-    greatest_level_then_lowest_slot, no_turn_is_denied, one_slot_holds_the_bus,
+    greatest_level_then_lowest_slot, no_turn_is_denied, one_slot_has_the_bus,
     pending_requests_are_a_set, replies_tell_the_holder, states_are_orderly,
 };
