@@ -1,1 +1,3 @@
 pub mod Tallies
+pub mod Runs
+pub mod Machines

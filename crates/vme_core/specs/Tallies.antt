@@ -1,5 +1,5 @@
 -- An object with the number of its steps, and what going through a history does to both.
-use Rattle.std.specs.Prelude.{ℕ, ◌≡◌, ◌+◌, ◌<◌, List, length, slice_index_or}
+use Rattle.std.specs.Prelude.{ℕ, ◌≡◌, ◌+◌, ◌<◌, List, length, replicate, slice_index_or}
 use Rattle.vme_object.specs.declared.history.Entry.{Entry}
 use Rattle.vme_object.specs.History.{replay, IsLegal, own}
 
@@ -9,6 +9,10 @@ pub record Tally (S : Type 0) : Type 0 where
   pub steps : ℕ
   pub made : List ℕ
 
+-- an object before its first step, for the whos below k (this project's own)
+abbrev pub fresh : {S : Type 0} → ℕ → S → Tally S
+fresh k object = record { object = object; steps = 0; made = replicate k 0 }
+
 -- an object went through a history that is legal from where it stood, and each entry was counted, once in all and once
 -- for its who (this project's own)
 pub record Went {S C R : Type 0} (step : S → C → S × R) (h : List (Entry C R)) (before after : Tally S) : Type 0 where
@@ -17,3 +21,11 @@ pub record Went {S C R : Type 0} (step : S → C → S × R) (h : List (Entry C 
   pub steps : after.steps ≡ before.steps + length h
   pub whos : length after.made ≡ length before.made
   pub made : (w : ℕ) → w < length before.made → slice_index_or after.made w 0 ≡ slice_index_or before.made w 0 + length (own w h)
+
+-- an object is where a legal history from its opening state leaves it; its steps are that history's entries, and those of
+-- each who below k are the who's own (this project's own)
+pub record Tells {S C R : Type 0} (step : S → C → S × R) (start : S) (h : List (Entry C R)) (k : ℕ) (t : Tally S) : Type 0 where
+  pub legal : IsLegal step start h
+  pub object : t.object ≡ replay step start h
+  pub steps : t.steps ≡ length h
+  pub made : (w : ℕ) → w < k → slice_index_or t.made w 0 ≡ length (own w h)

@@ -1,13 +1,11 @@
 ghost use Rattle.std.specs.Prelude.{◌≡◌, ◌<◌, ◌-◌, ◌^◌, ◌↔◌, ◌∷◌, [], length, slice_index_or, IsErr, IfOk, IfErr};
 ghost use Rattle.vme_object.specs.History.{entry};
-ghost use Rattle.vme_core.specs.Tallies.{Went};
+ghost use Rattle.vme_core.specs.Tallies.{Went, fresh};
 
+use crate::fault::{OutOfMemory, Spent};
+use std::alloc::Global;
 use std::marker::Model;
 use vme_object::{Object, next_count};
-
-/// An object has made as many steps as can be counted, 2^64 - 1.
-#[derive(Clone, Copy, Debug, PartialEq, Eq)]
-pub struct Spent;
 
 /// An object, with the number of its steps and of those that each who made.
 #[derive(Drop)]
@@ -29,6 +27,22 @@ impl<O> Model for Counted<O> {
 }
 
 impl<O: Object> Counted<O> {
+    /// An object before its first step, with the counts of the whos below `k`.
+    pub(crate) fn new(alloc: Global, object: O, k: usize) -> Result<Counted<O>, OutOfMemory>
+    where
+        O: Drop,
+        ensures { IfOk result (λ c. c ≡ fresh k object) }
+    {
+        match vec![in alloc; 0; k] {
+            Ok(made) => Ok(Counted {
+                object,
+                steps: 0,
+                made,
+            }),
+            Err(_) => Err(OutOfMemory),
+        }
+    }
+
     /// Takes a command and counts it. Where no further step can be counted, nothing is done.
     pub(crate) fn apply(&mut self, who: usize, cmd: &O::Cmd) -> Result<O::Reply, Spent>
         requires who { who < length self.old.made }

@@ -3,5 +3,14 @@
 #![tactic(auto)]
 
 mod counted;
+mod event;
+mod fault;
+mod laws;
+mod machine;
+#[cfg(test)]
+mod tests;
 
-pub use counted::Spent;
+pub use event::{Event, EventReply, Target};
+pub use fault::{OutOfMemory, RunStop, Spent};
+pub use laws::{opening_is_replayed, runs_compose};
+pub use machine::Core;

@@ -56,9 +56,10 @@ AllAt-set P xs i d y i< here same = record {
 
 -- one fact of each two elements, and then another
 pub AllAt-trans :
-    {A B C : Type 0} (P : ℕ → A → B → Type 0) (Q : ℕ → B → C → Type 0) (R : ℕ → A → C → Type 0) (xs : List A) (ys : List B) (zs : List C)
-    → ((k : ℕ) (x : A) (y : B) (z : C) → P k x y → Q k y z → R k x z) → B → AllAt P xs ys → AllAt Q ys zs → AllAt R xs zs
-AllAt-trans P Q R xs ys zs both d first then = record {
+    {A : Type 0} (P Q R : ℕ → A → A → Type 0) (xs ys zs : List A) → ((k : ℕ) (x y z : A) → P k x y → Q k y z → R k x z) → AllAt P xs ys
+    → AllAt Q ys zs → AllAt R xs zs
+AllAt-trans P Q R xs ys zs both first then = record {
   count = then.count ∙ first.count;
-  each = λ k a b k<. both k (slice_index_or xs k a) (slice_index_or ys k d) (slice_index_or zs k b) (first.each k a d k<) (then.each k d b (rw first.count k<));
+  each = λ k a b k<.
+    both k (slice_index_or xs k a) (slice_index_or ys k a) (slice_index_or zs k b) (first.each k a a k<) (then.each k a b (rw first.count k<));
 }

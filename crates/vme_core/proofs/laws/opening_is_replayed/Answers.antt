@@ -1,0 +1,7 @@
+-- What a run from the opening leaves.
+use Rattle.vme_core.proofs.Dones.{opened_boards}
+use Rattle.vme_core.proofs.laws.opening_is_replayed.Goals as goal
+
+-- by the lemma on each board
+pub returns-clause-boards : goal.returns-clause-boards
+returns-clause-boards c = opened_boards

@@ -1,0 +1,81 @@
+-- A run of events over boards and the arbiter of their bus, and the part that each of them has in it.
+use Rattle.std.specs.Prelude.{ℕ, ◌==◌, if◌then◌else◌, Option, Some, None, List, map, filter_map, All}
+use Rattle.vme_object.specs.declared.history.Entry.{Entry}
+use Rattle.vme_object.specs.History.{entry}
+use Rattle.vme_object.specs.Each.{AllAt}
+use Rattle.vme_memory.specs.declared.command.BoardCmd.{BoardCmd}
+use Rattle.vme_memory.specs.declared.reply.Reply.{Reply}
+use Rattle.vme_memory.specs.Boards.{Board}
+use Rattle.vme_memory.specs.Locals.{board_step}
+use Rattle.vme_arbiter.specs.declared.command.ArbCmd.{ArbCmd}
+use Rattle.vme_arbiter.specs.declared.command.ArbReply.{ArbReply}
+use Rattle.vme_arbiter.specs.Arbitration.{Arbitration, turn_step}
+use Rattle.vme_core.specs.declared.event.Event.{Event}
+use Rattle.vme_core.specs.declared.event.Event.TheVariants as asked
+use Rattle.vme_core.specs.declared.event.EventReply.{EventReply}
+use Rattle.vme_core.specs.declared.event.EventReply.TheVariants as told
+use Rattle.vme_core.specs.declared.event.Target.{Target}
+use Rattle.vme_core.specs.declared.event.Target.TheVariants as at
+use Rattle.vme_core.specs.Tallies.{Tally, Went}
+
+-- the boards and the arbiter, each with its counts (this project's own)
+pub record Machine : Type 0 where
+  pub boards : List (Tally Board)
+  pub bus : Tally Arbitration
+
+-- an event of a run: who gave it, to what, and the reply (this project's own)
+pub record Move : Type 0 where
+  pub who : ℕ
+  pub event : Event
+  pub reply : EventReply
+
+-- a move by its parts (this project's own)
+abbrev pub move : ℕ → Event → EventReply → Move
+move who event reply = record { who = who; event = event; reply = reply }
+
+-- what an event is given to (this project's own)
+abbrev pub target_of : Event → Target
+target_of (asked.Board board cmd) = at.Board board
+target_of (asked.Bus cmd) = at.Bus
+
+-- a reply is of the kind of its event: a board's, or the arbiter's (this project's own)
+abbrev pub IsReplyTo : Event → EventReply → Type 0
+IsReplyTo (asked.Board board cmd) (told.Board reply) = Unit {0}
+IsReplyTo (asked.Board board cmd) (told.Bus reply) = ⊥
+IsReplyTo (asked.Bus cmd) (told.Board reply) = ⊥
+IsReplyTo (asked.Bus cmd) (told.Bus reply) = Unit {0}
+
+-- what a move adds to the history of a board, if anything (this project's own)
+abbrev pub on_board : ℕ → ℕ → Event → EventReply → Option (Entry BoardCmd Reply)
+on_board x who (asked.Board board cmd) (told.Board reply) = if board == x then Some (entry who cmd reply) else None
+on_board x who (asked.Board board cmd) (told.Bus reply) = None
+on_board x who (asked.Bus cmd) reply = None
+
+-- what a move adds to the history of the arbiter, if anything (this project's own)
+abbrev pub on_bus : ℕ → Event → EventReply → Option (Entry ArbCmd ArbReply)
+on_bus who (asked.Board board cmd) reply = None
+on_bus who (asked.Bus cmd) (told.Board reply) = None
+on_bus who (asked.Bus cmd) (told.Bus reply) = Some (entry who cmd reply)
+
+-- the history of a board in a run (this project's own)
+abbrev pub board_part : ℕ → List Move → List (Entry BoardCmd Reply)
+board_part x run = filter_map (λ m. on_board x m.who m.event m.reply) run
+
+-- the history of the arbiter in a run (this project's own)
+abbrev pub bus_part : List Move → List (Entry ArbCmd ArbReply)
+bus_part run = filter_map (λ m. on_bus m.who m.event m.reply) run
+
+-- the events of a run, each with who gave it (this project's own)
+abbrev pub asked_in : List Move → List (ℕ × Event)
+asked_in run = map (λ m. (m.who, m.event)) run
+
+-- the replies of a run (this project's own)
+abbrev pub told_in : List Move → List EventReply
+told_in run = map (λ m. m.reply) run
+
+-- the machine made a run: each reply is of its event's kind, and each board and the arbiter went through its own part
+-- (this project's own)
+pub record Did (run : List Move) (before after : Machine) : Type 0 where
+  pub fitting : All (λ m. IsReplyTo m.event m.reply) run
+  pub boards : AllAt (λ x b a. Went board_step (board_part x run) b a) before.boards after.boards
+  pub bus : Went turn_step (bus_part run) before.bus after.bus

@@ -1,0 +1,26 @@
+ghost use Rattle.std.specs.Prelude.{◌++◌, ℕ, List, []};
+ghost use Rattle.vme_object.specs.Each.{AllAt};
+ghost use Rattle.vme_memory.specs.Boards.{Board};
+ghost use Rattle.vme_memory.specs.Locals.{board_step};
+ghost use Rattle.vme_arbiter.specs.Arbitration.{free_bus, turn_step};
+ghost use Rattle.vme_core.specs.Tallies.{Tells};
+ghost use Rattle.vme_core.specs.Runs.{Machine, Move, Did, board_part, bus_part};
+ghost use Rattle.vme_core.specs.Machines.{opening};
+
+/// Runs compose: a second one goes on from where the first ends.
+pub fn runs_compose()
+    ensures nothing { (m : Machine) → Did [] m m }
+    ensures goes_on { (first then : List Move) (a b c : Machine) →
+        Did first a b → Did then b c → Did (first ++ then) a c }
+{}
+
+/// After a run from the opening each board's memory, and the arbiter, is the replay of its own part
+/// of the run; its steps are that part's entries, and what each who made are the who's own.
+#[tactic(auto, using(crate::proofs::Tallies::went_tells))]
+pub fn opening_is_replayed()
+    ensures boards { (memories : List Board) (k : ℕ) (run : List Move) (after : Machine) →
+        Did run (opening memories k) after →
+        AllAt (λ x memory b. Tells board_step memory (board_part x run) k b) memories after.boards }
+    ensures bus { (memories : List Board) (k : ℕ) (run : List Move) (after : Machine) →
+        Did run (opening memories k) after → Tells turn_step free_bus (bus_part run) k after.bus }
+{}

@@ -1,0 +1,134 @@
+ghost use Rattle.std.specs.Prelude.{◌≡◌, ◌<◌, ◌-◌, ◌^◌, ◌↔◌, ◌∷◌, [], length, map, slice_get, Some, All, IsErr, IfOk, IfErr};
+ghost use Rattle.vme_core.specs.Tallies.{fresh};
+ghost use Rattle.vme_core.specs.Runs.{Did, move, target_of};
+ghost use Rattle.vme_core.specs.Machines.{opening, whos, IsThere, steps_of, made_of, HasRun};
+
+use crate::counted::Counted;
+use crate::event::{Event, EventReply, Target};
+use crate::fault::{OutOfMemory, RunStop, Spent};
+use std::alloc::Global;
+use std::marker::Model;
+use vme_arbiter::Arbiter;
+use vme_memory::ByteMemory;
+
+/// Boards, the arbiter of their bus, and the steps of each, on one thread. Contracts see it as a
+/// machine of plain objects with their counts.
+#[derive(Drop)]
+pub struct Core {
+    boards: Vec<Counted<ByteMemory>>,
+    bus: Counted<Arbiter>,
+}
+
+impl Model for Core {
+    ghost use Rattle.std.specs.Prelude.{◌≡◌, length, All};
+    ghost use Rattle.vme_core.specs.Tallies.{fresh};
+    ghost use Rattle.vme_core.specs.Runs.{Machine};
+
+    ghost Value = { Machine };
+
+    ghost view = { λ c. record { boards = c.boards.items; bus = c.bus } };
+
+    ghost invariant = { λ c. All (λ b. length b.made ≡ length c.bus.made) c.boards.items };
+}
+
+impl Core {
+    /// Boards with these memories and an arbiter of a free bus, for the whos below `k`, before any
+    /// step. Where memory is refused the boards' memories are dropped.
+    pub fn new(alloc: Global, memories: Vec<ByteMemory>, k: usize) -> Result<Core, OutOfMemory>
+        ensures { IfOk result (λ core. core ≡ opening memories.items k) }
+    {
+        let boards = fresh_boards(alloc, memories, k)?;
+        let bus = Counted::new(alloc, Arbiter::new(), k)?;
+        Ok(Core { boards, bus })
+    }
+
+    /// One event of `who`, and the reply to it. Where the object can count no further step, nothing
+    /// is done.
+    pub fn apply(&mut self, who: usize, event: &Event) -> Result<EventReply, Spent>
+        requires who { who < whos self.old }
+        requires there { IsThere self.old (target_of event.now) }
+        ensures did { IfOk result (λ reply. Did (move who event.now reply ∷ []) self.old self.new) }
+        ensures spent { IsErr result ↔ (steps_of self.old (target_of event.now) ≡ Some (2 ^ 64 - 1)) }
+        ensures unchanged { IfErr result (λ _. self.new ≡ self.old) }
+    {
+        match event {
+            Event::Board { board, cmd } => {
+                Ok(EventReply::Board(self.boards[*board].apply(who, cmd)?))
+            }
+            Event::Bus(cmd) => Ok(EventReply::Bus(self.bus.apply(who, cmd)?)),
+        }
+    }
+
+    /// Events one after another, each with who gives it; their replies are appended. Room for all of
+    /// them is taken first. It ends before an event whose object can count no further step.
+    #[tactic(auto, using(crate::proofs::Dones::done_nothing, crate::proofs::Dones::done_more, crate::proofs::Dones::run_all, crate::proofs::Dones::run_spent, crate::proofs::Dones::run_none))]
+    pub fn run(
+        &mut self,
+        events: &[(usize, Event)],
+        replies: &mut Vec<EventReply>,
+    ) -> Result<(), RunStop>
+        requires { All (λ e. (e.0 < whos self.old) × IsThere self.old (target_of e.1)) events.now }
+        ensures ran { HasRun events.now self.old self.new replies.old.items replies.new.items result }
+        ensures out_of_memory { result ≡ Err RunStop.OutOfMemory
+            → (self.new ≡ self.old) × (replies.new.items ≡ replies.old.items) }
+    {
+        if replies.reserve(events.len()).is_err() {
+            return Err(RunStop::OutOfMemory);
+        }
+        for (who, event) in events {
+            let Ok(reply) = self.apply(*who, event) else {
+                return Err(RunStop::Spent);
+            };
+            replies.push_reserved(reply);
+        }
+        Ok(())
+    }
+
+    /// The number of steps of an object.
+    pub fn steps(&self, target: Target) -> u64
+        requires { IsThere self.now target }
+        ensures { steps_of self.now target ≡ Some result }
+    {
+        match target {
+            Target::Board(board) => self.boards[board].steps(),
+            Target::Bus => self.bus.steps(),
+        }
+    }
+
+    /// How many of the steps of an object `who` made.
+    pub fn made(&self, who: usize, target: Target) -> u64
+        requires who { who < whos self.now }
+        requires there { IsThere self.now target }
+        ensures { made_of self.now who target ≡ Some result }
+    {
+        match target {
+            Target::Board(board) => self.boards[board].made(who),
+            Target::Bus => self.bus.made(who),
+        }
+    }
+
+    /// The memory of a board.
+    pub fn memory(&self, board: usize) -> &ByteMemory
+        requires { board < length self.now.boards }
+        ensures { slice_get (map (λ b. b.object) self.now.boards) board ≡ Some result.now }
+    {
+        self.boards[board].object()
+    }
+}
+
+/// Boards with these memories before any step, with the counts of the whos below `k`.
+fn fresh_boards(
+    alloc: Global,
+    memories: Vec<ByteMemory>,
+    k: usize,
+) -> Result<Vec<Counted<ByteMemory>>, OutOfMemory>
+    ensures { IfOk result (λ boards. boards.items ≡ map (fresh k) memories.items) }
+{
+    let Ok(mut boards) = Vec::with_capacity(alloc, memories.len()) else {
+        return Err(OutOfMemory);
+    };
+    for memory in memories {
+        boards.push_reserved(Counted::new(alloc, memory, k)?);
+    }
+    Ok(boards)
+}

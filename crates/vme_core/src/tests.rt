@@ -1,0 +1,94 @@
+//! What a core shows after a few events, and what it leaves where memory is refused.
+use crate::{Core, Event, EventReply, OutOfMemory, RunStop, Target};
+use std::process::Abort;
+use std::test::Fail;
+use vme_arbiter::{ArbCmd, ArbReply};
+use vme_lanes::Datum;
+use vme_memory::{BoardCmd, ByteMemory, Class, Reply, Width8To32};
+
+const CLASS: Class = Class {
+    width: Width8To32::D32,
+    uat: true,
+    blt: true,
+    rmw: true,
+};
+
+/// A core of one board of 16 bytes, for two whos.
+fn one_board(rt: &HostRuntime) -> Result<Core, OutOfMemory> {
+    let Ok(memory) = ByteMemory::new(rt.alloc(), 16, CLASS) else {
+        return Err(OutOfMemory);
+    };
+    let Ok(memories) = Vec::from_array(rt.alloc(), [memory]) else {
+        return Err(OutOfMemory);
+    };
+    Core::new(rt.alloc(), memories, 2)
+}
+
+/// A write of one byte by who 0, a read of it by who 1, and slot 2's request for the bus.
+fn events() -> [(usize, Event); 3] {
+    let bytes = Datum::try_from(&[0x7f][..]).unwrap_or_default();
+    let write = BoardCmd::LocalWrite { offset: 0, bytes };
+    let read = BoardCmd::LocalRead { offset: 0, n: 1 };
+    [
+        (
+            0,
+            Event::Board {
+                board: 0,
+                cmd: write,
+            },
+        ),
+        (
+            1,
+            Event::Board {
+                board: 0,
+                cmd: read,
+            },
+        ),
+        (1, Event::Bus(ArbCmd::Ask { slot: 2, level: 3 })),
+    ]
+}
+
+/// The answer to the three events, or else, where memory is refused, that nothing was done.
+#[test]
+fn runs_events_or_none_of_them(rt: HostRuntime) {
+    let Ok(mut core) = one_board(&rt) else {
+        return;
+    };
+    let mut replies = Vec::new(rt.alloc());
+    match core.run(&events(), &mut replies) {
+        Ok(()) => {
+            assert_eq!(&rt; replies.len(), 3);
+            assert!(&rt; matches!(&replies[0], EventReply::Board(Reply::Done)));
+            let EventReply::Board(Reply::Bytes(read)) = &replies[1] else {
+                panic!(&rt; "no bytes")
+            };
+            assert_eq!(&rt; read.as_slice(), &[0x7f][..]);
+            assert!(&rt; matches!(&replies[2], EventReply::Bus(ArbReply::Granted)));
+            assert_eq!(&rt; core.steps(Target::Board(0)), 2);
+            assert_eq!(&rt; core.made(0, Target::Board(0)), 1);
+            assert_eq!(&rt; core.made(1, Target::Board(0)), 1);
+            assert_eq!(&rt; core.steps(Target::Bus), 1);
+            assert_eq!(&rt; core.made(0, Target::Bus), 0);
+            assert_eq!(&rt; core.memory(0).byte(0), Some(0x7f));
+        }
+        Err(stop) => {
+            assert_eq!(&rt; stop, RunStop::OutOfMemory);
+            assert_eq!(&rt; replies.len(), 0);
+            assert_eq!(&rt; core.steps(Target::Board(0)), 0);
+            assert_eq!(&rt; core.steps(Target::Bus), 0);
+            assert_eq!(&rt; core.memory(0).byte(0), Some(0));
+        }
+    }
+}
+
+/// One event by itself.
+#[test]
+fn applies_an_event(rt: HostRuntime) {
+    let Ok(mut core) = one_board(&rt) else {
+        return;
+    };
+    let look = Event::Bus(ArbCmd::Look { slot: 2 });
+    let reply = core.apply(0, &look);
+    assert!(&rt; matches!(reply, Ok(EventReply::Bus(ArbReply::Denied))));
+    assert_eq!(&rt; core.made(0, Target::Bus), 1);
+}
