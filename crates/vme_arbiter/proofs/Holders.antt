@@ -5,7 +5,7 @@ use Rattle.std.proofs.lemmas.Option.{same_Some}
 use Rattle.std.proofs.lemmas.List.Elements.{All-head, All-tail}
 use Rattle.vme_object.specs.declared.history.Entry.{Entry}
 use Rattle.vme_object.specs.History.{replay, IsLegal}
-use Rattle.vme_object.proofs.Histories.{replay-append, legal-begins}
+use Rattle.vme_object.proofs.Histories.{replay-append, legal-begins, legal-rest}
 use Rattle.vme_arbiter.specs.declared.command.ArbCmd.{ArbCmd}
 use Rattle.vme_arbiter.specs.declared.command.ArbReply.{ArbReply}
 use Rattle.vme_arbiter.specs.declared.command.ArbReply.TheVariants.{Granted, Freed}
@@ -22,12 +22,6 @@ told-freed bus cmd told = search rules
 pub holder-stays : (bus : Arbitration) (cmd : ArbCmd) (slot : ℕ) → bus.holder ≡ Some slot → (turn_step bus cmd).1 ≢ Freed
     → (turn_step bus cmd).0.holder ≡ Some slot
 holder-stays bus cmd slot held not_freed = search rules
-
--- what a legal history goes on with is legal from there
-pub legal-rest : {S C R : Type 0} (step : S → C → S × R) (s : S) (a b : List (Entry C R)) → IsLegal step s (a ++ b)
-    → IsLegal step (replay step s a) b
-legal-rest step s [] b legal = legal
-legal-rest step s (e ∷ a) b legal = legal-rest step (step s e.cmd).0 a b legal.1
 
 -- a slot that holds the bus holds it until it is told that it is free
 holder-kept : (bus : Arbitration) (slot : ℕ) (between : List (Entry ArbCmd ArbReply)) → bus.holder ≡ Some slot

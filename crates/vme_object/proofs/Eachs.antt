@@ -61,5 +61,5 @@ pub AllAt-trans :
 AllAt-trans P Q R xs ys zs both first then = record {
   count = then.count ∙ first.count;
   each = λ k a b k<.
-    both k (slice_index_or xs k a) (slice_index_or ys k a) (slice_index_or zs k b) (first.each k a a k<) (then.each k a b (rw first.count k<));
+      both k (slice_index_or xs k a) (slice_index_or ys k a) (slice_index_or zs k b) (first.each k a a k<) (then.each k a b (rw first.count k<));
 }

@@ -23,6 +23,11 @@ pub legal-begins : {S C R : Type 0} (step : S → C → S × R) (s : S) (a b : L
 legal-begins step s [] b legal = tt
 legal-begins step s (e ∷ a) b legal = (legal.0, legal-begins step (step s e.cmd).0 a b legal.1)
 
+-- what follows in a legal history is legal from there
+pub legal-rest : {S C R : Type 0} (step : S → C → S × R) (s : S) (a b : List (Entry C R)) → IsLegal step s (a ++ b) → IsLegal step (replay step s a) b
+legal-rest step s [] b legal = legal
+legal-rest step s (e ∷ a) b legal = legal-rest step (step s e.cmd).0 a b legal.1
+
 -- the entries of one in two histories, one after the other
 pub own-append : {C R : Type 0} (who : ℕ) (a b : List (Entry C R)) → own who (a ++ b) ≡ own who a ++ own who b
 own-append who a b = filter-append (λ e. e.who == who) a b
