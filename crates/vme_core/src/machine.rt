@@ -50,6 +50,8 @@ impl Core {
         ensures did { IfOk result (λ reply. Did (move who event.now reply ∷ []) self.old self.new) }
         ensures spent { IsErr result ↔ (steps_of self.old (target_of event.now) ≡ Some (2 ^ 64 - 1)) }
         ensures unchanged { IfErr result (λ _. self.new ≡ self.old) }
+        ensures boards { length self.new.boards ≡ length self.old.boards }
+        ensures whos { whos self.new ≡ whos self.old }
     {
         match event {
             Event::Board { board, cmd } => {
@@ -71,6 +73,8 @@ impl Core {
         ensures ran { HasRun events.now self.old self.new replies.old.items replies.new.items result }
         ensures out_of_memory { result ≡ Err RunStop.OutOfMemory
             → (self.new ≡ self.old) × (replies.new.items ≡ replies.old.items) }
+        ensures boards { length self.new.boards ≡ length self.old.boards }
+        ensures whos { whos self.new ≡ whos self.old }
     {
         if replies.reserve(events.len()).is_err() {
             return Err(RunStop::OutOfMemory);

@@ -1,4 +1,8 @@
 //! What a core shows after a few events, and what it leaves where memory is refused.
+ghost use Rattle.std.specs.Prelude.{◌≡◌, ◌<◌, length, All, IfOk};
+ghost use Rattle.vme_core.specs.Runs.{Machine, target_of};
+ghost use Rattle.vme_core.specs.Machines.{whos, IsThere};
+
 use crate::{Core, Event, EventReply, OutOfMemory, RunStop, Target};
 use std::process::Abort;
 use std::test::Fail;
@@ -14,7 +18,10 @@ const CLASS: Class = Class {
 };
 
 /// A core of one board of 16 bytes, for two whos.
-fn one_board(rt: &HostRuntime) -> Result<Core, OutOfMemory> {
+fn one_board(rt: &HostRuntime) -> Result<Core, OutOfMemory>
+    ensures boards { IfOk result (λ core. length core.boards ≡ 1) }
+    ensures whos { IfOk result (λ core. whos core ≡ 2) }
+{
     let Ok(memory) = ByteMemory::new(rt.alloc(), 16, CLASS) else {
         return Err(OutOfMemory);
     };
@@ -25,7 +32,10 @@ fn one_board(rt: &HostRuntime) -> Result<Core, OutOfMemory> {
 }
 
 /// A write of one byte by who 0, a read of it by who 1, and slot 2's request for the bus.
-fn events() -> [(usize, Event); 3] {
+fn events() -> [(usize, Event); 3]
+    ensures whos { All (λ e. e.0 < 2) result }
+    ensures there { (m : Machine) → length m.boards ≡ 1 → All (λ e. IsThere m (target_of e.1)) result }
+{
     let bytes = Datum::try_from(&[0x7f][..]).unwrap_or_default();
     let write = BoardCmd::LocalWrite { offset: 0, bytes };
     let read = BoardCmd::LocalRead { offset: 0, n: 1 };
@@ -48,44 +58,53 @@ fn events() -> [(usize, Event); 3] {
     ]
 }
 
-/// The answer to the three events, or else, where memory is refused, that nothing was done.
 #[test]
-fn runs_events_or_none_of_them(rt: HostRuntime) {
+fn answers_events_in_order(rt: HostRuntime) {
+    let Ok(mut core) = one_board(&rt) else {
+        panic!(&rt; "no core")
+    };
+    let mut replies = Vec::new(rt.alloc());
+    assert!(&rt; core.run(&events(), &mut replies).is_ok());
+    assert_eq!(&rt; replies.len(), 3);
+    assert!(&rt; matches!(&replies[0], EventReply::Board(Reply::Done)));
+    let EventReply::Board(Reply::Bytes(read)) = &replies[1] else {
+        panic!(&rt; "no bytes")
+    };
+    assert_eq!(&rt; read.as_slice(), &[0x7f][..]);
+    assert!(&rt; matches!(&replies[2], EventReply::Bus(ArbReply::Granted)));
+    assert_eq!(&rt; core.steps(Target::Board(0)), 2);
+    assert_eq!(&rt; core.made(0, Target::Board(0)), 1);
+    assert_eq!(&rt; core.made(1, Target::Board(0)), 1);
+    assert_eq!(&rt; core.steps(Target::Bus), 1);
+    assert_eq!(&rt; core.made(0, Target::Bus), 0);
+    assert_eq!(&rt; core.memory(0).byte(0), Some(0x7f));
+}
+
+/// Run with memory refused: all events are done, or none.
+#[test]
+fn runs_all_events_or_none(rt: HostRuntime) {
     let Ok(mut core) = one_board(&rt) else {
         return;
     };
     let mut replies = Vec::new(rt.alloc());
-    match core.run(&events(), &mut replies) {
-        Ok(()) => {
-            assert_eq!(&rt; replies.len(), 3);
-            assert!(&rt; matches!(&replies[0], EventReply::Board(Reply::Done)));
-            let EventReply::Board(Reply::Bytes(read)) = &replies[1] else {
-                panic!(&rt; "no bytes")
-            };
-            assert_eq!(&rt; read.as_slice(), &[0x7f][..]);
-            assert!(&rt; matches!(&replies[2], EventReply::Bus(ArbReply::Granted)));
-            assert_eq!(&rt; core.steps(Target::Board(0)), 2);
-            assert_eq!(&rt; core.made(0, Target::Board(0)), 1);
-            assert_eq!(&rt; core.made(1, Target::Board(0)), 1);
-            assert_eq!(&rt; core.steps(Target::Bus), 1);
-            assert_eq!(&rt; core.made(0, Target::Bus), 0);
-            assert_eq!(&rt; core.memory(0).byte(0), Some(0x7f));
-        }
+    let (replied, on_board, on_bus, byte) = match core.run(&events(), &mut replies) {
+        Ok(()) => (3, 2, 1, 0x7f),
         Err(stop) => {
             assert_eq!(&rt; stop, RunStop::OutOfMemory);
-            assert_eq!(&rt; replies.len(), 0);
-            assert_eq!(&rt; core.steps(Target::Board(0)), 0);
-            assert_eq!(&rt; core.steps(Target::Bus), 0);
-            assert_eq!(&rt; core.memory(0).byte(0), Some(0));
+            (0, 0, 0, 0)
         }
-    }
+    };
+    assert_eq!(&rt; replies.len(), replied);
+    assert_eq!(&rt; core.steps(Target::Board(0)), on_board);
+    assert_eq!(&rt; core.steps(Target::Bus), on_bus);
+    assert_eq!(&rt; core.memory(0).byte(0), Some(byte));
 }
 
 /// One event by itself.
 #[test]
 fn applies_an_event(rt: HostRuntime) {
     let Ok(mut core) = one_board(&rt) else {
-        return;
+        panic!(&rt; "no core")
     };
     let look = Event::Bus(ArbCmd::Look { slot: 2 });
     let reply = core.apply(0, &look);
