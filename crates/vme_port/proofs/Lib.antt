@@ -1,0 +1,3 @@
+pub mod Totals
+pub mod Accounts
+pub mod Keeps
