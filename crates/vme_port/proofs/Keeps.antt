@@ -120,7 +120,7 @@ module _ {S C R : Type 0} (step : S → C → S × R) (start : S) (k : ℕ) wher
       }
 
   -- where some view holds the object it is away
-  is_away : (h : List (Entry C R)) (s : State (Home S) (View C R)) → 1 ≤ holders s.views → AtHome step start h s ⊎ Away step start h s → Away step start h s
+  pub is_away : (h : List (Entry C R)) (s : State (Home S) (View C R)) → 1 ≤ holders s.views → AtHome step start h s ⊎ Away step start h s → Away step start h s
   is_away h s one (inl home) = absurd (omega (arith, home.none_out))
   is_away h s one (inr away) = away
 

@@ -1,3 +1,4 @@
 pub mod Totals
 pub mod Accounts
 pub mod Keeps
+pub mod Puts
