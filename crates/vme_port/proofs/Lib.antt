@@ -2,3 +2,5 @@ pub mod Totals
 pub mod Accounts
 pub mod Keeps
 pub mod Puts
+pub mod Performs
+pub mod Attempts

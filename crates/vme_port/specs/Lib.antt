@@ -1,1 +1,4 @@
 pub mod Rule
+pub mod Passes
+pub mod Ports
+pub mod Calls

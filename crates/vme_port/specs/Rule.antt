@@ -1,5 +1,5 @@
 -- The rule of a port: what holds between any two steps, and what each kind of step tells.
-use Rattle.std.specs.Prelude.{ℕ, zero, suc, ◌≡◌, ◌≢◌, ◌<◌, ◌≤◌, ◌==◌, ◌⊎◌, Bool, true, false, cond, ltb, List, [], ◌∷◌, ◌++◌, length, take, drop, All, MatchBool, slice_index}
+use Rattle.std.specs.Prelude.{ℕ, zero, suc, ◌+◌, ◌-◌, ◌^◌, ◌≡◌, ◌≢◌, ◌<◌, ◌≤◌, ◌==◌, ◌⊎◌, Bool, true, false, cond, ltb, List, [], ◌∷◌, ◌++◌, length, take, drop, All, MatchBool, slice_index}
 use Rattle.std.specs.List.{sum_by, count_by}
 use mathlib.Core.Option.{none, some}
 use lib.ListN.{get_elem?}
@@ -152,3 +152,23 @@ module _ {S C R : Type 0} where
 -- mark wanted: the view is as it was (this project's own)
 abbrev pub marked : {T C R : Type 0} → Step T → Me T (View C R) → ℕ → Me T (View C R) → Type 0
 marked st m n m' = m' ≡ m
+
+module _ {S C R : Type 0} where
+  -- the object is out with the seat (this project's own)
+  abbrev pub IsOut : Me (Home S) (View C R) → Type 0
+  IsOut m = (home : Home S) × (m.1 ≡ (0, home) ∷ [])
+
+  -- the history of the object that is out has the last count, and nothing changed (this project's own)
+  pub record IsFull (m m' : Me (Home S) (View C R)) : Type 0 where
+    pub home : Home S
+    pub out : m.1 ≡ (0, home) ∷ []
+    pub last : home.count ≡ 2 ^ 64 - 1
+    pub same : m' ≡ m
+
+  -- the object that is out took a command and gave a reply, and its history counts one more (this project's own)
+  pub record Performed (step : S → C → S × R) (cmd : C) (reply : R) (m m' : Me (Home S) (View C R)) : Type 0 where
+    pub home : Home S
+    pub out : m.1 ≡ (0, home) ∷ []
+    pub room : home.count < 2 ^ 64 - 1
+    pub answer : reply ≡ (step home.object cmd).1
+    pub after : m' ≡ (m.0, (0, record { object = (step home.object cmd).0; count = home.count + 1 }) ∷ [])

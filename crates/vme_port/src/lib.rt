@@ -2,4 +2,13 @@
 //! history that only grows, and a pass knows the part of it that it has seen.
 #![tactic(auto)]
 
+mod calls;
+mod fault;
+mod pass;
+mod port;
 mod rule;
+mod seats;
+
+pub use fault::{PortFault, Spent, TryFault};
+pub use pass::Pass;
+pub use port::Port;
