@@ -98,6 +98,12 @@ module _ {S C R : Type 0} (step : S → C → S × R) (start : S) (k : ℕ) wher
     pub shared_lost : Lost step Opened m0 m1 → 2 ≤ k
     shared_lost lost = omega (arith, lost.opens.1, lost.others)
 
+    -- one more entry can be counted where the command was performed
+    pub made_fits : Taken step Opened rest.only m1 → (cmd : C) (reply : R) (m2 : Me (Home S) (View C R)) → Performed step cmd reply m1 m2 → made + 1 < 2 ^ 64
+    made_fits t cmd reply m2 p =
+        let counted : p.home.count ≡ length (rest.only.seen ++ t.others) = ap (λ (h : Home S). h.count) (same_home rest.only m1 t p.home p.out) ∙ t.count in
+        omega (arith, made_within rest.only m1 t, rest.counted, p.room)
+
     module _ (t : Taken step Opened rest.only m1) (m2 m3 : Me (Home S) (View C R)) where
       -- a pass is at rest after a put of nothing
       pub rests_full : IsFull m1 m2 → HasPut [] m2 m3 → IsAtRest m3 who made
@@ -134,12 +140,6 @@ module _ {S C R : Type 0} (step : S → C → S × R) (start : S) (k : ℕ) wher
           ap length seen ∙ sym t.count ∙ ap (λ (h : Home S). h.count) (sym (same_home a m1 t full.home full.out)) ∙ full.last
 
       module _ (cmd : C) (reply : R) (p : Performed step cmd reply m1 m2) where
-        -- one more entry can be counted
-        pub made_fits : made + 1 < 2 ^ 64
-        made_fits =
-            let counted : p.home.count ≡ length (rest.only.seen ++ t.others) = ap (λ (h : Home S). h.count) (same_home rest.only m1 t p.home p.out) ∙ t.count in
-            omega (arith, made_within rest.only m1 t, rest.counted, p.room)
-
         module _ (told : HasPut (entry who cmd reply ∷ []) m2 m3) where
           put_after : m3 ≡ (view (account rest.only.who (rest.only.seen ++ t.others ++ entry who cmd reply ∷ []) (rest.only.mine ++ entry who cmd reply ∷ []) ∷ []) false, [])
           put_after = after_put rest.only m1 t (entry who cmd reply ∷ []) m2 m3 (ap (λ m. m.0) p.after) told

@@ -4,12 +4,17 @@ ghost use Rattle.vme_port.specs.Passes.{entry, Adds, Follows};
 ghost use Rattle.vme_port.specs.Ports.{IsPassOf, opening, passes_of};
 ghost use Rattle.vme_port.specs.Calls.{IfBusy, IfSpent};
 
-use crate::fault::TryFault;
+use crate::fault::{Spent, TryFault};
 use crate::pass::Pass;
 use crate::port::Port;
-use crate::seats::TAKEN;
+use crate::seats::{FREE, TAKEN, WANTED};
+use crossbeam_utils::Backoff;
 use std::marker::Brand;
+use std::sync::Wait;
 use vme_object::Object;
+
+/// How often a call tries before it parks.
+const TRIES: u32 = 10;
 
 impl<O: Object> Port<O> {
     /// One try, which leaves the word as given while it has the object.
@@ -39,5 +44,88 @@ impl<O: Object> Port<O> {
         self.put_entry::<Brand>(&mut pass.seat, pass.who, cmd, &reply);
         pass.made += 1;
         Ok(reply)
+    }
+
+    /// Gives the object one command, if it is at home, and answers its reply. It waits for nobody.
+    ///
+    /// # Errors
+    /// `Busy` where the object is out with another pass, and `Spent` where the history has 2^64 - 1
+    /// entries; neither adds an entry.
+    pub fn try_call(&self, pass: &mut Pass<O>, cmd: &O::Cmd) -> Result<O::Reply, TryFault>
+        requires { IsPassOf self.now pass.old }
+        ensures port { pass.new.port ≡ pass.old.port }
+        ensures who { pass.new.who ≡ pass.old.who }
+        ensures ok { IfOk result (λ r. Adds O.step (opening self.now) (entry pass.old.who cmd.now r) pass.old pass.new) }
+        ensures busy { IfBusy result (pass.new ≡ pass.old) }
+        ensures shared { IfBusy result (2 ≤ passes_of self.now) }
+        ensures spent { IfSpent result (Follows O.step (opening self.now) pass.old pass.new) }
+        ensures full { IfSpent result (length pass.new.seen ≡ 2 ^ 64 - 1) }
+    {
+        self.attempt(pass, cmd, TAKEN)
+    }
+
+    /// Parks until the object may be at home, and tries, until a try is not busy. Each try leaves
+    /// the port wanted, so that its put wakes the next one who waits.
+    fn call_parked<R: Wait>(
+        &self,
+        rt: &R,
+        pass: &mut Pass<O>,
+        cmd: &O::Cmd,
+    ) -> Result<O::Reply, Spent>
+        requires { IsPassOf self.now pass.old }
+        ensures port { pass.new.port ≡ pass.old.port }
+        ensures who { pass.new.who ≡ pass.old.who }
+        ensures ok { IfOk result (λ r. Adds O.step (opening self.now) (entry pass.old.who cmd.now r) pass.old pass.new) }
+        ensures spent { IfErr result (λ _. Follows O.step (opening self.now) pass.old pass.new) }
+        ensures full { IfErr result (λ _. length pass.new.seen ≡ 2 ^ 64 - 1) }
+    {
+        for _ in rt.forever() {
+            self.wait_wanted(rt, pass);
+            match self.attempt(pass, cmd, WANTED) {
+                Ok(reply) => return Ok(reply),
+                Err(TryFault::Spent) => return Err(Spent),
+                Err(TryFault::Busy) => {}
+            }
+        }
+        unreachable!()
+    }
+
+    /// Marks the port as wanted, and parks while it is, unless the object is at home.
+    fn wait_wanted<R: Wait>(&self, rt: &R, pass: &mut Pass<O>)
+        requires { IsPassOf self.now pass.old }
+        ensures { pass.new ≡ pass.old }
+    {
+        if self.mark(&mut pass.seat) != FREE {
+            self.table.shared.park(rt, 0, WANTED as u32);
+        }
+    }
+
+    /// Gives the object one command, as soon as it is at home, and answers its reply. It tries some
+    /// times, and then parks until a put wakes it.
+    ///
+    /// # Errors
+    /// `Spent` where the history has 2^64 - 1 entries; no entry is added.
+    pub fn call<R: Wait>(
+        &self,
+        rt: &R,
+        pass: &mut Pass<O>,
+        cmd: &O::Cmd,
+    ) -> Result<O::Reply, Spent>
+        requires { IsPassOf self.now pass.old }
+        ensures port { pass.new.port ≡ pass.old.port }
+        ensures who { pass.new.who ≡ pass.old.who }
+        ensures ok { IfOk result (λ r. Adds O.step (opening self.now) (entry pass.old.who cmd.now r) pass.old pass.new) }
+        ensures spent { IfErr result (λ _. Follows O.step (opening self.now) pass.old pass.new) }
+        ensures full { IfErr result (λ _. length pass.new.seen ≡ 2 ^ 64 - 1) }
+    {
+        let backoff = Backoff::new();
+        for _ in 0..TRIES {
+            match self.try_call(pass, cmd) {
+                Ok(reply) => return Ok(reply),
+                Err(TryFault::Spent) => return Err(Spent),
+                Err(TryFault::Busy) => backoff.snooze(),
+            }
+        }
+        self.call_parked(rt, pass, cmd)
     }
 }

@@ -10,7 +10,7 @@ use atomic_table::Seat;
 use vme_object::{Object, next_count};
 
 /// The word where the object is at home.
-const FREE: u64 = 0;
+pub(crate) const FREE: u64 = 0;
 
 /// The word where it is out, and nobody is known to wait for it.
 pub(crate) const TAKEN: u64 = 1;
