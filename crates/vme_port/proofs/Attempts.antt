@@ -5,13 +5,13 @@ use Rattle.std.proofs.lemmas.List.Elements.{All-nil, All-cons}
 use Rattle.atomic_table.specs.Table.{Me}
 use Rattle.atomic_table.specs.Seated.{TableId}
 use Rattle.vme_object.specs.declared.history.Entry.{Entry}
-use Rattle.vme_object.specs.History.{replay, IsLegal, own}
+use Rattle.vme_object.specs.History.{replay, IsLegal, own, entry}
 use Rattle.vme_object.proofs.Histories.{replay-append, legal-append, own-append, own_within}
 use Rattle.vme_port.specs.declared.rule.Account.{Account}
 use Rattle.vme_port.specs.declared.rule.View.{View}
 use Rattle.vme_port.specs.declared.rule.Home.{Home}
 use Rattle.vme_port.specs.Rule.{account, view, Taken, Lost, MayPut, HasPut, IsIdle, IsOut, IsFull, Performed}
-use Rattle.vme_port.specs.Passes.{PassView, IsAtRest, entry, seen_by, made_by, Follows, Adds}
+use Rattle.vme_port.specs.Passes.{PassView, IsAtRest, seen_by, made_by, Follows, Adds}
 use Rattle.vme_port.proofs.Accounts.{own_all}
 
 -- the first object of those that are out

@@ -4,3 +4,4 @@ pub mod Keeps
 pub mod Puts
 pub mod Performs
 pub mod Attempts
+pub mod Opens

@@ -18,10 +18,6 @@ pub record PassView (C R : Type 0) : Type 0 where
   pub seen : List (Entry C R)
   pub mine : List (Entry C R)
 
--- one who, with a command and the reply to it (this project's own)
-abbrev pub entry : {C R : Type 0} → ℕ → C → R → Entry C R
-entry who cmd reply = record { who = who; cmd = cmd; reply = reply }
-
 -- what the first account has seen (this project's own)
 abbrev pub seen_by : {C R : Type 0} → List (Account C R) → List (Entry C R)
 seen_by [] = []

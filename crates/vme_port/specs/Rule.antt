@@ -28,6 +28,10 @@ module _ {C R : Type 0} where
   abbrev pub newcomer : ℕ → View C R
   newcomer k = view (fresh 0 k) false
 
+  -- a seat stands for all passes from a who on, below k, and they have seen nothing (this project's own)
+  abbrev pub StandsFor : {S : Type 0} → ℕ → ℕ → Me (Home S) (View C R) → Type 0
+  StandsFor k who m = (n : ℕ) × (who + n ≡ k) × (m ≡ (view (fresh who n) false, []))
+
   -- split: what is left of a view when its first account is cut off (this project's own)
   abbrev pub all_but_first : View C R → View C R
   all_but_first v = view (drop 1 v.accounts) false

@@ -1,6 +1,7 @@
 //! The calls of a port, each through a pass.
 ghost use Rattle.std.specs.Prelude.{◌≡◌, ◌-◌, ◌^◌, ◌<◌, ◌≤◌, length, IfOk, IfErr};
-ghost use Rattle.vme_port.specs.Passes.{entry, Adds, Follows};
+ghost use Rattle.vme_port.specs.Passes.{Adds, Follows};
+ghost use Rattle.vme_object.specs.History.{entry};
 ghost use Rattle.vme_port.specs.Ports.{IsPassOf, opening, passes_of};
 ghost use Rattle.vme_port.specs.Calls.{IfBusy, IfSpent};
 

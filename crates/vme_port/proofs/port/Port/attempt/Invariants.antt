@@ -1,5 +1,5 @@
 use Rattle.std.proofs.Common.{◌≡◌, [], ◌∷◌}
-use Rattle.vme_port.specs.Passes.{entry}
+use Rattle.vme_object.specs.History.{entry}
 use Rattle.vme_port.specs.Ports.{opening, passes_of}
 use Rattle.vme_port.proofs.port.Port.attempt.Given as goal
 
