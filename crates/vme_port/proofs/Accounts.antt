@@ -1,15 +1,13 @@
 -- Accounts, and the entries that are theirs.
-use Rattle.std.proofs.Common.{ℕ, zero, suc, ◌≡◌, ◌≢◌, ◌+◌, ◌<◌, ◌≤◌, ◌==◌, Bool, true, false, cond, List, [], ◌∷◌, ◌++◌, length, eqb, refl, ap, sym, ◌∙◌, subst, arith, append_assoc, length-append, All, eq-eqb, ne_eqb}
-use Rattle.std.specs.List.{sum_by, count_by}
+use Rattle.std.proofs.Common.{ℕ, ◌≡◌, ◌≢◌, ◌+◌, ◌==◌, Bool, cond, List, [], ◌∷◌, ◌++◌, refl, ap, sym, ◌∙◌, arith, append_assoc, All, eq-eqb, ne_eqb}
 use Rattle.std.proofs.lemmas.List.{append-nil}
 use Rattle.std.proofs.lemmas.List.Sums.{sum_by-cons}
 use Rattle.std.proofs.lemmas.List.Elements.{All-nil, All-cons, All-head, All-tail}
-use Rattle.std.proofs.lemmas.Bool.Decides.{nat_tests}
 use Rattle.vme_object.specs.declared.history.Entry.{Entry}
-use Rattle.vme_object.specs.History.{own, Begins}
+use Rattle.vme_object.specs.History.{own}
 use Rattle.vme_object.proofs.Histories.{own-append}
 use Rattle.vme_port.specs.declared.rule.Account.{Account}
-use Rattle.vme_port.specs.Rule.{account, named, Fits}
+use Rattle.vme_port.specs.Rule.{named, Fits}
 
 -- a list that stays the same when another follows it is followed by nothing
 pub append_same : {A : Type 0} (xs ys : List A) → xs ++ ys ≡ xs → ys ≡ []

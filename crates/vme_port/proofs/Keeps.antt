@@ -1,23 +1,22 @@
 -- Each step of a call keeps the rule.
-use Rattle.std.proofs.Common.{ℕ, zero, suc, ◌≡◌, ◌≢◌, ◌+◌, ◌<◌, ◌≤◌, ◌==◌, ◌⊎◌, inl, inr, Bool, true, false, cond, eqb, ltb, List, [], ◌∷◌, ◌++◌, length, set, All, slice_index, refl, ap, sym, ◌∙◌, subst, arith, length-set}
-use Rattle.std.specs.List.{sum_by, count_by}
+use Rattle.std.proofs.Common.{ℕ, ◌≡◌, ◌≢◌, ◌<◌, ◌≤◌, ◌⊎◌, inl, inr, Bool, true, false, cond, eqb, ltb, List, [], ◌∷◌, ◌++◌, length, set, All, slice_index, refl, ap, sym, ◌∙◌, subst, arith, length-set}
+use Rattle.std.specs.List.{sum_by}
 use Rattle.std.proofs.lemmas.List.{append-nil}
-use Rattle.std.proofs.lemmas.List.Elements.{All-nil, All-cons, All-head, All-append, All-weaker}
+use Rattle.std.proofs.lemmas.List.Elements.{All-nil, All-cons}
 use borrow.Author.Tests.{ltb-true}
-use mathlib.Core.Option.{none, some, some-injective}
+use mathlib.Core.Option.{none, some}
 use lib.ListN.{get_elem?}
 use prog.Atomic.{either}
-use Rattle.atomic_table.specs.Table.{State, Me, Act, keeps, takes, gives, Allows, Valid, carried_after, stepped, step as table_step}
+use Rattle.atomic_table.specs.Table.{State, Me, Act, keeps, takes, Allows, Valid, carried_after, stepped, step as table_step}
 use Rattle.atomic_table.proofs.Lists.{at_set, set_again, exchanged}
 use Rattle.vme_object.specs.declared.history.Entry.{Entry}
-use Rattle.vme_object.specs.History.{replay, IsLegal, own, Begins}
-use Rattle.vme_object.proofs.Histories.{own-append, legal-append}
+use Rattle.vme_object.specs.History.{replay, IsLegal, own}
 use Rattle.vme_port.specs.declared.rule.Account.{Account}
 use Rattle.vme_port.specs.declared.rule.View.{View}
 use Rattle.vme_port.specs.declared.rule.Home.{Home}
-use Rattle.vme_port.specs.Rule.{account, view, weight, named, names, holders, Fits, AtHome, Away, Kept, Taken, Lost, took, MayPut, IsIdle, HasPut, put}
-use Rattle.vme_port.proofs.Totals.{sum_at, sum_set, sum_two, sum_over}
-use Rattle.vme_port.proofs.Accounts.{own_all, fits_all, names_self, apart}
+use Rattle.vme_port.specs.Rule.{account, view, weight, names, holders, Fits, AtHome, Away, Kept, Taken, took, IsIdle}
+use Rattle.vme_port.proofs.Totals.{sum_at, sum_set, sum_over}
+use Rattle.vme_port.proofs.Accounts.{names_self, apart}
 
 -- a word that is written reads so
 pub word_set : (words : List ℕ) (new : ℕ) → length words ≡ 1 → slice_index (set words 0 new) 0 ≡ new
@@ -40,7 +39,7 @@ counts_once false = omega arith
 
 module _ {C R : Type 0} where
   -- a view that holds the object stands for at least one pass
-  out_weighs : (v : View C R) (h : List (Entry C R)) → ((v.out ≡ true) → (a : Account C R) × (v.accounts ≡ a ∷ []) × (a.seen ≡ h))
+  pub out_weighs : (v : View C R) (h : List (Entry C R)) → ((v.out ≡ true) → (a : Account C R) × (v.accounts ≡ a ∷ []) × (a.seen ≡ h))
       → (b : Bool) → v.out ≡ b → cond b 1 0 ≤ weight v
   out_weighs v h one true is = let accounts = (one is).1 in omega (arith, ap length accounts)
   out_weighs v h one false is = omega arith

@@ -5,3 +5,5 @@ pub mod Puts
 pub mod Performs
 pub mod Attempts
 pub mod Opens
+pub mod Settles
+pub mod Gathers

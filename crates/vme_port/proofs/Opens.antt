@@ -1,21 +1,20 @@
 -- Opening a port, and dealing its accounts out, keep the rule.
-use Rattle.std.proofs.Common.{ℕ, zero, suc, ◌≡◌, ◌≢◌, ◌+◌, ◌<◌, ◌≤◌, ◌==◌, ◌⊎◌, inl, inr, Bool, true, false, cond, eqb, ltb, List, [], ◌∷◌, ◌++◌, length, set, take, drop, All, slice_index, refl, ap, sym, ◌∙◌, subst, arith, length-append, eq-eqb, ne_eqb}
-use Rattle.std.specs.List.{sum_by, count_by}
+use Rattle.std.proofs.Common.{ℕ, zero, suc, ◌≡◌, ◌+◌, ◌<◌, ◌≤◌, ◌==◌, inl, inr, Bool, true, false, cond, ltb, List, [], ◌∷◌, ◌++◌, length, set, take, drop, All, refl, ap, sym, ◌∙◌, subst, arith, length-append, eq-eqb, ne_eqb}
+use Rattle.std.specs.List.{sum_by}
 use Rattle.std.proofs.lemmas.List.Sums.{sum_by-append, sum_by_push}
 use Rattle.std.proofs.lemmas.List.Elements.{All-nil, All-cons, All-append, All-take, All-drop}
 use Rattle.std.proofs.lemmas.Bool.{cases_eq}
 use borrow.Author.Tests.{ltb-true, ltb-false}
-use mathlib.Core.Option.{none, some, some-injective, some-ne-none}
+use mathlib.Core.Option.{some, some-injective, some-ne-none}
 use lib.ListN.{get_elem?}
 use Rattle.atomic_table.specs.Table.{State, Me, Splits, Joins, opening}
 use Rattle.atomic_table.proofs.Lists.{at_set, at_snoc, set_else}
 use Rattle.vme_object.specs.declared.history.Entry.{Entry}
-use Rattle.vme_object.specs.History.{replay, IsLegal, own, Begins}
 use Rattle.vme_port.specs.declared.rule.Account.{Account}
 use Rattle.vme_port.specs.declared.rule.View.{View}
 use Rattle.vme_port.specs.declared.rule.Home.{Home}
-use Rattle.vme_port.specs.Rule.{account, view, fresh, newcomer, StandsFor, all_but_first, first_alone, together, nobody, weight, named, names, holders, Fits, AtHome, Away, Kept}
-use Rattle.vme_port.proofs.Totals.{sum_at, sum_set}
+use Rattle.vme_port.specs.Rule.{account, view, fresh, newcomer, StandsFor, all_but_first, first_alone, together, nobody, weight, named, names, holders, Fits, Kept}
+use Rattle.vme_port.proofs.Totals.{sum_set}
 use Rattle.vme_port.proofs.Accounts.{named_more}
 
 module _ (C R : Type 0) where

@@ -1,19 +1,19 @@
 -- A put keeps the rule, whatever entries of the holder it adds.
-use Rattle.std.proofs.Common.{ℕ, zero, suc, ◌≡◌, ◌≢◌, ◌+◌, ◌<◌, ◌≤◌, ◌==◌, ◌⊎◌, inl, inr, Bool, true, false, cond, ltb, List, [], ◌∷◌, ◌++◌, length, set, All, slice_index, refl, ap, sym, ◌∙◌, subst, arith, length-set}
+use Rattle.std.proofs.Common.{ℕ, ◌≡◌, ◌≢◌, ◌<◌, inl, inr, Bool, true, false, cond, ltb, List, [], ◌∷◌, ◌++◌, length, set, All, refl, ap, sym, ◌∙◌, subst, arith, length-set}
 use Rattle.std.proofs.lemmas.List.{append-nil}
 use Rattle.std.proofs.lemmas.List.Elements.{All-nil, All-cons, All-append, All-weaker}
 use mathlib.Core.Option.{none, some}
 use lib.ListN.{get_elem?}
-use Rattle.atomic_table.specs.Table.{State, Me, Act, gives, Allows, stepped, step as table_step}
+use Rattle.atomic_table.specs.Table.{State, Me, gives, Allows, stepped, step as table_step}
 use Rattle.atomic_table.proofs.Lists.{at_set}
 use Rattle.vme_object.specs.declared.history.Entry.{Entry}
-use Rattle.vme_object.specs.History.{replay, IsLegal, own, Begins}
+use Rattle.vme_object.specs.History.{replay, IsLegal, own}
 use Rattle.vme_object.proofs.Histories.{own-append, legal-append}
 use Rattle.vme_port.specs.declared.rule.Account.{Account}
 use Rattle.vme_port.specs.declared.rule.View.{View}
 use Rattle.vme_port.specs.declared.rule.Home.{Home}
-use Rattle.vme_port.specs.Rule.{account, view, weight, named, names, holders, Fits, AtHome, Away, Kept, MayPut, HasPut, put}
-use Rattle.vme_port.proofs.Totals.{sum_at, sum_set, sum_two}
+use Rattle.vme_port.specs.Rule.{account, view, weight, named, names, Fits, Away, Kept, MayPut, put}
+use Rattle.vme_port.proofs.Totals.{sum_set, sum_two}
 use Rattle.vme_port.proofs.Accounts.{own_all, fits_all, names_self}
 use Rattle.vme_port.proofs.Keeps.{word_set, head_same, out_counts, counts_once, who_below, is_away}
 

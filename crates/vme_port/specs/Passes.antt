@@ -8,7 +8,7 @@ use Rattle.vme_object.specs.History.{replay, IsLegal, own, Begins}
 use Rattle.vme_port.specs.declared.rule.Account.{Account}
 use Rattle.vme_port.specs.declared.rule.View.{View}
 use Rattle.vme_port.specs.declared.rule.Home.{Home}
-use Rattle.vme_port.specs.Rule.{view}
+use Rattle.vme_port.specs.Rule.{account, view, named, Fits}
 
 -- a pass: whose it is, how many entries it made, the history that it has seen, and its own entries there; the port is named by its table (this project's own)
 pub record PassView (C R : Type 0) : Type 0 where
@@ -44,7 +44,26 @@ module _ {C R : Type 0} where
     pub seen : p.seen ≡ []
     pub mine : p.mine ≡ []
 
+-- the account of a pass (this project's own)
+abbrev pub account_of : {C R : Type 0} → PassView C R → Account C R
+account_of p = account p.who p.seen p.mine
+
+-- a pass has as many entries as it made (this project's own)
+abbrev pub IsCounted : {C R : Type 0} → PassView C R → Type 0
+IsCounted p = length p.mine ≡ p.made
+
 module _ {S C R : Type 0} (step : S → C → S × R) (start : S) where
+  -- the accounts of a port that is closed, which are one of each who below k, fit one history of n entries, which leads to the object (this project's own)
+  pub record Closes (k : ℕ) (accounts : List (Account C R)) (object : S) (n : ℕ) : Type 0 where
+    pub history : List (Entry C R)
+    pub legal : IsLegal step start history
+    pub replayed : object ≡ replay step start history
+    pub counted : n ≡ length history
+    pub all : length accounts ≡ k
+    pub each_who : (who : ℕ) → who < k → named who accounts ≡ 1
+    pub known : All (λ e. e.who < k) history
+    pub fits : All (Fits history) accounts
+
   -- a pass has seen more of the history, with nothing of its own (this project's own)
   pub record Follows (p q : PassView C R) : Type 0 where
     pub others : List (Entry C R)
@@ -76,4 +95,4 @@ module _ {S C R : Type 0} (step : S → C → S × R) (start : S) where
     pub each_who : (who : ℕ) → who < k → count_by (λ p. p.who == who) passes ≡ 1
     pub seen : All (λ p. Begins p.seen history) passes
     pub mine : All (λ p. own p.who history ≡ p.mine) passes
-    pub made : All (λ p. length p.mine ≡ p.made) passes
+    pub made : All IsCounted passes

@@ -8,6 +8,7 @@ ghost use Rattle.vme_port.specs.Calls.{IfBusy, IfSpent};
 use crate::fault::{Spent, TryFault};
 use crate::pass::Pass;
 use crate::port::Port;
+use crate::rule::Marks;
 use crate::seats::{FREE, TAKEN, WANTED};
 use crossbeam_utils::Backoff;
 use std::marker::Brand;
@@ -81,7 +82,9 @@ impl<O: Object> Port<O> {
         ensures full { IfErr result (λ _. length pass.new.seen ≡ 2 ^ 64 - 1) }
     {
         for _ in rt.forever() {
-            self.wait_wanted(rt, pass);
+            if self.mark(pass) != FREE {
+                self.table.shared.park(rt, 0, WANTED as u32);
+            }
             match self.attempt(pass, cmd, WANTED) {
                 Ok(reply) => return Ok(reply),
                 Err(TryFault::Spent) => return Err(Spent),
@@ -91,14 +94,14 @@ impl<O: Object> Port<O> {
         unreachable!()
     }
 
-    /// Marks the port as wanted, and parks while it is, unless the object is at home.
-    fn wait_wanted<R: Wait>(&self, rt: &R, pass: &mut Pass<O>)
+    /// Marks the port as wanted, where the object is out, and answers the word as it was.
+    fn mark(&self, pass: &mut Pass<O>) -> u64
         requires { IsPassOf self.now pass.old }
         ensures { pass.new ≡ pass.old }
     {
-        if self.mark(&mut pass.seat) != FREE {
-            self.table.shared.park(rt, 0, WANTED as u32);
-        }
+        self.table
+            .shared
+            .compare_exchange::<Marks>(&mut pass.seat, 0, TAKEN, WANTED)
     }
 
     /// Gives the object one command, as soon as it is at home, and answers its reply. It tries some

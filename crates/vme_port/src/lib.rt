@@ -8,7 +8,9 @@ mod pass;
 mod port;
 mod rule;
 mod seats;
+mod settle;
 
 pub use fault::{PortFault, Spent, TryFault};
 pub use pass::Pass;
 pub use port::Port;
+pub use settle::Unsettled;

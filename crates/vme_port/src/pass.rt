@@ -1,4 +1,6 @@
-ghost use Rattle.std.specs.Prelude.{◌≡◌};
+ghost use Rattle.std.specs.Prelude.{◌≡◌, ◌∷◌, [], false};
+ghost use Rattle.vme_port.specs.Rule.{view};
+ghost use Rattle.vme_port.specs.Passes.{account_of, IsCounted};
 
 use crate::rule::{Home, View};
 use atomic_table::Seat;
@@ -37,5 +39,19 @@ impl<O: Object> Pass<O> {
         ensures { result ≡ self.now.made }
     {
         self.made
+    }
+
+    /// The seat of the pass, which stands for it alone.
+    pub(crate) fn into_seat(self) -> Seat<Home<O>, View<O::Cmd, O::Reply>>
+        ensures port { result.table_id ≡ self.port }
+        ensures alone { result.me ≡ (view (account_of self ∷ []) false, []) }
+        ensures counted { IsCounted self }
+    {
+        let Pass {
+            seat,
+            who: _,
+            made: _,
+        } = self;
+        seat
     }
 }

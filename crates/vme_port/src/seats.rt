@@ -5,7 +5,7 @@ ghost use Rattle.vme_object.specs.History.{entry};
 ghost use Rattle.vme_port.specs.Ports.{port_id, opening, passes_of};
 
 use crate::port::Port;
-use crate::rule::{Home, Knows, Marks, Puts, Takes, Told, View};
+use crate::rule::{Home, Knows, Puts, Takes, Told, View};
 use atomic_table::Seat;
 use vme_object::{Object, next_count};
 
@@ -87,16 +87,5 @@ impl<O: Object> Port<O> {
         ensures told { HasPut (entry who cmd.now reply.now ∷ []) seat.old.me seat.new.me }
     {
         self.put_entries::<W>(seat);
-    }
-
-    /// Marks the port as wanted, where the object is out, and answers the word as it was.
-    pub(crate) fn mark(&self, seat: &mut Seat<Home<O>, View<O::Cmd, O::Reply>>) -> u64
-        requires { seat.old.table_id ≡ port_id self.now }
-        ensures port { seat.new.table_id ≡ seat.old.table_id }
-        ensures same { seat.new.me ≡ seat.old.me }
-    {
-        self.table
-            .shared
-            .compare_exchange::<Marks>(seat, 0, TAKEN, WANTED)
     }
 }

@@ -1,5 +1,5 @@
 use Rattle.std.proofs.Common.{◌+◌, ◌^◌, ◌<◌, arith}
-use Rattle.vme_port.specs.Passes.{PassView, seen_by, made_by}
+use Rattle.vme_port.specs.Passes.{seen_by, made_by}
 use Rattle.vme_port.proofs.Attempts.{out, put_none, put_one, rests_lost, shared_lost, rests_full, follows, is_full, made_fits, rests_one, adds}
 use Rattle.vme_port.proofs.port.Port.attempt.Goals as goal
 
