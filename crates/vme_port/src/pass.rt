@@ -1,4 +1,4 @@
-ghost use Rattle.std.specs.Prelude.{◌≡◌, ◌∷◌, [], false};
+ghost use Rattle.std.specs.Prelude.{◌≡◌, ◌∷◌, [], false, length};
 ghost use Rattle.vme_port.specs.Rule.{view};
 ghost use Rattle.vme_port.specs.Passes.{account_of, IsCounted};
 
@@ -36,7 +36,8 @@ impl<O: Object> Pass<O> {
 
     /// How many entries the pass added.
     pub fn made(&self) -> u64
-        ensures { result ≡ self.now.made }
+        ensures made { result ≡ self.now.made }
+        ensures entries { result ≡ length self.now.mine }
     {
         self.made
     }

@@ -1,4 +1,4 @@
-ghost use Rattle.std.specs.Prelude.{◌≡◌, ◌+◌, ◌<◌, ◌≤◌, ◌⊎◌, [], vec_len, vec_capacity, IfOk};
+ghost use Rattle.std.specs.Prelude.{◌≡◌, ◌+◌, ◌<◌, ◌≤◌, ◌⊎◌, [], vec_len, vec_capacity, All, IfOk};
 ghost use mathlib.Core.Logic.{◌↔◌};
 ghost use Rattle.vme_object.specs.Each.{Each};
 ghost use Rattle.vme_port.specs.Rule.{StandsFor};
@@ -33,7 +33,7 @@ struct Opened<O: Object> {
 }
 
 impl<O: Object> Port<O> {
-    ghost use Rattle.vme_port.specs.Ports.{port_id, opening, passes_of};
+    ghost use Rattle.vme_port.specs.Ports.{IsPassOf, port_id, opening, passes_of};
     ghost use Rattle.vme_port.specs.Calls.{IsBadCount};
 
     /// Opens a port of an object, for 1 to 21 passes, which have the numbers from 0 on.
@@ -52,6 +52,7 @@ impl<O: Object> Port<O> {
         ensures passes { IfOk result (λ r. passes_of r.0 ≡ count) }
         ensures count { IfOk result (λ r. vec_len r.1 ≡ count) }
         ensures unused { IfOk result (λ r. Each (λ i p. IsUnused (port_id r.0) i p) r.1.items) }
+        ensures port { IfOk result (λ r. All (IsPassOf r.0) r.1.items) }
     {
         if count == 0 {
             return Err(PortFault::BadCount);
