@@ -55,12 +55,12 @@ module _ {C R : Type 0} where
   unnamed who (a ∷ l) none =
       let none' : cond (a.who == who) 1 0 + named who l ≡ 0 = sym (named_more who a l) ∙ none in
       All-cons (λ (a : Account C R). a.who ≢ who) a l
-        (λ same.
-            let one : ◌≡◌ {A = ℕ} (cond (a.who == who) 1 0) 1 = ap (λ (b : Bool). cond b 1 0) (eq-eqb a.who who same) in
-            let other : ◌≡◌ {A = ℕ} (cond (a.who == who) 1 0) 0 = omega arith in
-            let wrong : ◌≡◌ {A = ℕ} 1 0 = sym one ∙ other in
-            omega arith)
-        (unnamed who l (omega arith))
+      (λ same.
+      let one : ◌≡◌ {A = ℕ} (cond (a.who == who) 1 0) 1 = ap (λ (b : Bool). cond b 1 0) (eq-eqb a.who who same) in
+      let other : ◌≡◌ {A = ℕ} (cond (a.who == who) 1 0) 0 = omega arith in
+      let wrong : ◌≡◌ {A = ℕ} 1 0 = sym one ∙ other in
+      omega arith)
+      (unnamed who l (omega arith))
 
   -- an account is of its own who
   pub names_self : (a : Account C R) → named a.who (a ∷ []) ≡ 1

@@ -165,7 +165,7 @@ module _ {S C R : Type 0} (step : S → C → S × R) (start : S) (k : ℕ) wher
               let mine : made_by m3.0.accounts ≡ a.mine ++ e ∷ [] = ap made_by after in
               let may = put_one a m1 t who cmd reply m2 rest.named p in
               let own_found : own who found ≡ a.mine = own-append who a.seen t.others
-                  ∙ subst (λ w. own w a.seen ++ own w t.others ≡ a.mine) rest.named (ap (λ l. own a.who a.seen ++ l) t.apart ∙ append-nil (own a.who a.seen) ∙ t.sound) in
+              ∙ subst (λ w. own w a.seen ++ own w t.others ≡ a.mine) rest.named (ap (λ l. own a.who a.seen ++ l) t.apart ∙ append-nil (own a.who a.seen) ∙ t.sound) in
               let was : p.home.object ≡ replay step start found = ap (λ (h : Home S). h.object) (same_home a m1 t p.home p.out) ∙ found_object a m1 t in record {
                 others = t.others;
                 apart = subst (λ w. own w t.others ≡ []) rest.named t.apart;
@@ -173,6 +173,6 @@ module _ {S C R : Type 0} (step : S → C → S × R) (start : S) (k : ℕ) wher
                 legal = subst (IsLegal step start) (sym seen) (legal-append step start found (e ∷ []) (found_legal a m1 t) (p.answer ∙ ap (λ s. (step s cmd).1) was, tt));
                 mine = mine ∙ ap (λ l. l ++ e ∷ []) (ap made_by (sym before));
                 sound = ap (own who) seen ∙ own-append who found (e ∷ []) ∙ ap (λ l. l ++ own who (e ∷ [])) own_found
-                  ∙ ap (λ l. a.mine ++ l) (own_all who (e ∷ []) (All-cons (λ (e : Entry C R). e.who ≡ who) e [] refl (All-nil (λ (e : Entry C R). e.who ≡ who)))) ∙ sym mine;
+                    ∙ ap (λ l. a.mine ++ l) (own_all who (e ∷ []) (All-cons (λ (e : Entry C R). e.who ≡ who) e [] refl (All-nil (λ (e : Entry C R). e.who ≡ who)))) ∙ sym mine;
                 made = refl;
               }

@@ -77,8 +77,8 @@ module _ {S C R : Type 0} (step : S → C → S × R) (start : S) (k : ℕ) wher
         weights = r.weights;
         known = r.known;
         place = elim r.place [
-          inl home ↦ inl (record { free = reads ∙ free home.free; home = home.home; here = home.here; object = home.object; count = home.count; none_out = home.none_out })
-        | inr away ↦ inr (record { taken = λ e. taken away.taken (sym reads ∙ e); gone = away.gone; one_out = away.one_out; holder = away.holder })
+          | inl home ↦ inl (record { free = reads ∙ free home.free; home = home.home; here = home.here; object = home.object; count = home.count; none_out = home.none_out })
+          | inr away ↦ inr (record { taken = λ e. taken away.taken (sym reads ∙ e); gone = away.gone; one_out = away.one_out; holder = away.holder })
         ];
       } in
       subst (λ (views : List (View C R)). Rule (record { words = set s.words 0 new; homes = s.homes; views = views })) (sym (set_again s.views id v at)) kept
@@ -101,8 +101,8 @@ module _ {S C R : Type 0} (step : S → C → S × R) (start : S) (k : ℕ) wher
         legal = r.legal;
         one_word = length-set s.words 0 new ∙ r.one_word;
         each = λ j u there. elim (at_set s.views id j w u there) [
-          inl here ↦ subst (λ (u : View C R). All (Fits r.history) u.accounts) here.1 (All-cons (Fits r.history) (account a.who (a.seen ++ others) a.mine) [] fits' (All-nil (Fits r.history)))
-        | inr else ↦ r.each j u else.1
+          | inl here ↦ subst (λ (u : View C R). All (Fits r.history) u.accounts) here.1 (All-cons (Fits r.history) (account a.who (a.seen ++ others) a.mine) [] fits' (All-nil (Fits r.history)))
+          | inr else ↦ r.each j u else.1
         ];
         shared = λ who. let sums = sum_set (names who) s.views id v w at in let was = r.shared who in omega arith;
         weights = let sums = sum_set weight s.views id v w at in omega (arith, r.weights);
@@ -112,8 +112,8 @@ module _ {S C R : Type 0} (step : S → C → S × R) (start : S) (k : ℕ) wher
           gone = ap (λ hs. set hs 0 none) home.here;
           one_out = let sums = sum_set (λ (v : View C R). cond v.out 1 0) s.views id v w at in omega (arith, home.none_out);
           holder = λ j u there out. elim (at_set s.views id j w u there) [
-            inl here ↦ subst (λ (u : View C R). (a : Account C R) × (u.accounts ≡ a ∷ []) × (a.seen ≡ r.history)) here.1 (account a.who (a.seen ++ others) a.mine, refl, seen)
-          | inr else ↦ absurd (let one = out_counts s.views j u else.1 out in omega (arith, home.none_out))
+            | inl here ↦ subst (λ (u : View C R). (a : Account C R) × (u.accounts ≡ a ∷ []) × (a.seen ≡ r.history)) here.1 (account a.who (a.seen ++ others) a.mine, refl, seen)
+            | inr else ↦ absurd (let one = out_counts s.views j u else.1 out in omega (arith, home.none_out))
           ];
         });
       }
@@ -137,9 +137,9 @@ module _ {S C R : Type 0} (step : S → C → S × R) (start : S) (k : ℕ) wher
       let me : Me (Home S) (View C R) = (view (a ∷ []) false, []) in
       let told = took step opened (table_step slots 0 0 new none) me (slice_index s.words 0) in
       exchanged (slice_index s.words 0) 0 new
-        (λ n. (w : View C R) × (act : Act (Home S)) × Valid s.homes [] act × Rule (stepped s 0 n id [] w act) × told (w, carried_after [] act))
-        (λ hit. elim r.place [
-          inl home ↦
+      (λ n. (w : View C R) × (act : Act (Home S)) × Valid s.homes [] act × Rule (stepped s 0 n id [] w act) × told (w, carried_after [] act))
+      (λ hit. elim r.place [
+        | inl home ↦
             let fits : Fits r.history a = r.each id (view (a ∷ []) false) at 0 a (omega arith) in
             let others = fits.begins.0 in
             let seen = sym fits.begins.1 in
@@ -166,32 +166,32 @@ module _ {S C R : Type 0} (step : S → C → S × R) (start : S) (k : ℕ) wher
               ),
             )
         | inr away ↦ absurd (away.taken hit)
-        ])
-        (λ miss. elim r.place [
-          inl home ↦ absurd (miss home.free)
+      ])
+      (λ miss. elim r.place [
+        | inl home ↦ absurd (miss home.free)
         | inr away ↦ (
-            view (a ∷ []) false,
-            keeps,
-            tt,
-            resting s id (view (a ∷ []) false) [] (slice_index s.words 0) r at (λ free. free) (λ taken. taken),
-            λ b is. (
-              λ free. absurd (miss free),
-              λ taken. record { start = start; passes = k; opens = opens; same = refl; others = others_hold s id a r away at },
-            ),
-          )
-        ])
+          view (a ∷ []) false,
+          keeps,
+          tt,
+          resting s id (view (a ∷ []) false) [] (slice_index s.words 0) r at (λ free. free) (λ taken. taken),
+          λ b is. (
+            λ free. absurd (miss free),
+            λ taken. record { start = start; passes = k; opens = opens; same = refl; others = others_hold s id a r away at },
+          ),
+        )
+      ])
 
   -- taking the object, from a free word to another number
   pub tries : (opened : S → ℕ → Type 0) → opened start k → (slots id new : ℕ) (me : Me (Home S) (View C R)) → 0 < new → IsIdle me
       → Allows Rule slots id me 0 (λ x. either (eqb x 0) new x) (took step opened (table_step slots 0 0 new none) me)
   tries opened opens slots id new me some_new idle =
       subst (λ (m : Me (Home S) (View C R)). Allows Rule slots id m 0 (λ x. either (eqb x 0) new x) (took step opened (table_step slots 0 0 new none) m)) (sym idle.1)
-        (tries_alone opened opens slots id new idle.0 some_new)
+      (tries_alone opened opens slots id new idle.0 some_new)
 
   -- marking a taken port as wanted
   pub marks : (slots id : ℕ) (me : Me (Home S) (View C R)) → Allows Rule slots id me 0 (λ x. either (eqb x 1) 2 x) (λ n m'. m' ≡ me)
   marks slots id me s r wide at fits64 =
       exchanged (slice_index s.words 0) 1 2
-        (λ n. (w : View C R) × (act : Act (Home S)) × Valid s.homes me.1 act × Rule (stepped s 0 n id me.1 w act) × ◌≡◌ {A = Me (Home S) (View C R)} (w, carried_after me.1 act) me)
-        (λ hit. (me.0, keeps, tt, resting s id me.0 me.1 2 r at (λ free. absurd (omega arith)) (λ taken e. omega arith), refl))
-        (λ miss. (me.0, keeps, tt, resting s id me.0 me.1 (slice_index s.words 0) r at (λ free. free) (λ taken. taken), refl))
+      (λ n. (w : View C R) × (act : Act (Home S)) × Valid s.homes me.1 act × Rule (stepped s 0 n id me.1 w act) × ◌≡◌ {A = Me (Home S) (View C R)} (w, carried_after me.1 act) me)
+      (λ hit. (me.0, keeps, tt, resting s id me.0 me.1 2 r at (λ free. absurd (omega arith)) (λ taken e. omega arith), refl))
+      (λ miss. (me.0, keeps, tt, resting s id me.0 me.1 (slice_index s.words 0) r at (λ free. free) (λ taken. taken), refl))

@@ -44,14 +44,14 @@ module _ (C R : Type 0) where
   fresh_in who i zero from below = absurd (omega arith)
   fresh_in who i (suc n) from below = elim (cases_eq i who) [
     | inl here ↦
-      let one : ◌≡◌ {A = ℕ} (cond (i == who) 1 0) 1 = ap (λ (b : Bool). cond b 1 0) (eq-eqb i who here) in
-      let rest : named who (fresh {C = C} {R = R} (suc i) n) ≡ 0 = fresh_before who (suc i) n (omega arith) in
-      omega (arith, named_more who (account {C = C} {R = R} i [] []) (fresh (suc i) n))
+        let one : ◌≡◌ {A = ℕ} (cond (i == who) 1 0) 1 = ap (λ (b : Bool). cond b 1 0) (eq-eqb i who here) in
+        let rest : named who (fresh {C = C} {R = R} (suc i) n) ≡ 0 = fresh_before who (suc i) n (omega arith) in
+        omega (arith, named_more who (account {C = C} {R = R} i [] []) (fresh (suc i) n))
     | inr later ↦
-      let other : ◌≡◌ {A = ℕ} (cond (i == who) 1 0) 0 = ap (λ (b : Bool). cond b 1 0) (ne_eqb i who later) in
-      let rest : named who (fresh {C = C} {R = R} (suc i) n) ≡ 1 = fresh_in who (suc i) n (omega arith) (omega arith) in
-      omega (arith, named_more who (account {C = C} {R = R} i [] []) (fresh (suc i) n))
-    ]
+        let other : ◌≡◌ {A = ℕ} (cond (i == who) 1 0) 0 = ap (λ (b : Bool). cond b 1 0) (ne_eqb i who later) in
+        let rest : named who (fresh {C = C} {R = R} (suc i) n) ≡ 1 = fresh_in who (suc i) n (omega arith) (omega arith) in
+        omega (arith, named_more who (account {C = C} {R = R} i [] []) (fresh (suc i) n))
+  ]
 
   -- at the start each who below k has one account
   fresh_shared : (k who : ℕ) (b : Bool) → ltb who k ≡ b → named who (fresh {C = C} {R = R} 0 k) ≡ cond b 1 0
@@ -85,8 +85,8 @@ module _ {S C R : Type 0} (step : S → C → S × R) (start : S) (k : ℕ) wher
     legal = tt;
     one_word = refl;
     each = elim [
-      zero ↦ λ v at. subst (λ (v : View C R). All (Fits []) v.accounts) (some-injective (newcomer k) v at) (fresh_fits C R 0 k)
-    | suc j ↦ λ v at. absurd (some-ne-none v (sym at))
+      | zero ↦ λ v at. subst (λ (v : View C R). All (Fits []) v.accounts) (some-injective (newcomer k) v at) (fresh_fits C R 0 k)
+      | suc j ↦ λ v at. absurd (some-ne-none v (sym at))
     ];
     shared = λ who. let named = fresh_shared C R k who (ltb who k) refl in omega arith;
     weights = let long = fresh_length C R 0 k in omega arith;
@@ -109,8 +109,8 @@ module _ {S C R : Type 0} (step : S → C → S × R) (start : S) (k : ℕ) wher
     weights = weights ∙ r.weights;
     known = r.known;
     place = elim r.place [
-      inl home ↦ inl (record { free = home.free; home = home.home; here = home.here; object = home.object; count = home.count; none_out = held ∙ home.none_out })
-    | inr away ↦ inr (record { taken = away.taken; gone = away.gone; one_out = held ∙ away.one_out; holder = λ j v at out. let was = holder j v at out in away.holder was.0 v was.1 out })
+      | inl home ↦ inl (record { free = home.free; home = home.home; here = home.here; object = home.object; count = home.count; none_out = held ∙ home.none_out })
+      | inr away ↦ inr (record { taken = away.taken; gone = away.gone; one_out = held ∙ away.one_out; holder = λ j v at out. let was = holder j v at out in away.holder was.0 v was.1 out })
     ];
   }
 
@@ -122,23 +122,23 @@ module _ {S C R : Type 0} (step : S → C → S × R) (start : S) (k : ℕ) wher
       let fits : All (Fits r.history) v.accounts = r.each id v at in
       let none : ◌≡◌ {A = ℕ} (cond v.out 1 0) 0 = ap (λ (b : Bool). cond b 1 0) in' in
       reviewed s (set s.views id left ++ right ∷ []) r
-        (λ j u there. elim (at_snoc (set s.views id left) right u j there) [
-          inl old ↦ elim (at_set s.views id j left u old) [
-            inl here ↦ subst (λ (u : View C R). All (Fits r.history) u.accounts) here.1 (All-drop (Fits r.history) 1 v.accounts fits)
+      (λ j u there. elim (at_snoc (set s.views id left) right u j there) [
+        | inl old ↦ elim (at_set s.views id j left u old) [
+          | inl here ↦ subst (λ (u : View C R). All (Fits r.history) u.accounts) here.1 (All-drop (Fits r.history) 1 v.accounts fits)
           | inr else ↦ r.each j u else.1
-          ]
+        ]
         | inr new ↦ subst (λ (u : View C R). All (Fits r.history) u.accounts) new (All-take (Fits r.history) 1 v.accounts fits)
-        ])
-        (λ who. let sums = sum_set (names who) s.views id v left at in omega (arith, sum_by_push (names who) (set s.views id left) right, cut_named who v.accounts))
-        (let sums = sum_set weight s.views id v left at in omega (arith, sum_by_push weight (set s.views id left) right, cut_length v.accounts))
-        (let sums = sum_set (λ (v : View C R). cond v.out 1 0) s.views id v left at in omega (arith, sum_by_push (λ (v : View C R). cond v.out 1 0) (set s.views id left) right))
-        (λ j u there out. elim (at_snoc (set s.views id left) right u j there) [
-          inl old ↦ elim (at_set s.views id j left u old) [
-            inl here ↦ absurd (cc (ap (λ (u : View C R). u.out) here.1, out))
+      ])
+      (λ who. let sums = sum_set (names who) s.views id v left at in omega (arith, sum_by_push (names who) (set s.views id left) right, cut_named who v.accounts))
+      (let sums = sum_set weight s.views id v left at in omega (arith, sum_by_push weight (set s.views id left) right, cut_length v.accounts))
+      (let sums = sum_set (λ (v : View C R). cond v.out 1 0) s.views id v left at in omega (arith, sum_by_push (λ (v : View C R). cond v.out 1 0) (set s.views id left) right))
+      (λ j u there out. elim (at_snoc (set s.views id left) right u j there) [
+        | inl old ↦ elim (at_set s.views id j left u old) [
+          | inl here ↦ absurd (cc (ap (λ (u : View C R). u.out) here.1, out))
           | inr else ↦ (j, else.1)
-          ]
-        | inr new ↦ absurd (cc (ap (λ (u : View C R). u.out) new, out))
-        ])
+        ]
+        | inr new ↦ absurd cc
+      ])
 
   -- taking another's accounts in
   pub gathers : (id other : ℕ) (v w : View C R) → v.out ≡ false → w.out ≡ false → Joins Rule id v other w (together v w) nobody
@@ -151,30 +151,30 @@ module _ {S C R : Type 0} (step : S → C → S × R) (start : S) (k : ℕ) wher
       let none : ◌≡◌ {A = ℕ} (cond v.out 1 0) 0 = ap (λ (b : Bool). cond b 1 0) in' in
       let none' : ◌≡◌ {A = ℕ} (cond w.out 1 0) 0 = ap (λ (b : Bool). cond b 1 0) in'' in
       reviewed s (set views other spent) r
-        (λ j u at'. elim (at_set views other j spent u at') [
-          inl gone ↦ subst (λ (u : View C R). All (Fits r.history) u.accounts) gone.1 (All-nil (Fits r.history))
+      (λ j u at'. elim (at_set views other j spent u at') [
+        | inl gone ↦ subst (λ (u : View C R). All (Fits r.history) u.accounts) gone.1 (All-nil (Fits r.history))
         | inr old ↦ elim (at_set s.views id j both u old.1) [
-            inl here ↦ subst (λ (u : View C R). All (Fits r.history) u.accounts) here.1 fits
+          | inl here ↦ subst (λ (u : View C R). All (Fits r.history) u.accounts) here.1 fits
           | inr else ↦ r.each j u else.1
-          ]
-        ])
-        (λ who.
-            let first = sum_set (names who) s.views id v both at in
-            let then = sum_set (names who) views other w spent there in
-            omega (arith, sum_by-append (λ (a : Account C R). cond (a.who == who) 1 0) w.accounts v.accounts))
-        (let first = sum_set weight s.views id v both at in
-         let then = sum_set weight views other w spent there in
-         omega (arith, length-append w.accounts v.accounts))
-        (let first = sum_set (λ (v : View C R). cond v.out 1 0) s.views id v both at in
-         let then = sum_set (λ (v : View C R). cond v.out 1 0) views other w spent there in
-         omega arith)
-        (λ j u at' out. elim (at_set views other j spent u at') [
-          inl gone ↦ absurd (cc (ap (λ (u : View C R). u.out) gone.1, out))
+        ]
+      ])
+      (λ who.
+      let first = sum_set (names who) s.views id v both at in
+      let then = sum_set (names who) views other w spent there in
+      omega (arith, sum_by-append (λ (a : Account C R). cond (a.who == who) 1 0) w.accounts v.accounts))
+      (let first = sum_set weight s.views id v both at in
+      let then = sum_set weight views other w spent there in
+      omega (arith, length-append w.accounts v.accounts))
+      (let first = sum_set (λ (v : View C R). cond v.out 1 0) s.views id v both at in
+      let then = sum_set (λ (v : View C R). cond v.out 1 0) views other w spent there in
+      omega arith)
+      (λ j u at' out. elim (at_set views other j spent u at') [
+        | inl gone ↦ absurd (cc (ap (λ (u : View C R). u.out) gone.1, out))
         | inr old ↦ elim (at_set s.views id j both u old.1) [
-            inl here ↦ absurd (cc (ap (λ (u : View C R). u.out) here.1, out))
+          | inl here ↦ absurd (cc (ap (λ (u : View C R). u.out) here.1, out))
           | inr else ↦ (j, else.1)
-          ]
-        ])
+        ]
+      ])
 
 module _ {S C R : Type 0} where
   -- the first of the accounts that a seat stands for, and the others

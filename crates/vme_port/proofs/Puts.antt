@@ -55,13 +55,13 @@ module _ {S C R : Type 0} (step : S → C → S × R) (start : S) (k : ℕ) wher
         legal = legal-append step start h es r.legal legal;
         one_word = length-set s.words 0 0 ∙ r.one_word;
         each = λ j u there. elim (at_set s.views id j w u there) [
-          inl here ↦ subst (λ (u : View C R). All (Fits (h ++ es)) u.accounts) here.1 (All-cons (Fits (h ++ es)) b [] (holder_fits h es a whose seen fits) (All-nil (Fits (h ++ es))))
-        | inr else ↦ fits_all a.who h es u.accounts whose (others_named s id j a true u r at else.1 else.0) (r.each j u else.1)
+          | inl here ↦ subst (λ (u : View C R). All (Fits (h ++ es)) u.accounts) here.1 (All-cons (Fits (h ++ es)) b [] (holder_fits h es a whose seen fits) (All-nil (Fits (h ++ es))))
+          | inr else ↦ fits_all a.who h es u.accounts whose (others_named s id j a true u r at else.1 else.0) (r.each j u else.1)
         ];
         shared = λ who. let sums = sum_set (names who) s.views id v w at in let was = r.shared who in omega arith;
         weights = let sums = sum_set weight s.views id v w at in omega (arith, r.weights);
         known = All-append (λ (e : Entry C R). e.who < k) h es r.known
-          (All-weaker (λ (e : Entry C R). e.who ≡ a.who) (λ (e : Entry C R). e.who < k) (λ e same. omega arith) es whose);
+            (All-weaker (λ (e : Entry C R). e.who ≡ a.who) (λ (e : Entry C R). e.who < k) (λ e same. omega arith) es whose);
         place = inl (record {
           free = word_set s.words 0 r.one_word;
           home = home;
@@ -77,14 +77,14 @@ module _ {S C R : Type 0} (step : S → C → S × R) (start : S) (k : ℕ) wher
       → Allows Rule slots id me 0 (λ x. 0) (put es (table_step slots 0 0 0 none) me)
   puts slots id es me may =
       subst (λ (m : Me (Home S) (View C R)). Allows Rule slots id m 0 (λ x. 0) (put es (table_step slots 0 0 0 none) m)) (sym may.has) (λ s r wide at fits64.
-        let a = may.holder in
-        let away : Away step start r.history s = is_away step start k r.history s (out_counts s.views id (view (a ∷ []) true) at refl) r.place in
-        let held = away.holder id (view (a ∷ []) true) at refl in
-        let seen : a.seen ≡ r.history = ap (λ (a : Account C R). a.seen) (head_same a held.0 held.1) ∙ held.2 in (
-          view (account a.who (a.seen ++ es) (a.mine ++ es) ∷ []) false,
-          gives,
-          tt,
-          putting s id a may.home es r at seen away (subst (λ h. IsLegal step (replay step start h) es) seen may.legal) may.whose
+      let a = may.holder in
+      let away : Away step start r.history s = is_away step start k r.history s (out_counts s.views id (view (a ∷ []) true) at refl) r.place in
+      let held = away.holder id (view (a ∷ []) true) at refl in
+      let seen : a.seen ≡ r.history = ap (λ (a : Account C R). a.seen) (head_same a held.0 held.1) ∙ held.2 in (
+        view (account a.who (a.seen ++ es) (a.mine ++ es) ∷ []) false,
+        gives,
+        tt,
+        putting s id a may.home es r at seen away (subst (λ h. IsLegal step (replay step start h) es) seen may.legal) may.whose
             (may.object ∙ ap (λ h. replay step start (h ++ es)) seen) (may.count ∙ ap (λ h. length (h ++ es)) seen),
-          λ b is. ap (λ (b : Account C R). (view (account b.who (b.seen ++ es) (b.mine ++ es) ∷ []) false, [])) (head_same a b (ap (λ v. v.accounts) is)),
-        ))
+        λ b is. ap (λ (b : Account C R). (view (account b.who (b.seen ++ es) (b.mine ++ es) ∷ []) false, [])) (head_same a b (ap (λ v. v.accounts) is)),
+      ))

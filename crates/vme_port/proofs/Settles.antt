@@ -35,7 +35,7 @@ module _ {C R : Type 0} where
         let none : ◌≡◌ {A = ℕ} (cond (who == e.who) 1 0) 0 = ap (λ (b : Bool). cond b 1 0) (ne_eqb who e.who other) in
         let its : own who (e ∷ h) ≡ own who h = ap (λ (b : Bool). cond b (e ∷ own who h) (own who h)) (ne_eqb e.who who (λ same. other (sym same))) in
         omega (arith, ap length its)
-    ]
+  ]
 
   -- how many entries of a history are those of some accounts' whos
   abbrev owned : List (Account C R) → List (Entry C R) → ℕ

@@ -20,12 +20,7 @@ const TRIES: u32 = 10;
 
 impl<O: Object> Port<O> {
     /// One try, which leaves the word as given while it has the object.
-    fn attempt(
-        &self,
-        pass: &mut Pass<O>,
-        cmd: &O::Cmd,
-        word: u64,
-    ) -> Result<O::Reply, TryFault>
+    fn attempt(&self, pass: &mut Pass<O>, cmd: &O::Cmd, word: u64) -> Result<O::Reply, TryFault>
         requires port { IsPassOf self.now pass.old }
         requires taken { 0 < word }
         ensures port { pass.new.port ≡ pass.old.port }
@@ -109,12 +104,7 @@ impl<O: Object> Port<O> {
     ///
     /// # Errors
     /// `Spent` where the history has 2^64 - 1 entries; no entry is added.
-    pub fn call<R: Wait>(
-        &self,
-        rt: &R,
-        pass: &mut Pass<O>,
-        cmd: &O::Cmd,
-    ) -> Result<O::Reply, Spent>
+    pub fn call<R: Wait>(&self, rt: &R, pass: &mut Pass<O>, cmd: &O::Cmd) -> Result<O::Reply, Spent>
         requires { IsPassOf self.now pass.old }
         ensures port { pass.new.port ≡ pass.old.port }
         ensures who { pass.new.who ≡ pass.old.who }

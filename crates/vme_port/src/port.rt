@@ -40,11 +40,7 @@ impl<O: Object> Port<O> {
     ///
     /// # Errors
     /// `BadCount` where the number of passes is another, else `OutOfMemory`; the object is dropped.
-    pub fn new(
-        alloc: Global,
-        object: O,
-        count: usize,
-    ) -> Result<(Port<O>, Vec<Pass<O>>), PortFault>
+    pub fn new(alloc: Global, object: O, count: usize) -> Result<(Port<O>, Vec<Pass<O>>), PortFault>
     where
         O: Drop,
         ensures bad_count { IsBadCount result ↔ ((count ≡ 0) ⊎ (21 < count)) }
@@ -97,11 +93,7 @@ impl<O: Object> Port<O> {
     }
 
     /// Cuts off the seat's first account, and gives it a pass of its own.
-    fn deal_one(
-        &self,
-        seat: &mut Seat<Home<O>, View<O::Cmd, O::Reply>>,
-        who: usize,
-    ) -> Pass<O>
+    fn deal_one(&self, seat: &mut Seat<Home<O>, View<O::Cmd, O::Reply>>, who: usize) -> Pass<O>
         requires port { seat.old.table_id ≡ port_id self.now }
         requires below { who < passes_of self.now }
         requires all { StandsFor (passes_of self.now) who seat.old.me }
@@ -114,11 +106,7 @@ impl<O: Object> Port<O> {
     }
 
     /// Gives each account of the seat a pass of its own.
-    fn deal(
-        &self,
-        mut seat: Seat<Home<O>, View<O::Cmd, O::Reply>>,
-        passes: &mut Vec<Pass<O>>,
-    )
+    fn deal(&self, mut seat: Seat<Home<O>, View<O::Cmd, O::Reply>>, passes: &mut Vec<Pass<O>>)
         requires port { seat.table_id ≡ port_id self.now }
         requires all { StandsFor (passes_of self.now) 0 seat.me }
         requires empty { passes.old.items ≡ [] }
