@@ -7,7 +7,8 @@ use Rattle.vme_object.specs.declared.history.Entry.{Entry}
 use Rattle.vme_object.specs.History.{own}
 use Rattle.vme_object.proofs.Histories.{own-append}
 use Rattle.vme_port.specs.declared.rule.Account.{Account}
-use Rattle.vme_port.specs.Rule.{named, Fits}
+use Rattle.vme_port.specs.Views.{named}
+use Rattle.vme_port.specs.Rule.{Fits}
 
 -- a list that stays the same when another follows it is followed by nothing
 pub append_same : {A : Type 0} (xs ys : List A) → xs ++ ys ≡ xs → ys ≡ []

@@ -10,7 +10,8 @@ use Rattle.vme_object.proofs.Histories.{replay-append, legal-append, own-append,
 use Rattle.vme_port.specs.declared.rule.Account.{Account}
 use Rattle.vme_port.specs.declared.rule.View.{View}
 use Rattle.vme_port.specs.declared.rule.Home.{Home}
-use Rattle.vme_port.specs.Rule.{account, view, Taken, Lost, MayPut, HasPut, IsIdle, IsOut, IsFull, Performed}
+use Rattle.vme_port.specs.Views.{account, view}
+use Rattle.vme_port.specs.Steps.{Taken, Lost, MayPut, HasPut, IsIdle, IsOut, IsFull, Performed}
 use Rattle.vme_port.specs.Passes.{PassView, IsAtRest, seen_by, made_by, Follows, Adds}
 use Rattle.vme_port.proofs.Accounts.{own_all}
 
@@ -96,7 +97,7 @@ module _ {S C R : Type 0} (step : S → C → S × R) (start : S) (k : ℕ) wher
 
     -- the port has two passes or more where a take was lost
     pub shared_lost : Lost step Opened m0 m1 → 2 ≤ k
-    shared_lost lost = omega (arith, lost.opens.1, lost.others)
+    shared_lost lost = omega (arith, lost.opens.1, lost.shared)
 
     -- one more entry can be counted where the command was performed
     pub made_fits : Taken step Opened rest.only m1 → (cmd : C) (reply : R) (m2 : Me (Home S) (View C R)) → Performed step cmd reply m1 m2 → made + 1 < 2 ^ 64

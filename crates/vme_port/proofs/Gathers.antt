@@ -4,7 +4,8 @@ use Rattle.std.proofs.lemmas.List.Elements.{All-cons, All-nil}
 use Rattle.atomic_table.specs.Table.{Me}
 use Rattle.vme_port.specs.declared.rule.View.{View}
 use Rattle.vme_port.specs.declared.rule.Home.{Home}
-use Rattle.vme_port.specs.Rule.{view, together}
+use Rattle.vme_port.specs.Views.{view}
+use Rattle.vme_port.specs.Steps.{together}
 use Rattle.vme_port.specs.Passes.{PassView, account_of, IsCounted}
 
 module _ {S C R : Type 0} where

@@ -14,7 +14,9 @@ use Rattle.vme_object.specs.History.{replay, IsLegal, own}
 use Rattle.vme_port.specs.declared.rule.Account.{Account}
 use Rattle.vme_port.specs.declared.rule.View.{View}
 use Rattle.vme_port.specs.declared.rule.Home.{Home}
-use Rattle.vme_port.specs.Rule.{account, view, weight, names, holders, Fits, AtHome, Away, Kept, Taken, took, IsIdle}
+use Rattle.vme_port.specs.Views.{account, view, weight, names, holders}
+use Rattle.vme_port.specs.Rule.{Fits, AtHome, Away, Kept}
+use Rattle.vme_port.specs.Steps.{Taken, took, IsIdle}
 use Rattle.vme_port.proofs.Totals.{sum_at, sum_set, sum_over}
 use Rattle.vme_port.proofs.Accounts.{names_self, apart}
 
@@ -176,7 +178,7 @@ module _ {S C R : Type 0} (step : S → C → S × R) (start : S) (k : ℕ) wher
           resting s id (view (a ∷ []) false) [] (slice_index s.words 0) r at (λ free. free) (λ taken. taken),
           λ b is. (
             λ free. absurd (miss free),
-            λ taken. record { start = start; passes = k; opens = opens; same = refl; others = others_hold s id a r away at },
+            λ taken. record { start = start; passes = k; opens = opens; same = refl; shared = others_hold s id a r away at },
           ),
         )
       ])

@@ -13,7 +13,9 @@ use Rattle.vme_object.specs.declared.history.Entry.{Entry}
 use Rattle.vme_port.specs.declared.rule.Account.{Account}
 use Rattle.vme_port.specs.declared.rule.View.{View}
 use Rattle.vme_port.specs.declared.rule.Home.{Home}
-use Rattle.vme_port.specs.Rule.{account, view, fresh, newcomer, StandsFor, all_but_first, first_alone, together, nobody, weight, named, names, holders, Fits, Kept}
+use Rattle.vme_port.specs.Views.{account, view, fresh, newcomer, StandsFor, weight, named, names, holders}
+use Rattle.vme_port.specs.Rule.{Fits, Kept}
+use Rattle.vme_port.specs.Steps.{all_but_first, first_alone, together, nobody}
 use Rattle.vme_port.proofs.Totals.{sum_set}
 use Rattle.vme_port.proofs.Accounts.{named_more}
 

@@ -3,7 +3,7 @@ use Rattle.std.proofs.Common.{◌≡◌, ◌+◌, ◌-◌, ◌^◌, ◌<◌, [],
 use Rattle.atomic_table.specs.Table.{Me, rest}
 use Rattle.vme_port.specs.declared.rule.View.{View}
 use Rattle.vme_port.specs.declared.rule.Home.{Home}
-use Rattle.vme_port.specs.Rule.{IsOut, IsFull, Performed}
+use Rattle.vme_port.specs.Steps.{IsOut, IsFull, Performed}
 
 module _ {S C R : Type 0} where
   -- the object that is out is the only one

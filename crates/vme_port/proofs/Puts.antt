@@ -12,7 +12,9 @@ use Rattle.vme_object.proofs.Histories.{own-append, legal-append}
 use Rattle.vme_port.specs.declared.rule.Account.{Account}
 use Rattle.vme_port.specs.declared.rule.View.{View}
 use Rattle.vme_port.specs.declared.rule.Home.{Home}
-use Rattle.vme_port.specs.Rule.{account, view, weight, named, names, Fits, Away, Kept, MayPut, put}
+use Rattle.vme_port.specs.Views.{account, view, weight, named, names}
+use Rattle.vme_port.specs.Rule.{Fits, Away, Kept}
+use Rattle.vme_port.specs.Steps.{MayPut, put}
 use Rattle.vme_port.proofs.Totals.{sum_set, sum_two}
 use Rattle.vme_port.proofs.Accounts.{own_all, fits_all, names_self}
 use Rattle.vme_port.proofs.Keeps.{word_set, head_same, out_counts, counts_once, who_below, is_away}

@@ -13,7 +13,8 @@ use Rattle.vme_object.specs.History.{own, Begins}
 use Rattle.vme_port.specs.declared.rule.Account.{Account}
 use Rattle.vme_port.specs.declared.rule.View.{View}
 use Rattle.vme_port.specs.declared.rule.Home.{Home}
-use Rattle.vme_port.specs.Rule.{view, weight, named, names, Fits, AtHome, Away, Kept}
+use Rattle.vme_port.specs.Views.{view, weight, named, names}
+use Rattle.vme_port.specs.Rule.{Fits, AtHome, Away, Kept}
 use Rattle.vme_port.specs.Passes.{PassView, account_of, IsCounted, Closes, Settled}
 use Rattle.vme_port.proofs.Totals.{sum_at, sum_over}
 use Rattle.vme_port.proofs.Accounts.{named_more}

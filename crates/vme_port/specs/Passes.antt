@@ -8,7 +8,8 @@ use Rattle.vme_object.specs.History.{replay, IsLegal, own, Begins}
 use Rattle.vme_port.specs.declared.rule.Account.{Account}
 use Rattle.vme_port.specs.declared.rule.View.{View}
 use Rattle.vme_port.specs.declared.rule.Home.{Home}
-use Rattle.vme_port.specs.Rule.{account, view, named, Fits}
+use Rattle.vme_port.specs.Views.{account, view, named}
+use Rattle.vme_port.specs.Rule.{Fits}
 
 -- a pass: whose it is, how many entries it made, the history that it has seen, and its own entries there; the port is named by its table (this project's own)
 pub record PassView (C R : Type 0) : Type 0 where

@@ -1,5 +1,5 @@
 ghost use Rattle.std.specs.Prelude.{◌≡◌, ◌∷◌, [], false, length};
-ghost use Rattle.vme_port.specs.Rule.{view};
+ghost use Rattle.vme_port.specs.Views.{view};
 ghost use Rattle.vme_port.specs.Passes.{account_of, IsCounted};
 
 use crate::rule::{Home, View};

@@ -1,12 +1,13 @@
 ghost use Rattle.std.specs.Prelude.{◌≡◌, ◌+◌, ◌<◌, ◌≤◌, ◌⊎◌, [], vec_len, vec_capacity, All, IfOk};
 ghost use mathlib.Core.Logic.{◌↔◌};
 ghost use Rattle.vme_object.specs.Each.{Each};
-ghost use Rattle.vme_port.specs.Rule.{StandsFor};
+ghost use Rattle.vme_port.specs.Views.{StandsFor};
 ghost use Rattle.vme_port.specs.Passes.{IsUnused};
 
 use crate::fault::PortFault;
 use crate::pass::Pass;
 use crate::rule::{Dealing, Home, Law, Opening, View};
+use crate::seats::FREE;
 use atomic_table::{Seat, Table};
 use std::alloc::{AllocError, Global};
 use std::snapshot::Snapshot;
@@ -83,7 +84,7 @@ impl<O: Object> Port<O> {
         };
         let mut slots = Vec::with_capacity(alloc, 1)?;
         slots.push_reserved(Home { object, count: 0 });
-        let Ok((table, seat)) = Table::new(alloc, &[0], slots, &key) else {
+        let Ok((table, seat)) = Table::new(alloc, &[FREE], slots, &key) else {
             return Err(AllocError);
         };
         Ok(Opened {

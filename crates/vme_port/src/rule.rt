@@ -39,7 +39,8 @@ pub struct Law<O> {
 }
 
 impl<O: Object> TableRule<Home<O>, View<O::Cmd, O::Reply>, Opening<O>> for Law<O> {
-    ghost use Rattle.vme_port.specs.Rule.{Kept, newcomer};
+    ghost use Rattle.vme_port.specs.Views.{newcomer};
+    ghost use Rattle.vme_port.specs.Rule.{Kept};
 
     ghost holds = { λ k. Kept O.step k.start.value k.passes };
 
@@ -77,7 +78,7 @@ pub struct Takes<O, W> {
 }
 
 impl<O: Object, W: Knows<O>> Play<Home<O>, View<O::Cmd, O::Reply>> for Takes<O, W> {
-    ghost use Rattle.vme_port.specs.Rule.{took};
+    ghost use Rattle.vme_port.specs.Steps.{took};
 
     ghost then = { took O.step W.opened };
 }
@@ -88,7 +89,7 @@ pub struct Puts<O, W> {
 }
 
 impl<O: Object, W: Told<O::Cmd, O::Reply>> Play<Home<O>, View<O::Cmd, O::Reply>> for Puts<O, W> {
-    ghost use Rattle.vme_port.specs.Rule.{put};
+    ghost use Rattle.vme_port.specs.Steps.{put};
 
     ghost then = { put W.told };
 }
@@ -97,7 +98,7 @@ impl<O: Object, W: Told<O::Cmd, O::Reply>> Play<Home<O>, View<O::Cmd, O::Reply>>
 pub struct Marks;
 
 impl<T, C, R> Play<T, View<C, R>> for Marks {
-    ghost use Rattle.vme_port.specs.Rule.{marked};
+    ghost use Rattle.vme_port.specs.Steps.{marked};
 
     ghost then = { marked };
 }
@@ -106,7 +107,7 @@ impl<T, C, R> Play<T, View<C, R>> for Marks {
 pub struct Dealing;
 
 impl<C, R> Split<View<C, R>> for Dealing {
-    ghost use Rattle.vme_port.specs.Rule.{all_but_first, first_alone};
+    ghost use Rattle.vme_port.specs.Steps.{all_but_first, first_alone};
 
     ghost left = { all_but_first };
 
@@ -117,7 +118,7 @@ impl<C, R> Split<View<C, R>> for Dealing {
 pub struct Gathering;
 
 impl<C, R> Join<View<C, R>> for Gathering {
-    ghost use Rattle.vme_port.specs.Rule.{together, nobody};
+    ghost use Rattle.vme_port.specs.Steps.{together, nobody};
 
     ghost both = { together };
 

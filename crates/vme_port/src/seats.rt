@@ -1,6 +1,6 @@
 //! What a call does with its seat: it takes the object, performs a command on it, and puts it home.
 ghost use Rattle.std.specs.Prelude.{◌≡◌, ◌<◌, ◌∷◌, [], MatchOption};
-ghost use Rattle.vme_port.specs.Rule.{IsIdle, IsOut, IsFull, Performed, Tried, MayPut, HasPut};
+ghost use Rattle.vme_port.specs.Steps.{IsIdle, IsOut, IsFull, Performed, Tried, MayPut, HasPut};
 ghost use Rattle.vme_object.specs.History.{entry};
 ghost use Rattle.vme_port.specs.Ports.{port_id, opening, passes_of};
 

@@ -1,6 +1,6 @@
 //! The end of a port: its passes come together, and it gives the object back.
 ghost use Rattle.std.specs.Prelude.{◌≡◌, ◌<◌, ◌≤◌, ◌∷◌, [], false, length, map, vec_len, All, IfOk, IfErr};
-ghost use Rattle.vme_port.specs.Rule.{view};
+ghost use Rattle.vme_port.specs.Views.{view};
 ghost use Rattle.vme_port.specs.Passes.{account_of, IsCounted, Closes, Settled};
 ghost use Rattle.vme_port.specs.Ports.{IsPassOf, port_id, opening, passes_of};
 

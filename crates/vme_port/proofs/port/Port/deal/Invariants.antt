@@ -1,6 +1,6 @@
 use Rattle.std.proofs.Common.{◌≡◌, ◌≤◌, vec_len, vec_capacity}
 use Rattle.vme_object.specs.Each.{Each}
-use Rattle.vme_port.specs.Rule.{StandsFor}
+use Rattle.vme_port.specs.Views.{StandsFor}
 use Rattle.vme_port.specs.Passes.{IsUnused}
 use Rattle.vme_port.specs.Ports.{port_id, passes_of}
 use Rattle.vme_port.proofs.port.Port.deal.Given as goal

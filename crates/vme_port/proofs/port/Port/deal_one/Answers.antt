@@ -1,5 +1,5 @@
 use Rattle.std.proofs.Common.{rules, ◌+◌, sym, subst}
-use Rattle.vme_port.specs.Rule.{StandsFor}
+use Rattle.vme_port.specs.Views.{StandsFor}
 use Rattle.vme_port.specs.Ports.{passes_of}
 use Rattle.vme_port.proofs.Opens.{deals, dealt}
 use Rattle.vme_port.proofs.port.Port.deal_one.Goals as goal
