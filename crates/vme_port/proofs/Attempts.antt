@@ -24,11 +24,6 @@ first_home other (x ∷ xs) = x.1
 abbrev pub pass_view : {S C R : Type 0} → TableId → ℕ → ℕ → Me (Home S) (View C R) → PassView C R
 pass_view port who made m = record { port = port; who = who; made = made; seen = seen_by m.0.accounts; mine = made_by m.0.accounts }
 
-module _ {S C R : Type 0} where
-  -- a pass at rest does not hold the object
-  pub idle : (m : Me (Home S) (View C R)) (who made : ℕ) → IsAtRest m who made → IsIdle m
-  idle m who made rest = (rest.only, rest.alone)
-
 module _ {S C R : Type 0} (step : S → C → S × R) (start : S) (k : ℕ) where
   -- how the port was opened
   abbrev pub Opened : S → ℕ → Type 0
@@ -99,81 +94,105 @@ module _ {S C R : Type 0} (step : S → C → S × R) (start : S) (k : ℕ) wher
     pub shared_lost : Lost step Opened m0 m1 → 2 ≤ k
     shared_lost lost = omega (arith, lost.opens.1, lost.shared)
 
-    -- one more entry can be counted where the command was performed
-    pub made_fits : Taken step Opened rest.only m1 → (cmd : C) (reply : R) (m2 : Me (Home S) (View C R)) → Performed step cmd reply m1 m2 → made + 1 < 2 ^ 64
-    made_fits t cmd reply m2 p =
-        let counted : p.home.count ≡ length (rest.only.seen ++ t.others) = ap (λ (h : Home S). h.count) (same_home rest.only m1 t p.home p.out) ∙ t.count in
-        omega (arith, made_within rest.only m1 t, rest.counted, p.room)
+    module _ (t : Taken step Opened rest.only m1) where
+      -- the history that the take found
+      abbrev found : List (Entry C R)
+      found = rest.only.seen ++ t.others
 
-    module _ (t : Taken step Opened rest.only m1) (m2 m3 : Me (Home S) (View C R)) where
-      -- a pass is at rest after a put of nothing
-      pub rests_full : IsFull m1 m2 → HasPut [] m2 m3 → IsAtRest m3 who made
-      rests_full full told = record {
-        only = account rest.only.who (rest.only.seen ++ t.others ++ []) (rest.only.mine ++ []);
-        alone = after_put rest.only m1 t [] m2 m3 (ap (λ m. m.0) full.same) told;
-        named = rest.named;
-        counted = ap length (append-nil rest.only.mine) ∙ rest.counted;
-      }
+      -- nothing that was new to the pass is its own
+      apart_found : own who t.others ≡ []
+      apart_found = subst (λ w. own w t.others ≡ []) rest.named t.apart
 
-      -- a pass has then seen the whole history
-      pub follows : (port port' : TableId) → IsFull m1 m2 → HasPut [] m2 m3 → Follows step start (pass_view port who made m0) (pass_view port' who made m3)
-      follows port port' full told =
-          let a = rest.only in
-          let before : m0.0.accounts ≡ a ∷ [] = ap (λ m. m.0.accounts) rest.alone in
-          let after = ap (λ m. m.0.accounts) (after_put a m1 t [] m2 m3 (ap (λ m. m.0) full.same) told) in
-          let seen : seen_by m3.0.accounts ≡ a.seen ++ t.others = ap seen_by after ∙ append-nil (a.seen ++ t.others) in
-          let mine : made_by m3.0.accounts ≡ a.mine = ap made_by after ∙ append-nil a.mine in record {
-            others = t.others;
-            apart = subst (λ w. own w t.others ≡ []) rest.named t.apart;
-            seen = seen ∙ ap (λ l. l ++ t.others) (ap seen_by (sym before));
-            legal = subst (IsLegal step start) (sym seen) (found_legal a m1 t);
-            mine = mine ∙ ap made_by (sym before);
-            sound = ap (own who) seen ∙ own-append who a.seen t.others ∙ subst (λ w. own w a.seen ++ own w t.others ≡ a.mine) rest.named (ap (λ l. own a.who a.seen ++ l) t.apart ∙ append-nil (own a.who a.seen) ∙ t.sound) ∙ sym mine;
-            made = refl;
-          }
+      -- the history has of the pass just what it made
+      own_found : own who found ≡ rest.only.mine
+      own_found = own-append who rest.only.seen t.others ∙ ap (λ l. own who rest.only.seen ++ l) apart_found
+          ∙ append-nil (own who rest.only.seen) ∙ subst (λ w. own w rest.only.seen ≡ rest.only.mine) rest.named t.sound
 
-      -- and that history has the last count
-      pub is_full : IsFull m1 m2 → HasPut [] m2 m3 → length (seen_by m3.0.accounts) ≡ 2 ^ 64 - 1
-      is_full full told =
-          let a = rest.only in
-          let after = ap (λ m. m.0.accounts) (after_put a m1 t [] m2 m3 (ap (λ m. m.0) full.same) told) in
-          let seen : seen_by m3.0.accounts ≡ a.seen ++ t.others = ap seen_by after ∙ append-nil (a.seen ++ t.others) in
-          ap length seen ∙ sym t.count ∙ ap (λ (h : Home S). h.count) (sym (same_home a m1 t full.home full.out)) ∙ full.last
+      -- what the pass had seen begins the history
+      begins_found : found ≡ seen_by m0.0.accounts ++ t.others
+      begins_found = ap (λ m. seen_by m.0.accounts ++ t.others) (sym rest.alone)
 
-      module _ (cmd : C) (reply : R) (p : Performed step cmd reply m1 m2) where
-        module _ (told : HasPut (entry who cmd reply ∷ []) m2 m3) where
-          put_after : m3 ≡ (view (account rest.only.who (rest.only.seen ++ t.others ++ entry who cmd reply ∷ []) (rest.only.mine ++ entry who cmd reply ∷ []) ∷ []) false, [])
-          put_after = after_put rest.only m1 t (entry who cmd reply ∷ []) m2 m3 (ap (λ m. m.0) p.after) told
+      -- one more entry can be counted where the command was performed
+      pub made_fits : (cmd : C) (reply : R) (m2 : Me (Home S) (View C R)) → Performed step cmd reply m1 m2 → made + 1 < 2 ^ 64
+      made_fits cmd reply m2 p =
+          let counted : p.home.count ≡ length found = ap (λ (h : Home S). h.count) (same_home rest.only m1 t p.home p.out) ∙ t.count in
+          omega (arith, made_within rest.only m1 t, rest.counted, p.room)
 
-          -- a pass is at rest after its call
-          pub rests_one : IsAtRest m3 who (made + 1)
-          rests_one = record {
-            only = account rest.only.who (rest.only.seen ++ t.others ++ entry who cmd reply ∷ []) (rest.only.mine ++ entry who cmd reply ∷ []);
-            alone = put_after;
-            named = rest.named;
-            counted = omega (arith, length-append rest.only.mine (entry who cmd reply ∷ []), rest.counted);
-          }
+      module _ (es : List (Entry C R)) (m2 m3 : Me (Home S) (View C R)) (same : m2.0 ≡ m1.0) (told : HasPut es m2 m3) where
+        -- after a put the pass has seen the whole history, and the entries
+        seen_after : seen_by m3.0.accounts ≡ found ++ es
+        seen_after = ap (λ m. seen_by m.0.accounts) (after_put rest.only m1 t es m2 m3 same told)
 
-          -- and has added its entry
-          pub adds : (port port' : TableId) → Adds step start (entry who cmd reply) (pass_view port who made m0) (pass_view port' who (made + 1) m3)
-          adds port port' =
-              let a = rest.only in
-              let e : Entry C R = entry who cmd reply in
-              let before : m0.0.accounts ≡ a ∷ [] = ap (λ m. m.0.accounts) rest.alone in
-              let after = ap (λ m. m.0.accounts) put_after in
-              let found : List (Entry C R) = a.seen ++ t.others in
-              let seen : seen_by m3.0.accounts ≡ found ++ e ∷ [] = ap seen_by after in
-              let mine : made_by m3.0.accounts ≡ a.mine ++ e ∷ [] = ap made_by after in
-              let may = put_one a m1 t who cmd reply m2 rest.named p in
-              let own_found : own who found ≡ a.mine = own-append who a.seen t.others
-              ∙ subst (λ w. own w a.seen ++ own w t.others ≡ a.mine) rest.named (ap (λ l. own a.who a.seen ++ l) t.apart ∙ append-nil (own a.who a.seen) ∙ t.sound) in
-              let was : p.home.object ≡ replay step start found = ap (λ (h : Home S). h.object) (same_home a m1 t p.home p.out) ∙ found_object a m1 t in record {
-                others = t.others;
-                apart = subst (λ w. own w t.others ≡ []) rest.named t.apart;
-                seen = seen ∙ ap (λ l. l ++ t.others ++ e ∷ []) (ap seen_by (sym before));
-                legal = subst (IsLegal step start) (sym seen) (legal-append step start found (e ∷ []) (found_legal a m1 t) (p.answer ∙ ap (λ s. (step s cmd).1) was, tt));
-                mine = mine ∙ ap (λ l. l ++ e ∷ []) (ap made_by (sym before));
-                sound = ap (own who) seen ∙ own-append who found (e ∷ []) ∙ ap (λ l. l ++ own who (e ∷ [])) own_found
-                    ∙ ap (λ l. a.mine ++ l) (own_all who (e ∷ []) (All-cons (λ (e : Entry C R). e.who ≡ who) e [] refl (All-nil (λ (e : Entry C R). e.who ≡ who)))) ∙ sym mine;
-                made = refl;
-              }
+        -- and made them
+        mine_after : made_by m3.0.accounts ≡ made_by m0.0.accounts ++ es
+        mine_after = ap (λ m. made_by m.0.accounts) (after_put rest.only m1 t es m2 m3 same told) ∙ ap (λ m. made_by m.0.accounts ++ es) (sym rest.alone)
+
+        -- and is at rest
+        rests_after : IsAtRest m3 who (made + length es)
+        rests_after = record {
+          only = account rest.only.who (found ++ es) (rest.only.mine ++ es);
+          alone = after_put rest.only m1 t es m2 m3 same told;
+          named = rest.named;
+          counted = omega (arith, length-append rest.only.mine es, rest.counted);
+        }
+
+      module _ (m2 m3 : Me (Home S) (View C R)) (full : IsFull m1 m2) (told : HasPut [] m2 m3) where
+        same_full : m2.0 ≡ m1.0
+        same_full = ap (λ m. m.0) full.same
+
+        seen_full : seen_by m3.0.accounts ≡ found
+        seen_full = seen_after [] m2 m3 same_full told ∙ append-nil found
+
+        -- a pass is at rest after a put of nothing
+        pub rests_full : IsAtRest m3 who made
+        rests_full = subst (IsAtRest m3 who) (omega arith) (rests_after [] m2 m3 same_full told)
+
+        -- it has then seen the whole history
+        pub follows : (port port' : TableId) → Follows step start (pass_view port who made m0) (pass_view port' who made m3)
+        follows port port' =
+            let mine : made_by m3.0.accounts ≡ made_by m0.0.accounts = mine_after [] m2 m3 same_full told ∙ append-nil (made_by m0.0.accounts) in record {
+              others = t.others;
+              apart = apart_found;
+              seen = seen_full ∙ begins_found;
+              legal = subst (IsLegal step start) (sym seen_full) (found_legal rest.only m1 t);
+              mine = mine;
+              sound = ap (own who) seen_full ∙ own_found ∙ ap (λ m. made_by m.0.accounts) (sym rest.alone) ∙ sym mine;
+              made = refl;
+            }
+
+        -- and that history has the last count
+        pub is_full : length (seen_by m3.0.accounts) ≡ 2 ^ 64 - 1
+        is_full = ap length seen_full ∙ sym t.count ∙ ap (λ (h : Home S). h.count) (sym (same_home rest.only m1 t full.home full.out)) ∙ full.last
+
+      module _ (cmd : C) (reply : R) (m2 m3 : Me (Home S) (View C R)) (p : Performed step cmd reply m1 m2) (told : HasPut (entry who cmd reply ∷ []) m2 m3) where
+        abbrev e : Entry C R
+        e = entry who cmd reply
+
+        same_one : m2.0 ≡ m1.0
+        same_one = ap (λ m. m.0) p.after
+
+        -- a pass is at rest after its call
+        pub rests_one : IsAtRest m3 who (made + 1)
+        rests_one = rests_after (e ∷ []) m2 m3 same_one told
+
+        -- the history with the entry is legal
+        legal_one : IsLegal step start (found ++ e ∷ [])
+        legal_one =
+            let was : p.home.object ≡ replay step start found = ap (λ (h : Home S). h.object) (same_home rest.only m1 t p.home p.out) ∙ found_object rest.only m1 t in
+            legal-append step start found (e ∷ []) (found_legal rest.only m1 t) (p.answer ∙ ap (λ s. (step s cmd).1) was, tt)
+
+        -- it has then added its entry to the whole history
+        pub adds : (port port' : TableId) → Adds step start e (pass_view port who made m0) (pass_view port' who (made + 1) m3)
+        adds port port' =
+            let seen = seen_after (e ∷ []) m2 m3 same_one told in
+            let mine = mine_after (e ∷ []) m2 m3 same_one told in
+            let its = own_all who (e ∷ []) (All-cons (λ (e : Entry C R). e.who ≡ who) e [] refl (All-nil (λ (e : Entry C R). e.who ≡ who))) in record {
+              others = t.others;
+              apart = apart_found;
+              seen = seen ∙ ap (λ l. l ++ e ∷ []) begins_found;
+              legal = subst (IsLegal step start) (sym seen) legal_one;
+              mine = mine;
+              sound = ap (own who) seen ∙ own-append who found (e ∷ []) ∙ (λ i. own_found i ++ its i)
+                  ∙ ap (λ m. made_by m.0.accounts ++ e ∷ []) (sym rest.alone) ∙ sym mine;
+              made = refl;
+            }

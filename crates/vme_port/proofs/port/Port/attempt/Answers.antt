@@ -43,7 +43,7 @@ invariant_of-pass-in_default g c =
 pub returns-in_default-clause-spent : goal.returns-in_default-clause-spent
 returns-in_default-clause-spent g c =
     let rest = c.pass.invariant in
-    rw (← c.pass.view_is) (follows _ _ _ _ _ _ _ rest (c.if-not-take.ensures.told rest.only rest.alone) _ _ _ _ c.in_default.ensures.done c.put_entries.ensures.told)
+    rw (← c.pass.view_is) (follows _ _ _ _ _ _ _ rest (c.if-not-take.ensures.told rest.only rest.alone) _ _ c.in_default.ensures.done c.put_entries.ensures.told _ _)
 
 pub returns-in_default-clause-full : goal.returns-in_default-clause-full
 returns-in_default-clause-full g c =
