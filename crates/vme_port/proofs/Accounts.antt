@@ -1,0 +1,74 @@
+-- Accounts, and the entries that are theirs.
+use Rattle.std.proofs.Common.{ℕ, ◌≡◌, ◌≢◌, ◌+◌, ◌==◌, Bool, cond, List, [], ◌∷◌, ◌++◌, refl, ap, sym, ◌∙◌, arith, append_assoc, All, eq-eqb, ne_eqb}
+use Rattle.std.proofs.lemmas.List.{append-nil}
+use Rattle.std.proofs.lemmas.List.Sums.{sum_by-cons}
+use Rattle.std.proofs.lemmas.List.Elements.{All-nil, All-cons, All-head, All-tail}
+use Rattle.vme_object.specs.declared.history.Entry.{Entry}
+use Rattle.vme_object.specs.History.{own}
+use Rattle.vme_object.proofs.Histories.{own-append}
+use Rattle.vme_port.specs.declared.rule.Account.{Account}
+use Rattle.vme_port.specs.Views.{named}
+use Rattle.vme_port.specs.Rule.{Fits}
+
+-- a list that stays the same when another follows it is followed by nothing
+pub append_same : {A : Type 0} (xs ys : List A) → xs ++ ys ≡ xs → ys ≡ []
+append_same [] ys e = e
+append_same (x ∷ xs) ys e = append_same xs ys (cc e)
+
+module _ {C R : Type 0} where
+  -- entries of one who are all its own
+  pub own_all : (who : ℕ) (es : List (Entry C R)) → All (λ e. e.who ≡ who) es → own who es ≡ es
+  own_all who [] all = refl
+  own_all who (e ∷ es) all =
+      let same : e.who ≡ who = All-head (λ (e : Entry C R). e.who ≡ who) e es all in
+      let rest : own who es ≡ es = own_all who es (All-tail (λ (e : Entry C R). e.who ≡ who) e es all) in
+      rw (eq-eqb e.who who same) (ap (λ l. e ∷ l) rest)
+
+  -- and none of them is another's
+  pub own_none : (who other : ℕ) (es : List (Entry C R)) → All (λ e. e.who ≡ who) es → other ≢ who → own other es ≡ []
+  own_none who other [] all apart = refl
+  own_none who other (e ∷ es) all apart =
+      let same : e.who ≡ who = All-head (λ (e : Entry C R). e.who ≡ who) e es all in
+      let rest : own other es ≡ [] = own_none who other es (All-tail (λ (e : Entry C R). e.who ≡ who) e es all) apart in
+      let differs : e.who ≢ other = λ e'. apart (sym e' ∙ same) in
+      rw (ne_eqb e.who other differs) rest
+
+  -- of what follows all that an account has seen nothing is its own
+  pub apart : (h : List (Entry C R)) (a : Account C R) (f : Fits h a) → own a.who f.begins.0 ≡ []
+  apart h a f = append_same a.mine (own a.who f.begins.0)
+      (ap (λ l. l ++ own a.who f.begins.0) (sym f.sound) ∙ sym (own-append a.who a.seen f.begins.0) ∙ ap (own a.who) (sym f.begins.1) ∙ f.whole)
+
+  -- an account fits a history that goes on with entries of others
+  pub fits_others : (who : ℕ) (h es : List (Entry C R)) (a : Account C R) → All (λ e. e.who ≡ who) es → a.who ≢ who → Fits h a → Fits (h ++ es) a
+  fits_others who h es a all other f = record {
+    begins = (f.begins.0 ++ es, ap (λ l. l ++ es) f.begins.1 ∙ append_assoc a.seen f.begins.0 es);
+    sound = f.sound;
+    whole = own-append a.who h es ∙ ap (λ l. own a.who h ++ l) (own_none who a.who es all other) ∙ append-nil (own a.who h) ∙ f.whole;
+  }
+
+  -- the accounts of a who, with one more account
+  pub named_more : (who : ℕ) (a : Account C R) (l : List (Account C R)) → named who (a ∷ l) ≡ cond (a.who == who) 1 0 + named who l
+  named_more who a l = sum_by-cons (λ (a : Account C R). cond (a.who == who) 1 0) a l
+
+  -- where no account is of a who, each is of another
+  pub unnamed : (who : ℕ) (l : List (Account C R)) → named who l ≡ 0 → All (λ a. a.who ≢ who) l
+  unnamed who [] none = All-nil (λ (a : Account C R). a.who ≢ who)
+  unnamed who (a ∷ l) none =
+      let none' : cond (a.who == who) 1 0 + named who l ≡ 0 = sym (named_more who a l) ∙ none in
+      All-cons (λ (a : Account C R). a.who ≢ who) a l
+      (λ same.
+      let one : ◌≡◌ {A = ℕ} (cond (a.who == who) 1 0) 1 = ap (λ (b : Bool). cond b 1 0) (eq-eqb a.who who same) in
+      let other : ◌≡◌ {A = ℕ} (cond (a.who == who) 1 0) 0 = omega arith in
+      let wrong : ◌≡◌ {A = ℕ} 1 0 = sym one ∙ other in
+      omega arith)
+      (unnamed who l (omega arith))
+
+  -- an account is of its own who
+  pub names_self : (a : Account C R) → named a.who (a ∷ []) ≡ 1
+  names_self a = rw (eq-eqb a.who a.who refl) refl
+
+  -- all accounts of other whos fit the longer history
+  pub fits_all : (who : ℕ) (h es : List (Entry C R)) (l : List (Account C R)) → All (λ e. e.who ≡ who) es → named who l ≡ 0
+      → All (Fits h) l → All (Fits (h ++ es)) l
+  fits_all who h es l all none fits = λ k d within.
+      fits_others who h es _ all (unnamed who l none k d within) (fits k d within)

@@ -1,0 +1,198 @@
+-- What one try does to a pass: the take, the command and the put, one after another.
+use Rattle.std.proofs.Common.{ℕ, ◌≡◌, ◌+◌, ◌-◌, ◌^◌, ◌<◌, ◌≤◌, false, List, [], ◌∷◌, ◌++◌, length, refl, ap, sym, ◌∙◌, subst, arith, length-append}
+use Rattle.std.proofs.lemmas.List.{append-nil}
+use Rattle.std.proofs.lemmas.List.Elements.{All-nil, All-cons}
+use Rattle.atomic_table.specs.Table.{Me}
+use Rattle.atomic_table.specs.Seated.{TableId}
+use Rattle.vme_object.specs.declared.history.Entry.{Entry}
+use Rattle.vme_object.specs.History.{replay, IsLegal, own, entry}
+use Rattle.vme_object.proofs.Histories.{replay-append, legal-append, own-append, own_within}
+use Rattle.vme_port.specs.declared.rule.Account.{Account}
+use Rattle.vme_port.specs.declared.rule.View.{View}
+use Rattle.vme_port.specs.declared.rule.Home.{Home}
+use Rattle.vme_port.specs.Views.{account, view}
+use Rattle.vme_port.specs.Steps.{Taken, Lost, MayPut, HasPut, IsIdle, IsOut, IsFull, Performed}
+use Rattle.vme_port.specs.Passes.{PassView, IsAtRest, seen_by, made_by, Follows, Adds}
+use Rattle.vme_port.proofs.Accounts.{own_all}
+
+-- the first object of those that are out
+abbrev first_home : {S : Type 0} → Home S → List (ℕ × Home S) → Home S
+first_home other [] = other
+first_home other (x ∷ xs) = x.1
+
+-- a pass with a seat
+abbrev pub pass_view : {S C R : Type 0} → TableId → ℕ → ℕ → Me (Home S) (View C R) → PassView C R
+pass_view port who made m = record { port = port; who = who; made = made; seen = seen_by m.0.accounts; mine = made_by m.0.accounts }
+
+module _ {S C R : Type 0} (step : S → C → S × R) (start : S) (k : ℕ) where
+  -- how the port was opened
+  abbrev pub Opened : S → ℕ → Type 0
+  Opened object passes = (object ≡ start) × (passes ≡ k)
+
+  -- the object is out after a take that was won
+  pub out : (a : Account C R) (m : Me (Home S) (View C R)) → Taken step Opened a m → IsOut m
+  out a m t = (t.home, ap (λ m. m.1) t.after)
+
+  module _ (a : Account C R) (m1 : Me (Home S) (View C R)) (t : Taken step Opened a m1) where
+    -- the history that was found is legal, and leads to the object
+    found_legal : IsLegal step start (a.seen ++ t.others)
+    found_legal = subst (λ s. IsLegal step s (a.seen ++ t.others)) t.opens.0 t.legal
+
+    found_object : t.home.object ≡ replay step start (a.seen ++ t.others)
+    found_object = t.object ∙ ap (λ s. replay step s (a.seen ++ t.others)) t.opens.0
+
+    -- the object that is out is the one that was taken
+    same_home : (home : Home S) → m1.1 ≡ (0, home) ∷ [] → home ≡ t.home
+    same_home home there = ap (first_home home) (sym there ∙ ap (λ m. m.1) t.after)
+
+    -- a put of nothing, where the history is full
+    pub put_none : (m2 : Me (Home S) (View C R)) → IsFull m1 m2 → MayPut step start [] m2
+    put_none m2 full =
+        let nil = append-nil (a.seen ++ t.others) in record {
+          holder = account a.who (a.seen ++ t.others) a.mine;
+          home = t.home;
+          has = full.same ∙ t.after;
+          legal = tt;
+          whose = All-nil (λ (e : Entry C R). e.who ≡ a.who);
+          object = found_object ∙ ap (replay step start) (sym nil);
+          count = t.count ∙ ap length (sym nil);
+        }
+
+    -- a put of one entry, after a command
+    pub put_one : (who : ℕ) (cmd : C) (reply : R) (m2 : Me (Home S) (View C R)) → a.who ≡ who → Performed step cmd reply m1 m2
+        → MayPut step start (entry who cmd reply ∷ []) m2
+    put_one who cmd reply m2 named p =
+        let seen : List (Entry C R) = a.seen ++ t.others in
+        let e : Entry C R = entry who cmd reply in
+        let next : Home S = record { object = (step p.home.object cmd).0; count = p.home.count + 1 } in
+        let same : p.home ≡ t.home = same_home p.home p.out in
+        let was : p.home.object ≡ replay step start seen = ap (λ (h : Home S). h.object) same ∙ found_object in record {
+          holder = account a.who seen a.mine;
+          home = next;
+          has = p.after ∙ ap (λ v. (v, (0, next) ∷ [])) (ap (λ m. m.0) t.after);
+          legal = (p.answer ∙ ap (λ s. (step s cmd).1) was, tt);
+          whose = All-cons (λ (e : Entry C R). e.who ≡ a.who) e [] (sym named) (All-nil (λ (e : Entry C R). e.who ≡ a.who));
+          object = ap (λ s. (step s cmd).0) was ∙ sym (replay-append step start seen (e ∷ []));
+          count = let counted : p.home.count ≡ length seen = ap (λ (h : Home S). h.count) same ∙ t.count in omega (arith, length-append seen (e ∷ []));
+        }
+
+    -- the seat after the put
+    pub after_put : (es : List (Entry C R)) (m2 m3 : Me (Home S) (View C R)) → m2.0 ≡ m1.0 → HasPut es m2 m3
+        → m3 ≡ (view (account a.who (a.seen ++ t.others ++ es) (a.mine ++ es) ∷ []) false, [])
+    after_put es m2 m3 same told = told (account a.who (a.seen ++ t.others) a.mine) (same ∙ ap (λ m. m.0) t.after)
+
+    -- the history that was found has what the account made
+    made_within : length a.mine ≤ length (a.seen ++ t.others)
+    made_within = omega (arith, own_within a.who a.seen, ap length t.sound, length-append a.seen t.others)
+
+  module _ (who made : ℕ) (m0 m1 : Me (Home S) (View C R)) (rest : IsAtRest m0 who made) where
+    -- a pass whose take was lost is at rest
+    pub rests_lost : Lost step Opened m0 m1 → IsAtRest m1 who made
+    rests_lost lost = subst (λ m. IsAtRest m who made) (sym lost.same) rest
+
+    -- the port has two passes or more where a take was lost
+    pub shared_lost : Lost step Opened m0 m1 → 2 ≤ k
+    shared_lost lost = omega (arith, lost.opens.1, lost.shared)
+
+    module _ (t : Taken step Opened rest.only m1) where
+      -- the history that the take found
+      abbrev found : List (Entry C R)
+      found = rest.only.seen ++ t.others
+
+      -- nothing that was new to the pass is its own
+      apart_found : own who t.others ≡ []
+      apart_found = subst (λ w. own w t.others ≡ []) rest.named t.apart
+
+      -- the history has of the pass just what it made
+      own_found : own who found ≡ rest.only.mine
+      own_found = own-append who rest.only.seen t.others ∙ ap (λ l. own who rest.only.seen ++ l) apart_found
+          ∙ append-nil (own who rest.only.seen) ∙ subst (λ w. own w rest.only.seen ≡ rest.only.mine) rest.named t.sound
+
+      -- what the pass had seen begins the history
+      begins_found : found ≡ seen_by m0.0.accounts ++ t.others
+      begins_found = ap (λ m. seen_by m.0.accounts ++ t.others) (sym rest.alone)
+
+      -- one more entry can be counted where the command was performed
+      pub made_fits : (cmd : C) (reply : R) (m2 : Me (Home S) (View C R)) → Performed step cmd reply m1 m2 → made + 1 < 2 ^ 64
+      made_fits cmd reply m2 p =
+          let counted : p.home.count ≡ length found = ap (λ (h : Home S). h.count) (same_home rest.only m1 t p.home p.out) ∙ t.count in
+          omega (arith, made_within rest.only m1 t, rest.counted, p.room)
+
+      module _ (es : List (Entry C R)) (m2 m3 : Me (Home S) (View C R)) (same : m2.0 ≡ m1.0) (told : HasPut es m2 m3) where
+        -- after a put the pass has seen the whole history, and the entries
+        seen_after : seen_by m3.0.accounts ≡ found ++ es
+        seen_after = ap (λ m. seen_by m.0.accounts) (after_put rest.only m1 t es m2 m3 same told)
+
+        -- and made them
+        mine_after : made_by m3.0.accounts ≡ made_by m0.0.accounts ++ es
+        mine_after = ap (λ m. made_by m.0.accounts) (after_put rest.only m1 t es m2 m3 same told) ∙ ap (λ m. made_by m.0.accounts ++ es) (sym rest.alone)
+
+        -- and is at rest
+        rests_after : IsAtRest m3 who (made + length es)
+        rests_after = record {
+          only = account rest.only.who (found ++ es) (rest.only.mine ++ es);
+          alone = after_put rest.only m1 t es m2 m3 same told;
+          named = rest.named;
+          counted = omega (arith, length-append rest.only.mine es, rest.counted);
+        }
+
+      module _ (m2 m3 : Me (Home S) (View C R)) (full : IsFull m1 m2) (told : HasPut [] m2 m3) where
+        same_full : m2.0 ≡ m1.0
+        same_full = ap (λ m. m.0) full.same
+
+        seen_full : seen_by m3.0.accounts ≡ found
+        seen_full = seen_after [] m2 m3 same_full told ∙ append-nil found
+
+        -- a pass is at rest after a put of nothing
+        pub rests_full : IsAtRest m3 who made
+        rests_full = subst (IsAtRest m3 who) (omega arith) (rests_after [] m2 m3 same_full told)
+
+        -- it has then seen the whole history
+        pub follows : (port port' : TableId) → Follows step start (pass_view port who made m0) (pass_view port' who made m3)
+        follows port port' =
+            let mine : made_by m3.0.accounts ≡ made_by m0.0.accounts = mine_after [] m2 m3 same_full told ∙ append-nil (made_by m0.0.accounts) in record {
+              others = t.others;
+              apart = apart_found;
+              seen = seen_full ∙ begins_found;
+              legal = subst (IsLegal step start) (sym seen_full) (found_legal rest.only m1 t);
+              mine = mine;
+              sound = ap (own who) seen_full ∙ own_found ∙ ap (λ m. made_by m.0.accounts) (sym rest.alone) ∙ sym mine;
+              made = refl;
+            }
+
+        -- and that history has the last count
+        pub is_full : length (seen_by m3.0.accounts) ≡ 2 ^ 64 - 1
+        is_full = ap length seen_full ∙ sym t.count ∙ ap (λ (h : Home S). h.count) (sym (same_home rest.only m1 t full.home full.out)) ∙ full.last
+
+      module _ (cmd : C) (reply : R) (m2 m3 : Me (Home S) (View C R)) (p : Performed step cmd reply m1 m2) (told : HasPut (entry who cmd reply ∷ []) m2 m3) where
+        abbrev e : Entry C R
+        e = entry who cmd reply
+
+        same_one : m2.0 ≡ m1.0
+        same_one = ap (λ m. m.0) p.after
+
+        -- a pass is at rest after its call
+        pub rests_one : IsAtRest m3 who (made + 1)
+        rests_one = rests_after (e ∷ []) m2 m3 same_one told
+
+        -- the history with the entry is legal
+        legal_one : IsLegal step start (found ++ e ∷ [])
+        legal_one =
+            let was : p.home.object ≡ replay step start found = ap (λ (h : Home S). h.object) (same_home rest.only m1 t p.home p.out) ∙ found_object rest.only m1 t in
+            legal-append step start found (e ∷ []) (found_legal rest.only m1 t) (p.answer ∙ ap (λ s. (step s cmd).1) was, tt)
+
+        -- it has then added its entry to the whole history
+        pub adds : (port port' : TableId) → Adds step start e (pass_view port who made m0) (pass_view port' who (made + 1) m3)
+        adds port port' =
+            let seen = seen_after (e ∷ []) m2 m3 same_one told in
+            let mine = mine_after (e ∷ []) m2 m3 same_one told in
+            let its = own_all who (e ∷ []) (All-cons (λ (e : Entry C R). e.who ≡ who) e [] refl (All-nil (λ (e : Entry C R). e.who ≡ who))) in record {
+              others = t.others;
+              apart = apart_found;
+              seen = seen ∙ ap (λ l. l ++ e ∷ []) begins_found;
+              legal = subst (IsLegal step start) (sym seen) legal_one;
+              mine = mine;
+              sound = ap (own who) seen ∙ own-append who found (e ∷ []) ∙ (λ i. own_found i ++ its i)
+                  ∙ ap (λ m. made_by m.0.accounts ++ e ∷ []) (sym rest.alone) ∙ sym mine;
+              made = refl;
+            }

@@ -1,0 +1,195 @@
+-- Opening a port, and dealing its accounts out, keep the rule.
+use Rattle.std.proofs.Common.{ℕ, zero, suc, ◌≡◌, ◌+◌, ◌<◌, ◌≤◌, ◌==◌, inl, inr, Bool, true, false, cond, ltb, List, [], ◌∷◌, ◌++◌, length, set, take, drop, All, refl, ap, sym, ◌∙◌, subst, arith, length-append, eq-eqb, ne_eqb}
+use Rattle.std.specs.List.{sum_by}
+use Rattle.std.proofs.lemmas.List.Sums.{sum_by-append, sum_by_push}
+use Rattle.std.proofs.lemmas.List.Elements.{All-nil, All-cons, All-append, All-take, All-drop}
+use Rattle.std.proofs.lemmas.Bool.{cases_eq}
+use borrow.Author.Tests.{ltb-true, ltb-false}
+use mathlib.Core.Option.{some, some-injective, some-ne-none}
+use lib.ListN.{get_elem?}
+use Rattle.atomic_table.specs.Table.{State, Me, Splits, Joins, opening}
+use Rattle.atomic_table.proofs.Lists.{at_set, at_snoc, set_else}
+use Rattle.vme_object.specs.declared.history.Entry.{Entry}
+use Rattle.vme_port.specs.declared.rule.Account.{Account}
+use Rattle.vme_port.specs.declared.rule.View.{View}
+use Rattle.vme_port.specs.declared.rule.Home.{Home}
+use Rattle.vme_port.specs.Views.{account, view, fresh, newcomer, StandsFor, weight, named, names, holders}
+use Rattle.vme_port.specs.Rule.{Fits, Kept}
+use Rattle.vme_port.specs.Steps.{all_but_first, first_alone, together, nobody}
+use Rattle.vme_port.proofs.Totals.{sum_set}
+use Rattle.vme_port.proofs.Accounts.{named_more}
+
+module _ (C R : Type 0) where
+  -- there are as many fresh accounts as asked for
+  pub fresh_length : (i n : ℕ) → length (fresh {C = C} {R = R} i n) ≡ n
+  fresh_length i zero = refl
+  fresh_length i (suc n) = ap suc (fresh_length (suc i) n)
+
+  -- none of them is of a who before the first
+  fresh_before : (who i n : ℕ) → who < i → named who (fresh {C = C} {R = R} i n) ≡ 0
+  fresh_before who i zero less = refl
+  fresh_before who i (suc n) less =
+      let other : ◌≡◌ {A = ℕ} (cond (i == who) 1 0) 0 = ap (λ (b : Bool). cond b 1 0) (ne_eqb i who (λ same. omega arith)) in
+      let rest : named who (fresh {C = C} {R = R} (suc i) n) ≡ 0 = fresh_before who (suc i) n (omega arith) in
+      omega (arith, named_more who (account {C = C} {R = R} i [] []) (fresh (suc i) n))
+
+  -- nor of a who past the last
+  fresh_past : (who i n : ℕ) → i + n ≤ who → named who (fresh {C = C} {R = R} i n) ≡ 0
+  fresh_past who i zero less = refl
+  fresh_past who i (suc n) less =
+      let other : ◌≡◌ {A = ℕ} (cond (i == who) 1 0) 0 = ap (λ (b : Bool). cond b 1 0) (ne_eqb i who (λ same. omega arith)) in
+      let rest : named who (fresh {C = C} {R = R} (suc i) n) ≡ 0 = fresh_past who (suc i) n (omega arith) in
+      omega (arith, named_more who (account {C = C} {R = R} i [] []) (fresh (suc i) n))
+
+  -- one of them is of each who in between
+  fresh_in : (who i n : ℕ) → i ≤ who → who < i + n → named who (fresh {C = C} {R = R} i n) ≡ 1
+  fresh_in who i zero from below = absurd (omega arith)
+  fresh_in who i (suc n) from below = elim (cases_eq i who) [
+    | inl here ↦
+        let one : ◌≡◌ {A = ℕ} (cond (i == who) 1 0) 1 = ap (λ (b : Bool). cond b 1 0) (eq-eqb i who here) in
+        let rest : named who (fresh {C = C} {R = R} (suc i) n) ≡ 0 = fresh_before who (suc i) n (omega arith) in
+        omega (arith, named_more who (account {C = C} {R = R} i [] []) (fresh (suc i) n))
+    | inr later ↦
+        let other : ◌≡◌ {A = ℕ} (cond (i == who) 1 0) 0 = ap (λ (b : Bool). cond b 1 0) (ne_eqb i who later) in
+        let rest : named who (fresh {C = C} {R = R} (suc i) n) ≡ 1 = fresh_in who (suc i) n (omega arith) (omega arith) in
+        omega (arith, named_more who (account {C = C} {R = R} i [] []) (fresh (suc i) n))
+  ]
+
+  -- at the start each who below k has one account
+  fresh_shared : (k who : ℕ) (b : Bool) → ltb who k ≡ b → named who (fresh {C = C} {R = R} 0 k) ≡ cond b 1 0
+  fresh_shared k who true below = fresh_in who 0 k (omega arith) (let less = ltb-true who k below in omega arith)
+  fresh_shared k who false past = fresh_past who 0 k (let least = ltb-false who k past in omega arith)
+
+  -- each account fits the history of no entries
+  fresh_fits : (i n : ℕ) → All (Fits []) (fresh {C = C} {R = R} i n)
+  fresh_fits i zero = All-nil (Fits {C = C} {R = R} [])
+  fresh_fits i (suc n) = All-cons (Fits []) (account i [] []) (fresh (suc i) n) (record { begins = ([], refl); sound = refl; whole = refl }) (fresh_fits (suc i) n)
+
+module _ {C R : Type 0} where
+  -- what a cut view and the part that is cut off weigh together
+  cut_length : (accounts : List (Account C R)) → length (drop 1 accounts) + length (take 1 accounts) ≡ length accounts
+  cut_length [] = refl
+  cut_length (a ∷ rest) = omega arith
+
+  -- and how many of their accounts are of a who
+  cut_named : (who : ℕ) (accounts : List (Account C R)) → named who (drop 1 accounts) + named who (take 1 accounts) ≡ named who accounts
+  cut_named who [] = refl
+  cut_named who (a ∷ rest) = omega (arith, named_more who a rest, named_more who a [])
+
+module _ {S C R : Type 0} (step : S → C → S × R) (start : S) (k : ℕ) where
+  abbrev Rule : State (Home S) (View C R) → Type 0
+  Rule = Kept step start k
+
+  -- the rule holds of a port that was just opened
+  pub opens : Rule (opening (0 ∷ []) (record { object = start; count = 0 } ∷ []) (newcomer k))
+  opens = record {
+    history = [];
+    legal = tt;
+    one_word = refl;
+    each = elim [
+      | zero ↦ λ v at. subst (λ (v : View C R). All (Fits []) v.accounts) (some-injective (newcomer k) v at) (fresh_fits C R 0 k)
+      | suc j ↦ λ v at. absurd (some-ne-none v (sym at))
+    ];
+    shared = λ who. let named = fresh_shared C R k who (ltb who k) refl in omega arith;
+    weights = let long = fresh_length C R 0 k in omega arith;
+    known = All-nil (λ (e : Entry C R). e.who < k);
+    place = inl (record { free = refl; home = record { object = start; count = 0 }; here = refl; object = refl; count = refl; none_out = refl });
+  }
+
+  -- other views that fit the history, and share, weigh and hold as the old ones, keep the rule
+  reviewed : (s : State (Home S) (View C R)) (views : List (View C R)) (r : Rule s)
+      → ((j : ℕ) (v : View C R) → get_elem? views j ≡ some v → All (Fits r.history) v.accounts)
+      → ((who : ℕ) → sum_by (names who) views ≡ sum_by (names who) s.views) → sum_by weight views ≡ sum_by weight s.views → holders views ≡ holders s.views
+      → ((j : ℕ) (v : View C R) → get_elem? views j ≡ some v → v.out ≡ true → (i : ℕ) × (get_elem? s.views i ≡ some v))
+      → Rule (record { words = s.words; homes = s.homes; views = views })
+  reviewed s views r each shared weights held holder = record {
+    history = r.history;
+    legal = r.legal;
+    one_word = r.one_word;
+    each = each;
+    shared = λ who. shared who ∙ r.shared who;
+    weights = weights ∙ r.weights;
+    known = r.known;
+    place = elim r.place [
+      | inl home ↦ inl (record { free = home.free; home = home.home; here = home.here; object = home.object; count = home.count; none_out = held ∙ home.none_out })
+      | inr away ↦ inr (record { taken = away.taken; gone = away.gone; one_out = held ∙ away.one_out; holder = λ j v at out. let was = holder j v at out in away.holder was.0 v was.1 out })
+    ];
+  }
+
+  -- cutting the first account off
+  pub deals : (id : ℕ) (v : View C R) → v.out ≡ false → Splits Rule id v (all_but_first v) (first_alone v)
+  deals id v in' s r at =
+      let left : View C R = all_but_first v in
+      let right : View C R = first_alone v in
+      let fits : All (Fits r.history) v.accounts = r.each id v at in
+      let none : ◌≡◌ {A = ℕ} (cond v.out 1 0) 0 = ap (λ (b : Bool). cond b 1 0) in' in
+      reviewed s (set s.views id left ++ right ∷ []) r
+      (λ j u there. elim (at_snoc (set s.views id left) right u j there) [
+        | inl old ↦ elim (at_set s.views id j left u old) [
+          | inl here ↦ subst (λ (u : View C R). All (Fits r.history) u.accounts) here.1 (All-drop (Fits r.history) 1 v.accounts fits)
+          | inr else ↦ r.each j u else.1
+        ]
+        | inr new ↦ subst (λ (u : View C R). All (Fits r.history) u.accounts) new (All-take (Fits r.history) 1 v.accounts fits)
+      ])
+      (λ who. let sums = sum_set (names who) s.views id v left at in omega (arith, sum_by_push (names who) (set s.views id left) right, cut_named who v.accounts))
+      (let sums = sum_set weight s.views id v left at in omega (arith, sum_by_push weight (set s.views id left) right, cut_length v.accounts))
+      (let sums = sum_set (λ (v : View C R). cond v.out 1 0) s.views id v left at in omega (arith, sum_by_push (λ (v : View C R). cond v.out 1 0) (set s.views id left) right))
+      (λ j u there out. elim (at_snoc (set s.views id left) right u j there) [
+        | inl old ↦ elim (at_set s.views id j left u old) [
+          | inl here ↦ absurd (cc (ap (λ (u : View C R). u.out) here.1, out))
+          | inr else ↦ (j, else.1)
+        ]
+        | inr new ↦ absurd cc
+      ])
+
+  -- taking another's accounts in
+  pub gathers : (id other : ℕ) (v w : View C R) → v.out ≡ false → w.out ≡ false → Joins Rule id v other w (together v w) nobody
+  gathers id other v w in' in'' s r at apart there =
+      let both : View C R = together v w in
+      let spent : View C R = nobody in
+      let views : List (View C R) = set s.views id both in
+      let was : get_elem? s.views other ≡ some w = sym (set_else s.views id other both apart) ∙ there in
+      let fits : All (Fits r.history) both.accounts = All-append (Fits r.history) w.accounts v.accounts (r.each other w was) (r.each id v at) in
+      let none : ◌≡◌ {A = ℕ} (cond v.out 1 0) 0 = ap (λ (b : Bool). cond b 1 0) in' in
+      let none' : ◌≡◌ {A = ℕ} (cond w.out 1 0) 0 = ap (λ (b : Bool). cond b 1 0) in'' in
+      reviewed s (set views other spent) r
+      (λ j u at'. elim (at_set views other j spent u at') [
+        | inl gone ↦ subst (λ (u : View C R). All (Fits r.history) u.accounts) gone.1 (All-nil (Fits r.history))
+        | inr old ↦ elim (at_set s.views id j both u old.1) [
+          | inl here ↦ subst (λ (u : View C R). All (Fits r.history) u.accounts) here.1 fits
+          | inr else ↦ r.each j u else.1
+        ]
+      ])
+      (λ who.
+      let first = sum_set (names who) s.views id v both at in
+      let then = sum_set (names who) views other w spent there in
+      omega (arith, sum_by-append (λ (a : Account C R). cond (a.who == who) 1 0) w.accounts v.accounts))
+      (let first = sum_set weight s.views id v both at in
+      let then = sum_set weight views other w spent there in
+      omega (arith, length-append w.accounts v.accounts))
+      (let first = sum_set (λ (v : View C R). cond v.out 1 0) s.views id v both at in
+      let then = sum_set (λ (v : View C R). cond v.out 1 0) views other w spent there in
+      omega arith)
+      (λ j u at' out. elim (at_set views other j spent u at') [
+        | inl gone ↦ absurd (cc (ap (λ (u : View C R). u.out) gone.1, out))
+        | inr old ↦ elim (at_set s.views id j both u old.1) [
+          | inl here ↦ absurd (cc (ap (λ (u : View C R). u.out) here.1, out))
+          | inr else ↦ (j, else.1)
+        ]
+      ])
+
+module _ {S C R : Type 0} where
+  -- the first of the accounts that a seat stands for, and the others
+  pub dealt : (k who : ℕ) (m : Me (Home S) (View C R)) → StandsFor k who m → who < k
+      → (m.0.out ≡ false) × StandsFor k (who + 1) (all_but_first m.0, m.1) × (first_alone m.0 ≡ view (account who [] [] ∷ []) false)
+  dealt k who m (zero, sum, is) below = absurd (omega arith)
+  dealt k who m (suc n, sum, is) below =
+      let next : fresh {C = C} {R = R} (suc who) n ≡ fresh (who + 1) n = ap (λ i. fresh i n) (omega arith) in (
+        ap (λ m. m.0.out) is,
+        (n, omega arith, ap (λ m. (all_but_first m.0, m.1)) is ∙ ap (λ l. (view l false, [])) next),
+        ap (λ m. first_alone m.0) is,
+      )
+
+  -- a seat that stands for all passes does so from the first on
+  pub stands_first : (k : ℕ) (m : Me (Home S) (View C R)) → m ≡ (newcomer k, []) → StandsFor k 0 m
+  stands_first k m is = (k, omega arith, is)

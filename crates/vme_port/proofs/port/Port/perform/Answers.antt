@@ -1,0 +1,15 @@
+use Rattle.vme_port.specs.declared.rule.Home.{Home}
+use Rattle.vme_port.proofs.Performs.{lent, full, performed}
+use Rattle.vme_port.proofs.port.Port.perform.Goals as goal
+
+pub slot_mut-home-requires : goal.slot_mut-home-requires
+slot_mut-home-requires g c = (c.requires.port, lent c.args.seat.now.me c.requires.out)
+
+pub returns-in_default-clause-done : goal.returns-in_default-clause-done
+returns-in_default-clause-done g c = full c.args.seat.now.me c.slot_mut-home.result.now c.slot_mut-home.ensures.value c.requires.out c.in_default.ensures
+
+pub returns-clause-done : goal.returns-clause-done
+returns-clause-done g c =
+    let next : Home g.row.O.Denot = record { object = c.apply.new.self; count = c.in-Some.count } in
+    performed g.O.Object.step c.args.cmd.now c.apply.result c.args.seat.now.me c.slot_mut-home.result.now next c.slot_mut-home.ensures.value c.requires.out
+    c.in-Some.ensures.0 c.in-Some.ensures.1 c.apply.ensures.state c.apply.ensures.reply

@@ -1,0 +1,103 @@
+-- What each kind of step does to the view of the seat that makes it.
+use Rattle.std.specs.Prelude.{ℕ, ◌+◌, ◌-◌, ◌^◌, ◌≡◌, ◌≢◌, ◌<◌, ◌≤◌, Bool, true, false, List, [], ◌∷◌, ◌++◌, length, take, drop, All, MatchBool}
+use Rattle.atomic_table.specs.Table.{Me, Step}
+use Rattle.vme_object.specs.declared.history.Entry.{Entry}
+use Rattle.vme_object.specs.History.{replay, IsLegal, own}
+use Rattle.vme_port.specs.declared.rule.Account.{Account}
+use Rattle.vme_port.specs.declared.rule.View.{View}
+use Rattle.vme_port.specs.declared.rule.Home.{Home}
+use Rattle.vme_port.specs.Views.{account, view}
+
+module _ {C R : Type 0} where
+  -- split: what is left of a view when its first account is cut off (this project's own)
+  abbrev pub all_but_first : View C R → View C R
+  all_but_first v = view (drop 1 v.accounts) false
+
+  -- split: the account that is cut off (this project's own)
+  abbrev pub first_alone : View C R → View C R
+  first_alone v = view (take 1 v.accounts) false
+
+  -- join: the accounts of the joined view are added, each with what it has seen itself (this project's own)
+  abbrev pub together : View C R → View C R → View C R
+  together v w = view (w.accounts ++ v.accounts) false
+
+  -- join: the joined view is spent (this project's own)
+  abbrev pub nobody : View C R
+  nobody = view [] false
+
+-- mark wanted: the view is as it was (this project's own)
+abbrev pub marked : {T C R : Type 0} → Step T → Me T (View C R) → ℕ → Me T (View C R) → Type 0
+marked st m n m' = m' ≡ m
+
+module _ {S C R : Type 0} (step : S → C → S × R) (opened : S → ℕ → Type 0) where
+  -- take won: the account has seen the whole history, in which entries of others follow what it had seen; the object is out with it, and is the history's replay (this project's own)
+  pub record Taken (a : Account C R) (m : Me (Home S) (View C R)) : Type 0 where
+    pub start : S
+    pub passes : ℕ
+    pub opens : opened start passes
+    pub others : List (Entry C R)
+    pub home : Home S
+    pub after : m ≡ (view (account a.who (a.seen ++ others) a.mine ∷ []) true, (0, home) ∷ [])
+    pub sound : own a.who a.seen ≡ a.mine
+    pub apart : own a.who others ≡ []
+    pub legal : IsLegal step start (a.seen ++ others)
+    pub object : home.object ≡ replay step start (a.seen ++ others)
+    pub count : home.count ≡ length (a.seen ++ others)
+
+  -- take lost: nothing changed, and the port has two passes or more (this project's own)
+  pub record Lost (m m' : Me (Home S) (View C R)) : Type 0 where
+    pub start : S
+    pub passes : ℕ
+    pub opens : opened start passes
+    pub same : m' ≡ m
+    pub shared : 2 ≤ passes
+
+  -- a take is won where the exchange found the word free, else lost (this project's own)
+  abbrev pub took : Step (Home S) → Me (Home S) (View C R) → ℕ → Me (Home S) (View C R) → Type 0
+  took st m n m' = (a : Account C R) → m ≡ (view (a ∷ []) false, []) → (n ≡ 0 → Taken a m') × (n ≢ 0 → Lost m m')
+
+  -- a take, by whether it was won (this project's own)
+  abbrev pub Tried : Me (Home S) (View C R) → Bool → Me (Home S) (View C R) → Type 0
+  Tried m won m' = (a : Account C R) → m ≡ (view (a ∷ []) false, []) → MatchBool won (Taken a m') (Lost m m')
+
+-- put: the object is out with the seat, and is what these entries of the holder's lead to (this project's own)
+pub record MayPut {S C R : Type 0} (step : S → C → S × R) (start : S) (es : List (Entry C R)) (m : Me (Home S) (View C R)) : Type 0 where
+  pub holder : Account C R
+  pub home : Home S
+  pub has : m ≡ (view (holder ∷ []) true, (0, home) ∷ [])
+  pub legal : IsLegal step (replay step start holder.seen) es
+  pub whose : All (λ e. e.who ≡ holder.who) es
+  pub object : home.object ≡ replay step start (holder.seen ++ es)
+  pub count : home.count ≡ length (holder.seen ++ es)
+
+module _ {S C R : Type 0} where
+  -- put: the entries are added to what the account has seen and to what it made, and it holds nothing (this project's own)
+  abbrev pub HasPut : List (Entry C R) → Me (Home S) (View C R) → Me (Home S) (View C R) → Type 0
+  HasPut es m m' = (a : Account C R) → m.0 ≡ view (a ∷ []) true → m' ≡ (view (account a.who (a.seen ++ es) (a.mine ++ es) ∷ []) false, [])
+
+  -- put with entry, and put unchanged where there is none; put and wake is the same step (this project's own)
+  abbrev pub put : List (Entry C R) → Step (Home S) → Me (Home S) (View C R) → ℕ → Me (Home S) (View C R) → Type 0
+  put es st m n m' = HasPut es m m'
+
+  -- between calls a seat stands for one pass, and holds nothing (this project's own)
+  abbrev pub IsIdle : Me (Home S) (View C R) → Type 0
+  IsIdle m = (a : Account C R) × (m ≡ (view (a ∷ []) false, []))
+
+  -- the object is out with the seat (this project's own)
+  abbrev pub IsOut : Me (Home S) (View C R) → Type 0
+  IsOut m = (home : Home S) × (m.1 ≡ (0, home) ∷ [])
+
+  -- the history of the object that is out has the last count, and nothing changed (this project's own)
+  pub record IsFull (m m' : Me (Home S) (View C R)) : Type 0 where
+    pub home : Home S
+    pub out : m.1 ≡ (0, home) ∷ []
+    pub last : home.count ≡ 2 ^ 64 - 1
+    pub same : m' ≡ m
+
+  -- the object that is out took a command and gave a reply, and counts one step more (this project's own)
+  pub record Performed (step : S → C → S × R) (cmd : C) (reply : R) (m m' : Me (Home S) (View C R)) : Type 0 where
+    pub home : Home S
+    pub out : m.1 ≡ (0, home) ∷ []
+    pub room : home.count < 2 ^ 64 - 1
+    pub answer : reply ≡ (step home.object cmd).1
+    pub after : m' ≡ (m.0, (0, record { object = (step home.object cmd).0; count = home.count + 1 }) ∷ [])

@@ -1,0 +1,125 @@
+//! The calls of a port, each through a pass.
+ghost use Rattle.std.specs.Prelude.{◌≡◌, ◌-◌, ◌^◌, ◌<◌, ◌≤◌, length, IfOk, IfErr};
+ghost use Rattle.vme_port.specs.Passes.{Adds, Follows};
+ghost use Rattle.vme_object.specs.History.{entry};
+ghost use Rattle.vme_port.specs.Ports.{IsPassOf, opening, passes_of};
+ghost use Rattle.vme_port.specs.Calls.{IfBusy, IfSpent};
+
+use crate::fault::{Spent, TryFault};
+use crate::pass::Pass;
+use crate::port::Port;
+use crate::rule::Marks;
+use crate::seats::{FREE, TAKEN, WANTED};
+use crossbeam_utils::Backoff;
+use std::marker::Brand;
+use std::sync::Wait;
+use vme_object::Object;
+
+/// How often a call tries before it parks.
+const TRIES: u32 = 10;
+
+impl<O: Object> Port<O> {
+    /// One try, which leaves the word as given while it has the object.
+    fn attempt(&self, pass: &mut Pass<O>, cmd: &O::Cmd, word: u64) -> Result<O::Reply, TryFault>
+        requires port { IsPassOf self.now pass.old }
+        requires taken { 0 < word }
+        ensures port { pass.new.port ≡ pass.old.port }
+        ensures who { pass.new.who ≡ pass.old.who }
+        ensures ok { IfOk result (λ r. Adds O.step (opening self.now) (entry pass.old.who cmd.now r) pass.old pass.new) }
+        ensures busy { IfBusy result (pass.new ≡ pass.old) }
+        ensures shared { IfBusy result (2 ≤ passes_of self.now) }
+        ensures spent { IfSpent result (Follows O.step (opening self.now) pass.old pass.new) }
+        ensures full { IfSpent result (length pass.new.seen ≡ 2 ^ 64 - 1) }
+    {
+        if !self.take::<Brand>(&mut pass.seat, word) {
+            return Err(TryFault::Busy);
+        }
+        let Some(reply) = self.perform(&mut pass.seat, cmd) else {
+            self.put_entries::<Brand>(&mut pass.seat);
+            return Err(TryFault::Spent);
+        };
+        self.put_entry::<Brand>(&mut pass.seat, pass.who, cmd, &reply);
+        pass.made += 1;
+        Ok(reply)
+    }
+
+    /// Gives the object one command, if it is at home, and answers its reply. It waits for nobody.
+    ///
+    /// # Errors
+    /// `Busy` where the object is out with another pass, and `Spent` where the history has 2^64 - 1
+    /// entries; neither adds an entry.
+    pub fn try_call(&self, pass: &mut Pass<O>, cmd: &O::Cmd) -> Result<O::Reply, TryFault>
+        requires { IsPassOf self.now pass.old }
+        ensures port { pass.new.port ≡ pass.old.port }
+        ensures who { pass.new.who ≡ pass.old.who }
+        ensures ok { IfOk result (λ r. Adds O.step (opening self.now) (entry pass.old.who cmd.now r) pass.old pass.new) }
+        ensures busy { IfBusy result (pass.new ≡ pass.old) }
+        ensures shared { IfBusy result (2 ≤ passes_of self.now) }
+        ensures spent { IfSpent result (Follows O.step (opening self.now) pass.old pass.new) }
+        ensures full { IfSpent result (length pass.new.seen ≡ 2 ^ 64 - 1) }
+    {
+        self.attempt(pass, cmd, TAKEN)
+    }
+
+    /// Parks until the object may be at home, and tries, until a try is not busy. Each try leaves
+    /// the port wanted, so that its put wakes the next one who waits.
+    fn call_parked<R: Wait>(
+        &self,
+        rt: &R,
+        pass: &mut Pass<O>,
+        cmd: &O::Cmd,
+    ) -> Result<O::Reply, Spent>
+        requires { IsPassOf self.now pass.old }
+        ensures port { pass.new.port ≡ pass.old.port }
+        ensures who { pass.new.who ≡ pass.old.who }
+        ensures ok { IfOk result (λ r. Adds O.step (opening self.now) (entry pass.old.who cmd.now r) pass.old pass.new) }
+        ensures spent { IfErr result (λ _. Follows O.step (opening self.now) pass.old pass.new) }
+        ensures full { IfErr result (λ _. length pass.new.seen ≡ 2 ^ 64 - 1) }
+    {
+        for _ in rt.forever() {
+            if self.mark(pass) != FREE {
+                self.table.shared.park(rt, 0, WANTED as u32);
+            }
+            match self.attempt(pass, cmd, WANTED) {
+                Ok(reply) => return Ok(reply),
+                Err(TryFault::Spent) => return Err(Spent),
+                Err(TryFault::Busy) => {}
+            }
+        }
+        unreachable!()
+    }
+
+    /// Marks the port as wanted, where the object is out, and answers the word as it was.
+    fn mark(&self, pass: &mut Pass<O>) -> u64
+        requires { IsPassOf self.now pass.old }
+        ensures { pass.new ≡ pass.old }
+    {
+        self.table
+            .shared
+            .compare_exchange::<Marks>(&mut pass.seat, 0, TAKEN, WANTED)
+    }
+
+    /// Gives the object one command, as soon as it is at home, and answers its reply. It tries some
+    /// times, and then parks until a put wakes it.
+    ///
+    /// # Errors
+    /// `Spent` where the history has 2^64 - 1 entries; no entry is added.
+    pub fn call<R: Wait>(&self, rt: &R, pass: &mut Pass<O>, cmd: &O::Cmd) -> Result<O::Reply, Spent>
+        requires { IsPassOf self.now pass.old }
+        ensures port { pass.new.port ≡ pass.old.port }
+        ensures who { pass.new.who ≡ pass.old.who }
+        ensures ok { IfOk result (λ r. Adds O.step (opening self.now) (entry pass.old.who cmd.now r) pass.old pass.new) }
+        ensures spent { IfErr result (λ _. Follows O.step (opening self.now) pass.old pass.new) }
+        ensures full { IfErr result (λ _. length pass.new.seen ≡ 2 ^ 64 - 1) }
+    {
+        let backoff = Backoff::new();
+        for _ in 0..TRIES {
+            match self.try_call(pass, cmd) {
+                Ok(reply) => return Ok(reply),
+                Err(TryFault::Spent) => return Err(Spent),
+                Err(TryFault::Busy) => backoff.snooze(),
+            }
+        }
+        self.call_parked(rt, pass, cmd)
+    }
+}

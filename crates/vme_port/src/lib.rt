@@ -1,0 +1,18 @@
+//! A port: one object that callers in any threads share through passes. Its calls make one legal
+//! history that only grows, and a pass knows the part of it that it has seen.
+#![tactic(auto)]
+
+mod calls;
+mod fault;
+mod pass;
+mod port;
+mod rule;
+mod seats;
+mod settle;
+#[cfg(test)]
+mod tests;
+
+pub use fault::{PortFault, Spent, TryFault};
+pub use pass::Pass;
+pub use port::Port;
+pub use settle::Unsettled;

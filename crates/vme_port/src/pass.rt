@@ -1,0 +1,58 @@
+ghost use Rattle.std.specs.Prelude.{◌≡◌, ◌∷◌, [], false, length};
+ghost use Rattle.vme_port.specs.Views.{view};
+ghost use Rattle.vme_port.specs.Passes.{account_of, IsCounted};
+
+use crate::rule::{Home, View};
+use atomic_table::Seat;
+use std::marker::Model;
+use vme_object::Object;
+
+/// What one caller of a port holds: the right to call it, under its number. Contracts see it as a
+/// `PassView`, with the history that it has seen and its own entries there. It can't be copied.
+#[derive(Drop)]
+pub struct Pass<O: Object> {
+    pub(crate) seat: Seat<Home<O>, View<O::Cmd, O::Reply>>,
+    pub(crate) who: usize,
+    pub(crate) made: u64,
+}
+
+impl<O: Object> Model for Pass<O> {
+    ghost use Rattle.vme_port.specs.Passes.{PassView, IsAtRest, seen_by, made_by};
+
+    ghost Value = { PassView O.Cmd O.Reply };
+
+    ghost view = { λ p. record { port = p.seat.table_id; who = p.who; made = p.made; seen = seen_by p.seat.me.0.accounts; mine = made_by p.seat.me.0.accounts } };
+
+    ghost invariant = { λ p. IsAtRest p.seat.me p.who p.made };
+}
+
+impl<O: Object> Pass<O> {
+    /// The number of the pass: its entries are under it.
+    pub fn who(&self) -> usize
+        ensures { result ≡ self.now.who }
+    {
+        self.who
+    }
+
+    /// How many entries the pass added.
+    pub fn made(&self) -> u64
+        ensures made { result ≡ self.now.made }
+        ensures entries { result ≡ length self.now.mine }
+    {
+        self.made
+    }
+
+    /// The seat of the pass, which stands for it alone.
+    pub(crate) fn into_seat(self) -> Seat<Home<O>, View<O::Cmd, O::Reply>>
+        ensures port { result.table_id ≡ self.port }
+        ensures alone { result.me ≡ (view (account_of self ∷ []) false, []) }
+        ensures counted { IsCounted self }
+    {
+        let Pass {
+            seat,
+            who: _,
+            made: _,
+        } = self;
+        seat
+    }
+}

@@ -1,0 +1,123 @@
+ghost use Rattle.std.specs.Prelude.{◌≡◌, ◌+◌, ◌<◌, ◌≤◌, ◌⊎◌, [], vec_len, vec_capacity, All, IfOk};
+ghost use mathlib.Core.Logic.{◌↔◌};
+ghost use Rattle.vme_object.specs.Each.{Each};
+ghost use Rattle.vme_port.specs.Views.{StandsFor};
+ghost use Rattle.vme_port.specs.Passes.{IsUnused};
+
+use crate::fault::PortFault;
+use crate::pass::Pass;
+use crate::rule::{Dealing, Home, Law, Opening, View};
+use crate::seats::FREE;
+use atomic_table::{Seat, Table};
+use std::alloc::{AllocError, Global};
+use std::snapshot::Snapshot;
+use vme_object::Object;
+
+/// The most passes that a port has.
+const MOST_PASSES: usize = 21;
+
+/// One object that callers in any threads share, each through a pass of its own.
+#[derive(Drop)]
+pub struct Port<O: Object> {
+    pub(crate) table: Table<Home<O>, View<O::Cmd, O::Reply>, Opening<O>, Law<O>, Global>,
+    pub(crate) passes: usize,
+    ghost words: { table.shared.table_id.words ≡ 1 },
+    ghost slots: { table.shared.table_id.slots ≡ 1 },
+    ghost all: { passes ≡ table.shared.key.passes },
+    ghost some: { 0 < passes },
+}
+
+/// The passes of a port that was just opened are all with one seat.
+struct Opened<O: Object> {
+    port: Port<O>,
+    seat: Seat<Home<O>, View<O::Cmd, O::Reply>>,
+}
+
+impl<O: Object> Port<O> {
+    ghost use Rattle.vme_port.specs.Ports.{IsPassOf, port_id, opening, passes_of};
+    ghost use Rattle.vme_port.specs.Calls.{IsBadCount};
+
+    /// Opens a port of an object, for 1 to 21 passes, which have the numbers from 0 on.
+    ///
+    /// # Errors
+    /// `BadCount` where the number of passes is another, else `OutOfMemory`; the object is dropped.
+    pub fn new(alloc: Global, object: O, count: usize) -> Result<(Port<O>, Vec<Pass<O>>), PortFault>
+    where
+        O: Drop,
+        ensures bad_count { IsBadCount result ↔ ((count ≡ 0) ⊎ (21 < count)) }
+        ensures opening { IfOk result (λ r. opening r.0 ≡ object) }
+        ensures passes { IfOk result (λ r. passes_of r.0 ≡ count) }
+        ensures count { IfOk result (λ r. vec_len r.1 ≡ count) }
+        ensures unused { IfOk result (λ r. Each (λ i p. IsUnused (port_id r.0) i p) r.1.items) }
+        ensures port { IfOk result (λ r. All (IsPassOf r.0) r.1.items) }
+    {
+        if count == 0 {
+            return Err(PortFault::BadCount);
+        }
+        if count > MOST_PASSES {
+            return Err(PortFault::BadCount);
+        }
+        let Ok(mut passes) = Vec::with_capacity(alloc, count) else {
+            return Err(PortFault::OutOfMemory);
+        };
+        let Ok(opened) = Port::open(alloc, object, count) else {
+            return Err(PortFault::OutOfMemory);
+        };
+        let Opened { port, seat } = opened;
+        port.deal(seat, &mut passes);
+        Ok((port, passes))
+    }
+
+    /// The port, with one seat that has all its passes.
+    fn open(alloc: Global, object: O, passes: usize) -> Result<Opened<O>, AllocError>
+    where
+        O: Drop,
+        requires { 0 < passes }
+        ensures opening { IfOk result (λ o. opening o.port ≡ object) }
+        ensures passes { IfOk result (λ o. passes_of o.port ≡ passes) }
+        ensures seat { IfOk result (λ o. o.seat.table_id ≡ port_id o.port) }
+        ensures all { IfOk result (λ o. StandsFor passes 0 o.seat.me) }
+    {
+        let key = Opening {
+            start: Snapshot::of(&object),
+            passes,
+        };
+        let mut slots = Vec::with_capacity(alloc, 1)?;
+        slots.push_reserved(Home { object, count: 0 });
+        let Ok((table, seat)) = Table::new(alloc, &[FREE], slots, &key) else {
+            return Err(AllocError);
+        };
+        Ok(Opened {
+            port: Port { table, passes },
+            seat,
+        })
+    }
+
+    /// Cuts off the seat's first account, and gives it a pass of its own.
+    fn deal_one(&self, seat: &mut Seat<Home<O>, View<O::Cmd, O::Reply>>, who: usize) -> Pass<O>
+        requires port { seat.old.table_id ≡ port_id self.now }
+        requires below { who < passes_of self.now }
+        requires all { StandsFor (passes_of self.now) who seat.old.me }
+        ensures port { seat.new.table_id ≡ seat.old.table_id }
+        ensures all { StandsFor (passes_of self.now) (who + 1) seat.new.me }
+        ensures unused { IsUnused (port_id self.now) who result }
+    {
+        let seat = self.table.shared.split_seat::<Dealing>(seat);
+        Pass { seat, who, made: 0 }
+    }
+
+    /// Gives each account of the seat a pass of its own.
+    fn deal(&self, mut seat: Seat<Home<O>, View<O::Cmd, O::Reply>>, passes: &mut Vec<Pass<O>>)
+        requires port { seat.table_id ≡ port_id self.now }
+        requires all { StandsFor (passes_of self.now) 0 seat.me }
+        requires empty { passes.old.items ≡ [] }
+        requires room { passes_of self.now ≤ vec_capacity passes.old }
+        ensures count { vec_len passes.new ≡ passes_of self.now }
+        ensures unused { Each (λ i p. IsUnused (port_id self.now) i p) passes.new.items }
+    {
+        for who in 0..self.passes {
+            let pass = self.deal_one(&mut seat, who);
+            passes.push_reserved(pass);
+        }
+    }
+}

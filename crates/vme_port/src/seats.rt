@@ -1,0 +1,91 @@
+//! What a call does with its seat: it takes the object, performs a command on it, and puts it home.
+ghost use Rattle.std.specs.Prelude.{◌≡◌, ◌<◌, ◌∷◌, [], MatchOption};
+ghost use Rattle.vme_port.specs.Steps.{IsIdle, IsOut, IsFull, Performed, Tried, MayPut, HasPut};
+ghost use Rattle.vme_object.specs.History.{entry};
+ghost use Rattle.vme_port.specs.Ports.{port_id, opening, passes_of};
+
+use crate::port::Port;
+use crate::rule::{Home, Knows, Puts, Takes, Told, View};
+use atomic_table::Seat;
+use vme_object::{Object, next_count};
+
+/// The word where the object is at home.
+pub(crate) const FREE: u64 = 0;
+
+/// The word where it is out, and nobody is known to wait for it.
+pub(crate) const TAKEN: u64 = 1;
+
+/// The word where it is out, and somebody may wait for it.
+pub(crate) const WANTED: u64 = 2;
+
+impl<O: Object> Port<O> {
+    /// Takes the object, where it is at home; the word is then as given.
+    pub(crate) fn take<W: Knows<O>>(
+        &self,
+        seat: &mut Seat<Home<O>, View<O::Cmd, O::Reply>>,
+        word: u64,
+    ) -> bool
+        requires port { seat.old.table_id ≡ port_id self.now }
+        requires taken { 0 < word }
+        requires idle { IsIdle seat.old.me }
+        requires opened { W.opened (opening self.now) (passes_of self.now) }
+        ensures port { seat.new.table_id ≡ seat.old.table_id }
+        ensures told { Tried O.step W.opened seat.old.me result seat.new.me }
+    {
+        self.table
+            .shared
+            .compare_exchange::<Takes<O, W>>(seat, 0, FREE, word)
+            == FREE
+    }
+
+    /// Performs a command on the object that is out with the seat, unless its history is full.
+    pub(crate) fn perform(
+        &self,
+        seat: &mut Seat<Home<O>, View<O::Cmd, O::Reply>>,
+        cmd: &O::Cmd,
+    ) -> Option<O::Reply>
+        requires port { seat.old.table_id ≡ port_id self.now }
+        requires out { IsOut seat.old.me }
+        ensures port { seat.new.table_id ≡ seat.old.table_id }
+        ensures done { MatchOption result (IsFull seat.old.me seat.new.me) (λ r. Performed O.step cmd.now r seat.old.me seat.new.me) }
+    {
+        let home = seat.slot_mut(&self.table.shared, 0);
+        let Some(count) = next_count(home.count) else {
+            return None;
+        };
+        home.count = count;
+        Some(home.object.apply(cmd))
+    }
+
+    /// Puts the object home with these entries behind its history, and wakes one who waits for it.
+    pub(crate) fn put_entries<W: Told<O::Cmd, O::Reply>>(
+        &self,
+        seat: &mut Seat<Home<O>, View<O::Cmd, O::Reply>>,
+    )
+        requires port { seat.old.table_id ≡ port_id self.now }
+        requires out { MayPut O.step (opening self.now) W.told seat.old.me }
+        ensures port { seat.new.table_id ≡ seat.old.table_id }
+        ensures told { HasPut W.told seat.old.me seat.new.me }
+    {
+        if self.table.shared.swap::<Puts<O, W>>(seat, 0, FREE) == WANTED {
+            self.table.shared.wake_one(0);
+        }
+    }
+
+    /// Puts the object home with one entry. The entry is named so that the call can pick it.
+    pub(crate) fn put_entry<W: Told<O::Cmd, O::Reply>>(
+        &self,
+        seat: &mut Seat<Home<O>, View<O::Cmd, O::Reply>>,
+        who: usize,
+        cmd: &O::Cmd,
+        reply: &O::Reply,
+    )
+        requires port { seat.old.table_id ≡ port_id self.now }
+        requires told { W.told ≡ entry who cmd.now reply.now ∷ [] }
+        requires out { MayPut O.step (opening self.now) (entry who cmd.now reply.now ∷ []) seat.old.me }
+        ensures port { seat.new.table_id ≡ seat.old.table_id }
+        ensures told { HasPut (entry who cmd.now reply.now ∷ []) seat.old.me seat.new.me }
+    {
+        self.put_entries::<W>(seat);
+    }
+}
