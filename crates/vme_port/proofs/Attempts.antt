@@ -11,7 +11,7 @@ use Rattle.vme_port.specs.declared.rule.Account.{Account}
 use Rattle.vme_port.specs.declared.rule.View.{View}
 use Rattle.vme_port.specs.declared.rule.Home.{Home}
 use Rattle.vme_port.specs.Views.{account, view}
-use Rattle.vme_port.specs.Steps.{Taken, Lost, MayPut, HasPut, IsIdle, IsOut, IsFull, Performed}
+use Rattle.vme_port.specs.Steps.{Taken, Lost, MayPut, HasPut, IsOut, IsFull, Performed}
 use Rattle.vme_port.specs.Passes.{PassView, IsAtRest, seen_by, made_by, Follows, Adds}
 use Rattle.vme_port.proofs.Accounts.{own_all}
 
