@@ -1,4 +1,2 @@
-pub mod Cutting
-pub mod Digits
 pub mod Texts
 pub mod Data

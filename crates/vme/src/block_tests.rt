@@ -1,8 +1,6 @@
 //! Worked examples of unaligned cycles and of blocks.
-use crate::print::print_berr;
 use crate::status::Status;
 use crate::tests::check;
-use std::alloc::AllocError;
 use std::test::Fail;
 
 #[test]
@@ -119,21 +117,6 @@ fn refuses_blocks(rt: HostRuntime) -> Result<(), Fail> {
     ];
     for (input, text) in cases {
         check(&rt, rt.alloc(), input, text, Status::Marked)?;
-    }
-    Ok(())
-}
-
-#[test]
-fn tells_what_was_read_before_a_bus_error(rt: HostRuntime) -> Result<(), Fail> {
-    for (count, bytes, line) in [
-        (0u16, [].as_slice(), "berr 0\n"),
-        (1, [0u8, 0, 0, 0].as_slice(), "berr 1 00000000\n"),
-        (255, [0xa5].as_slice(), "berr 255 a5\n"),
-    ] {
-        let mut text = Vec::new(rt.alloc());
-        let printed: Result<(), AllocError> = print_berr(&mut text, count, bytes);
-        assert_eq!(rt; printed, Ok(()));
-        assert_eq!(rt; text.as_slice(), line.as_bytes());
     }
     Ok(())
 }

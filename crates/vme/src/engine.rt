@@ -7,10 +7,10 @@ ghost use Rattle.vme.specs.Ends.{IsInputFault, IsAnswerFault, IsReadingFault, Re
 
 use crate::answer::answer_line;
 use crate::bus::Bus;
-use crate::lines::Lines;
 use crate::status::{ProgramFault, Status};
 use std::alloc::Global;
 use vme_io::{Sink, Source, write_all};
+use vme_script::Lines;
 
 /// The greatest number of bytes of an input.
 pub const INPUT_LIMIT: usize = 1_048_576;

@@ -1,6 +1,5 @@
 //! Worked examples, with values from the tables of the standard and of this project's profile.
 use crate::engine::{INPUT_LIMIT, cycles_engine};
-use crate::parse::LineFault;
 use crate::status::{ProgramFault, Status, exit_status};
 use crate::words::{Form, WordsFault, read_words};
 use std::alloc::{AllocError, Global};
@@ -275,17 +274,5 @@ fn tells_faults(rt: HostRuntime) -> Result<(), Fail> {
         WordsFault::Memory.to_string(rt.alloc())?.as_str(),
         "memory"
     );
-    let lines = [
-        (LineFault::LineTooLong, "S1"),
-        (LineFault::UnknownWord, "S2"),
-        (LineFault::WordCount, "S3"),
-        (LineFault::BadCode, "S4"),
-        (LineFault::BadAddress, "S5"),
-        (LineFault::BadNumber, "S6"),
-        (LineFault::BadBytes, "S7"),
-    ];
-    for (fault, text) in lines {
-        assert_eq!(rt; fault.to_string(rt.alloc())?.as_str(), text);
-    }
     Ok(())
 }

@@ -2,7 +2,7 @@
 use Rattle.std.proofs.Common.{◌≡◌, ◌+◌, ◌<◌, [], ◌++◌, length, length-append, ap, ◌∙◌, sym, arith}
 use Rattle.std.proofs.lemmas.List.{append-nil}
 use Rattle.vme_cycle.specs.Requests.{datum_len, count_of}
-use Rattle.vme.specs.Texts.{Berr, outcome_text, ended}
+use Rattle.vme_script.specs.Texts.{Berr, outcome_text, ended}
 use Rattle.vme.specs.Answers.{after_text, transfer_answer}
 use Rattle.vme.proofs.Data.{datum_more, room_more}
 use Rattle.vme.proofs.answer.answer_data.Goals as goal
@@ -15,7 +15,7 @@ returns-in-Berr-clause-text c =
     c.answer_datum.new.text.items c.loop-i.replied.items c.in_ok-datum.field-0 (after_text c.args.text.now.items (transfer_answer c.args.bus.now c.args.plan.now))
     less c.loop-i.invariant.answer c.in_ok-datum.ensures.text c.in_ok-datum.ensures.reply c.in_ok-datum.ensures.board in
     let whole = rw c.in-Berr.is at more in
-    c.in_ok-print_berr-in-Berr.ensures
+    c.in_ok-print_berr-in-Berr.ensures.text
     ∙ ap (λ read. c.answer_datum.new.text.items ++ ended (outcome_text (Berr c.loop-i.i read))) c.as_slice.ensures.value
     ∙ ap (λ answer. answer.text) whole
 

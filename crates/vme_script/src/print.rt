@@ -1,7 +1,7 @@
 //! The text of signals, outcomes and refusals, appended to a buffer.
 ghost use Rattle.std.specs.Prelude.{◌≡◌, ◌++◌, ◌<◌, [], ◌∷◌, OnOk, codes};
 ghost use Rattle.std.specs.Fmt.{decimal};
-ghost use Rattle.vme.specs.Texts.{digit, hex_byte, hex_text, level, lane_text, address_text, levels_text, data_text, signals_text, Read, Done, Old, Berr, more_bytes, outcome_text, cycle_fault_text, line_fault_text, ended};
+ghost use Rattle.vme_script.specs.Texts.{digit, hex_byte, hex_text, level, lane_text, address_text, levels_text, data_text, signals_text, Read, Done, Old, Berr, more_bytes, outcome_text, cycle_fault_text, line_fault_text, ended};
 
 use crate::parse::LineFault;
 use std::alloc::AllocError;
@@ -110,7 +110,7 @@ fn push_end(text: &mut Vec<u8>) -> Result<(), AllocError>
 /// Appends the line of the signals of a cycle.
 #[tactic(auto, unfolding(crate::specs::Texts::signals_text))]
 pub fn print_signals(text: &mut Vec<u8>, signals: &Signals) -> Result<(), AllocError>
-    ensures { OnOk result (text.new.items ≡ text.old.items ++ ended (signals_text signals.now)) }
+    ensures text { OnOk result (text.new.items ≡ text.old.items ++ ended (signals_text signals.now)) }
 {
     push_text(text, &address(signals.am().code(), signals.addr()))?;
     push_text(text, &levels(signals))?;
@@ -127,7 +127,7 @@ fn push_decimal(text: &mut Vec<u8>, n: u16) -> Result<(), AllocError>
 /// Appends the line of a transfer that read these bytes.
 #[tactic(auto, unfolding(crate::specs::Texts::outcome_text))]
 pub fn print_read(text: &mut Vec<u8>, bytes: &[u8]) -> Result<(), AllocError>
-    ensures { OnOk result
+    ensures text { OnOk result
         (text.new.items ≡ text.old.items ++ ended (outcome_text (Read bytes.now))) }
 {
     push_text(text, b"read ")?;
@@ -138,7 +138,7 @@ pub fn print_read(text: &mut Vec<u8>, bytes: &[u8]) -> Result<(), AllocError>
 /// Appends the line of a read-modify-write that found these bytes.
 #[tactic(auto, unfolding(crate::specs::Texts::outcome_text))]
 pub fn print_old(text: &mut Vec<u8>, bytes: &[u8]) -> Result<(), AllocError>
-    ensures { OnOk result
+    ensures text { OnOk result
         (text.new.items ≡ text.old.items ++ ended (outcome_text (Old bytes.now))) }
 {
     push_text(text, b"old ")?;
@@ -149,7 +149,7 @@ pub fn print_old(text: &mut Vec<u8>, bytes: &[u8]) -> Result<(), AllocError>
 /// Appends the line of a transfer that wrote all its data.
 #[tactic(auto, unfolding(crate::specs::Texts::outcome_text))]
 pub fn print_done(text: &mut Vec<u8>) -> Result<(), AllocError>
-    ensures { OnOk result (text.new.items ≡ text.old.items ++ ended (outcome_text Done)) }
+    ensures text { OnOk result (text.new.items ≡ text.old.items ++ ended (outcome_text Done)) }
 {
     push_text(text, b"done")?;
     push_end(text)
@@ -159,7 +159,7 @@ pub fn print_done(text: &mut Vec<u8>) -> Result<(), AllocError>
 /// read by then.
 #[tactic(auto, unfolding(crate::specs::Texts::outcome_text))]
 pub fn print_berr(text: &mut Vec<u8>, count: u16, bytes: &[u8]) -> Result<(), AllocError>
-    ensures { OnOk result
+    ensures text { OnOk result
         (text.new.items ≡ text.old.items ++ ended (outcome_text (Berr count bytes.now))) }
 {
     push_text(text, b"berr ")?;
@@ -180,7 +180,7 @@ fn push_more_bytes(text: &mut Vec<u8>, bytes: &[u8]) -> Result<(), AllocError>
 
 /// Appends the line that tells why a request is refused.
 pub fn print_refusal(text: &mut Vec<u8>, fault: CycleFault) -> Result<(), AllocError>
-    ensures { OnOk result
+    ensures text { OnOk result
         (text.new.items ≡ text.old.items ++ ended (codes "refused " ++ cycle_fault_text fault)) }
 {
     push_text(text, b"refused ")?;
@@ -190,7 +190,7 @@ pub fn print_refusal(text: &mut Vec<u8>, fault: CycleFault) -> Result<(), AllocE
 
 /// Appends the line that tells why a line is refused.
 pub fn print_line_refusal(text: &mut Vec<u8>, fault: LineFault) -> Result<(), AllocError>
-    ensures { OnOk result
+    ensures text { OnOk result
         (text.new.items ≡ text.old.items ++ ended (codes "line refused " ++ line_fault_text fault)) }
 {
     push_text(text, b"line refused ")?;

@@ -1,8 +1,8 @@
 //! The lines of requests.
 ghost use Rattle.std.specs.Prelude.{◌≡◌, ◌==◌, length};
 ghost use Rattle.std.specs.Option.{option_map};
-ghost use Rattle.vme.specs.Words.{words};
-ghost use Rattle.vme.specs.Grammar.{three, four, five, four_and_more, place_of, read_request, write_request, block_read_request, block_write_request, block_fill_request, function_named, operand_count, operand, modify_of, modify_request, line_request};
+ghost use Rattle.vme_script.specs.Words.{words};
+ghost use Rattle.vme_script.specs.Grammar.{three, four, five, four_and_more, place_of, read_request, write_request, block_read_request, block_write_request, block_fill_request, function_named, operand_count, operand, modify_of, modify_request, line_request};
 
 use crate::lines::Words;
 use crate::numbers::{count_number, exact_bytes, hex_bytes, hex_number, small_number};
@@ -11,12 +11,12 @@ use vme_cycle::{Modify, Request};
 use vme_lanes::Datum;
 
 /// The greatest number of bytes of a line, without its end.
-pub const LINE_LIMIT: usize = 80;
+const LINE_LIMIT: usize = 80;
 
 /// Why a line asks for nothing that can be understood.
 #[derive(Clone, Copy, Debug, PartialEq, Eq, Error)]
 pub enum LineFault {
-    /// S1: more than `LINE_LIMIT` bytes.
+    /// S1: more than 80 bytes.
     #[error("S1")]
     LineTooLong,
     /// S2: the first word is no command, or the word in a function's place is none.
@@ -42,7 +42,7 @@ pub enum LineFault {
 /// Reads a line, without its end. An empty line, a line of spaces and a comment ask for nothing.
 #[tactic(auto, unfolding(crate::specs::Grammar::line_request, crate::specs::Grammar::request_of))]
 pub fn parse_line(line: &[u8]) -> Result<Option<Request>, LineFault>
-    ensures { result ≡ line_request line.now }
+    ensures request { result ≡ line_request line.now }
 {
     if line.len() > LINE_LIMIT {
         return Err(LineFault::LineTooLong);

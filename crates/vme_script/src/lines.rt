@@ -3,7 +3,7 @@ ghost use Rattle.std.specs.Prelude.{◌≡◌, ◌==◌, ◌<◌, [], ◌∷◌,
 ghost use Rattle.std.specs.List.{position};
 ghost use Rattle.std.specs.Str.Lines.{lines, strip_carriage_return};
 ghost use Rattle.std.specs.Iterator.{YieldsFirstRef, item_count};
-ghost use Rattle.vme.specs.Words.{words, IsCut, IsUncut};
+ghost use Rattle.vme_script.specs.Words.{words, IsCut, IsUncut};
 
 const LINE_END: u8 = b'\n';
 
@@ -77,7 +77,7 @@ pub struct Lines<'a> {
 impl<'a> Lines<'a> {
     /// The lines of a text.
     pub fn new(text: &'a [u8]) -> Lines<'a>
-        ensures { result.rest.now ≡ text.now }
+        ensures text { result.rest.now ≡ text.now }
     {
         Lines { rest: text }
     }
@@ -102,14 +102,14 @@ impl<'a> Iterator for Lines<'a> {
 
 /// The words of a line: the longest runs of bytes other than space.
 #[derive(Clone, Copy)]
-pub struct Words<'a> {
+pub(crate) struct Words<'a> {
     /// What is left of the line.
-    pub rest: &'a [u8],
+    pub(crate) rest: &'a [u8],
 }
 
 impl<'a> Words<'a> {
     /// The words of a line.
-    pub fn new(line: &'a [u8]) -> Words<'a>
+    pub(crate) fn new(line: &'a [u8]) -> Words<'a>
         ensures { result.rest.now ≡ line.now }
     {
         Words { rest: line }
