@@ -1,3 +1,1 @@
-pub mod Ends
-pub mod Answers
-pub mod Engine
+pub mod Words

@@ -5,6 +5,7 @@ use crate::{
 };
 use std::test::Fail;
 use vme_cycle::{CycleFault, Plan, Request};
+use vme_lanes::Datum;
 
 #[test]
 fn cuts_lines(rt: HostRuntime) -> Result<(), Fail> {
@@ -51,22 +52,24 @@ fn reads_requests(rt: HostRuntime) -> Result<(), Fail> {
 
 #[test]
 fn prints_signals_and_outcomes(rt: HostRuntime) -> Result<(), Fail> {
-    let request = Request::Read {
+    let request = Request::Write {
         am: 0x0d,
         addr: 0xffe,
-        n: 2,
+        bytes: Datum::try_from([0xbe, 0xef].as_slice()).unwrap_or_default(),
     };
     let mut text = Vec::new(rt.alloc());
-    match Plan::of(&request) {
-        Ok(plan) => print_signals(&mut text, &plan.signals(0).answered(&[0xbe, 0xef]))?,
-        Err(fault) => print_refusal(&mut text, fault)?,
+    let Ok(plan) = Plan::of(&request) else {
+        panic!(rt; "refused")
+    };
+    for i in 0..plan.len() {
+        print_signals(&mut text, &plan.signals(i))?;
     }
     print_read(&mut text, &[0xbe, 0xef])?;
     print_done(&mut text)?;
     print_old(&mut text, &[0x01, 0x02])?;
     print_refusal(&mut text, CycleFault::NoCycle)?;
     print_line_refusal(&mut text, LineFault::BadAddress)?;
-    let lines = "am=0d a=00000ffc ds1=0 ds0=0 a01=1 lword=1 write=1 data=----beef
+    let lines = "am=0d a=00000ffc ds1=0 ds0=0 a01=1 lword=1 write=0 data=----beef
 read beef
 done
 old 0102

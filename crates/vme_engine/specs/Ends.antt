@@ -1,13 +1,11 @@
 -- How a run ends: its faults by the part of the run that they come from, and the exit status.
 use Rattle.std.specs.Prelude.{◌≡◌, ℕ, ◌+◌, List, length, Option, Result, Ok, Err}
 use Rattle.std.specs.Io.KnownBytes.{Consumes}
-use Rattle.vme.specs.declared.engine.TheConstants.{INPUT_LIMIT}
-use Rattle.vme.specs.declared.status.Status.{Status}
-use Rattle.vme.specs.declared.status.Status.TheVariants.{Clean, Marked}
-use Rattle.vme.specs.declared.status.ProgramFault.{ProgramFault}
-use Rattle.vme.specs.declared.status.ProgramFault.TheVariants.{Read, TooLong, Write, Memory}
-use Rattle.vme.specs.declared.words.WordsFault.{WordsFault}
-use Rattle.vme.specs.declared.words.WordsFault.TheVariants as words
+use Rattle.vme_engine.specs.declared.engine.TheConstants.{INPUT_LIMIT}
+use Rattle.vme_engine.specs.declared.status.Status.{Status}
+use Rattle.vme_engine.specs.declared.status.Status.TheVariants.{Clean, Marked}
+use Rattle.vme_engine.specs.declared.status.ProgramFault.{ProgramFault}
+use Rattle.vme_engine.specs.declared.status.ProgramFault.TheVariants.{Read, TooLong, Write, Memory}
 
 -- marked where one of the two is (this project's own)
 abbrev pub worse : Status → Status → Status
@@ -45,8 +43,3 @@ abbrev pub exit_status_of : Result Status ProgramFault → ℕ
 exit_status_of (Ok Clean) = 0
 exit_status_of (Ok Marked) = 1
 exit_status_of (Err fault) = 3
-
--- the exit status for words that can't be read (this project's own)
-abbrev pub words_status_of : WordsFault → ℕ
-words_status_of words.Usage = 2
-words_status_of words.Memory = 3

@@ -1,5 +1,5 @@
 //! Worked examples of unaligned cycles and of blocks.
-use crate::status::Status;
+use crate::Status;
 use crate::tests::check;
 use std::test::Fail;
 

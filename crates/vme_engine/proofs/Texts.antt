@@ -3,11 +3,11 @@ use Rattle.std.proofs.Common.{◌≡◌, ℕ, List, [], ◌∷◌, ◌++◌, ref
 use Rattle.std.proofs.lemmas.List.{append-nil}
 use Rattle.std.specs.Str.Lines.{lines}
 use Rattle.vme_memory.specs.Boards.{Board}
-use Rattle.vme.specs.Answers.{answer}
-use Rattle.vme.specs.declared.status.Status.{Status}
-use Rattle.vme.specs.declared.status.Status.TheVariants.{Clean, Marked}
-use Rattle.vme.specs.Ends.{worse}
-use Rattle.vme.specs.Engine.{text_of, status_after}
+use Rattle.vme_engine.specs.Answers.{answer}
+use Rattle.vme_engine.specs.declared.status.Status.{Status}
+use Rattle.vme_engine.specs.declared.status.Status.TheVariants.{Clean, Marked}
+use Rattle.vme_engine.specs.Ends.{worse}
+use Rattle.vme_engine.specs.Engine.{text_of, status_after}
 
 -- one line more is answered
 pub text_more :

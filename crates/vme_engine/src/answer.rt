@@ -5,7 +5,7 @@ ghost use Rattle.vme_cycle.specs.SignalLines.{row_len, len_at};
 ghost use Rattle.vme_cycle.specs.Plans.{signals_of};
 ghost use Rattle.vme_memory.specs.Steps.{HasLen};
 ghost use Rattle.vme_script.specs.Texts.{outcome_text, ended};
-ghost use Rattle.vme.specs.Answers.{whole, shown, offset_of, reply_at, reply_to, write_half_text, datum_text, transfer_answer, request_answer, answer};
+ghost use Rattle.vme_engine.specs.Answers.{whole, shown, offset_of, reply_at, reply_to, write_half_text, datum_text, transfer_answer, request_answer, answer};
 
 use crate::bus::Bus;
 use crate::status::Status;
@@ -20,7 +20,11 @@ use vme_script::{
 
 /// Answers a line: appends its text, and leaves the board as the line's cycle does.
 #[tactic(auto, unfolding(crate::specs::Answers::answer))]
-pub fn answer_line(bus: &mut Bus, line: &[u8], text: &mut Vec<u8>) -> Result<Status, AllocError>
+pub(crate) fn answer_line(
+    bus: &mut Bus,
+    line: &[u8],
+    text: &mut Vec<u8>,
+) -> Result<Status, AllocError>
     ensures text { OnOk result (text.new.items ≡ text.old.items ++ (answer bus.old line.now).text) }
     ensures board { OnOk result (bus.new ≡ (answer bus.old line.now).board) }
     ensures status { IfOk result (λ status. status ≡ (answer bus.old line.now).status) }

@@ -1,6 +1,6 @@
 ghost use Rattle.std.specs.Prelude.{◌≡◌};
-ghost use Rattle.vme.specs.declared.status.ProgramFault.TheVariants.{Memory};
-ghost use Rattle.vme.specs.Ends.{exit_status_of};
+ghost use Rattle.vme_engine.specs.declared.status.ProgramFault.TheVariants.{Memory};
+ghost use Rattle.vme_engine.specs.Ends.{exit_status_of};
 
 use std::alloc::AllocError;
 use thiserror::Error;
@@ -15,10 +15,10 @@ pub enum Status {
 }
 
 impl Status {
-    ghost use Rattle.vme.specs.Ends.{worse};
+    ghost use Rattle.vme_engine.specs.Ends.{worse};
 
     /// `Marked` where one of the two is.
-    pub fn worse(self, other: Status) -> Status
+    pub(crate) fn worse(self, other: Status) -> Status
         ensures { result ≡ worse self other }
     {
         match self {
@@ -55,7 +55,7 @@ impl From<AllocError> for ProgramFault {
 
 /// The exit status of the program for the end of a run.
 pub fn exit_status(end: &Result<Status, ProgramFault>) -> u8
-    ensures { result ≡ exit_status_of end.now }
+    ensures status { result ≡ exit_status_of end.now }
 {
     match end {
         Ok(Status::Clean) => 0,

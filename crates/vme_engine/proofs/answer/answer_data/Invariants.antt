@@ -1,7 +1,7 @@
 use Rattle.std.proofs.Common.{◌≡◌, ◌+◌, ◌*◌, ◌-◌, ◌≤◌, length}
 use Rattle.vme_cycle.specs.Requests.{datum_len, count_of}
-use Rattle.vme.specs.Answers.{after_text, data_answer, transfer_answer}
-use Rattle.vme.proofs.answer.answer_data.Given as goal
+use Rattle.vme_engine.specs.Answers.{after_text, data_answer, transfer_answer}
+use Rattle.vme_engine.proofs.answer.answer_data.Given as goal
 
 -- the text so far, with the answer to the data that are left, is the whole answer; and there is room for what they read
 abbrev pub invariant-loop-i : goal.invariant-loop-i

@@ -3,10 +3,10 @@ use Rattle.std.proofs.Common.{◌≡◌, ◌+◌, ◌<◌, [], ◌++◌, length,
 use Rattle.std.proofs.lemmas.List.{append-nil}
 use Rattle.vme_cycle.specs.Requests.{datum_len, count_of}
 use Rattle.vme_script.specs.Texts.{Berr, outcome_text, ended}
-use Rattle.vme.specs.Answers.{after_text, transfer_answer}
-use Rattle.vme.proofs.Data.{datum_more, room_more}
-use Rattle.vme.proofs.answer.answer_data.Goals as goal
-use Rattle.vme.proofs.answer.answer_data.Goals.{in-Bytes, in-Done}
+use Rattle.vme_engine.specs.Answers.{after_text, transfer_answer}
+use Rattle.vme_engine.proofs.Data.{datum_more, room_more}
+use Rattle.vme_engine.proofs.answer.answer_data.Goals as goal
+use Rattle.vme_engine.proofs.answer.answer_data.Goals.{in-Bytes, in-Done}
 
 pub returns-in-Berr-clause-text : goal.returns-in-Berr-clause-text
 returns-in-Berr-clause-text c =

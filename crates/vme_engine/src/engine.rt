@@ -2,8 +2,8 @@
 ghost use Rattle.std.specs.Prelude.{◌≡◌, ◌<◌, ◌≤◌, Err, false, true, length, vec_len, IfOk, IfErr, IfSome, OnOk, OnErr};
 ghost use Rattle.std.specs.Io.KnownBytes.{Appends};
 ghost use Rattle.vme_io.specs.Fronts.{AppendsFront};
-ghost use Rattle.vme.specs.Engine.{cycles_text, cycles_status};
-ghost use Rattle.vme.specs.Ends.{IsInputFault, IsAnswerFault, IsReadingFault, ReadsPastLimit};
+ghost use Rattle.vme_engine.specs.Engine.{cycles_text, cycles_status};
+ghost use Rattle.vme_engine.specs.Ends.{IsInputFault, IsAnswerFault, IsReadingFault, ReadsPastLimit};
 
 use crate::answer::answer_line;
 use crate::bus::Bus;

@@ -1,7 +1,5 @@
 //! Worked examples, with values from the tables of the standard and of this project's profile.
-use crate::engine::{INPUT_LIMIT, cycles_engine};
-use crate::status::{ProgramFault, Status, exit_status};
-use crate::words::{Form, WordsFault, read_words};
+use crate::{INPUT_LIMIT, ProgramFault, Status, cycles_engine, exit_status};
 use std::alloc::{AllocError, Global};
 use std::io;
 use std::process::Abort;
@@ -231,30 +229,6 @@ fn runs_over_readers_and_writers_of_std(rt: HostRuntime) -> Result<(), Fail> {
 }
 
 #[test]
-fn reads_its_words(rt: HostRuntime) -> Result<(), Fail> {
-    let cases = [
-        ("vme cycles", Ok(Form::Cycles)),
-        ("vme", Err(WordsFault::Usage)),
-        ("vme x", Err(WordsFault::Usage)),
-        ("vme step", Err(WordsFault::Usage)),
-        ("vme step a.toml", Err(WordsFault::Usage)),
-        ("vme run x", Err(WordsFault::Usage)),
-        ("vme cycles a", Err(WordsFault::Usage)),
-        ("vme --help", Err(WordsFault::Usage)),
-        ("vme cycles --help", Err(WordsFault::Usage)),
-        ("vme help", Err(WordsFault::Usage)),
-    ];
-    for (line, form) in cases {
-        let mut words = Vec::new(rt.alloc());
-        for word in line.split(' ') {
-            words.push(word.to_string(rt.alloc())?)?;
-        }
-        assert_eq!(rt; read_words(rt.alloc(), words.as_slice()), form, "{line}");
-    }
-    Ok(())
-}
-
-#[test]
 fn tells_faults(rt: HostRuntime) -> Result<(), Fail> {
     let faults = [
         (ProgramFault::Read, "read"),
@@ -266,13 +240,5 @@ fn tells_faults(rt: HostRuntime) -> Result<(), Fail> {
         assert_eq!(rt; fault.to_string(rt.alloc())?.as_str(), text);
         assert_eq!(rt; exit_status(&Err(fault)), 3);
     }
-    assert_eq!(rt;
-        WordsFault::Usage.to_string(rt.alloc())?.as_str(),
-        "usage: vme cycles"
-    );
-    assert_eq!(rt;
-        WordsFault::Memory.to_string(rt.alloc())?.as_str(),
-        "memory"
-    );
     Ok(())
 }

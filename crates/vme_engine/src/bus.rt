@@ -1,7 +1,7 @@
 //! The bus of `vme cycles`: one board, and the map that it is alone on.
 ghost use Rattle.std.specs.Prelude.{ℕ, ◌≡◌, ◌<◌, Some, IfOk, IfErr, IfSome};
 ghost use Rattle.std.specs.Option.{option_map};
-ghost use Rattle.vme.specs.Engine.{fresh_board};
+ghost use Rattle.vme_engine.specs.Engine.{fresh_board};
 
 use crate::status::ProgramFault;
 use std::alloc::Global;
@@ -16,7 +16,7 @@ const BOARD_SIZE: u32 = 4096;
 
 /// A bus with one board.
 #[derive(Drop)]
-pub struct Bus {
+pub(crate) struct Bus {
     map: AddressMap,
     memory: ByteMemory,
 }
@@ -24,7 +24,7 @@ pub struct Bus {
 impl Model for Bus {
     ghost use Rattle.std.specs.Prelude.{◌≡◌};
     ghost use Rattle.vme_memory.specs.Boards.{Board};
-    ghost use Rattle.vme.specs.Answers.{board_map};
+    ghost use Rattle.vme_engine.specs.Answers.{board_map};
 
     ghost Value = { Board };
 
@@ -37,10 +37,10 @@ impl Bus {
     ghost use Rattle.vme_cycle.specs.SignalLines.{first_byte, len_at};
     ghost use Rattle.vme_decode.specs.Select.{selected};
     ghost use Rattle.vme_memory.specs.Steps.{cycle, HasLen};
-    ghost use Rattle.vme.specs.Answers.{board_map};
+    ghost use Rattle.vme_engine.specs.Answers.{board_map};
 
     /// The bus with its board all zero.
-    pub fn new(alloc: Global) -> Result<Bus, ProgramFault>
+    pub(crate) fn new(alloc: Global) -> Result<Bus, ProgramFault>
         ensures board { IfOk result (λ bus. bus ≡ fresh_board) }
         ensures faults { IfErr result (λ fault. fault ≡ ProgramFault.Memory) }
     {
@@ -52,7 +52,7 @@ impl Bus {
     }
 
     /// The offset of the first byte of a cycle, where it selects the board.
-    pub fn select(&self, signals: &Signals) -> Option<u32>
+    pub(crate) fn select(&self, signals: &Signals) -> Option<u32>
         ensures value { result ≡ option_map (λ found. found.1) (selected board_map signals.now) }
         ensures within { IfSome result (λ offset.
             (offset < 4096) × (first_byte signals.now ≡ Some offset)) }
@@ -62,7 +62,7 @@ impl Bus {
     }
 
     /// What the board replies to a cycle at an offset.
-    pub fn cycle(&mut self, signals: &Signals, at: u32, f: Option<&Modify>) -> Reply
+    pub(crate) fn cycle(&mut self, signals: &Signals, at: u32, f: Option<&Modify>) -> Reply
         ensures reply { result ≡ (cycle self.old signals.now at (option_map (λ f. f.now) f.entry)).0 }
         ensures board { self.new ≡ (cycle self.old signals.now at (option_map (λ f. f.now) f.entry)).1 }
         ensures len { (len : ℕ) → len_at signals.now at ≡ Some len → HasLen result len }

@@ -3,9 +3,9 @@ use Rattle.std.proofs.Common.{◌≡◌, [], ◌∷◌, ◌++◌, rules}
 use Rattle.std.specs.Str.Lines.{lines}
 use Rattle.vme_io.specs.Fronts.{AppendsFront}
 use Rattle.vme_io.proofs.Appending.{Appends-more, AppendsFront-more}
-use Rattle.vme.specs.Engine.{cycles_text}
-use Rattle.vme.proofs.Texts.{text_more, text_written, text_done, status_more}
-use Rattle.vme.proofs.engine.answer_all.Goals as goal
+use Rattle.vme_engine.specs.Engine.{cycles_text}
+use Rattle.vme_engine.proofs.Texts.{text_more, text_written, text_done, status_more}
+use Rattle.vme_engine.proofs.engine.answer_all.Goals as goal
 
 pub returns-in_err-write_text-clause-front : goal.returns-in_err-write_text-clause-front
 returns-in_err-write_text-clause-front g c =

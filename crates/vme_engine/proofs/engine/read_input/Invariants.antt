@@ -1,6 +1,6 @@
 use Rattle.std.proofs.Common.{◌≡◌, ◌-◌, ◌≤◌, vec_len}
 use Rattle.std.specs.Io.KnownBytes.{Consumes}
-use Rattle.vme.proofs.engine.read_input.Given as goal
+use Rattle.vme_engine.proofs.engine.read_input.Given as goal
 
 -- the bytes so far were consumed, no more than the limit, and no read has failed
 abbrev pub invariant-loop-count : goal.invariant-loop-count
