@@ -1,6 +1,6 @@
 //! The words of the command line.
 ghost use Rattle.std.specs.Prelude.{◌≡◌};
-ghost use Rattle.vme.specs.Ends.{words_status_of};
+ghost use Rattle.vme.specs.Words.{words_status_of};
 
 use clap::error::{Error, ErrorKind};
 use clap::{ArgMatches, Command};

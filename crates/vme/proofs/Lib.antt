@@ -1,4 +1,0 @@
-pub mod Cutting
-pub mod Digits
-pub mod Texts
-pub mod Data

@@ -1,0 +1,128 @@
+//! The engine of `vme cycles`: from the bytes of its input to the bytes of its output.
+ghost use Rattle.std.specs.Prelude.{◌≡◌, ◌<◌, ◌≤◌, Err, false, true, length, vec_len, IfOk, IfErr, IfSome, OnOk, OnErr};
+ghost use Rattle.std.specs.Io.KnownBytes.{Appends};
+ghost use Rattle.vme_io.specs.Fronts.{AppendsFront};
+ghost use Rattle.vme_engine.specs.Engine.{cycles_text, cycles_status};
+ghost use Rattle.vme_engine.specs.Ends.{IsInputFault, IsAnswerFault, IsReadingFault, ReadsPastLimit};
+
+use crate::answer::answer_line;
+use crate::bus::Bus;
+use crate::status::{ProgramFault, Status};
+use std::alloc::Global;
+use vme_io::{Sink, Source, write_all};
+use vme_script::Lines;
+
+/// The greatest number of bytes of an input.
+pub const INPUT_LIMIT: usize = 1_048_576;
+
+/// How many bytes are read at a time.
+const READ_SIZE: usize = 16_384;
+
+/// How many bytes of text are gathered before they are written.
+const WRITE_SIZE: usize = 65_536;
+
+/// Answers each line of the input, in order.
+///
+/// The input is read first, to its end or to one byte past `INPUT_LIMIT`; nothing is written
+/// before that. Of a reader or a writer that tells no bytes only the faults are promised.
+pub fn cycles_engine<R: Source, W: Sink>(
+    alloc: Global,
+    reader: &mut R,
+    writer: &mut W,
+) -> Result<Status, ProgramFault>
+    requires reader_unmarked { R.is_marked reader.old ≡ false }
+    requires writer_unmarked { W.is_marked writer.old ≡ false }
+
+    // What is written is the text of the input, or a front of it before a fault.
+    ensures text { IfSome (R.remaining reader.old) (λ input.
+        OnOk result (Appends (W.contents writer.old) (W.contents writer.new) (cycles_text input))) }
+    ensures front { IfSome (R.remaining reader.old) (λ input.
+        OnErr result (AppendsFront (W.contents writer.old) (W.contents writer.new) (cycles_text input))) }
+    ensures nothing { IsReadingFault result → writer.new ≡ writer.old }
+    ensures status { IfSome (R.remaining reader.old) (λ input.
+        IfOk result (λ status. status ≡ cycles_status input)) }
+
+    // When each fault comes; `Memory` comes where a growth is refused.
+    ensures read { result ≡ Err ProgramFault.Read → R.is_marked reader.new ≡ true }
+    ensures too_long { result ≡ Err ProgramFault.TooLong →
+        IfSome (R.remaining reader.old) (λ input. INPUT_LIMIT < length input) }
+    ensures no_further { result ≡ Err ProgramFault.TooLong →
+        ReadsPastLimit (R.remaining reader.old) (R.remaining reader.new) }
+    ensures within { IfSome (R.remaining reader.old) (λ input.
+        OnOk result (length input ≤ INPUT_LIMIT)) }
+    ensures write { result ≡ Err ProgramFault.Write → W.is_marked writer.new ≡ true }
+    ensures unmarked { OnOk result
+        ((R.is_marked reader.new ≡ false) × (W.is_marked writer.new ≡ false)) }
+{
+    let input = read_input(alloc, reader)?;
+    answer_all(alloc, input.as_slice(), writer)
+}
+
+/// Reads to the end, or to one byte past the limit.
+fn read_input<R: Source>(alloc: Global, reader: &mut R) -> Result<Vec<u8>, ProgramFault>
+    ensures whole { IfOk result (λ input.
+        IfSome (R.remaining reader.old) (λ bytes. bytes ≡ input.items)) }
+    ensures limit { IfOk result (λ input. vec_len input ≤ INPUT_LIMIT) }
+    ensures too_long { result ≡ Err ProgramFault.TooLong →
+        IfSome (R.remaining reader.old) (λ bytes. INPUT_LIMIT < length bytes) }
+    ensures no_further { result ≡ Err ProgramFault.TooLong →
+        ReadsPastLimit (R.remaining reader.old) (R.remaining reader.new) }
+    ensures read { result ≡ Err ProgramFault.Read → R.is_marked reader.new ≡ true }
+    ensures unmarked { OnOk result (R.is_marked reader.new ≡ R.is_marked reader.old) }
+    ensures faults { IfErr result IsInputFault }
+{
+    let mut input = Vec::new(alloc);
+    let mut chunk = [0; READ_SIZE];
+    loop {
+        let room = READ_SIZE.min(INPUT_LIMIT + 1 - input.len());
+        let buffer = &mut chunk[..room];
+        let Ok(count) = reader.read(buffer) else {
+            return Err(ProgramFault::Read);
+        };
+        if count == 0 {
+            return Ok(input);
+        }
+        input.extend_from_slice(buffer.split_at(count).0)?;
+        if INPUT_LIMIT < input.len() {
+            return Err(ProgramFault::TooLong);
+        }
+    }
+}
+
+/// Answers each line of a text. Its answers are gathered and written in large pieces.
+fn answer_all<W: Sink>(alloc: Global, input: &[u8], writer: &mut W) -> Result<Status, ProgramFault>
+    ensures text { OnOk result
+        (Appends (W.contents writer.old) (W.contents writer.new) (cycles_text input.now)) }
+    ensures front { OnErr result
+        (AppendsFront (W.contents writer.old) (W.contents writer.new) (cycles_text input.now)) }
+    ensures status { IfOk result (λ status. status ≡ cycles_status input.now) }
+    ensures write { result ≡ Err ProgramFault.Write → W.is_marked writer.new ≡ true }
+    ensures unmarked { OnOk result (W.is_marked writer.new ≡ W.is_marked writer.old) }
+    ensures faults { IfErr result IsAnswerFault }
+{
+    let mut bus = Bus::new(alloc)?;
+    let mut text = Vec::with_capacity(alloc, WRITE_SIZE)?;
+    let mut status = Status::Clean;
+    for line in Lines::new(input) {
+        status = status.worse(answer_line(&mut bus, line, &mut text)?);
+        if WRITE_SIZE <= text.len() {
+            write_text(writer, text.as_slice())?;
+            text.clear();
+        }
+    }
+    write_text(writer, text.as_slice())?;
+    Ok(status)
+}
+
+fn write_text<W: Sink>(writer: &mut W, text: &[u8]) -> Result<(), ProgramFault>
+    ensures bytes { OnOk result (Appends (W.contents writer.old) (W.contents writer.new) text.now) }
+    ensures front { OnErr result (AppendsFront (W.contents writer.old) (W.contents writer.new) text.now) }
+    ensures unmarked { OnOk result (W.is_marked writer.new ≡ W.is_marked writer.old) }
+    ensures marked { OnErr result (W.is_marked writer.new ≡ true) }
+    ensures faults { IfErr result (λ fault. fault ≡ ProgramFault.Write) }
+{
+    match write_all(writer, text) {
+        Ok(()) => Ok(()),
+        Err(_) => Err(ProgramFault::Write),
+    }
+}

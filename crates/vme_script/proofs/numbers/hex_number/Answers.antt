@@ -1,0 +1,15 @@
+-- The number has room for a digit more.
+use Rattle.std.proofs.Common.{◌<◌, arith}
+use Rattle.vme_cycle.proofs.Numbers.{below_power}
+use Rattle.vme_script.proofs.numbers.hex_number.Goals as goal
+
+pub overflow_mul-number : goal.overflow_mul-number
+overflow_mul-number c =
+    let room = below_power 16 c.loop-digit.number c.loop-digit.digit-index 7 (omega arith) c.loop-digit.invariant.small (omega arith) in
+    omega (arith, room)
+
+pub overflow_add-number : goal.overflow_add-number
+overflow_add-number c =
+    let room = below_power 16 c.loop-digit.number c.loop-digit.digit-index 7 (omega arith) c.loop-digit.invariant.small (omega arith) in
+    let digit : c.in_ok-hex_digit.field-0 < 16 = c.in_ok-hex_digit.ensures.small in
+    omega (arith, room, digit)

@@ -1,0 +1,7 @@
+use Rattle.std.proofs.Common.{◌≡◌, ◌++◌, drop}
+use Rattle.vme_script.specs.Texts.{hex_text}
+use Rattle.vme_script.proofs.print.push_hex_bytes.Given as goal
+
+-- the text so far, with that of the bytes that are left
+abbrev pub invariant-loop-byte : goal.invariant-loop-byte
+invariant-loop-byte l = l.text.items ++ hex_text (drop l.byte-index l.bytes) ≡ l.fn.text.items ++ hex_text l.fn.bytes

@@ -1,0 +1,101 @@
+//! Numbers and bytes as words of a line.
+ghost use Rattle.std.specs.Prelude.{◌≡◌, ◌<◌, ◌≤◌, ◌^◌, IfSome};
+ghost use Rattle.std.specs.Option.{option_map};
+ghost use Rattle.vme_script.specs.Numbers.{hex_digit, hex_number, hex_bytes, exact_bytes, small_number, decimal_digit, count_number};
+
+use arrayvec::ArrayVec;
+use vme_lanes::Datum;
+
+fn hex_digit(c: u8) -> Option<u8>
+    ensures value { result ≡ hex_digit c }
+    ensures small { IfSome result (λ d. d < 16) }
+{
+    match c {
+        b'0'..=b'9' => Some(c - b'0'),
+        b'a'..=b'f' => Some(c - b'a' + 10),
+        b'A'..=b'F' => Some(c - b'A' + 10),
+        _ => None,
+    }
+}
+
+/// The number that a word of `len` hexadecimal digits spells.
+#[tactic(auto, unfolding(crate::specs::Numbers::hex_number))]
+pub(crate) fn hex_number(len: usize, word: &[u8]) -> Option<u32>
+    requires { len ≤ 8 }
+    ensures value { result ≡ hex_number len word.now }
+    ensures small { IfSome result (λ n. n < 16 ^ len) }
+{
+    if word.len() != len {
+        return None;
+    }
+    let mut number: u32 = 0;
+    for digit in word {
+        number = 16 * number + u32::from(hex_digit(*digit)?);
+    }
+    Some(number)
+}
+
+/// The one to `MOST` bytes that a word spells.
+#[tactic(auto, unfolding(crate::specs::Numbers::hex_bytes))]
+pub(crate) fn hex_bytes<const MOST: usize>(word: &[u8]) -> Option<ArrayVec<u8, MOST>>
+    requires { MOST ≤ 256 }
+    ensures { option_map (λ bytes. bytes.items) result ≡ hex_bytes MOST word.now }
+{
+    if word.is_empty() || 2 * MOST < word.len() {
+        return None;
+    }
+    let mut bytes = ArrayVec::new();
+    let mut rest = word;
+    while let [high, low, tail @ ..] = rest {
+        bytes.push(16 * hex_digit(*high)? + hex_digit(*low)?);
+        rest = tail;
+    }
+    if rest.is_empty() { Some(bytes) } else { None }
+}
+
+/// The `len` bytes that a word spells, at most eight.
+#[tactic(auto, unfolding(crate::specs::Numbers::exact_bytes))]
+pub(crate) fn exact_bytes(len: u8, word: &[u8]) -> Option<Datum>
+    ensures { option_map (λ bytes. bytes.items) result ≡ exact_bytes len word.now }
+{
+    if word.len() != 2 * usize::from(len) {
+        return None;
+    }
+    hex_bytes(word)
+}
+
+/// The number that one digit from 1 to 8 spells.
+#[tactic(auto, unfolding(crate::specs::Numbers::small_number))]
+pub(crate) fn small_number(word: &[u8]) -> Option<u8>
+    ensures { result ≡ small_number word.now }
+{
+    match word {
+        [digit @ b'1'..=b'8'] => Some(*digit - b'0'),
+        _ => None,
+    }
+}
+
+fn decimal_digit(c: u8) -> Option<u8>
+    ensures value { result ≡ decimal_digit c }
+    ensures small { IfSome result (λ d. d < 10) }
+{
+    match c {
+        b'0'..=b'9' => Some(c - b'0'),
+        _ => None,
+    }
+}
+
+/// The number that one to four decimal digits spell.
+#[tactic(auto, unfolding(crate::specs::Numbers::count_number))]
+pub(crate) fn count_number(word: &[u8]) -> Option<u16>
+    ensures { result ≡ count_number word.now }
+{
+    if word.is_empty() || 4 < word.len() {
+        return None;
+    }
+    let mut number: u16 = 0;
+    for digit in word {
+        number = 10 * number + u16::from(decimal_digit(*digit)?);
+    }
+    Some(number)
+}
