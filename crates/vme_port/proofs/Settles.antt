@@ -145,6 +145,7 @@ module _ {S C R : Type 0} (step : S → C → S × R) (start : S) (k : ℕ) wher
         legal = told.legal;
         replayed = told.replayed;
         counted = told.counted;
+        known = told.known;
         summed = omega (arith, told.counted, made_owned h passes told.fits counted, owned_once k (map account_of passes) h told.each_who told.known);
         all = sym (length-map passes account_of) ∙ told.all;
         each_who = λ who below. named_passes who passes ∙ told.each_who who below;

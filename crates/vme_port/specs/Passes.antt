@@ -85,12 +85,13 @@ module _ {S C R : Type 0} (step : S → C → S × R) (start : S) where
     pub sound : own p.who q.seen ≡ q.mine
     pub made : q.made ≡ p.made + 1
 
-  -- k passes, one of each who below k, share one history of n entries, which leads to the object: it begins with what each has seen, and has of each just what it made (this project's own)
+  -- k passes, one of each who below k, share one history of n entries of theirs, which leads to the object: it begins with what each has seen, and has of each just what it made (this project's own)
   pub record Settled (k : ℕ) (passes : List (PassView C R)) (object : S) (n : ℕ) : Type 0 where
     pub history : List (Entry C R)
     pub legal : IsLegal step start history
     pub replayed : object ≡ replay step start history
     pub counted : n ≡ length history
+    pub known : All (λ e. e.who < k) history
     pub summed : n ≡ sum_by (λ p. p.made) passes
     pub all : length passes ≡ k
     pub each_who : (who : ℕ) → who < k → count_by (λ p. p.who == who) passes ≡ 1
