@@ -9,7 +9,7 @@ use crate::fault::{Spent, TryFault};
 use crate::pass::Pass;
 use crate::port::Port;
 use crate::rule::Marks;
-use crate::seats::{FREE, TAKEN, WANTED};
+use crate::seats::{FREE, TAKEN, Taking, WANTED};
 use crossbeam_utils::Backoff;
 use std::marker::Brand;
 use std::sync::Wait;
@@ -19,10 +19,14 @@ use vme_object::Object;
 const TRIES: u32 = 10;
 
 impl<O: Object> Port<O> {
-    /// One try, which leaves the word as given while it has the object.
-    fn attempt(&self, pass: &mut Pass<O>, cmd: &O::Cmd, word: u64) -> Result<O::Reply, TryFault>
-        requires port { IsPassOf self.now pass.old }
-        requires taken { 0 < word }
+    /// One try.
+    fn attempt(
+        &self,
+        pass: &mut Pass<O>,
+        cmd: &O::Cmd,
+        taking: Taking,
+    ) -> Result<O::Reply, TryFault>
+        requires { IsPassOf self.now pass.old }
         ensures port { pass.new.port ≡ pass.old.port }
         ensures who { pass.new.who ≡ pass.old.who }
         ensures ok { IfOk result (λ r. Adds O.step (opening self.now) (entry pass.old.who cmd.now r) pass.old pass.new) }
@@ -31,7 +35,7 @@ impl<O: Object> Port<O> {
         ensures spent { IfSpent result (Follows O.step (opening self.now) pass.old pass.new) }
         ensures full { IfSpent result (length pass.new.seen ≡ 2 ^ 64 - 1) }
     {
-        if !self.take::<Brand>(&mut pass.seat, word) {
+        if !self.take::<Brand>(&mut pass.seat, taking) {
             return Err(TryFault::Busy);
         }
         let Some(reply) = self.perform(&mut pass.seat, cmd) else {
@@ -58,7 +62,7 @@ impl<O: Object> Port<O> {
         ensures spent { IfSpent result (Follows O.step (opening self.now) pass.old pass.new) }
         ensures full { IfSpent result (length pass.new.seen ≡ 2 ^ 64 - 1) }
     {
-        self.attempt(pass, cmd, TAKEN)
+        self.attempt(pass, cmd, Taking::Alone)
     }
 
     /// Parks until the object may be at home, and tries, until a try is not busy. Each try leaves
@@ -80,7 +84,7 @@ impl<O: Object> Port<O> {
             if self.mark(pass) != FREE {
                 self.table.shared.park(rt, 0, WANTED as u32);
             }
-            match self.attempt(pass, cmd, WANTED) {
+            match self.attempt(pass, cmd, Taking::Wanted) {
                 Ok(reply) => return Ok(reply),
                 Err(TryFault::Spent) => return Err(Spent),
                 Err(TryFault::Busy) => {}

@@ -18,15 +18,35 @@ pub(crate) const TAKEN: u64 = 1;
 /// The word where it is out, and somebody may wait for it.
 pub(crate) const WANTED: u64 = 2;
 
+/// How a call takes the object.
+#[derive(Clone, Copy)]
+pub(crate) enum Taking {
+    /// Nobody is known to wait for it.
+    Alone,
+    /// Somebody may wait for it, so the put is to wake one.
+    Wanted,
+}
+
+impl Taking {
+    /// The word while the object is out.
+    fn word(self) -> u64
+        ensures { 0 < result }
+    {
+        match self {
+            Taking::Alone => TAKEN,
+            Taking::Wanted => WANTED,
+        }
+    }
+}
+
 impl<O: Object> Port<O> {
-    /// Takes the object, where it is at home; the word is then as given.
+    /// Takes the object, where it is at home.
     pub(crate) fn take<W: Knows<O>>(
         &self,
         seat: &mut Seat<Home<O>, View<O::Cmd, O::Reply>>,
-        word: u64,
+        taking: Taking,
     ) -> bool
         requires port { seat.old.table_id ≡ port_id self.now }
-        requires taken { 0 < word }
         requires idle { IsIdle seat.old.me }
         requires opened { W.opened (opening self.now) (passes_of self.now) }
         ensures port { seat.new.table_id ≡ seat.old.table_id }
@@ -34,7 +54,7 @@ impl<O: Object> Port<O> {
     {
         self.table
             .shared
-            .compare_exchange::<Takes<O, W>>(seat, 0, FREE, word)
+            .compare_exchange::<Takes<O, W>>(seat, 0, FREE, taking.word())
             == FREE
     }
 
