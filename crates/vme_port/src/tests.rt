@@ -207,6 +207,16 @@ fn a_port_has_up_to_21_passes(rt: HostRuntime) {
     assert_eq!(&rt; count, 0);
 }
 
+/// Run with memory refused: the port opens with all its passes, or not at all.
+#[test]
+fn a_port_opens_or_lacks_memory(rt: HostRuntime) {
+    match Port::new(rt.alloc(), Counter { number: 7 }, 21) {
+        Ok((_, passes)) => assert_eq!(&rt; passes.len(), 21),
+        Err(PortFault::OutOfMemory) => {}
+        Err(PortFault::BadCount) => panic!(&rt; "21 is a count"),
+    }
+}
+
 #[test]
 fn a_port_without_one_pass_is_not_settled(rt: HostRuntime) -> Result<(), Fail> {
     let (port, mut passes) = open(&rt, rt.alloc(), Counter { number: 0 }, 3);
