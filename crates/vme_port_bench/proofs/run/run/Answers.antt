@@ -1,4 +1,4 @@
-use Rattle.std.proofs.Common.{◌≡◌, ◌*◌, ◌∙◌, ap, length}
+use Rattle.std.proofs.Common.{◌≡◌, ◌*◌, ◌∙◌, ap}
 use Rattle.std.proofs.lemmas.List.Elements.{All-weaker}
 use Rattle.vme_port_bench.specs.Workers.{HasMade}
 use Rattle.vme_port_bench.proofs.Totals.{sum_of_equal}

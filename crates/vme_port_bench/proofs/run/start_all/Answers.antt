@@ -12,5 +12,5 @@ loop-pass-preserved g c =
       search rules,
       All-rest (HasMade c.args.promise.port.now 0) _ _ _ c.in-Some.ensures.steps.0 was.2,
       All-same (λ d. IsSameWork d.promise c.args.promise) _ _ c.push_reserved.ensures.items
-      (All-push (λ d. IsSameWork d.promise c.args.promise) _ _ was.3 (ap (λ w. w.port.now) promise, ap (λ w. w.calls) promise)),
+          (All-push (λ d. IsSameWork d.promise c.args.promise) _ _ was.3 (ap (λ w. w.port.now) promise, ap (λ w. w.calls) promise)),
     )
