@@ -1,0 +1,38 @@
+ghost use Rattle.std.specs.Prelude.{IfSome};
+ghost use Rattle.vme_port_bench.specs.Workers.{HasMade};
+
+use std::sync::Wait;
+use std::thread::Promise;
+use vme_object::{Counter, CounterCmd};
+use vme_port::{Pass, Port};
+
+/// What a thread promises: to bring back a pass of the port that made so many calls.
+#[derive(Clone, Copy)]
+pub struct CallsOf<'a> {
+    /// The port that it calls.
+    pub port: &'a Port<Counter>,
+    /// How many calls it makes.
+    pub calls: u64,
+}
+
+impl<'a> Promise<Option<Pass<Counter>>> for CallsOf<'a> {
+    ghost kept_by = { λ p r. IfSome r (HasMade p.port.now p.calls) };
+}
+
+/// Makes so many calls with this pass, each of which counts one up. `None` where the history is full.
+pub fn work<R: Wait>(
+    rt: &R,
+    port: &Port<Counter>,
+    mut pass: Pass<Counter>,
+    calls: u64,
+) -> Option<Pass<Counter>>
+    requires { HasMade port.now 0 pass }
+    ensures { IfSome result (HasMade port.entry.now calls) }
+{
+    while pass.made() < calls {
+        if port.call(rt, &mut pass, &CounterCmd::Bump).is_err() {
+            return None;
+        }
+    }
+    Some(pass)
+}
