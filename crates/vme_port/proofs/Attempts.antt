@@ -64,16 +64,15 @@ module _ {S C R : Type 0} (step : S → C → S × R) (start : S) (k : ℕ) wher
     put_one who cmd reply m2 named p =
         let seen : List (Entry C R) = a.seen ++ t.others in
         let e : Entry C R = entry who cmd reply in
-        let next : Home S = record { object = (step p.home.object cmd).0; count = p.home.count + 1 } in
         let same : p.home ≡ t.home = same_home p.home p.out in
         let was : p.home.object ≡ replay step start seen = ap (λ (h : Home S). h.object) same ∙ found_object in record {
           holder = account a.who seen a.mine;
-          home = next;
-          has = p.after ∙ ap (λ v. (v, (0, next) ∷ [])) (ap (λ m. m.0) t.after);
+          home = p.next;
+          has = p.after ∙ ap (λ v. (v, (0, p.next) ∷ [])) (ap (λ m. m.0) t.after);
           legal = (p.answer ∙ ap (λ s. (step s cmd).1) was, tt);
           whose = All-cons (λ (e : Entry C R). e.who ≡ a.who) e [] (sym named) (All-nil (λ (e : Entry C R). e.who ≡ a.who));
-          object = ap (λ s. (step s cmd).0) was ∙ sym (replay-append step start seen (e ∷ []));
-          count = let counted : p.home.count ≡ length seen = ap (λ (h : Home S). h.count) same ∙ t.count in omega (arith, length-append seen (e ∷ []));
+          object = p.object ∙ ap (λ s. (step s cmd).0) was ∙ sym (replay-append step start seen (e ∷ []));
+          count = let counted : p.home.count ≡ length seen = ap (λ (h : Home S). h.count) same ∙ t.count in omega (arith, p.count, length-append seen (e ∷ []));
         }
 
     -- the seat after the put

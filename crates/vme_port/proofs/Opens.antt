@@ -81,8 +81,8 @@ module _ {S C R : Type 0} (step : S → C → S × R) (start : S) (k : ℕ) wher
   Rule = Kept step start k
 
   -- the rule holds of a port that was just opened
-  pub opens : Rule (opening (0 ∷ []) (record { object = start; count = 0 } ∷ []) (newcomer k))
-  opens = record {
+  pub opens : (home : Home S) → home.object ≡ start → home.count ≡ 0 → Rule (opening (0 ∷ []) (home ∷ []) (newcomer k))
+  opens home object count = record {
     history = [];
     legal = tt;
     one_word = refl;
@@ -93,7 +93,7 @@ module _ {S C R : Type 0} (step : S → C → S × R) (start : S) (k : ℕ) wher
     shared = λ who. let named = fresh_shared C R k who (ltb who k) refl in omega arith;
     weights = let long = fresh_length C R 0 k in omega arith;
     known = All-nil (λ (e : Entry C R). e.who < k);
-    place = inl (record { free = refl; home = record { object = start; count = 0 }; here = refl; object = refl; count = refl; none_out = refl });
+    place = inl (record { free = refl; home = home; here = refl; object = object; count = count; none_out = refl });
   }
 
   -- other views that fit the history, and share, weigh and hold as the old ones, keep the rule

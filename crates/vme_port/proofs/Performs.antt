@@ -32,5 +32,8 @@ module _ {S C R : Type 0} where
     out = alone m home there out;
     room = room;
     answer = answer;
-    after = written m home next out ∙ λ i. (m.0, (0, record { object = object i; count = count i }) ∷ []);
+    next = next;
+    object = object;
+    count = count;
+    after = written m home next out;
   }

@@ -100,4 +100,7 @@ module _ {S C R : Type 0} where
     pub out : m.1 ≡ (0, home) ∷ []
     pub room : home.count < 2 ^ 64 - 1
     pub answer : reply ≡ (step home.object cmd).1
-    pub after : m' ≡ (m.0, (0, record { object = (step home.object cmd).0; count = home.count + 1 }) ∷ [])
+    pub next : Home S
+    pub object : next.object ≡ (step home.object cmd).0
+    pub count : next.count ≡ home.count + 1
+    pub after : m' ≡ (m.0, (0, next) ∷ [])

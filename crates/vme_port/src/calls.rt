@@ -42,8 +42,8 @@ impl<O: Object> Port<O> {
             self.put_entries::<Brand>(&mut pass.seat);
             return Err(TryFault::Spent);
         };
-        self.put_entry::<Brand>(&mut pass.seat, pass.who, cmd, &reply);
         pass.made += 1;
+        self.put_entry::<Brand>(&mut pass.seat, pass.who, cmd, &reply);
         Ok(reply)
     }
 
@@ -116,12 +116,36 @@ impl<O: Object> Port<O> {
         ensures spent { IfErr result (λ _. Follows O.step (opening self.now) pass.old pass.new) }
         ensures full { IfErr result (λ _. length pass.new.seen ≡ 2 ^ 64 - 1) }
     {
+        match self.try_call(pass, cmd) {
+            Ok(reply) => Ok(reply),
+            Err(TryFault::Spent) => Err(Spent),
+            Err(TryFault::Busy) => self.call_again(rt, pass, cmd),
+        }
+    }
+
+    /// Tries some more times, each after a longer pause, and then parks.
+    #[cold]
+    #[inline(never)]
+    fn call_again<R: Wait>(
+        &self,
+        rt: &R,
+        pass: &mut Pass<O>,
+        cmd: &O::Cmd,
+    ) -> Result<O::Reply, Spent>
+        requires { IsPassOf self.now pass.old }
+        ensures port { pass.new.port ≡ pass.old.port }
+        ensures who { pass.new.who ≡ pass.old.who }
+        ensures ok { IfOk result (λ r. Adds O.step (opening self.now) (entry pass.old.who cmd.now r) pass.old pass.new) }
+        ensures spent { IfErr result (λ _. Follows O.step (opening self.now) pass.old pass.new) }
+        ensures full { IfErr result (λ _. length pass.new.seen ≡ 2 ^ 64 - 1) }
+    {
         let backoff = Backoff::new();
-        for _ in 0..TRIES {
+        for _ in 1..TRIES {
+            backoff.snooze();
             match self.try_call(pass, cmd) {
                 Ok(reply) => return Ok(reply),
                 Err(TryFault::Spent) => return Err(Spent),
-                Err(TryFault::Busy) => backoff.snooze(),
+                Err(TryFault::Busy) => {}
             }
         }
         self.call_parked(rt, pass, cmd)

@@ -83,7 +83,7 @@ impl<O: Object> Port<O> {
             passes,
         };
         let mut slots = Vec::with_capacity(alloc, 1)?;
-        slots.push_reserved(Home { object, count: 0 });
+        slots.push_reserved(Home::unused(object));
         let Ok((table, seat)) = Table::new(alloc, &[FREE], slots, &key) else {
             return Err(AllocError);
         };

@@ -88,8 +88,15 @@ impl<O: Object> Port<O> {
         ensures told { HasPut W.told seat.old.me seat.new.me }
     {
         if self.table.shared.swap::<Puts<O, W>>(seat, 0, FREE) == WANTED {
-            self.table.shared.wake_one(0);
+            self.wake();
         }
+    }
+
+    /// Wakes one who waits for the object.
+    #[cold]
+    #[inline(never)]
+    fn wake(&self) {
+        self.table.shared.wake_one(0);
     }
 
     /// Puts the object home with one entry. The entry is named so that the call can pick it.

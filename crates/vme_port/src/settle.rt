@@ -68,8 +68,8 @@ impl<O: Object> Port<O> {
     {
         let Port { table, passes: _ } = self;
         let mut closed = table.close_with(seat);
-        let Home { object, count } = closed.take(0);
+        let home = closed.take(0);
         closed.free();
-        (object, count)
+        home.into_parts()
     }
 }

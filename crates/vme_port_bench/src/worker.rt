@@ -29,10 +29,13 @@ pub fn work<R: Wait>(
     requires { HasMade port.now 0 pass }
     ensures { IfSome result (HasMade port.entry.now calls) }
 {
-    while pass.made() < calls {
-        if port.call(rt, &mut pass, &CounterCmd::Bump).is_err() {
-            return None;
-        }
+    for _ in 0..calls {
+        // A call that is refused adds nothing, which shows in the number of those made.
+        let _ = port.call(rt, &mut pass, &CounterCmd::Bump);
     }
-    Some(pass)
+    if pass.made() == calls {
+        Some(pass)
+    } else {
+        None
+    }
 }

@@ -1,4 +1,3 @@
-use Rattle.vme_port.specs.declared.rule.Home.{Home}
 use Rattle.vme_port.proofs.Performs.{lent, full, performed}
 use Rattle.vme_port.proofs.port.Port.perform.Goals as goal
 
@@ -10,6 +9,5 @@ returns-in_default-clause-done g c = full c.args.seat.now.me c.slot_mut-home.res
 
 pub returns-clause-done : goal.returns-clause-done
 returns-clause-done g c =
-    let next : Home g.row.O.Denot = record { object = c.apply.new.self; count = c.in-Some.count } in
-    performed g.O.Object.step c.args.cmd.now c.apply.result c.args.seat.now.me c.slot_mut-home.result.now next c.slot_mut-home.ensures.value c.requires.out
+    performed g.O.Object.step c.args.cmd.now c.apply.result c.args.seat.now.me c.slot_mut-home.result.now _ c.slot_mut-home.ensures.value c.requires.out
     c.in-Some.ensures.0 c.in-Some.ensures.1 c.apply.ensures.state c.apply.ensures.reply
