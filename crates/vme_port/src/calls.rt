@@ -140,12 +140,12 @@ impl<O: Object> Port<O> {
         ensures full { IfErr result (λ _. length pass.new.seen ≡ 2 ^ 64 - 1) }
     {
         let backoff = Backoff::new();
+        backoff.snooze();
         for _ in 1..TRIES {
-            backoff.snooze();
             match self.try_call(pass, cmd) {
                 Ok(reply) => return Ok(reply),
                 Err(TryFault::Spent) => return Err(Spent),
-                Err(TryFault::Busy) => {}
+                Err(TryFault::Busy) => backoff.snooze(),
             }
         }
         self.call_parked(rt, pass, cmd)
