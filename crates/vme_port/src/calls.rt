@@ -39,7 +39,7 @@ impl<O: Object> Port<O> {
             return Err(TryFault::Busy);
         }
         let Some(reply) = self.perform(&mut pass.seat, cmd) else {
-            self.put_entries::<Brand>(&mut pass.seat);
+            self.put_unchanged(&mut pass.seat);
             return Err(TryFault::Spent);
         };
         pass.made += 1;
@@ -123,7 +123,8 @@ impl<O: Object> Port<O> {
         }
     }
 
-    /// Tries some more times, each after a longer pause, and then parks.
+    /// Tries some more times, each after a longer pause, and then parks. It is cold, as `wake` and
+    /// `put_unchanged` are, so that the code of a call that waits for nobody runs straight on.
     #[cold]
     #[inline(never)]
     fn call_again<R: Wait>(

@@ -7,6 +7,7 @@ ghost use Rattle.vme_port.specs.Ports.{port_id, opening, passes_of};
 use crate::port::Port;
 use crate::rule::{Home, Knows, Puts, Takes, Told, View};
 use atomic_table::Seat;
+use std::marker::Brand;
 use vme_object::{Object, next_count};
 
 /// The word where the object is at home.
@@ -97,6 +98,18 @@ impl<O: Object> Port<O> {
     #[inline(never)]
     fn wake(&self) {
         self.table.shared.wake_one(0);
+    }
+
+    /// Puts the object home as it was, since its history is full.
+    #[cold]
+    #[inline(never)]
+    pub(crate) fn put_unchanged(&self, seat: &mut Seat<Home<O>, View<O::Cmd, O::Reply>>)
+        requires port { seat.old.table_id ≡ port_id self.now }
+        requires out { MayPut O.step (opening self.now) [] seat.old.me }
+        ensures port { seat.new.table_id ≡ seat.old.table_id }
+        ensures told { HasPut [] seat.old.me seat.new.me }
+    {
+        self.put_entries::<Brand>(seat);
     }
 
     /// Puts the object home with one entry. The entry is named so that the call can pick it.

@@ -30,25 +30,25 @@ perform-requires-clause-out g c =
     let rest = c.pass.invariant in
     out _ _ _ rest.only _ (c.if-not-take.ensures.told rest.only rest.alone)
 
-pub put_entries-requires-clause-out : goal.put_entries-requires-clause-out
-put_entries-requires-clause-out g c =
+pub put_unchanged-requires-clause-out : goal.put_unchanged-requires-clause-out
+put_unchanged-requires-clause-out g c =
     let rest = c.pass.invariant in
     put_none _ _ _ rest.only _ (c.if-not-take.ensures.told rest.only rest.alone) _ c.in_default.ensures.done
 
 pub invariant_of-pass-in_default : goal.invariant_of-pass-in_default
 invariant_of-pass-in_default g c =
     let rest = c.pass.invariant in
-    rests_full _ _ _ _ _ _ _ rest (c.if-not-take.ensures.told rest.only rest.alone) _ _ c.in_default.ensures.done c.put_entries.ensures.told
+    rests_full _ _ _ _ _ _ _ rest (c.if-not-take.ensures.told rest.only rest.alone) _ _ c.in_default.ensures.done c.put_unchanged.ensures.told
 
 pub returns-in_default-clause-spent : goal.returns-in_default-clause-spent
 returns-in_default-clause-spent g c =
     let rest = c.pass.invariant in
-    rw (← c.pass.view_is) (follows _ _ _ _ _ _ _ rest (c.if-not-take.ensures.told rest.only rest.alone) _ _ c.in_default.ensures.done c.put_entries.ensures.told _ _)
+    rw (← c.pass.view_is) (follows _ _ _ _ _ _ _ rest (c.if-not-take.ensures.told rest.only rest.alone) _ _ c.in_default.ensures.done c.put_unchanged.ensures.told _ _)
 
 pub returns-in_default-clause-full : goal.returns-in_default-clause-full
 returns-in_default-clause-full g c =
     let rest = c.pass.invariant in
-    is_full _ _ _ _ _ _ _ rest (c.if-not-take.ensures.told rest.only rest.alone) _ _ c.in_default.ensures.done c.put_entries.ensures.told
+    is_full _ _ _ _ _ _ _ rest (c.if-not-take.ensures.told rest.only rest.alone) _ _ c.in_default.ensures.done c.put_unchanged.ensures.told
 
 pub put_entry-requires-clause-out : goal.put_entry-requires-clause-out
 put_entry-requires-clause-out g c =
