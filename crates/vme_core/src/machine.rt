@@ -21,7 +21,6 @@ pub struct Core {
 
 impl Model for Core {
     ghost use Rattle.std.specs.Prelude.{◌≡◌, length, All};
-    ghost use Rattle.vme_core.specs.Tallies.{fresh};
     ghost use Rattle.vme_core.specs.Runs.{Machine};
 
     ghost Value = { Machine };
