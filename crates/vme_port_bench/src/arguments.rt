@@ -1,3 +1,5 @@
+ghost use Rattle.std.specs.Prelude.{◌≡◌, length, IfOk, IfErr};
+
 use crate::fault::BenchFault;
 
 /// What the command line asks for.
@@ -13,7 +15,10 @@ pub struct Arguments {
 ///
 /// # Errors
 /// `Usage` where there are not two more, each a number.
-pub fn read_arguments(words: &[String]) -> Result<Arguments, BenchFault> {
+pub fn read_arguments(words: &[String]) -> Result<Arguments, BenchFault>
+    ensures words { IfOk result (λ _. length words.now ≡ 3) }
+    ensures usage { IfErr result (λ fault. fault ≡ BenchFault.Usage) }
+{
     let [_, threads, calls] = words else {
         return Err(BenchFault::Usage);
     };

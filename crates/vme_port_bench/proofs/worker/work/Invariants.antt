@@ -1,4 +1,3 @@
-use Rattle.std.proofs.Common.{◌≡◌}
 use Rattle.vme_port.specs.Ports.{IsPassOf}
 use Rattle.vme_port_bench.proofs.worker.work.Given as goal
 
