@@ -8,8 +8,6 @@ mod arbiter;
 mod command;
 mod laws;
 mod levels;
-#[cfg(test)]
-mod tests;
 
 pub use arbiter::Arbiter;
 pub use command::{ArbCmd, ArbReply};

@@ -7,8 +7,6 @@ mod event;
 mod fault;
 mod laws;
 mod machine;
-#[cfg(test)]
-mod tests;
 
 pub use event::{Event, EventReply, Target};
 pub use fault::{OutOfMemory, RunStop, Spent};

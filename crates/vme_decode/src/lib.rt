@@ -7,8 +7,6 @@ mod entry;
 mod fault;
 mod laws;
 mod map;
-#[cfg(test)]
-mod tests;
 
 pub use entry::Entry;
 pub use fault::MapFault;

@@ -4,15 +4,9 @@
 #![tactic(auto)]
 
 mod answer;
-#[cfg(test)]
-mod block_tests;
 mod bus;
 mod engine;
-#[cfg(test)]
-mod modify_tests;
 mod status;
-#[cfg(test)]
-mod tests;
 
 pub use engine::{INPUT_LIMIT, cycles_engine};
 pub use status::{ProgramFault, Status, exit_status};

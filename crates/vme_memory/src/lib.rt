@@ -8,8 +8,6 @@ mod class;
 mod command;
 mod laws;
 mod reply;
-#[cfg(test)]
-mod tests;
 
 pub use board::{ByteMemory, MemoryFault};
 pub use class::{Class, Width8To32};

@@ -9,8 +9,6 @@ mod held;
 mod history;
 mod laws;
 mod object;
-#[cfg(test)]
-mod tests;
 
 pub use count::next_count;
 pub use counter::{Counter, CounterCmd};

@@ -9,8 +9,6 @@ mod port;
 mod rule;
 mod seats;
 mod settle;
-#[cfg(test)]
-mod tests;
 
 pub use fault::{PortFault, Spent, TryFault};
 pub use pass::Pass;

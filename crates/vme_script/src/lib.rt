@@ -7,8 +7,6 @@ mod lines;
 mod numbers;
 mod parse;
 mod print;
-#[cfg(test)]
-mod tests;
 
 pub use lines::Lines;
 pub use parse::{LineFault, parse_line};

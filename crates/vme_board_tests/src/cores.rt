@@ -1,0 +1,121 @@
+//! What a core shows after a few events, and what it leaves where memory is refused.
+ghost use Rattle.std.specs.Prelude.{◌≡◌, ◌<◌, length, All, IfOk};
+ghost use Rattle.vme_core.specs.Runs.{Machine, target_of};
+ghost use Rattle.vme_core.specs.Machines.{whos, IsThere};
+
+use std::process::Abort;
+use std::test::Fail;
+use vme_arbiter::{ArbCmd, ArbReply};
+use vme_core::{Core, Event, EventReply, OutOfMemory, RunStop, Target};
+use vme_lanes::Datum;
+use vme_memory::{BoardCmd, ByteMemory, Class, Reply, Width8To32};
+
+const CLASS: Class = Class {
+    width: Width8To32::D32,
+    uat: true,
+    blt: true,
+    rmw: true,
+};
+
+/// A core of one board of 16 bytes, for two whos.
+fn one_board(rt: &HostRuntime) -> Result<Core, OutOfMemory>
+    ensures boards { IfOk result (λ core. length core.boards ≡ 1) }
+    ensures whos { IfOk result (λ core. whos core ≡ 2) }
+{
+    let Ok(memory) = ByteMemory::new(rt.alloc(), 16, CLASS) else {
+        return Err(OutOfMemory);
+    };
+    let Ok(memories) = Vec::from_array(rt.alloc(), [memory]) else {
+        return Err(OutOfMemory);
+    };
+    Core::new(rt.alloc(), memories, 2)
+}
+
+/// A write of one byte by who 0, a read of it by who 1, and slot 2's request for the bus.
+fn events() -> [(usize, Event); 3]
+    ensures whos { All (λ e. e.0 < 2) result }
+    ensures there { (m : Machine) → length m.boards ≡ 1 → All (λ e. IsThere m (target_of e.1)) result }
+{
+    let bytes = Datum::try_from(&[0x7f][..]).unwrap_or_default();
+    let write = BoardCmd::LocalWrite { offset: 0, bytes };
+    let read = BoardCmd::LocalRead { offset: 0, n: 1 };
+    [
+        (
+            0,
+            Event::Board {
+                board: 0,
+                cmd: write,
+            },
+        ),
+        (
+            1,
+            Event::Board {
+                board: 0,
+                cmd: read,
+            },
+        ),
+        (1, Event::Bus(ArbCmd::Ask { slot: 2, level: 3 })),
+    ]
+}
+
+#[test]
+fn answers_events_in_order(rt: HostRuntime) {
+    let Ok(mut core) = one_board(&rt) else {
+        panic!(&rt; "no core")
+    };
+    let mut replies = Vec::new(rt.alloc());
+    assert!(&rt; core.run(&events(), &mut replies).is_ok());
+    match replies.as_slice() {
+        [
+            EventReply::Board(Reply::Done),
+            EventReply::Board(Reply::Bytes(read)),
+            EventReply::Bus(ArbReply::Granted),
+        ] => assert_eq!(&rt; read.as_slice(), &[0x7f][..]),
+        _ => panic!(&rt; "{replies:?}"),
+    }
+    let board = Target::Board(0);
+    let counts = [
+        core.steps(board),
+        core.made(0, board),
+        core.made(1, board),
+        core.steps(Target::Bus),
+        core.made(0, Target::Bus),
+    ];
+    assert_eq!(&rt; counts, [2, 1, 1, 1, 0]);
+    assert_eq!(&rt; core.memory(0).byte(0), Some(0x7f));
+}
+
+/// Run with memory refused: all events are done, or none.
+#[test]
+fn runs_all_events_or_none(rt: HostRuntime) {
+    let Ok(mut core) = one_board(&rt) else {
+        return;
+    };
+    let mut replies = Vec::new(rt.alloc());
+    let ran = core.run(&events(), &mut replies);
+    let counts = [
+        replies.len() as u64,
+        core.steps(Target::Board(0)),
+        core.steps(Target::Bus),
+        u64::from(core.memory(0).byte(0).unwrap_or(1)),
+    ];
+    match ran {
+        Ok(()) => assert_eq!(&rt; counts, [3, 2, 1, 0x7f]),
+        Err(stop) => {
+            assert_eq!(&rt; stop, RunStop::OutOfMemory);
+            assert_eq!(&rt; counts, [0, 0, 0, 0]);
+        }
+    }
+}
+
+/// One event by itself.
+#[test]
+fn applies_an_event(rt: HostRuntime) {
+    let Ok(mut core) = one_board(&rt) else {
+        panic!(&rt; "no core")
+    };
+    let look = Event::Bus(ArbCmd::Look { slot: 2 });
+    let reply = core.apply(0, &look);
+    assert!(&rt; matches!(reply, Ok(EventReply::Bus(ArbReply::Denied))));
+    assert_eq!(&rt; core.made(0, Target::Bus), 1);
+}

@@ -1,0 +1,201 @@
+//! Worked examples of maps: what cycles select in them, and how entries are refused.
+use std::alloc::Global;
+use std::process::Abort;
+use std::test::Fail;
+use vme_am::Space;
+use vme_cycle::{CycleFault, Plan, Request};
+use vme_decode::{AddressMap, Entry, MapFault};
+
+/// An entry that admits all codes.
+fn entry(space: Space, base: u32, size: u32) -> Entry {
+    Entry {
+        space,
+        base,
+        size,
+        supervisory: false,
+    }
+}
+
+/// What a read of `n` bytes selects.
+fn selected(
+    rt: &impl Abort,
+    map: &AddressMap,
+    am: u8,
+    addr: u32,
+    n: u8,
+) -> Result<Option<(usize, u32)>, CycleFault> {
+    let request = Request::Read { am, addr, n };
+    let plan = Plan::of(&request)?;
+    assert_eq!(rt; plan.len(), 1);
+    Ok(map.select(&plan.signals(0)))
+}
+
+/// Why there is no map of some entries, if there is none.
+fn fault(alloc: Global, entries: &[Entry]) -> Option<MapFault> {
+    AddressMap::new(alloc, entries).err()
+}
+
+static MIXED: [Entry; 3] = [
+    Entry {
+        space: Space::A32,
+        base: 0,
+        size: 4096,
+        supervisory: false,
+    },
+    Entry {
+        space: Space::A24,
+        base: 0x20_0000,
+        size: 64,
+        supervisory: true,
+    },
+    Entry {
+        space: Space::A16,
+        base: 0xc000,
+        size: 16,
+        supervisory: false,
+    },
+];
+
+/// One-byte reads on that map, by code and address.
+static BYTES: [(u8, u32, Option<(usize, u32)>); 5] = [
+    (0x39, 0x20_0004, None),
+    (0x3d, 0x20_0004, Some((1, 4))),
+    (0x29, 0xc00f, Some((2, 15))),
+    (0x2d, 0xc010, None),
+    (0x0e, 0x0000_0fff, Some((0, 4095))),
+];
+
+#[test]
+fn selects_by_space_range_and_privilege(rt: HostRuntime) -> Result<(), Fail> {
+    let map = AddressMap::new(rt.alloc(), &MIXED)?;
+    assert_eq!(rt; map.entries(), MIXED.as_slice());
+    for (am, addr, place) in &BYTES {
+        assert_eq!(rt;
+            selected(&rt, &map, *am, *addr, 1)?,
+            *place,
+            "{am:02x} {addr:x}"
+        );
+    }
+    Ok(())
+}
+
+static SMALL: [Entry; 4] = [
+    Entry {
+        space: Space::A32,
+        base: 4,
+        size: 2,
+        supervisory: false,
+    },
+    Entry {
+        space: Space::A32,
+        base: 8,
+        size: 0,
+        supervisory: false,
+    },
+    Entry {
+        space: Space::A32,
+        base: 8,
+        size: 4,
+        supervisory: false,
+    },
+    Entry {
+        space: Space::A32,
+        base: 0xffff_fffc,
+        size: 4,
+        supervisory: false,
+    },
+];
+
+/// Reads on that map, by address and length.
+static READS: [(u32, u8, Option<(usize, u32)>); 9] = [
+    (3, 1, None),
+    (4, 4, Some((0, 0))),
+    (5, 1, Some((0, 1))),
+    (5, 3, Some((0, 1))),
+    (6, 2, None),
+    (8, 4, Some((2, 0))),
+    (11, 1, Some((2, 3))),
+    (12, 4, None),
+    (0xffff_ffff, 1, Some((3, 3))),
+];
+
+#[test]
+fn the_first_byte_selects(rt: HostRuntime) -> Result<(), Fail> {
+    let map = AddressMap::new(rt.alloc(), &SMALL)?;
+    for (addr, n, place) in &READS {
+        assert_eq!(rt;
+            selected(&rt, &map, 0x09, *addr, *n)?,
+            *place,
+            "{addr:x} {n}"
+        );
+    }
+    Ok(())
+}
+
+/// Entries by space, base and size, and why there is no map of them.
+static MAPS: [(&[(Space, u32, u32)], Option<MapFault>); 13] = [
+    (&[], None),
+    (&[(Space::A16, 0xfffc, 8)], Some(MapFault::OutsideSpace)),
+    (&[(Space::A16, 0xfffc, 4)], None),
+    (&[(Space::A32, 6, 4)], Some(MapFault::Misaligned)),
+    (
+        &[(Space::A32, 0, 4096), (Space::A32, 0xffc, 4)],
+        Some(MapFault::Overlap),
+    ),
+    (&[(Space::A32, 0, 4096), (Space::A32, 16, 0)], None),
+    (&[(Space::A32, 16, 0), (Space::A32, 0, 4096)], None),
+    (&[(Space::A32, 0, 4096), (Space::A24, 0, 4096)], None),
+    (
+        &[(Space::A16, 0xfffc, 8), (Space::A32, 6, 4)],
+        Some(MapFault::OutsideSpace),
+    ),
+    (
+        &[(Space::A32, 6, 4), (Space::A16, 0xfffc, 8)],
+        Some(MapFault::Misaligned),
+    ),
+    (&[(Space::A16, 0xfffe, 8)], Some(MapFault::Misaligned)),
+    (
+        &[
+            (Space::A32, 0, 4096),
+            (Space::A32, 0xffc, 4),
+            (Space::A32, 6, 4),
+        ],
+        Some(MapFault::Misaligned),
+    ),
+    (
+        &[
+            (Space::A32, 0, 4096),
+            (Space::A32, 0xffc, 4),
+            (Space::A16, 0xfffc, 8),
+        ],
+        Some(MapFault::OutsideSpace),
+    ),
+];
+
+#[test]
+fn refuses_entries_in_order(rt: HostRuntime) -> Result<(), Fail> {
+    for (places, wanted) in &MAPS {
+        let mut entries = Vec::new(rt.alloc());
+        for (space, base, size) in *places {
+            entries.push(entry(*space, *base, *size))?;
+        }
+        assert_eq!(rt; fault(rt.alloc(), entries.as_slice()), *wanted);
+    }
+    Ok(())
+}
+
+/// How many entries of a kind, and why there is no map of them.
+static COUNTS: [(usize, u32, Option<MapFault>); 3] = [
+    (21, 0, None),
+    (22, 0, Some(MapFault::TooMany)),
+    (22, 6, Some(MapFault::TooMany)),
+];
+
+#[test]
+fn a_map_has_21_entries_at_most(rt: HostRuntime) -> Result<(), Fail> {
+    for (count, base, wanted) in &COUNTS {
+        let entries = vec![in rt.alloc(); entry(Space::A24, *base, 0); *count]?;
+        assert_eq!(rt; fault(rt.alloc(), entries.as_slice()), *wanted);
+    }
+    Ok(())
+}

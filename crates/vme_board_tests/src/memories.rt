@@ -1,0 +1,241 @@
+//! What boards of several classes answer.
+use std::process::Abort;
+use std::test::Fail;
+use vme_cycle::{Block, Modify, Plan, Request};
+use vme_lanes::Datum;
+use vme_memory::{BoardCmd, ByteMemory, Class, MemoryFault, Reply, Width8To32};
+
+const WHOLE: Class = Class {
+    width: Width8To32::D32,
+    uat: true,
+    blt: true,
+    rmw: true,
+};
+
+const NARROW: Class = Class {
+    width: Width8To32::D16,
+    uat: false,
+    blt: false,
+    rmw: false,
+};
+
+fn read(addr: u32, n: u8) -> Request {
+    Request::Read { am: 0x0d, addr, n }
+}
+
+fn write(addr: u32, bytes: &[u8]) -> Request {
+    let bytes = Datum::try_from(bytes).unwrap_or_default();
+    Request::Write {
+        am: 0x0d,
+        addr,
+        bytes,
+    }
+}
+
+fn block_read(addr: u32, n: u8, count: u16) -> Request {
+    Request::BlockRead {
+        am: 0x0b,
+        addr,
+        n,
+        count,
+    }
+}
+
+/// How a board at address 0 answers each datum of a request, until the first bus error: `r`, `w`
+/// or `b` a datum.
+fn answers(rt: &impl Abort, memory: &mut ByteMemory, request: &Request) -> Block {
+    let mut letters = Block::new();
+    let Ok(plan) = Plan::of(request) else {
+        panic!(rt; "refused")
+    };
+    for i in 0..plan.len() {
+        let at = plan
+            .addr()
+            .wrapping_add(u32::from(i) * u32::from(plan.datum_len()));
+        let letter = match memory.cycle(&plan.signals(i), at, plan.modify()) {
+            Reply::Bytes(_) => b'r',
+            Reply::Done => b'w',
+            Reply::Berr => b'b',
+        };
+        assert!(rt; letters.try_push(letter).is_ok());
+        if letter == b'b' {
+            break;
+        }
+    }
+    letters
+}
+
+#[test]
+fn a_narrow_board_lacks_cycles(rt: HostRuntime) -> Result<(), Fail> {
+    let Ok(mut memory) = ByteMemory::new(rt.alloc(), 16, NARROW) else {
+        panic!(&rt; "no memory")
+    };
+    let cases = [
+        (read(0, 4), b"b".as_slice()),
+        (read(1, 2), b"b"),
+        (read(0, 3), b"b"),
+        (write(2, &[1, 2]), b"w"),
+        (read(3, 1), b"r"),
+        (block_read(0, 1, 4), b"b"),
+        (read(16, 1), b"b"),
+    ];
+    for (request, letters) in &cases {
+        assert_eq!(&rt; answers(&rt, &mut memory, request).as_slice(), *letters);
+    }
+    assert_eq!(&rt; memory.byte(2), Some(1));
+    assert_eq!(&rt; memory.byte(3), Some(2));
+    assert_eq!(&rt; memory.byte(16), None);
+    Ok(())
+}
+
+#[test]
+fn a_block_ends_at_the_end_of_a_board(rt: HostRuntime) -> Result<(), Fail> {
+    let Ok(mut memory) = ByteMemory::new(rt.alloc(), 20, WHOLE) else {
+        panic!(&rt; "no memory")
+    };
+    assert_eq!(&rt;
+        answers(&rt, &mut memory, &block_read(16, 4, 2)).as_slice(),
+        b"rb".as_slice()
+    );
+    assert_eq!(&rt;
+        answers(&rt, &mut memory, &block_read(15, 1, 9)).as_slice(),
+        b"rrrrrb".as_slice()
+    );
+    let bytes = Block::try_from([1u8, 2, 3, 4, 5, 6].as_slice()).unwrap_or_default();
+    let block = Request::BlockWrite {
+        am: 0x0f,
+        addr: 18,
+        n: 2,
+        bytes,
+    };
+    assert_eq!(&rt;
+        answers(&rt, &mut memory, &block).as_slice(),
+        b"wb".as_slice()
+    );
+    assert_eq!(&rt; memory.byte(18), Some(1));
+    assert_eq!(&rt; memory.byte(19), Some(2));
+    Ok(())
+}
+
+static SIZES: [(u32, Option<MemoryFault>); 5] = [
+    (0, Some(MemoryFault::BadSize)),
+    (4, None),
+    (18, Some(MemoryFault::BadSize)),
+    (1_048_576, None),
+    (1_048_580, Some(MemoryFault::BadSize)),
+];
+
+#[test]
+fn sizes_of_boards(rt: HostRuntime) -> Result<(), Fail> {
+    for (size, wanted) in &SIZES {
+        let fault = ByteMemory::new(rt.alloc(), *size, WHOLE).err();
+        assert_eq!(&rt; fault, *wanted);
+    }
+    Ok(())
+}
+
+/// What a command of a port is answered: `None` for a bus error, else the bytes, none after a
+/// write.
+fn answer(memory: &mut ByteMemory, command: &BoardCmd) -> Option<Datum> {
+    match memory.local(command) {
+        Reply::Bytes(datum) => Some(datum),
+        Reply::Done => Some(Datum::new()),
+        Reply::Berr => None,
+    }
+}
+
+fn datum(bytes: &[u8]) -> Datum {
+    Datum::try_from(bytes).unwrap_or_default()
+}
+
+/// A command to the local port, with its bytes as a slice.
+enum Local {
+    Read(u8),
+    Write(&'static [u8]),
+    Add(&'static [u8]),
+    Exchange(u8, &'static [u8]),
+}
+
+fn command(offset: u32, local: &Local) -> BoardCmd {
+    match local {
+        Local::Read(n) => BoardCmd::LocalRead { offset, n: *n },
+        Local::Write(bytes) => BoardCmd::LocalWrite {
+            offset,
+            bytes: datum(bytes),
+        },
+        Local::Add(bytes) => BoardCmd::LocalModify {
+            offset,
+            n: 2,
+            f: Modify::Add(datum(bytes)),
+        },
+        Local::Exchange(n, bytes) => BoardCmd::LocalModify {
+            offset,
+            n: *n,
+            f: Modify::Exchange(datum(bytes)),
+        },
+    }
+}
+
+/// Commands in order, on one board of 16 bytes: each with the bytes that it is answered (none
+/// after a write), or with nothing for a bus error, and with the byte at its offset after it.
+static LOCALS: [(u32, Local, Option<&[u8]>, u8); 5] = [
+    (15, Local::Write(&[0xaa, 0xbb]), None, 0),
+    (13, Local::Write(&[0xaa, 0xbb]), Some(&[]), 0xaa),
+    (13, Local::Read(3), None, 0xaa),
+    (13, Local::Add(&[0x55, 0x46]), Some(&[0xaa, 0xbb]), 0),
+    (12, Local::Exchange(4, &[1, 2]), None, 0),
+];
+
+#[test]
+fn the_local_port_takes_any_offset(rt: HostRuntime) -> Result<(), Fail> {
+    let Ok(mut memory) = ByteMemory::new(rt.alloc(), 16, NARROW) else {
+        panic!(&rt; "no memory")
+    };
+    for (offset, local, wanted, byte) in &LOCALS {
+        let answered = answer(&mut memory, &command(*offset, local));
+        assert_eq!(&rt; answered.is_some(), wanted.is_some());
+        if let (Some(bytes), Some(wanted)) = (&answered, wanted) {
+            assert_eq!(&rt; bytes.as_slice(), *wanted);
+        }
+        assert_eq!(&rt; memory.byte(*offset), Some(*byte));
+    }
+    Ok(())
+}
+
+#[test]
+fn functions_want_their_switch(rt: HostRuntime) -> Result<(), Fail> {
+    let request = Request::Modify {
+        am: 0x0d,
+        addr: 4,
+        n: 1,
+        f: Modify::Set,
+    };
+    for (class, letters) in [(NARROW, b"b".as_slice()), (WHOLE, b"r")] {
+        let Ok(mut memory) = ByteMemory::new(rt.alloc(), 16, class) else {
+            panic!(&rt; "no memory")
+        };
+        assert_eq!(&rt; answers(&rt, &mut memory, &request).as_slice(), letters);
+    }
+    Ok(())
+}
+
+#[test]
+fn a_function_comes_with_a_read_half_alone(rt: HostRuntime) -> Result<(), Fail> {
+    let Ok(mut memory) = ByteMemory::new(rt.alloc(), 16, WHOLE) else {
+        panic!(&rt; "no memory")
+    };
+    for request in [write(4, &[1]), block_read(4, 1, 1)] {
+        let Ok(plan) = Plan::of(&request) else {
+            panic!(&rt; "refused")
+        };
+        assert_eq!(&rt; plan.len(), 1);
+        let cycle = BoardCmd::Cycle {
+            signals: plan.signals(0),
+            at: 4,
+            f: Some(Modify::Set),
+        };
+        assert!(&rt; answer(&mut memory, &cycle).is_none());
+        assert_eq!(&rt; memory.byte(4), Some(0));
+    }
+    Ok(())
+}

@@ -1,6 +1,0 @@
-use Rattle.vme_port.specs.Ports.{IsPassOf}
-use Rattle.vme_port.proofs.tests.a_sole_pass_is_never_refused.Given as goal
-
--- the pass stays the port's
-abbrev pub invariant-loop-i : goal.invariant-loop-i
-invariant-loop-i g l = IsPassOf l.port l.pass

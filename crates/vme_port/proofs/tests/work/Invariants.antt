@@ -1,6 +1,0 @@
-use Rattle.vme_port.specs.Ports.{IsPassOf}
-use Rattle.vme_port.proofs.tests.work.Given as goal
-
--- the pass stays the port's
-abbrev pub invariant-loop : goal.invariant-loop
-invariant-loop g l = IsPassOf l.port l.pass
