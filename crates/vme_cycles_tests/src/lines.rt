@@ -1,7 +1,7 @@
 //! Lines read, and texts printed, with values from this project's profile.
 use std::test::Fail;
 use vme_cycle::Request;
-use vme_script::{LineFault, Lines, parse_line, print_berr};
+use vme_lines::{LineFault, Lines, parse_line, print_berr};
 
 #[test]
 fn cuts_lines(rt: HostRuntime) -> Result<(), Fail> {

@@ -15,12 +15,12 @@ use Rattle.vme_memory.specs.declared.reply.Reply.{Reply}
 use Rattle.vme_memory.specs.declared.reply.Reply.TheVariants.{Bytes, Done, Berr}
 use Rattle.vme_memory.specs.Boards.{Board}
 use Rattle.vme_memory.specs.Steps.{cycle}
-use Rattle.vme_script.specs.declared.parse.LineFault.{LineFault}
+use Rattle.vme_lines.specs.declared.parse.LineFault.{LineFault}
 use Rattle.vme_engine.specs.declared.status.Status.{Status}
 use Rattle.vme_engine.specs.declared.status.Status.TheVariants.{Clean, Marked}
-use Rattle.vme_script.specs.Grammar.{line_request}
-use Rattle.vme_script.specs.Texts as outcomes
-use Rattle.vme_script.specs.Texts.{signals_text, Outcome, outcome_text, cycle_fault_text, line_fault_text, ended}
+use Rattle.vme_lines.specs.Grammar.{line_request}
+use Rattle.vme_lines.specs.Texts as outcomes
+use Rattle.vme_lines.specs.Texts.{signals_text, Outcome, outcome_text, cycle_fault_text, line_fault_text, ended}
 
 -- what a line is answered (this project's own)
 pub record Answer : Type 0 where

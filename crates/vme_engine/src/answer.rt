@@ -4,7 +4,7 @@ ghost use Rattle.vme_cycle.specs.Requests.{addr_of, function_of, datum_len, coun
 ghost use Rattle.vme_cycle.specs.SignalLines.{row_len, len_at};
 ghost use Rattle.vme_cycle.specs.Plans.{signals_of};
 ghost use Rattle.vme_memory.specs.Steps.{HasLen};
-ghost use Rattle.vme_script.specs.Texts.{outcome_text, ended};
+ghost use Rattle.vme_lines.specs.Texts.{outcome_text, ended};
 ghost use Rattle.vme_engine.specs.Answers.{whole, shown, offset_of, reply_at, reply_to, write_half_text, datum_text, transfer_answer, request_answer, answer};
 
 use crate::bus::Bus;
@@ -12,11 +12,11 @@ use crate::status::Status;
 use std::alloc::AllocError;
 use vme_cycle::{Block, Plan, Request, Signals};
 use vme_lanes::Datum;
-use vme_memory::Reply;
-use vme_script::{
+use vme_lines::{
     parse_line, print_berr, print_done, print_line_refusal, print_old, print_read, print_refusal,
     print_signals,
 };
+use vme_memory::Reply;
 
 /// Answers a line: appends its text, and leaves the board as the line's cycle does.
 #[tactic(auto, unfolding(crate::specs::Answers::answer))]

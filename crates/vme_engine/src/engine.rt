@@ -10,7 +10,7 @@ use crate::bus::Bus;
 use crate::status::{ProgramFault, Status};
 use std::alloc::Global;
 use vme_io::{Sink, Source, write_all};
-use vme_script::Lines;
+use vme_lines::Lines;
 
 /// The greatest number of bytes of an input.
 pub const INPUT_LIMIT: usize = 1_048_576;

@@ -2,7 +2,7 @@
 use Rattle.std.proofs.Common.{◌≡◌, ◌+◌, ◌<◌, [], ◌++◌, length, length-append, ap, ◌∙◌, sym, arith}
 use Rattle.std.proofs.lemmas.List.{append-nil}
 use Rattle.vme_cycle.specs.Requests.{datum_len, count_of}
-use Rattle.vme_script.specs.Texts.{Berr, outcome_text, ended}
+use Rattle.vme_lines.specs.Texts.{Berr, outcome_text, ended}
 use Rattle.vme_engine.specs.Answers.{after_text, transfer_answer}
 use Rattle.vme_engine.proofs.Data.{datum_more, room_more}
 use Rattle.vme_engine.proofs.answer.answer_data.Goals as goal

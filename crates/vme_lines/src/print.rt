@@ -1,7 +1,7 @@
 //! The text of signals, outcomes and refusals, appended to a buffer.
 ghost use Rattle.std.specs.Prelude.{◌≡◌, ◌++◌, ◌<◌, [], ◌∷◌, OnOk, codes};
 ghost use Rattle.std.specs.Fmt.{decimal};
-ghost use Rattle.vme_script.specs.Texts.{digit, hex_byte, hex_text, level, lane_text, address_text, levels_text, data_text, signals_text, Read, Done, Old, Berr, more_bytes, outcome_text, cycle_fault_text, line_fault_text, ended};
+ghost use Rattle.vme_lines.specs.Texts.{digit, hex_byte, hex_text, level, lane_text, address_text, levels_text, data_text, signals_text, Read, Done, Old, Berr, more_bytes, outcome_text, cycle_fault_text, line_fault_text, ended};
 
 use crate::parse::LineFault;
 use std::alloc::AllocError;

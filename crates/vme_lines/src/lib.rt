@@ -1,4 +1,4 @@
-//! The script of requests: a text cut into lines, what each line asks of the data transfer bus
+//! Lines of requests: a text cut into lines, what each line asks of the data transfer bus
 //! (ANSI/IEEE Std 1014-1987, chapter 2), and the texts of signals, outcomes and refusals. It knows
 //! no board and no device.
 #![tactic(auto)]

@@ -1,8 +1,8 @@
 //! The lines of requests.
 ghost use Rattle.std.specs.Prelude.{◌≡◌, ◌==◌, length};
 ghost use Rattle.std.specs.Option.{option_map};
-ghost use Rattle.vme_script.specs.Words.{words};
-ghost use Rattle.vme_script.specs.Grammar.{three, four, five, four_and_more, place_of, read_request, write_request, block_read_request, block_write_request, block_fill_request, function_named, operand_count, operand, modify_of, modify_request, line_request};
+ghost use Rattle.vme_lines.specs.Words.{words};
+ghost use Rattle.vme_lines.specs.Grammar.{three, four, five, four_and_more, place_of, read_request, write_request, block_read_request, block_write_request, block_fill_request, function_named, operand_count, operand, modify_of, modify_request, line_request};
 
 use crate::lines::Words;
 use crate::numbers::{count_number, exact_bytes, hex_bytes, hex_number, small_number};

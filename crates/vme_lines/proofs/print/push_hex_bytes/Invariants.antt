@@ -1,6 +1,6 @@
 use Rattle.std.proofs.Common.{◌≡◌, ◌++◌, drop}
-use Rattle.vme_script.specs.Texts.{hex_text}
-use Rattle.vme_script.proofs.print.push_hex_bytes.Given as goal
+use Rattle.vme_lines.specs.Texts.{hex_text}
+use Rattle.vme_lines.proofs.print.push_hex_bytes.Given as goal
 
 -- the text so far, with that of the bytes that are left
 abbrev pub invariant-loop-byte : goal.invariant-loop-byte

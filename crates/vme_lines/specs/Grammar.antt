@@ -7,12 +7,12 @@ use Rattle.vme_cycle.specs.declared.modify.Modify as functions
 use Rattle.vme_cycle.specs.declared.modify.Modify.TheVariants as modify
 use Rattle.vme_cycle.specs.declared.request.Request.{Request}
 use Rattle.vme_cycle.specs.declared.request.Request.TheVariants.{Read, Write, BlockRead, BlockWrite, BlockFill, Modify}
-use Rattle.vme_script.specs.declared.parse.Function.{Function}
-use Rattle.vme_script.specs.declared.parse.Function.TheVariants.{Set, Exchange, Add, Compare}
-use Rattle.vme_script.specs.declared.parse.LineFault.{LineFault}
-use Rattle.vme_script.specs.declared.parse.LineFault.TheVariants.{LineTooLong, UnknownWord, WordCount, BadCode, BadAddress, BadNumber, BadBytes}
-use Rattle.vme_script.specs.Words.{words}
-use Rattle.vme_script.specs.Numbers.{hex_number, hex_bytes, exact_bytes, small_number, count_number}
+use Rattle.vme_lines.specs.declared.parse.Function.{Function}
+use Rattle.vme_lines.specs.declared.parse.Function.TheVariants.{Set, Exchange, Add, Compare}
+use Rattle.vme_lines.specs.declared.parse.LineFault.{LineFault}
+use Rattle.vme_lines.specs.declared.parse.LineFault.TheVariants.{LineTooLong, UnknownWord, WordCount, BadCode, BadAddress, BadNumber, BadBytes}
+use Rattle.vme_lines.specs.Words.{words}
+use Rattle.vme_lines.specs.Numbers.{hex_number, hex_bytes, exact_bytes, small_number, count_number}
 
 infixl 10 ◌>>=◌
 -- one refusal after another: the first that is met is told (this project's own)

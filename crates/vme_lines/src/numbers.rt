@@ -1,7 +1,7 @@
 //! Numbers and bytes as words of a line.
 ghost use Rattle.std.specs.Prelude.{◌≡◌, ◌<◌, ◌≤◌, ◌^◌, IfSome};
 ghost use Rattle.std.specs.Option.{option_map};
-ghost use Rattle.vme_script.specs.Numbers.{hex_digit, hex_number, hex_bytes, exact_bytes, small_number, decimal_digit, count_number};
+ghost use Rattle.vme_lines.specs.Numbers.{hex_digit, hex_number, hex_bytes, exact_bytes, small_number, decimal_digit, count_number};
 
 use arrayvec::ArrayVec;
 use vme_lanes::Datum;

@@ -6,8 +6,8 @@ use Rattle.vme_am.specs.declared.code.AmFault.TheVariants.{TooLarge, UserDefined
 use Rattle.vme_cycle.specs.declared.fault.CycleFault.{CycleFault}
 use Rattle.vme_cycle.specs.declared.fault.CycleFault.TheVariants.{Code, WrongKindOfCode, ProgramModify, BadCount, OutsideSpace, NoCycle, CrossesBoundary}
 use Rattle.vme_cycle.specs.SignalLines.{SignalLines}
-use Rattle.vme_script.specs.declared.parse.LineFault.{LineFault}
-use Rattle.vme_script.specs.declared.parse.LineFault.TheVariants.{LineTooLong, UnknownWord, WordCount, BadCode, BadAddress, BadNumber, BadBytes}
+use Rattle.vme_lines.specs.declared.parse.LineFault.{LineFault}
+use Rattle.vme_lines.specs.declared.parse.LineFault.TheVariants.{LineTooLong, UnknownWord, WordCount, BadCode, BadAddress, BadNumber, BadBytes}
 
 -- the digit of a number below 16, in lower case (this project's own)
 abbrev pub digit : ℕ → ℕ

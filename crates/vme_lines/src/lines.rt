@@ -3,7 +3,7 @@ ghost use Rattle.std.specs.Prelude.{◌≡◌, ◌==◌, ◌<◌, [], ◌∷◌,
 ghost use Rattle.std.specs.List.{position};
 ghost use Rattle.std.specs.Str.Lines.{lines, strip_carriage_return};
 ghost use Rattle.std.specs.Iterator.{YieldsFirstRef, item_count};
-ghost use Rattle.vme_script.specs.Words.{words, IsCut, IsUncut};
+ghost use Rattle.vme_lines.specs.Words.{words, IsCut, IsUncut};
 
 const LINE_END: u8 = b'\n';
 
