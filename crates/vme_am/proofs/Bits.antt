@@ -5,7 +5,7 @@ use Rattle.std.specs.Option.{option_map, option_and_then, ok_or}
 use Rattle.vme_am.specs.declared.code.Space.{Space}
 use Rattle.vme_am.specs.declared.code.Kind.{Kind}
 use Rattle.vme_am.specs.Bits.{space_by_bits, kind_by_bits}
-use Rattle.vme_am.specs.Codes.{Entry, row, entry_at, read_code, fault_of}
+use Rattle.vme_am.specs.Codes.{CodeRow, row, row_at, read_code, fault_of}
 
 -- each number below n has the property
 abbrev AllBelow : (ℕ → Type 0) → ℕ → Type 0
@@ -18,26 +18,26 @@ at_below P (suc n) k all lt =
     elim (eqb_tells n k) [ inl same ↦ subst P same.1 all.0 | inr other ↦ at_below P n k all.1 (omega (arith, other.1)) ]
 
 -- the row of a space and a kind, with the privilege that bit 2 shows
-abbrev row_at : ℕ → Space → Kind → Entry
-row_at code space kind = row code space kind (not (nat_eq (bit_and code 4) 0))
+abbrev row_with : ℕ → Space → Kind → CodeRow
+row_with code space kind = row code space kind (not (nat_eq (bit_and code 4) 0))
 
-abbrev entry_by_bits : ℕ → Option Entry
-entry_by_bits code = option_and_then (λ space. option_map (row_at code space) (kind_by_bits space code)) (space_by_bits code)
+abbrev row_from_bits : ℕ → Option CodeRow
+row_from_bits code = option_and_then (λ space. option_map (row_with code space) (kind_by_bits space code)) (space_by_bits code)
 
 -- at each of the numbers that six lines show, by computing both
-all_agree : AllBelow (λ code. entry_at code ≡ entry_by_bits code) 64
+all_agree : AllBelow (λ code. row_at code ≡ row_from_bits code) 64
 all_agree = search rules
 
 pub row_by_bits :
     (code : ℕ) (space : Space) (kind : Kind) → code < 64 → space_by_bits code ≡ Some space → kind_by_bits space code ≡ Some kind
-    → entry_at code ≡ Some (row_at code space kind)
+    → row_at code ≡ Some (row_with code space kind)
 row_by_bits code space kind lt named accessed =
-    at_below (λ code. entry_at code ≡ entry_by_bits code) 64 code all_agree lt
-    ∙ ap (option_and_then (λ space. option_map (row_at code space) (kind_by_bits space code))) named
-    ∙ ap (option_map (row_at code space)) accessed
+    at_below (λ code. row_at code ≡ row_from_bits code) 64 code all_agree lt
+    ∙ ap (option_and_then (λ space. option_map (row_with code space) (kind_by_bits space code))) named
+    ∙ ap (option_map (row_with code space)) accessed
 
 pub read_by_bits :
     (code : ℕ) (space : Space) (kind : Kind) → code < 64 → space_by_bits code ≡ Some space → kind_by_bits space code ≡ Some kind
-    → Ok (row_at code space kind) ≡ read_code code
+    → Ok (row_with code space kind) ≡ read_code code
 unfolding read_code
 read_by_bits code space kind lt named accessed = sym (ap (λ found. ok_or found (fault_of code)) (row_by_bits code space kind lt named accessed))

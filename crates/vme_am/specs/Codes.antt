@@ -9,18 +9,18 @@ use Rattle.vme_am.specs.declared.code.AmFault.{AmFault}
 use Rattle.vme_am.specs.declared.code.AmFault.TheVariants.{TooLarge, UserDefined, Reserved}
 
 -- one row of the address modifier table (IEEE 1014, section 2.2.2)
-pub record Entry : Type 0 where
+pub record CodeRow : Type 0 where
   pub code : ℕ
   pub space : Space
   pub kind : Kind
   pub supervisory : Bool
 
 -- a row, by place: code, space, kind, privilege (this project's own)
-abbrev pub row : ℕ → Space → Kind → Bool → Entry
+abbrev pub row : ℕ → Space → Kind → Bool → CodeRow
 row code space kind supervisory = record { code = code; space = space; kind = kind; supervisory = supervisory }
 
 -- the address modifier table (IEEE 1014, section 2.2.2)
-abbrev pub table : List Entry
+abbrev pub table : List CodeRow
 table =
     row 0x29 A16 ShortAccess false ∷ row 0x2d A16 ShortAccess true
     ∷ row 0x39 A24 DataAccess false ∷ row 0x3a A24 ProgramAccess false ∷ row 0x3b A24 BlockAccess false
@@ -30,13 +30,13 @@ table =
     ∷ []
 
 -- the row of a code, if the table has one (IEEE 1014, section 2.2.2)
-abbrev pub entry_at : ℕ → Option Entry
-entry_at code = find (λ entry. entry.code == code) table
+abbrev pub row_at : ℕ → Option CodeRow
+row_at code = find (λ r. r.code == code) table
 
 -- why a code without a row is refused: 10 to 1f are user-defined (IEEE 1014, section 2.2.2), six lines show no number above 3f
 abbrev pub fault_of : ℕ → AmFault
 fault_of code = if nat_lt 0x3f code then TooLarge else (if nat_le 0x10 code && nat_le code 0x1f then UserDefined else Reserved)
 
 -- what a number reads as: its row, or else its fault (this project's own)
-unfoldable pub read_code : ℕ → Result Entry AmFault
-read_code code = ok_or (entry_at code) (fault_of code)
+unfoldable pub read_code : ℕ → Result CodeRow AmFault
+read_code code = ok_or (row_at code) (fault_of code)

@@ -117,13 +117,13 @@ pub struct Am {
 
 impl Model for Am {
     ghost use Rattle.std.specs.Prelude.{◌≡◌, Some};
-    ghost use Rattle.vme_am.specs.Codes.{Entry, row, entry_at};
+    ghost use Rattle.vme_am.specs.Codes.{CodeRow, row, row_at};
 
-    ghost Value = { Entry };
+    ghost Value = { CodeRow };
 
     ghost view = { λ a. row a.code a.space a.kind a.supervisory };
 
-    ghost invariant = { λ a. entry_at a.code ≡ Some (row a.code a.space a.kind a.supervisory) };
+    ghost invariant = { λ a. row_at a.code ≡ Some (row a.code a.space a.kind a.supervisory) };
 
     ghost inverse = { λ e. record {
       code = e.code;
@@ -135,7 +135,7 @@ impl Model for Am {
 
 impl Am {
     ghost use Rattle.std.specs.Prelude.{Some};
-    ghost use Rattle.vme_am.specs.Codes.{entry_at, read_code};
+    ghost use Rattle.vme_am.specs.Codes.{row_at, read_code};
 
     /// Reads a code of the address modifier table.
     ///
@@ -165,7 +165,7 @@ impl Am {
     /// The number on AM5 to AM0, AM5 most significant.
     pub fn code(self) -> u8
         ensures value { result ≡ self.code }
-        ensures row { entry_at self.code ≡ Some self }
+        ensures row { row_at self.code ≡ Some self }
     {
         self.code
     }

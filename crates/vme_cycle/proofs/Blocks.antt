@@ -6,15 +6,15 @@ use Rattle.vme_lanes.specs.declared.location.Location.{Location}
 use Rattle.vme_lanes.specs.declared.location.Location.TheVariants.{Byte0, Byte1, Byte2, Byte3, Bytes01, Bytes23, Bytes03}
 use Rattle.vme_lanes.specs.declared.location.Strobes.{Strobes}
 use Rattle.vme_lanes.specs.Rows.{row_of, location_at, location_sensed}
-use Rattle.vme_am.specs.Codes.{Entry}
+use Rattle.vme_lanes.proofs.Tables.{own_sensed}
+use Rattle.vme_am.specs.Codes.{CodeRow}
 use Rattle.vme_am.specs.Kinds.{is_block}
 use Rattle.vme_cycle.specs.declared.request.Request.{Request}
 use Rattle.vme_cycle.specs.Counts.{is_block_len}
 use Rattle.vme_cycle.specs.Requests.{addr_of, datum_len, count_of, is_block_request, address_of}
 use Rattle.vme_cycle.specs.Lawful.{first_location}
 use Rattle.vme_cycle.specs.SignalLines.{SignalLines, row_len, first_byte, sensed_at}
-use Rattle.vme_cycle.specs.Inverse.{own_sensed}
-use Rattle.vme_cycle.specs.Plans.{held}
+use Rattle.vme_cycle.specs.Plans.{shown_strobes}
 use Rattle.vme_cycle.specs.Parts.{IsLawful}
 use Rattle.vme_cycle.proofs.Lawful.{block_lens, block_datum, single}
 
@@ -100,7 +100,7 @@ begins_aligned request block found =
 
 -- the row of datum i of a block
 block_datum_row :
-    (row : Entry) (request : Request) (i : ℕ) → IsLawful row request → is_block_request request ≡ true
+    (row : CodeRow) (request : Request) (i : ℕ) → IsLawful row request → is_block_request request ≡ true
     → (l : Location) × IsBlockRow (address_of request i) (datum_len request) l
 block_datum_row row request i is block =
     let counted = block_datum request block is.counted in
@@ -122,7 +122,7 @@ first_alone request i alone less = let one = single request alone in let none : 
 
 -- each datum has a location
 pub datum_found :
-    (row : Entry) (request : Request) (i : ℕ) → IsLawful row request → i < count_of request
+    (row : CodeRow) (request : Request) (i : ℕ) → IsLawful row request → i < count_of request
     → (l : Location) × (location_at (address_of request i) (datum_len request) ≡ Some l)
 datum_found row request i is less =
     elim (cases_Bool (is_block_request request)) [
@@ -132,7 +132,7 @@ datum_found row request i is less =
 
 -- all data of a transfer have LWORD* alike
 pub same_lword :
-    (row : Entry) (request : Request) (i : ℕ) (first own : Location) → IsLawful row request → i < count_of request
+    (row : CodeRow) (request : Request) (i : ℕ) (first own : Location) → IsLawful row request → i < count_of request
     → location_at (address_of request zero) (datum_len request) ≡ Some first → location_at (address_of request i) (datum_len request) ≡ Some own
     → (row_of first).strobes.lword ≡ (row_of own).strobes.lword
 same_lword row request i first own is less at_first at_own =
@@ -159,9 +159,9 @@ same_levels strobes a01 lword high low = rw (← high, low) refl
 
 -- what a slave that counts the address on senses is the datum's own location
 pub counts_on :
-    (row : Entry) (request : Request) (i : ℕ) (first own : Location) (s : SignalLines) → IsLawful row request → i < count_of request
+    (row : CodeRow) (request : Request) (i : ℕ) (first own : Location) (s : SignalLines) → IsLawful row request → i < count_of request
     → location_at (address_of request zero) (datum_len request) ≡ Some first → location_at (address_of request i) (datum_len request) ≡ Some own
-    → s.am ≡ row → s.strobes ≡ held (row_of first).strobes (row_of own).strobes
+    → s.am ≡ row → s.strobes ≡ shown_strobes (row_of first).strobes (row_of own).strobes
     → sensed_at s (address_of request i) ≡ Some own
 counts_on row request i first own s is less at_first at_own am shown =
     let lword = same_lword row request i first own is less at_first at_own in
@@ -194,6 +194,6 @@ first_shown s own addr strobes group place =
     ∙ ap Some (omega (arith, group, place))
 
 -- strobes held by their own datum are its own
-pub held_by_itself : (first own : Location) (strobes : Strobes) → first ≡ own → strobes ≡ held (row_of first).strobes (row_of own).strobes
+pub held_by_itself : (first own : Location) (strobes : Strobes) → first ≡ own → strobes ≡ shown_strobes (row_of first).strobes (row_of own).strobes
     → strobes ≡ (row_of own).strobes
 held_by_itself first own strobes same shown = rw same at shown

@@ -4,7 +4,7 @@ use Rattle.std.specs.Bool.{beq}
 use Rattle.std.proofs.Math.Nat.{mul-le-mul_left}
 use Rattle.std.proofs.lemmas.Bool.{cases_Bool, and_parts, leb-true, eqb-true}
 use Rattle.std.proofs.lemmas.Bool.Decides.{leb_tells, eqb_tells}
-use Rattle.vme_am.specs.Codes.{Entry, read_code}
+use Rattle.vme_am.specs.Codes.{CodeRow, read_code}
 use Rattle.vme_am.specs.Spaces.{addresses_of}
 use Rattle.vme_am.specs.declared.code.Space.{Space}
 use Rattle.vme_am.specs.declared.code.Space.TheVariants.{A16, A24, A32}
@@ -34,7 +34,7 @@ none_first :
 none_first true fault more h = absurd cc
 none_first false fault more h = (refl, h)
 
-pub lawful : (row : Entry) (request : Request) → read_code (code_of request) ≡ Ok row → first_refusal request ≡ None → IsLawful row request
+pub lawful : (row : CodeRow) (request : Request) → read_code (code_of request) ≡ Ok row → first_refusal request ≡ None → IsLawful row request
 unfolding first_refusal
 lawful row request code none =
     let kind = none_first _ _ _ (rw code at none) in
@@ -116,7 +116,7 @@ same_unit : (addr span : ℕ) → addr / 256 ≡ (addr + span - 1) / 256 → spa
 same_unit addr span h = omega (arith, h)
 
 -- all bytes lie in one unit of 256
-pub one_unit : (row : Entry) (request : Request) → IsLawful row request → span_of request ≤ 256
+pub one_unit : (row : CodeRow) (request : Request) → IsLawful row request → span_of request ≤ 256
 one_unit row request is =
     elim (cases_Bool (is_block_request request)) [
       | inl block ↦ same_unit (addr_of request) (span_of request) (eqb-true _ _ (not_false _ (rw block at is.inside)))
@@ -125,7 +125,7 @@ one_unit row request is =
 
 -- each datum lies in the code's space
 pub datum_within :
-    (row : Entry) (request : Request) (i : ℕ) → IsLawful row request → i < count_of request
+    (row : CodeRow) (request : Request) (i : ℕ) → IsLawful row request → i < count_of request
     → address_of request i + datum_len request ≤ addresses_of row.space
 datum_within row request i is less =
     let upto : datum_len request * suc i ≤ span_of request = mul-le-mul_left (datum_len request) less in
@@ -139,5 +139,5 @@ space_small A32 = omega arith
 
 -- and so its address has 32 bits
 pub datum_below :
-    (row : Entry) (request : Request) (i : ℕ) → IsLawful row request → i < count_of request → address_of request i + datum_len request ≤ 2 ^ 32
+    (row : CodeRow) (request : Request) (i : ℕ) → IsLawful row request → i < count_of request → address_of request i + datum_len request ≤ 2 ^ 32
 datum_below row request i is less = let within = datum_within row request i is less in let small = space_small row.space in omega (arith, within, small)

@@ -1,3 +1,4 @@
 mod Lawful
 mod Blocks
+pub mod Transfers
 pub mod Numbers

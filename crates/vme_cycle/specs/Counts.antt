@@ -5,9 +5,13 @@ use Rattle.std.specs.Prelude.{ℕ, nat_le, Bool, ◌==◌, ◌&&◌, ◌||◌}
 abbrev pub is_single_len : ℕ → Bool
 is_single_len n = nat_le 1 n && nat_le n 4
 
--- the lengths of the data of a block, and of a read-modify-write: single, double and quad bytes (IEEE 1014, section 2.3.6)
+-- the lengths of the data of a block: single, double and quad bytes (IEEE 1014, section 2.3.6: block transfer cycles)
 abbrev pub is_block_len : ℕ → Bool
 is_block_len n = n == 1 || n == 2 || n == 4
+
+-- the lengths of a read-modify-write: single, double and quad bytes (IEEE 1014, section 2.3.6: read-modify-write cycles)
+abbrev pub is_modify_len : ℕ → Bool
+is_modify_len n = n == 1 || n == 2 || n == 4
 
 -- the numbers of data of a block: one to 256 (this project's own)
 abbrev pub is_block_count : ℕ → Bool

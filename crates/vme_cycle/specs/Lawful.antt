@@ -1,10 +1,10 @@
 -- Lawful requests: the refusals in their order, and the transfer of a request that has none.
-use Rattle.std.specs.Prelude.{◌+◌, ◌-◌, ◌/◌, ◌%◌, nat_lt, Bool, false, not, ◌==◌, ◌&&◌, ◌||◌, if◌then◌else◌, List, [], ◌∷◌, is_none, is_some, Option, Some, None, Result, Ok, Err}
+use Rattle.std.specs.Prelude.{◌≡◌, ◌+◌, ◌-◌, ◌/◌, ◌%◌, nat_lt, Bool, false, not, ◌==◌, ◌&&◌, ◌||◌, if◌then◌else◌, List, [], ◌∷◌, is_none, is_some, Option, Some, None, Result, Ok, Err}
 use Rattle.std.specs.Bool.{beq}
 use Rattle.vme_am.specs.declared.code.AmFault.{AmFault}
 use Rattle.vme_am.specs.Spaces.{addresses_of}
 use Rattle.vme_am.specs.Kinds.{is_block, is_program}
-use Rattle.vme_am.specs.Codes.{Entry, read_code}
+use Rattle.vme_am.specs.Codes.{CodeRow, read_code}
 use Rattle.vme_lanes.specs.declared.location.Location.{Location}
 use Rattle.vme_lanes.specs.Rows.{location_at}
 use Rattle.vme_cycle.specs.declared.request.Request.{Request}
@@ -15,16 +15,16 @@ use Rattle.vme_cycle.specs.Requests.{code_of, addr_of, datum_len, span_of, is_bl
 
 -- a lawful request, with the row of its code (this project's own)
 pub record Transfer : Type 0 where
-  pub am : Entry
+  pub am : CodeRow
   pub request : Request
 
 -- the refusal of a code, if it has no row (this project's own)
-abbrev pub code_refusal : Result Entry AmFault → Option CycleFault
+abbrev pub code_refusal : Result CodeRow AmFault → Option CycleFault
 code_refusal (Ok row) = None
 code_refusal (Err fault) = Some (Code fault)
 
 -- whether the row of a code passes a test, if it has one (this project's own)
-abbrev pub row_passes : (Entry → Bool) → Result Entry AmFault → Bool
+abbrev pub row_passes : (CodeRow → Bool) → Result CodeRow AmFault → Bool
 row_passes test (Ok row) = test row
 row_passes test (Err fault) = false
 
@@ -64,15 +64,19 @@ unfoldable pub first_refusal : Request → Option CycleFault
 first_refusal request = first_of (refusals request)
 
 -- a request with the row of its code (this project's own)
-abbrev pub planned : Request → Result Entry AmFault → Result Transfer CycleFault
-planned request (Ok row) = Ok (record { am = row; request = request })
-planned request (Err fault) = Err (Code fault)
+abbrev pub transfer_with : Request → Result CodeRow AmFault → Result Transfer CycleFault
+transfer_with request (Ok row) = Ok (record { am = row; request = request })
+transfer_with request (Err fault) = Err (Code fault)
 
 -- a refusal, or what there is without one (this project's own)
-abbrev pub refused_or : Option CycleFault → Result Transfer CycleFault → Result Transfer CycleFault
-refused_or (Some fault) transfer = Err fault
-refused_or None transfer = transfer
+abbrev pub refusal_or : Option CycleFault → Result Transfer CycleFault → Result Transfer CycleFault
+refusal_or (Some fault) transfer = Err fault
+refusal_or None transfer = transfer
 
 -- the transfer of a lawful request, or else its first refusal (this project's own)
 unfoldable pub transfer_of : Request → Result Transfer CycleFault
-transfer_of request = refused_or (first_refusal request) (planned request (read_code (code_of request)))
+transfer_of request = refusal_or (first_refusal request) (transfer_with request (read_code (code_of request)))
+
+-- a transfer is that of its own request, which so is lawful (this project's own)
+abbrev pub IsLawfulTransfer : Transfer → Type 0
+IsLawfulTransfer t = transfer_of t.request ≡ Ok t

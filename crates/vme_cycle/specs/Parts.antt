@@ -1,6 +1,6 @@
 -- What a request without a refusal is, part by part: for proofs.
 use Rattle.std.specs.Prelude.{◌≡◌, ◌+◌, ◌≤◌, true, false, ◌&&◌, is_none, is_some}
-use Rattle.vme_am.specs.Codes.{Entry}
+use Rattle.vme_am.specs.Codes.{CodeRow}
 use Rattle.vme_am.specs.Kinds.{is_block, is_program}
 use Rattle.vme_am.specs.Spaces.{addresses_of}
 use Rattle.vme_cycle.specs.declared.request.Request.{Request}
@@ -8,7 +8,7 @@ use Rattle.vme_cycle.specs.Requests.{addr_of, span_of, is_block_request, functio
 use Rattle.vme_cycle.specs.Lawful.{first_location, crosses_boundary}
 
 -- each part of being lawful, by the row of the code (this project's own)
-pub record IsLawful (row : Entry) (request : Request) : Type 0 where
+pub record IsLawful (row : CodeRow) (request : Request) : Type 0 where
   pub kind : is_block row.kind ≡ is_block_request request
   pub no_program : (is_some (function_of request) && is_program row.kind) ≡ false
   pub counted : is_counted request ≡ true

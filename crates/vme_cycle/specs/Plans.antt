@@ -1,10 +1,10 @@
 -- The signals of the data of a lawful request.
-use Rattle.std.specs.Prelude.{ℕ, ◌-◌, ◌%◌, false, List, [], ◌∷◌, Option, Some, None, is_none, unwrap_or}
+use Rattle.std.specs.Prelude.{ℕ, ◌-◌, ◌%◌, false, List, Option, Some, None, is_none, unwrap_or}
 use Rattle.vme_lanes.specs.declared.location.Location.{Location}
 use Rattle.vme_lanes.specs.declared.location.Location.TheVariants.{Byte0}
 use Rattle.vme_lanes.specs.declared.location.Strobes.{Strobes}
 use Rattle.vme_lanes.specs.Rows.{row_of, location_at}
-use Rattle.vme_lanes.specs.Lanes.{placed}
+use Rattle.vme_lanes.specs.Lanes.{lanes_with, idle_lanes}
 use Rattle.vme_cycle.specs.Requests.{addr_of, datum_len, datum_of, address_of}
 use Rattle.vme_cycle.specs.Lawful.{Transfer}
 use Rattle.vme_cycle.specs.SignalLines.{SignalLines}
@@ -19,13 +19,13 @@ abbrev pub own_location : Transfer → ℕ → Location
 own_location t i = location_from (address_of t.request i) (datum_len t.request)
 
 -- the strobes of a datum by itself, but for A01 and LWORD*, which stay those of the first datum (this project's own)
-abbrev pub held : Strobes → Strobes → Strobes
-held first own = record { ds1 = own.ds1; ds0 = own.ds0; a01 = first.a01; lword = first.lword }
+abbrev pub shown_strobes : Strobes → Strobes → Strobes
+shown_strobes first own = record { ds1 = own.ds1; ds0 = own.ds0; a01 = first.a01; lword = first.lword }
 
 -- the master drives the lanes in a write alone (IEEE 1014, section 2.2.3)
-abbrev pub driven : Location → Option (List ℕ) → List (Option ℕ)
-driven location (Some bytes) = placed location bytes
-driven location None = None ∷ None ∷ None ∷ None ∷ []
+abbrev pub driven_lanes : Location → Option (List ℕ) → List (Option ℕ)
+driven_lanes location (Some bytes) = lanes_with location bytes
+driven_lanes location None = idle_lanes
 
 -- what the lines show of datum i before a slave answers: the address lines are those of the first datum and leave out the
 -- last two bits, and WRITE* is low for a write (IEEE 1014, sections 2.2.1 and 2.2.4)
@@ -33,12 +33,12 @@ unfoldable pub signals_of : Transfer → ℕ → SignalLines
 signals_of t i = record {
   am = t.am;
   addr = addr_of t.request - addr_of t.request % 4;
-  strobes = held (row_of (own_location t 0)).strobes (row_of (own_location t i)).strobes;
+  strobes = shown_strobes (row_of (own_location t 0)).strobes (row_of (own_location t i)).strobes;
   write = is_none (datum_of t.request i);
-  lanes = driven (own_location t i) (datum_of t.request i);
+  lanes = driven_lanes (own_location t i) (datum_of t.request i);
 }
 
 -- what the lines show in the write half of a read-modify-write: those of its read half, but WRITE* low and the bytes driven
 -- (IEEE 1014, section 2.3.6)
 unfoldable pub write_half_of : Transfer → List ℕ → SignalLines
-write_half_of t bytes = record (signals_of t 0) { write = false; lanes = placed (own_location t 0) bytes }
+write_half_of t bytes = record (signals_of t 0) { write = false; lanes = lanes_with (own_location t 0) bytes }

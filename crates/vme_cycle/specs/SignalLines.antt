@@ -1,17 +1,17 @@
 -- What the lines of a cycle show.
 use Rattle.std.specs.Prelude.{ℕ, ◌+◌, ◌%◌, nat_le, Bool, if◌then◌else◌, List, Option}
 use Rattle.std.specs.Option.{option_map, option_map_or}
-use Rattle.vme_am.specs.Codes.{Entry}
+use Rattle.vme_am.specs.Codes.{CodeRow}
 use Rattle.vme_am.specs.Kinds.{is_block}
 use Rattle.vme_lanes.specs.declared.location.Location.{Location}
 use Rattle.vme_lanes.specs.declared.location.Strobes.{Strobes}
 use Rattle.vme_lanes.specs.Rows.{row_of, location_sensed}
-use Rattle.vme_lanes.specs.Lanes.{placed}
+use Rattle.vme_lanes.specs.Lanes.{lanes_with}
 
 -- the lines of one cycle: the address modifier, the address lines from A02 up as the address of a group of four, the
 -- strobes with A01 and LWORD*, the level of WRITE*, and the lanes from D31-D24 on (IEEE 1014, section 2.2)
 pub record SignalLines : Type 0 where
-  pub am : Entry
+  pub am : CodeRow
   pub addr : ℕ
   pub strobes : Strobes
   pub write : Bool
@@ -41,5 +41,5 @@ len_at s at = row_len (strobes_at s at)
 
 -- the lines once a slave has answered a read: it drives the bytes on the lanes that the strobes choose
 -- (IEEE 1014, section 2.2.3)
-abbrev pub answered : SignalLines → List ℕ → SignalLines
-answered s bytes = record s { lanes = option_map_or (λ l. placed l bytes) (location_sensed s.strobes) s.lanes }
+abbrev pub answered_lines : SignalLines → List ℕ → SignalLines
+answered_lines s bytes = record s { lanes = option_map_or (λ l. lanes_with l bytes) (location_sensed s.strobes) s.lanes }

@@ -7,7 +7,7 @@ ghost use Rattle.vme_cycle.specs.Requests.{addr_of, function_of, reads, datum_le
 ghost use Rattle.vme_cycle.specs.Lawful.{first_refusal, transfer_of};
 ghost use Rattle.vme_cycle.specs.Parts.{IsLawful};
 ghost use Rattle.vme_cycle.specs.SignalLines.{row_len, first_byte, sensed_at, len_at};
-ghost use Rattle.vme_cycle.specs.Plans.{held, own_location, signals_of, write_half_of};
+ghost use Rattle.vme_cycle.specs.Plans.{shown_strobes, own_location, signals_of, write_half_of};
 
 use crate::fault::CycleFault;
 use crate::modify::Modify;
@@ -137,7 +137,7 @@ impl<'a> Plan<'a> {
             × (len_at result (address_of self.now.request i) ≡ Some (datum_len self.now.request)) }
     {
         let bytes = self.request().datum(i);
-        let location = shown(self.location(0), self.location(i));
+        let location = shown_location(self.location(0), self.location(i));
         let read = bytes.is_none();
         let lines = match bytes {
             Some(bytes) => place(location, bytes),
@@ -188,10 +188,11 @@ impl<'a> Plan<'a> {
 
 /// The location whose strobes a datum shows: DS1* and DS0* are its own, A01 and LWORD* those of
 /// the first datum.
-fn shown(first: Location, own: Location) -> Location
+fn shown_location(first: Location, own: Location) -> Location
     requires len { (row_of first).len ≡ (row_of own).len }
     requires lword { (row_of first).strobes.lword ≡ (row_of own).strobes.lword }
-    ensures strobes { (row_of result).strobes ≡ held (row_of first).strobes (row_of own).strobes }
+    ensures strobes { (row_of result).strobes
+        ≡ shown_strobes (row_of first).strobes (row_of own).strobes }
     ensures lane { (row_of result).lane ≡ (row_of own).lane }
     ensures len { (row_of result).len ≡ (row_of own).len }
 {

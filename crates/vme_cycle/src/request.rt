@@ -1,5 +1,5 @@
 ghost use Rattle.std.specs.Prelude.{◌≡◌, ◌+◌, ◌<◌, length, IfSome, IsTrue};
-ghost use Rattle.vme_cycle.specs.Counts.{is_single_len, is_block_len, is_block_count};
+ghost use Rattle.vme_cycle.specs.Counts.{is_single_len, is_block_len, is_modify_len, is_block_count};
 
 use crate::modify::Modify;
 use arrayvec::ArrayVec;
@@ -58,9 +58,16 @@ pub enum Request {
     },
 }
 
-/// The lengths of the data of a block, and of a read-modify-write.
+/// The lengths of the data of a block.
 fn is_block_len(n: u8) -> bool
     ensures { result ≡ is_block_len n }
+{
+    n == 1 || n == 2 || n == 4
+}
+
+/// The lengths of a read-modify-write.
+fn is_modify_len(n: u8) -> bool
+    ensures { result ≡ is_modify_len n }
 {
     n == 1 || n == 2 || n == 4
 }
@@ -201,7 +208,7 @@ impl Request {
                     && is_block_count(usize::from(*count))
                     && bytes.len() == usize::from(*n)
             }
-            Request::Modify { n, f, .. } => is_block_len(*n) && f.has_len(*n),
+            Request::Modify { n, f, .. } => is_modify_len(*n) && f.has_len(*n),
         }
     }
 

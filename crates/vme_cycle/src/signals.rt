@@ -49,7 +49,7 @@ impl Model for Signals {
 }
 
 impl Signals {
-    ghost use Rattle.vme_cycle.specs.SignalLines.{row_len, answered, sensed_at};
+    ghost use Rattle.vme_cycle.specs.SignalLines.{row_len, answered_lines, sensed_at};
 
     /// The signals that these lines show, or `None` where the strobes choose no bytes. `addr` has
     /// the address lines from A02 up, as the address of a group of four; `write` is the level of
@@ -171,7 +171,7 @@ impl Signals {
     /// The signals once a slave has answered a read: the bytes on the lanes of the location.
     pub fn answered(self, bytes: &[u8]) -> Signals
         requires { row_len self.strobes ≡ Some (length bytes.now) }
-        ensures { result ≡ answered self bytes.now }
+        ensures { result ≡ answered_lines self bytes.now }
     {
         let lines = place(self.location(), bytes);
         Signals { lines, ..self }

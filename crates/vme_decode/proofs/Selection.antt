@@ -3,7 +3,7 @@ use Rattle.std.proofs.Common.{◌≡◌, ℕ, ◌+◌, ◌-◌, ◌<◌, true, L
 use Rattle.std.specs.Prelude.{option_map, option_and_then, slice_get, IfSome}
 use Rattle.std.proofs.lemmas.Bool.{and_parts, and_from}
 use Rattle.std.proofs.lemmas.Option.{option_and_then_some, some_pair_parts, slice_get_within}
-use Rattle.vme_am.specs.Codes.{Entry as CodeRow}
+use Rattle.vme_am.specs.Codes.{CodeRow}
 use Rattle.vme_cycle.specs.SignalLines.{SignalLines}
 use Rattle.vme_decode.specs.declared.entry.Entry.{Entry}
 use Rattle.vme_decode.specs.Entries.{covers, admits}

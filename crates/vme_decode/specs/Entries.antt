@@ -2,7 +2,7 @@
 use Rattle.std.specs.Prelude.{ℕ, ◌+◌, nat_lt, nat_le, min, max, Bool, true, false, not, ◌&&◌, ◌||◌}
 use Rattle.vme_am.specs.declared.code.Space.{Space}
 use Rattle.vme_am.specs.declared.code.Space.TheVariants.{A16, A24, A32}
-use Rattle.vme_am.specs.Codes.{Entry as CodeRow}
+use Rattle.vme_am.specs.Codes.{CodeRow}
 use Rattle.vme_decode.specs.declared.entry.Entry.{Entry}
 
 -- whether two spaces are one (this project's own)

@@ -1,7 +1,7 @@
 -- Which entry of a map a cycle selects.
 use Rattle.std.specs.Prelude.{◌≡◌, ℕ, ◌+◌, ◌-◌, ◌<◌, Bool, ◌&&◌, List, find, Option, Some, option_map, option_and_then, slice_get, IsTrue}
 use Rattle.std.specs.List.{enumerate_from}
-use Rattle.vme_am.specs.Codes.{Entry as CodeRow}
+use Rattle.vme_am.specs.Codes.{CodeRow}
 use Rattle.vme_cycle.specs.SignalLines.{SignalLines, first_byte}
 use Rattle.vme_decode.specs.declared.entry.Entry.{Entry}
 use Rattle.vme_decode.specs.Entries.{covers, admits}

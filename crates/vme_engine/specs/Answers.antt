@@ -6,7 +6,7 @@ use Rattle.vme_cycle.specs.declared.modify.Modify.{Modify}
 use Rattle.vme_cycle.specs.declared.fault.CycleFault.{CycleFault}
 use Rattle.vme_cycle.specs.Lawful.{Transfer, transfer_of}
 use Rattle.vme_cycle.specs.Requests.{datum_len, function_of, count_of, reads}
-use Rattle.vme_cycle.specs.SignalLines.{SignalLines, answered}
+use Rattle.vme_cycle.specs.SignalLines.{SignalLines, answered_lines}
 use Rattle.vme_cycle.specs.Functions.{value}
 use Rattle.vme_cycle.specs.Plans.{signals_of, write_half_of}
 use Rattle.vme_decode.specs.declared.entry.Entry.{Entry}
@@ -37,7 +37,7 @@ status_of (outcomes.Berr count bytes) = Marked
 
 -- what the lines show in the end: in a read what the board drives, else what they showed before (this project's own)
 abbrev pub shown : SignalLines → Reply → SignalLines
-shown s (Bytes datum) = answered s datum.items
+shown s (Bytes datum) = answered_lines s datum.items
 shown s Done = s
 shown s Berr = s
 

@@ -4,26 +4,30 @@ use Rattle.std.specs.List.{list_all, filter_map}
 use Rattle.vme_lanes.specs.declared.location.Location.{Location}
 use Rattle.vme_lanes.specs.Rows.{row_of}
 
+-- the four lanes while nothing drives them (this project's own)
+abbrev pub idle_lanes : List (Option ℕ)
+idle_lanes = None ∷ None ∷ None ∷ None ∷ []
+
 -- what a lane carries, where the bytes begin at lane first (IEEE 1014, section 2.2.3: the lowest address on the highest lane)
 abbrev pub byte_on : ℕ → List ℕ → ℕ → Option ℕ
 byte_on first bytes lane = if nat_lt lane first then None else slice_get bytes (lane - first)
 
 -- the four lanes, with bytes placed on those of a location (IEEE 1014, section 2.2.3)
-abbrev pub placed : Location → List ℕ → List (Option ℕ)
-placed l bytes = map (byte_on (row_of l).lane bytes) (0 ∷ 1 ∷ 2 ∷ 3 ∷ [])
+abbrev pub lanes_with : Location → List ℕ → List (Option ℕ)
+lanes_with l bytes = map (byte_on (row_of l).lane bytes) (0 ∷ 1 ∷ 2 ∷ 3 ∷ [])
 
 -- what the location's own lanes carry (IEEE 1014, section 2.2.3)
-abbrev pub carried : Location → List (Option ℕ) → List (Option ℕ)
-carried l lanes = slice_range lanes (row_of l).lane ((row_of l).lane + (row_of l).len)
+abbrev pub own_lanes : Location → List (Option ℕ) → List (Option ℕ)
+own_lanes l lanes = slice_range lanes (row_of l).lane ((row_of l).lane + (row_of l).len)
 
 -- whether each of them carries a byte (this project's own)
 abbrev pub carries : Location → List (Option ℕ) → Bool
-carries l lanes = list_all is_some (carried l lanes)
+carries l lanes = list_all is_some (own_lanes l lanes)
 
 -- the bytes on some lanes, in order (this project's own)
 abbrev pub bytes_of : List (Option ℕ) → List ℕ
 bytes_of lanes = filter_map (λ lane. lane) lanes
 
 -- the bytes on the location's own lanes, in order of address (IEEE 1014, section 2.2.3)
-abbrev pub picked : Location → List (Option ℕ) → List ℕ
-picked l lanes = bytes_of (carried l lanes)
+abbrev pub bytes_on : Location → List (Option ℕ) → List ℕ
+bytes_on l lanes = bytes_of (own_lanes l lanes)

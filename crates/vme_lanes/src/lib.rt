@@ -8,4 +8,4 @@ mod lines;
 mod location;
 
 pub use lines::{DataLines, Datum, pick, place, placed_is_picked};
-pub use location::{Location, Strobes, strobes_are_sensed};
+pub use location::{Location, Strobes, places_are_found, strobes_are_sensed};

@@ -1,7 +1,7 @@
 ghost use Rattle.std.specs.Prelude.{◌≡◌, List, ℕ, length, IsTrue};
 ghost use Rattle.vme_lanes.specs.declared.location.Location.{Location};
 ghost use Rattle.vme_lanes.specs.Rows.{row_of};
-ghost use Rattle.vme_lanes.specs.Lanes.{byte_on, placed, carries, picked};
+ghost use Rattle.vme_lanes.specs.Lanes.{byte_on, lanes_with, carries, bytes_on};
 
 use crate::location::Location;
 use arrayvec::ArrayVec;
@@ -35,7 +35,7 @@ impl DataLines {
 /// Puts bytes on the lanes of a location, in order of address; the other lanes carry nothing.
 pub fn place(location: Location, bytes: &[u8]) -> DataLines
     requires { length bytes.now ≡ (row_of location).len }
-    ensures { result.lanes ≡ placed location bytes.now }
+    ensures { result.lanes ≡ lanes_with location bytes.now }
 {
     let first = location.lane();
     DataLines {
@@ -58,7 +58,7 @@ fn byte_on(first: usize, bytes: &[u8], lane: usize) -> Option<u8>
 #[tactic(auto, using(crate::proofs::Full::length_bytes_of))]
 pub fn pick(location: Location, lines: DataLines) -> Datum
     requires { IsTrue (carries location lines.lanes) }
-    ensures value { result.items ≡ picked location lines.lanes }
+    ensures value { result.items ≡ bytes_on location lines.lanes }
     ensures len { length result.items ≡ (row_of location).len }
 {
     let first = location.lane();
@@ -75,7 +75,7 @@ pub fn pick(location: Location, lines: DataLines) -> Datum
 /// What is placed on the lanes of a location is picked from them.
 pub fn placed_is_picked()
     ensures carries { (l : Location) (bytes : List ℕ) →
-        length bytes ≡ (row_of l).len → IsTrue (carries l (placed l bytes)) }
+        length bytes ≡ (row_of l).len → IsTrue (carries l (lanes_with l bytes)) }
     ensures picked { (l : Location) (bytes : List ℕ) →
-        length bytes ≡ (row_of l).len → picked l (placed l bytes) ≡ bytes }
+        length bytes ≡ (row_of l).len → bytes_on l (lanes_with l bytes) ≡ bytes }
 {}

@@ -1,4 +1,4 @@
-ghost use Rattle.std.specs.Prelude.{◌≡◌, ◌+◌, ◌%◌, ◌≤◌, Some, IfSome};
+ghost use Rattle.std.specs.Prelude.{◌≡◌, ◌+◌, ◌%◌, ◌≤◌, ℕ, Some, IfSome};
 ghost use Rattle.vme_lanes.specs.Rows.{row_of, location_at, location_sensed};
 
 /// The bytes of a group of four that one cycle reaches, by their addresses modulo four.
@@ -141,7 +141,15 @@ impl Strobes {
 }
 
 /// Each location is sensed from its own strobes: no two rows have the same.
-#[tactic(auto, unfolding(crate::specs::Rows::location_sensed))]
+#[tactic(auto, using(crate::proofs::Tables::own_sensed))]
 pub fn strobes_are_sensed()
     ensures { (l : Location) → location_sensed (row_of l).strobes ≡ Some l }
+{}
+
+/// Each location is found by its length, at any address with its place in the group of four: no two
+/// rows have the same first byte and the same length.
+#[tactic(auto, using(crate::proofs::Tables::own_found))]
+pub fn places_are_found()
+    ensures { (l : Location) (addr : ℕ) → (row_of l).first ≡ addr % 4 →
+        location_at addr (row_of l).len ≡ Some l }
 {}

@@ -3,22 +3,22 @@ use Rattle.std.proofs.Common.{◌≡◌, ℕ, ◌+◌, ◌≤◌, true, List, le
 use Rattle.std.proofs.lemmas.Bool.{cases_Bool, and_parts, leb-true}
 use Rattle.std.proofs.lemmas.Grind.{common_steps}
 use Rattle.vme_memory.specs.declared.reply.Reply.TheVariants.{Bytes, Done}
-use Rattle.vme_memory.specs.Boards.{Board, overwritten}
-use Rattle.vme_memory.specs.Steps.{Command, can_answer, performed, read_at, write_at, step, LocalRead, LocalWrite, Read, Write, BlockRead, BlockWrite}
+use Rattle.vme_memory.specs.Boards.{Board, bytes_after_write}
+use Rattle.vme_memory.specs.Steps.{Command, can_answer, effect_of, read_at, write_at, step, LocalRead, LocalWrite, Read, Write, BlockRead, BlockWrite}
 
-same_bytes : (bytes new : List ℕ) (at : ℕ) → at + length new ≤ length bytes → slice_range (overwritten bytes at new) at (at + length new) ≡ new
+same_bytes : (bytes new : List ℕ) (at : ℕ) → at + length new ≤ length bytes → slice_range (bytes_after_write bytes at new) at (at + length new) ≡ new
 same_bytes bytes new at fits = grind (arith, common_steps)
 
-same_len : (bytes new : List ℕ) (at : ℕ) → at + length new ≤ length bytes → length (overwritten bytes at new) ≡ length bytes
+same_len : (bytes new : List ℕ) (at : ℕ) → at + length new ≤ length bytes → length (bytes_after_write bytes at new) ≡ length bytes
 same_len bytes new at fits = grind (arith, common_steps)
 
 -- the board after a write that it answers
 after : Board → ℕ → List ℕ → Board
-after board at new = record board { bytes = overwritten board.bytes at new }
+after board at new = record board { bytes = bytes_after_write board.bytes at new }
 
 -- a write that is answered leaves the bytes there
 left_there :
-    (board : Board) (command : Command) (at : ℕ) (new : List ℕ) → can_answer board command ≡ true → performed board command ≡ write_at board at new
+    (board : Board) (command : Command) (at : ℕ) (new : List ℕ) → can_answer board command ≡ true → effect_of board command ≡ write_at board at new
     → (step board command).1 ≡ after board at new
 unfolding after
 left_there board command at new can does = rw can (ap (λ p. p.1) does)
@@ -26,7 +26,7 @@ left_there board command at new can does = rw can (ap (λ p. p.1) does)
 -- what is read there, where the read is answered
 read_there :
     (board : Board) (command : Command) (at : ℕ) (new : List ℕ) → at + length new ≤ length board.bytes → can_answer (after board at new) command ≡ true
-    → performed (after board at new) command ≡ read_at (after board at new) at (length new)
+    → effect_of (after board at new) command ≡ read_at (after board at new) at (length new)
     → (step (after board at new) command).0 ≡ Bytes (record { items = new })
 unfolding after
 read_there board command at new fits can does =

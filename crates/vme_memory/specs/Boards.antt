@@ -16,5 +16,5 @@ unfoldable pub zeros : ℕ → List ℕ
 zeros size = replicate size 0
 
 -- the bytes with new ones in the place of those from at on (this project's own)
-abbrev pub overwritten : List ℕ → ℕ → List ℕ → List ℕ
-overwritten bytes at new = take at bytes ++ new ++ drop (at + length new) bytes
+abbrev pub bytes_after_write : List ℕ → ℕ → List ℕ → List ℕ
+bytes_after_write bytes at new = take at bytes ++ new ++ drop (at + length new) bytes

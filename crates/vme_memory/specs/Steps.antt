@@ -1,18 +1,17 @@
--- The step of a board's memory on a command, and the command that a cycle or a call of the local port stands for.
-use Rattle.std.specs.Prelude.{◌≡◌, ℕ, ◌+◌, ◌%◌, nat_le, Bool, true, false, ◌==◌, ◌&&◌, if◌then◌else◌, List, length, slice_range, Option, Some, None}
+-- The step of a board's memory on a command, and the command that a cycle of the bus stands for.
+use Rattle.std.specs.Prelude.{◌≡◌, ℕ, ◌+◌, ◌%◌, nat_le, Bool, true, false, not, ◌==◌, ◌&&◌, if◌then◌else◌, List, length, slice_range, Option, Some, None}
 use Rattle.std.specs.Option.{option_map, option_map_or, option_and_then}
 use Rattle.vme_lanes.specs.declared.location.Location.{Location}
 use Rattle.vme_lanes.specs.Rows.{row_of, location_at}
-use Rattle.vme_lanes.specs.Lanes.{carries, picked}
+use Rattle.vme_lanes.specs.Lanes.{carries, bytes_on}
 use Rattle.vme_am.specs.Kinds.{is_block}
 use Rattle.vme_cycle.specs.declared.modify.Modify as functions
 use Rattle.vme_cycle.specs.Functions.{value, has_len}
-use Rattle.vme_cycle.specs.Counts.{is_block_len}
 use Rattle.vme_cycle.specs.SignalLines.{SignalLines, sensed_at}
 use Rattle.vme_memory.specs.declared.reply.Reply.{Reply}
 use Rattle.vme_memory.specs.declared.reply.Reply.TheVariants.{Bytes, Done, Berr}
-use Rattle.vme_memory.specs.Classes.{answers, is_block_place}
-use Rattle.vme_memory.specs.Boards.{Board, overwritten}
+use Rattle.vme_memory.specs.Classes.{answers, is_block_place, is_modify_place, is_local_len}
+use Rattle.vme_memory.specs.Boards.{Board, bytes_after_write}
 
 -- a command, with the offset of its first byte: a read of so many bytes, a write of these, or a read-modify-write of so
 -- many with a function, by the local port or by the bus; or one datum of a block (this project's own)
@@ -37,13 +36,13 @@ has_cycle board at len = option_map_or (answers board.class) (location_at at len
 -- whether a board answers a command: all bytes lie within it; the length is allowed there; its class has the cycle, for
 -- which the local port does not ask; and the data of a function have that length (this project's own)
 abbrev pub can_answer : Board → Command → Bool
-can_answer board (LocalRead at len) = fits board at len && is_block_len len
-can_answer board (LocalWrite at new) = fits board at (length new) && is_block_len (length new)
-can_answer board (LocalModify at len f) = fits board at len && is_block_len len && has_len f len
+can_answer board (LocalRead at len) = fits board at len && is_local_len len
+can_answer board (LocalWrite at new) = fits board at (length new) && is_local_len (length new)
+can_answer board (LocalModify at len f) = fits board at len && is_local_len len && has_len f len
 can_answer board (Read at len) = fits board at len && has_cycle board at len
 can_answer board (Write at new) = fits board at (length new) && has_cycle board at (length new)
 can_answer board (Modify at len f) =
-    fits board at len && has_cycle board at len && is_block_place at len && board.class.rmw && has_len f len
+    fits board at len && has_cycle board at len && is_modify_place at len && board.class.rmw && has_len f len
 can_answer board (BlockRead at len) = fits board at len && has_cycle board at len && is_block_place at len && board.class.blt
 can_answer board (BlockWrite at new) =
     fits board at (length new) && has_cycle board at (length new) && is_block_place at (length new) && board.class.blt
@@ -58,45 +57,53 @@ read_at board at len = (Bytes (record { items = bytes_at board at len }), board)
 
 -- what a write does (this project's own)
 abbrev pub write_at : Board → ℕ → List ℕ → Reply × Board
-write_at board at new = (Done, record board { bytes = overwritten board.bytes at new })
+write_at board at new = (Done, record board { bytes = bytes_after_write board.bytes at new })
 
 -- what a read-modify-write does: it replies the old bytes (this project's own)
 abbrev pub modify_at : Board → ℕ → ℕ → functions.Modify → Reply × Board
 modify_at board at len f = (
   Bytes (record { items = bytes_at board at len }),
-  record board { bytes = overwritten board.bytes at (value f (bytes_at board at len)) },
+  record board { bytes = bytes_after_write board.bytes at (value f (bytes_at board at len)) },
 )
 
 -- what a command does that is answered (this project's own)
-abbrev pub performed : Board → Command → Reply × Board
-performed board (LocalRead at len) = read_at board at len
-performed board (LocalWrite at new) = write_at board at new
-performed board (LocalModify at len f) = modify_at board at len f
-performed board (Read at len) = read_at board at len
-performed board (Write at new) = write_at board at new
-performed board (Modify at len f) = modify_at board at len f
-performed board (BlockRead at len) = read_at board at len
-performed board (BlockWrite at new) = write_at board at new
+abbrev pub effect_of : Board → Command → Reply × Board
+effect_of board (LocalRead at len) = read_at board at len
+effect_of board (LocalWrite at new) = write_at board at new
+effect_of board (LocalModify at len f) = modify_at board at len f
+effect_of board (Read at len) = read_at board at len
+effect_of board (Write at new) = write_at board at new
+effect_of board (Modify at len f) = modify_at board at len f
+effect_of board (BlockRead at len) = read_at board at len
+effect_of board (BlockWrite at new) = write_at board at new
 
 -- the step of a board's memory: its reply, and the memory after it (this project's own)
 abbrev pub step : Board → Command → Reply × Board
-step board command = if can_answer board command then performed board command else (Berr, board)
+step board command = if can_answer board command then effect_of board command else (Berr, board)
 
 -- the bytes that the lanes of a location carry, if each of them carries one (this project's own)
 abbrev pub driven_bytes : Location → List (Option ℕ) → Option (List ℕ)
-driven_bytes l lanes = if carries l lanes then Some (picked l lanes) else None
+driven_bytes l lanes = if carries l lanes then Some (bytes_on l lanes) else None
+
+-- a read by itself or of a block (this project's own)
+abbrev pub read_command : Bool → ℕ → ℕ → Command
+read_command false at len = Read at len
+read_command true at len = BlockRead at len
+
+-- a write by itself or of a block (this project's own)
+abbrev pub write_command : Bool → ℕ → List ℕ → Command
+write_command false at new = Write at new
+write_command true at new = BlockWrite at new
+
+-- the write that the lanes of a location carry, if each of them carries a byte (this project's own)
+abbrev pub driven_write : Bool → Location → ℕ → List (Option ℕ) → Option Command
+driven_write block l at lanes = option_map (write_command block at) (driven_bytes l lanes)
 
 -- the command of a cycle at a location's own place, by whether its code is a block code, the level of WRITE*, and whether
--- it comes with a function (IEEE 1014, section 2.2.4)
+-- it comes with a function, which only the read half of a cycle by itself does (IEEE 1014, section 2.2.4)
 abbrev pub command_at : Bool → Bool → Option functions.Modify → ℕ → Location → List (Option ℕ) → Option Command
-command_at false true None at l lanes = Some (Read at (row_of l).len)
-command_at false false None at l lanes = option_map (Write at) (driven_bytes l lanes)
-command_at false true (Some f) at l lanes = Some (Modify at (row_of l).len f)
-command_at false false (Some f) at l lanes = None
-command_at true true None at l lanes = Some (BlockRead at (row_of l).len)
-command_at true false None at l lanes = option_map (BlockWrite at) (driven_bytes l lanes)
-command_at true true (Some f) at l lanes = None
-command_at true false (Some f) at l lanes = None
+command_at block write None at l lanes = if write then Some (read_command block at (row_of l).len) else driven_write block l at lanes
+command_at block write (Some f) at l lanes = if write && not block then Some (Modify at (row_of l).len f) else None
 
 -- the command that a cycle at an offset stands for, if any: by the location that the board senses there, at that location's
 -- place in the group of four (IEEE 1014, sections 2.2.1 and 2.2.4)

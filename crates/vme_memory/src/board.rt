@@ -1,8 +1,8 @@
 ghost use Rattle.std.specs.Prelude.{ℕ, ◌≡◌, ◌↔◌, ◌+◌, ◌%◌, ◌≤◌, length, slice_get, true, false, Some, IsTrue, ◌&&◌, IfOk, OnOk, IsErrOf};
 ghost use Rattle.vme_lanes.specs.Rows.{row_of};
 ghost use Rattle.vme_cycle.specs.SignalLines.{len_at};
-ghost use Rattle.vme_memory.specs.Classes.{is_block_place};
-ghost use Rattle.vme_memory.specs.Boards.{is_board_size, zeros, overwritten};
+ghost use Rattle.vme_memory.specs.Classes.{is_block_place, is_modify_place, is_local_len};
+ghost use Rattle.vme_memory.specs.Boards.{is_board_size, zeros, bytes_after_write};
 
 use crate::class::Class;
 use crate::command::BoardCmd;
@@ -42,10 +42,8 @@ impl Model for ByteMemory {
 impl ByteMemory {
     ghost use Rattle.std.specs.Option.{option_map};
     ghost use Rattle.vme_cycle.specs.Functions.{has_len};
-    ghost use Rattle.vme_cycle.specs.Counts.{is_block_len};
     ghost use Rattle.vme_memory.specs.Steps as Steps;
-    ghost use Rattle.vme_memory.specs.Steps.{fits, has_cycle, bytes_at, modify_at, step, answer, cycle, HasLen};
-    ghost use Rattle.vme_memory.specs.Commands.{read_command, written};
+    ghost use Rattle.vme_memory.specs.Steps.{fits, has_cycle, bytes_at, modify_at, step, answer, read_command, driven_write, cycle, HasLen};
     ghost use Rattle.vme_memory.specs.Locals.{answer_given};
 
     /// A memory of `size` bytes, all zero.
@@ -128,7 +126,7 @@ impl ByteMemory {
     /// Whether the bytes of a location, from `at` on, lie within the board and its class has the
     /// cycle.
     #[tactic(auto, using(crate::proofs::Places::place_found))]
-    fn has_cycle(&self, location: Location, at: u32) -> bool
+    fn reaches(&self, location: Location, at: u32) -> bool
         requires { (row_of location).first ≡ at % 4 }
         ensures { result ≡ (fits self.now at (row_of location).len
             && has_cycle self.now at (row_of location).len) }
@@ -148,7 +146,7 @@ impl ByteMemory {
         ensures memory { self.now ≡ (step self.now (read_command block at (row_of location).len)).1 }
         ensures len { HasLen result (row_of location).len }
     {
-        if !self.has_cycle(location, at) {
+        if !self.reaches(location, at) {
             return Reply::Berr;
         }
         if block && !self.has_block(location, at) {
@@ -165,15 +163,15 @@ impl ByteMemory {
 
     fn write(&mut self, block: bool, location: Location, at: u32, lines: DataLines) -> Reply
         requires { (row_of location).first ≡ at % 4 }
-        ensures reply { result ≡ (answer self.old (written block location at lines.lanes)).0 }
-        ensures memory { self.new ≡ (answer self.old (written block location at lines.lanes)).1 }
+        ensures reply { result ≡ (answer self.old (driven_write block location at lines.lanes)).0 }
+        ensures memory { self.new ≡ (answer self.old (driven_write block location at lines.lanes)).1 }
         ensures len { (len : ℕ) → HasLen result len }
     {
         if !lines.carries(location) {
             return Reply::Berr;
         }
         let bytes = pick(location, lines);
-        if !self.has_cycle(location, at) {
+        if !self.reaches(location, at) {
             return Reply::Berr;
         }
         if block && !self.has_block(location, at) {
@@ -189,7 +187,7 @@ impl ByteMemory {
         ensures memory { self.new ≡ (step self.old (Steps.Modify at (row_of location).len f.now)).1 }
         ensures len { HasLen result (row_of location).len }
     {
-        if !self.has_cycle(location, at) {
+        if !self.reaches(location, at) {
             return Reply::Berr;
         }
         if !self.has_modify(location, at, f) {
@@ -199,10 +197,10 @@ impl ByteMemory {
     }
 
     fn has_modify(&self, location: Location, at: u32, f: &Modify) -> bool
-        ensures { result ≡ (is_block_place at (row_of location).len && self.now.class.rmw
+        ensures { result ≡ (is_modify_place at (row_of location).len && self.now.class.rmw
             && has_len f.now (row_of location).len) }
     {
-        is_block_place(location.len(), at) && self.class.rmw && f.has_len(location.len())
+        is_modify_place(location.len(), at) && self.class.rmw && f.has_len(location.len())
     }
 
     fn local_read(&self, at: u32, n: u8) -> Reply
@@ -241,9 +239,9 @@ impl ByteMemory {
 
     /// Whether the local port reaches `n` bytes from `at` on.
     fn is_local_place(&self, at: u32, n: u8) -> bool
-        ensures { result ≡ (fits self.now at n && is_block_len n) }
+        ensures { result ≡ (fits self.now at n && is_local_len n) }
     {
-        self.fits(at, n) && (n == 1 || n == 2 || n == 4)
+        self.fits(at, n) && is_local_len(n)
     }
 
     /// Writes the function's value in the place of the old bytes, which are the reply.
@@ -273,9 +271,28 @@ impl ByteMemory {
     }
 }
 
-/// Where one datum of a block, or a read-modify-write, may be: `len` bytes from `at` on.
+/// The lengths that the local port takes.
+fn is_local_len(len: u8) -> bool
+    ensures { result ≡ is_local_len len }
+{
+    len == 1 || len == 2 || len == 4
+}
+
+/// Where one datum of a block may be: `len` bytes from `at` on.
 fn is_block_place(len: u8, at: u32) -> bool
     ensures { result ≡ is_block_place at len }
+{
+    match len {
+        1 => true,
+        2 => at % 2 == 0,
+        4 => at % 4 == 0,
+        _ => false,
+    }
+}
+
+/// Where a read-modify-write may be: `len` bytes from `at` on.
+fn is_modify_place(len: u8, at: u32) -> bool
+    ensures { result ≡ is_modify_place at len }
 {
     match len {
         1 => true,
@@ -294,7 +311,7 @@ fn datum_of(bytes: &[u8]) -> Datum
 
 fn overwrite(bytes: &mut [u8], at: usize, new: &[u8])
     requires { at + length new.now ≤ length bytes.old }
-    ensures { bytes.new ≡ overwritten bytes.old at new.now }
+    ensures { bytes.new ≡ bytes_after_write bytes.old at new.now }
 {
     bytes[at..at + new.len()].copy_from_slice(new);
 }

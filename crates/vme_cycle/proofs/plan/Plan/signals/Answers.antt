@@ -1,13 +1,13 @@
 -- The signals of each datum of a lawful request.
 use Rattle.std.proofs.Common.{◌%◌, ◌≡◌, sym, ◌∙◌, rules}
 use Rattle.vme_lanes.specs.Rows.{row_of}
+use Rattle.vme_lanes.proofs.Tables.{own_sensed}
 use Rattle.vme_cycle.specs.Requests.{addr_of}
-use Rattle.vme_cycle.specs.Inverse.{own_sensed}
 use Rattle.vme_cycle.proofs.Blocks.{same_lword, counts_on, len_of_strobes, first_shown, held_by_itself}
 use Rattle.vme_cycle.proofs.plan.Plan.signals.Goals as goal
 
-pub shown-location-requires-clause-lword : goal.shown-location-requires-clause-lword
-shown-location-requires-clause-lword c =
+pub shown_location-location-requires-clause-lword : goal.shown_location-location-requires-clause-lword
+shown_location-location-requires-clause-lword c =
     same_lword c.args.self.now.am c.args.self.now.request c.args.i c.location.result c.location-2.result c.request.ensures.lawful c.requires
     c.location.ensures.found c.location-2.ensures.found
 
@@ -29,6 +29,6 @@ returns-clause-len c =
     let at = counts_on c.args.self.now.am c.args.self.now.request c.args.i c.location.result c.location-2.result c.new.result c.request.ensures.lawful
     c.requires c.location.ensures.found c.location-2.ensures.found (search rules) (search rules) in (
       rw c.new.ensures
-          (len_of_strobes _ c.shown-location.result _ (own_sensed c.shown-location.result) (c.shown-location.ensures.len ∙ c.location-2.ensures.len)),
+          (len_of_strobes _ c.shown_location-location.result _ (own_sensed c.shown_location-location.result) (c.shown_location-location.ensures.len ∙ c.location-2.ensures.len)),
       len_of_strobes _ c.location-2.result _ at c.location-2.ensures.len,
     )

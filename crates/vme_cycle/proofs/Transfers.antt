@@ -1,0 +1,70 @@
+-- The transfer of a lawful request, and what a slave senses of each of its data.
+use Rattle.std.proofs.Common.{◌≡◌, ℕ, ◌%◌, ◌<◌, zero, Bool, Option, None, Some, Result, Ok, Err, ap, sym, ◌∙◌, arith, refl, unwrap_or}
+use Rattle.std.specs.Prelude.{nat_le, if◌then◌else◌}
+use Rattle.vme_am.specs.declared.code.AmFault.{AmFault}
+use Rattle.vme_am.specs.Codes.{CodeRow, read_code}
+use Rattle.vme_am.specs.Kinds.{is_block}
+use Rattle.vme_lanes.specs.declared.location.Location.{Location}
+use Rattle.vme_lanes.specs.declared.location.Location.TheVariants.{Byte0}
+use Rattle.vme_lanes.specs.Rows.{row_of, location_at, location_sensed}
+use Rattle.vme_cycle.specs.declared.request.Request.{Request}
+use Rattle.vme_cycle.specs.declared.fault.CycleFault.{CycleFault}
+use Rattle.vme_cycle.specs.Requests.{code_of, datum_len, count_of, address_of}
+use Rattle.vme_cycle.specs.Lawful.{Transfer, first_refusal, transfer_with, refusal_or, transfer_of, IsLawfulTransfer}
+use Rattle.vme_cycle.specs.Parts.{IsLawful}
+use Rattle.vme_cycle.specs.SignalLines.{SignalLines, sensed_at}
+use Rattle.vme_cycle.specs.Plans.{location_from, own_location, shown_strobes, signals_of}
+use Rattle.vme_cycle.proofs.Lawful.{lawful}
+use Rattle.vme_cycle.proofs.Blocks.{datum_found, counts_on}
+
+-- what a transfer comes from
+pub record ComesFrom (request : Request) (t : Transfer) : Type 0 where
+  pub same : t.request ≡ request
+  pub row : read_code (code_of request) ≡ Ok t.am
+  pub none : first_refusal request ≡ None
+
+comes_by :
+    (request : Request) (t : Transfer) (refusal : Option CycleFault) (found : Result CodeRow AmFault) → first_refusal request ≡ refusal
+    → read_code (code_of request) ≡ found → refusal_or refusal (transfer_with request found) ≡ Ok t → ComesFrom request t
+comes_by request t (Some fault) found none row h = absurd cc
+comes_by request t None (Err fault) none row h = absurd cc
+comes_by request t None (Ok code) none row h =
+    let whole : record { am = code; request = request } ≡ t = cc in
+    record { same = sym (ap (λ (u : Transfer). u.request) whole); row = row ∙ ap (λ (u : Transfer). Ok u.am) whole; none = none }
+
+pub comes_from : (request : Request) (t : Transfer) → transfer_of request ≡ Ok t → ComesFrom request t
+unfolding transfer_of
+comes_from request t h = comes_by request t (first_refusal request) (read_code (code_of request)) refl refl h
+
+-- the transfer of a request is lawful
+pub transfer_is_lawful : (request : Request) (t : Transfer) → transfer_of request ≡ Ok t → IsLawfulTransfer t
+transfer_is_lawful request t h = ap transfer_of (comes_from request t h).same ∙ h
+
+-- part by part
+pub lawful_parts : (t : Transfer) → IsLawfulTransfer t → IsLawful t.am t.request
+lawful_parts t h = let from = comes_from t.request t h in lawful t.am t.request from.row from.none
+
+-- the location of a datum that is found
+pub own_is : (t : Transfer) (i : ℕ) (l : Location) → location_at (address_of t.request i) (datum_len t.request) ≡ Some l → own_location t i ≡ l
+unfolding location_from
+own_is t i l found = ap (λ at. unwrap_or at Byte0) found
+
+-- a slave that has counted to another address in the same place of the group of four senses the same
+sensed_alike : (s : SignalLines) (at addr : ℕ) → at % 4 ≡ addr % 4 → sensed_at s at ≡ sensed_at s addr
+sensed_alike s at addr h =
+    ap (λ r. location_sensed (if is_block s.am.kind then record s.strobes { a01 = nat_le 2 r } else s.strobes)) h
+
+-- what a slave senses of a datum at its own place in the group of four is the datum's own location
+pub own_sensed_at :
+    (t : Transfer) (i at : ℕ) → IsLawful t.am t.request → i < count_of t.request → at % 4 ≡ address_of t.request i % 4
+    → sensed_at (signals_of t i) at ≡ Some (own_location t i)
+unfolding signals_of
+own_sensed_at t i at is less same =
+    let some : zero < count_of t.request = omega (arith, less) in
+    let first = datum_found t.am t.request zero is some in
+    let own = datum_found t.am t.request i is less in
+    let first_is = own_is t zero first.0 first.1 in
+    let here = own_is t i own.0 own.1 in
+    sensed_alike (signals_of t i) at (address_of t.request i) same
+    ∙ counts_on t.am t.request i first.0 own.0 (signals_of t i) is less first.1 own.1 refl (rw (← first_is, ← here) refl)
+    ∙ ap Some (sym here)

@@ -1,0 +1,42 @@
+-- No two rows of the table have the same strobes, nor the same first byte and length.
+use Rattle.std.proofs.Common.{◌≡◌, ℕ, ◌%◌, ◌&&◌, find, Some, Option, refl, ap, sym, ◌∙◌}
+use Rattle.std.specs.Prelude.{◌==◌}
+use Rattle.vme_lanes.specs.declared.location.Location.{Location}
+use Rattle.vme_lanes.specs.declared.location.Location.TheVariants.{Byte0, Byte1, Byte2, Byte3, Bytes01, Bytes23, Bytes03, Bytes02, Bytes13, Bytes12}
+use Rattle.vme_lanes.specs.Rows.{row_of, locations, location_at, location_sensed}
+
+-- each location is sensed from its own strobes
+pub own_sensed : (l : Location) → location_sensed (row_of l).strobes ≡ Some l
+unfolding location_sensed
+own_sensed Byte0 = refl
+own_sensed Byte1 = refl
+own_sensed Byte2 = refl
+own_sensed Byte3 = refl
+own_sensed Bytes01 = refl
+own_sensed Bytes23 = refl
+own_sensed Bytes03 = refl
+own_sensed Bytes02 = refl
+own_sensed Bytes13 = refl
+own_sensed Bytes12 = refl
+
+-- the row of a first byte and a length
+row_from : ℕ → ℕ → Option Location
+row_from first len = find (λ l. (row_of l).first == first && (row_of l).len == len) locations
+
+own_row : (l : Location) → row_from (row_of l).first (row_of l).len ≡ Some l
+unfolding row_from
+own_row Byte0 = refl
+own_row Byte1 = refl
+own_row Byte2 = refl
+own_row Byte3 = refl
+own_row Bytes01 = refl
+own_row Bytes23 = refl
+own_row Bytes03 = refl
+own_row Bytes02 = refl
+own_row Bytes13 = refl
+own_row Bytes12 = refl
+
+-- each location is found by its length at any address with its place in the group of four
+pub own_found : (l : Location) (addr : ℕ) → (row_of l).first ≡ addr % 4 → location_at addr (row_of l).len ≡ Some l
+unfolding row_from location_at
+own_found l addr h = ap (λ first. row_from first (row_of l).len) (sym h) ∙ own_row l
