@@ -5,40 +5,40 @@ use Rattle.std.specs.List.{list_any}
 use Rattle.std.proofs.lemmas.Bool.{lt-ltb, le-ltb, ne_eqb, eq-eqb, or_left, or_right, cases_order}
 use Rattle.std.proofs.lemmas.List.Elements.{All-nil, All-cons}
 use Rattle.std.proofs.lemmas.List.Folds.{list_any_none}
-use Rattle.vme_arbiter.specs.Requests.{Request, request, granted, with_request, without_slot, requests_from, requests_of}
+use Rattle.vme_arbiter.specs.Requests.{BusRequest, bus_request, next_request, with_request, without_slot, requests_from, requests_of}
 use Rattle.vme_arbiter.specs.Grants.{IsBehind}
 use Rattle.vme_arbiter.specs.Arbitration.{arbitration, pends}
 use Rattle.vme_arbiter.proofs.Grants.{next-granted}
 
 -- an entry of the array is a request
-pub any_at : (test : Request → Bool) (n k slot : ℕ) (levels : List (Option ℕ)) (level : ℕ) → slot ≡ n + k
-    → slice_get levels k ≡ Some (Some level) → test (request level slot) ≡ true → list_any test (requests_from n levels) ≡ true
+pub any_at : (test : BusRequest → Bool) (n k slot : ℕ) (levels : List (Option ℕ)) (level : ℕ) → slot ≡ n + k
+    → slice_get levels k ≡ Some (Some level) → test (bus_request level slot) ≡ true → list_any test (requests_from n levels) ≡ true
 any_at test n k slot [] level place there passes = cc
 any_at test n zero slot (None ∷ levels) level place there passes = cc
 any_at test n zero slot (Some l ∷ levels) level place there passes =
     let same : l ≡ level = cc in
     let at : slot ≡ n = omega arith in
-    or_left _ _ (ap test (ap (λ x. request x n) same ∙ ap (request level) (sym at)) ∙ passes)
+    or_left _ _ (ap test (ap (λ x. bus_request x n) same ∙ ap (bus_request level) (sym at)) ∙ passes)
 any_at test n (suc k) slot (None ∷ levels) level place there passes =
     any_at test (n + 1) k slot levels level (omega arith) there passes
 any_at test n (suc k) slot (Some l ∷ levels) level place there passes =
     or_right _ _ (any_at test (n + 1) k slot levels level (omega arith) there passes)
 
 -- what holds of each entry of the array holds of each request
-pub all_listed : (P : Request → Type 0) (n : ℕ) (levels : List (Option ℕ))
-    → ((k level : ℕ) → slice_get levels k ≡ Some (Some level) → P (request level (n + k))) → All P (requests_from n levels)
+pub all_listed : (P : BusRequest → Type 0) (n : ℕ) (levels : List (Option ℕ))
+    → ((k level : ℕ) → slice_get levels k ≡ Some (Some level) → P (bus_request level (n + k))) → All P (requests_from n levels)
 all_listed P n [] each = All-nil P
 all_listed P n (None ∷ levels) each =
     all_listed P (n + 1) levels (λ k level there. let at : n + suc k ≡ n + 1 + k = omega arith in
-    subst (λ (slot : ℕ). P (request level slot)) at (each (suc k) level there))
+    subst (λ (slot : ℕ). P (bus_request level slot)) at (each (suc k) level there))
 all_listed P n (Some l ∷ levels) each =
-    let first : P (request l n) = let at : n + 0 ≡ n = omega arith in subst (λ (slot : ℕ). P (request l slot)) at (each 0 l refl) in
-    All-cons P (request l n) (requests_from (n + 1) levels) first
+    let first : P (bus_request l n) = let at : n + 0 ≡ n = omega arith in subst (λ (slot : ℕ). P (bus_request l slot)) at (each 0 l refl) in
+    All-cons P (bus_request l n) (requests_from (n + 1) levels) first
     (all_listed P (n + 1) levels (λ k level there. let at : n + suc k ≡ n + 1 + k = omega arith in
-    subst (λ (slot : ℕ). P (request level slot)) at (each (suc k) level there)))
+    subst (λ (slot : ℕ). P (bus_request level slot)) at (each (suc k) level there)))
 
 -- a request of a lower slot than the rest goes first in the list
-with_request-first : (new : Request) (n : ℕ) (levels : List (Option ℕ)) → new.slot < n
+with_request-first : (new : BusRequest) (n : ℕ) (levels : List (Option ℕ)) → new.slot < n
     → with_request new (requests_from n levels) ≡ new ∷ requests_from n levels
 with_request-first new n [] low = refl
 with_request-first new n (None ∷ levels) low = with_request-first new (n + 1) levels (omega arith)
@@ -47,18 +47,18 @@ with_request-first new n (Some l ∷ levels) low = rw (lt-ltb new.slot n low)
 -- a level written at an empty place is a request more
 pub requests_from-set_some : (n k slot level : ℕ) (levels : List (Option ℕ)) → slot ≡ n + k
     → slice_get levels k ≡ Some None
-    → requests_from n (set levels k (Some level)) ≡ with_request (request level slot) (requests_from n levels)
+    → requests_from n (set levels k (Some level)) ≡ with_request (bus_request level slot) (requests_from n levels)
 requests_from-set_some n k slot level [] place empty = cc
 requests_from-set_some n zero slot level (None ∷ levels) place empty =
     let at : slot ≡ n = omega arith in
-    ap (λ x. request level x ∷ requests_from (n + 1) levels) (sym at)
-    ∙ sym (with_request-first (request level slot) (n + 1) levels (omega arith))
+    ap (λ x. bus_request level x ∷ requests_from (n + 1) levels) (sym at)
+    ∙ sym (with_request-first (bus_request level slot) (n + 1) levels (omega arith))
 requests_from-set_some n zero slot level (Some l ∷ levels) place empty = cc
 requests_from-set_some n (suc k) slot level (None ∷ levels) place empty =
     requests_from-set_some (n + 1) k slot level levels (omega arith) empty
 requests_from-set_some n (suc k) slot level (Some l ∷ levels) place empty =
     let later : ltb slot n ≡ false = le-ltb slot n (omega arith) in
-    rw later (ap (λ rest. request l n ∷ rest) (requests_from-set_some (n + 1) k slot level levels (omega arith) empty))
+    rw later (ap (λ rest. bus_request l n ∷ rest) (requests_from-set_some (n + 1) k slot level levels (omega arith) empty))
 
 -- requests of greater slots alone stay as they are without one
 without_slot-low : (slot n : ℕ) (levels : List (Option ℕ)) → slot < n
@@ -67,7 +67,7 @@ without_slot-low slot n [] low = refl
 without_slot-low slot n (None ∷ levels) low = without_slot-low slot (n + 1) levels (omega arith)
 without_slot-low slot n (Some l ∷ levels) low =
     let other : eqb n slot ≡ false = ne_eqb n slot (λ same. absurd (omega arith)) in
-    rw other (ap (λ rest. request l n ∷ rest) (without_slot-low slot (n + 1) levels (omega arith)))
+    rw other (ap (λ rest. bus_request l n ∷ rest) (without_slot-low slot (n + 1) levels (omega arith)))
 
 -- a place made empty leaves the other requests
 pub requests_from-set_none : (n k slot : ℕ) (levels : List (Option ℕ)) → slot ≡ n + k
@@ -80,7 +80,7 @@ requests_from-set_none n zero slot (Some l ∷ levels) place =
 requests_from-set_none n (suc k) slot (None ∷ levels) place = requests_from-set_none (n + 1) k slot levels (omega arith)
 requests_from-set_none n (suc k) slot (Some l ∷ levels) place =
     let other : eqb n slot ≡ false = ne_eqb n slot (λ same. absurd (omega arith)) in
-    rw other (ap (λ rest. request l n ∷ rest) (requests_from-set_none (n + 1) k slot levels (omega arith)))
+    rw other (ap (λ rest. bus_request l n ∷ rest) (requests_from-set_none (n + 1) k slot levels (omega arith)))
 
 -- a slot pends where its place has a level
 pending_at : (slot level : ℕ) (levels : List (Option ℕ)) → slice_get levels slot ≡ Some (Some level)
@@ -109,13 +109,13 @@ pends-listed holder slot levels = pending_by slot levels (slice_get levels slot)
 
 -- a request of the array is in the list
 pub contains_listed : (n k slot level : ℕ) (levels : List (Option ℕ)) → slot ≡ n + k → slice_get levels k ≡ Some (Some level)
-    → Contains (requests_from n levels) (request level slot)
+    → Contains (requests_from n levels) (bus_request level slot)
 contains_listed n k slot level [] place there = cc
 contains_listed n zero slot level (None ∷ levels) place there = cc
 contains_listed n zero slot level (Some l ∷ levels) place there =
     let same : l ≡ level = cc in
     let at : n ≡ slot = omega arith in
-    (0, omega arith, ap (λ x. request x n) same ∙ ap (request level) at)
+    (0, omega arith, ap (λ x. bus_request x n) same ∙ ap (bus_request level) at)
 contains_listed n (suc k) slot level (None ∷ levels) place there = contains_listed (n + 1) k slot level levels (omega arith) there
 contains_listed n (suc k) slot level (Some l ∷ levels) place there =
     let rest = contains_listed (n + 1) k slot level levels (omega arith) there in
@@ -125,17 +125,17 @@ contains_listed n (suc k) slot level (Some l ∷ levels) place there =
 pub granted-listed : (slot level : ℕ) (levels : List (Option ℕ)) → slice_get levels slot ≡ Some (Some level)
     → ((k : ℕ) → k < slot → slice_get levels k ≢ Some (Some level))
     → ((k l : ℕ) → slice_get levels k ≡ Some (Some l) → l ≤ level)
-    → granted (requests_of levels) ≡ Some (request level slot)
+    → next_request (requests_of levels) ≡ Some (bus_request level slot)
 granted-listed slot level levels there lowest greatest =
-    next-granted (requests_of levels) (request level slot)
+    next-granted (requests_of levels) (bus_request level slot)
     (record {
       pends = contains_listed 0 slot slot level levels (omega arith) there;
-      first = all_listed (IsBehind (request level slot)) 0 levels (λ k l at_k.
-          let behind : IsBehind (request level slot) (request l k) =
+      first = all_listed (IsBehind (bus_request level slot)) 0 levels (λ k l at_k.
+          let behind : IsBehind (bus_request level slot) (bus_request l k) =
           elim (cases_order l level) [
             | inl same ↦
                 elim (cases_order k slot) [
-                  | inl at ↦ inl (ap (λ x. request x k) same ∙ ap (request level) at)
+                  | inl at ↦ inl (ap (λ x. bus_request x k) same ∙ ap (bus_request level) at)
                   | inr (inl lower) ↦ absurd (lowest k lower (at_k ∙ ap (λ x. Some (Some x)) same))
                   | inr (inr greater) ↦ inr (inr (same, greater))
                 ]
@@ -143,7 +143,7 @@ granted-listed slot level levels there lowest greatest =
             | inr (inr greater) ↦ absurd (omega (arith, greatest k l at_k))
           ] in
           let at : k ≡ 0 + k = omega arith in
-          subst (λ (x : ℕ). IsBehind (request level slot) (request l x)) at behind);
+          subst (λ (x : ℕ). IsBehind (bus_request level slot) (bus_request l x)) at behind);
     })
 
 -- where the array is empty, nothing pends
@@ -154,5 +154,5 @@ nothing_listed n (Some l ∷ levels) none = absurd (none 0 l refl)
 
 -- and nothing is granted
 pub none-listed : (levels : List (Option ℕ)) → ((k l : ℕ) → slice_get levels k ≢ Some (Some l))
-    → granted (requests_of levels) ≡ None
-none-listed levels none = ap granted (nothing_listed 0 levels none)
+    → next_request (requests_of levels) ≡ None
+none-listed levels none = ap next_request (nothing_listed 0 levels none)

@@ -7,8 +7,8 @@ use Rattle.vme_object.specs.History.{replay}
 use Rattle.vme_arbiter.specs.declared.command.ArbCmd.{ArbCmd}
 use Rattle.vme_arbiter.specs.declared.command.ArbCmd.TheVariants.{Ask, Look, Done}
 use Rattle.vme_arbiter.specs.declared.command.ArbReply.{ArbReply}
-use Rattle.vme_arbiter.specs.Requests.{Request, request, is_slot, is_level, granted}
-use Rattle.vme_arbiter.specs.Arbitration.{Arbitration, arbitration, free_bus, holds, pends, can_ask, taken_up, handed_to, turn_step}
+use Rattle.vme_arbiter.specs.Requests.{BusRequest, bus_request, is_slot, is_level, next_request}
+use Rattle.vme_arbiter.specs.Arbitration.{Arbitration, arbitration, free_bus, holds, pends, can_ask, lawful_ask, bus_after_release, turn_step}
 use Rattle.vme_arbiter.specs.Orderly.{IsLawfulRequest, IsOrderly}
 use Rattle.vme_arbiter.proofs.Grants.{granted-next, none-granted}
 use Rattle.vme_arbiter.proofs.Pending.{has_slot-with, has_slot-without_same, All-with, by_slot-with, by_slot-without}
@@ -28,8 +28,8 @@ can_ask-facts bus slot level can =
     record { slot_ok = second.0; level_ok = second.1; not_holds = not-true _ third.1; not_pends = not-true _ last.1 }
 
 -- a new request is taken up in order
-taken-orderly : (holder : Option ℕ) (pending : List Request) (slot level : ℕ) → IsOrderly (arbitration holder pending)
-    → CanAsk (arbitration holder pending) slot level → IsOrderly (taken_up holder pending (request level slot)).0
+taken-orderly : (holder : Option ℕ) (pending : List BusRequest) (slot level : ℕ) → IsOrderly (arbitration holder pending)
+    → CanAsk (arbitration holder pending) slot level → IsOrderly (lawful_ask holder pending (bus_request level slot)).0
 taken-orderly None pending slot level orderly can =
     record {
       holder = (can.slot_ok, can.not_pends);
@@ -40,15 +40,15 @@ taken-orderly None pending slot level orderly can =
 taken-orderly (Some h) pending slot level orderly can =
     let other : eqb slot h ≡ false = ne_eqb slot h (λ same. eqb-false h slot can.not_holds (sym same)) in
     record {
-      holder = (orderly.holder.0, has_slot-with h (request level slot) pending ∙ or_from _ _ other orderly.holder.1);
-      requests = All-with IsLawfulRequest (request level slot) pending (can.slot_ok, can.level_ok) orderly.requests;
-      by_slot = by_slot-with (request level slot) pending can.not_pends orderly.by_slot;
+      holder = (orderly.holder.0, has_slot-with h (bus_request level slot) pending ∙ or_from _ _ other orderly.holder.1);
+      requests = All-with IsLawfulRequest (bus_request level slot) pending (can.slot_ok, can.level_ok) orderly.requests;
+      by_slot = by_slot-with (bus_request level slot) pending can.not_pends orderly.by_slot;
       free = λ nobody. cc;
     }
 
 -- the bus is handed on in order
-handed-orderly : (bus : Arbitration) (first : Option Request) → granted bus.pending ≡ first → IsOrderly bus
-    → IsOrderly (handed_to first bus.pending)
+handed-orderly : (bus : Arbitration) (first : Option BusRequest) → next_request bus.pending ≡ first → IsOrderly bus
+    → IsOrderly (bus_after_release first bus.pending)
 handed-orderly bus None is_first orderly =
     record {
       holder = tt;
@@ -75,7 +75,7 @@ orderly-step bus (Ask slot level) orderly =
 orderly-step bus (Look slot) orderly = orderly
 orderly-step bus (Done slot) orderly =
     elim (cases_Bool (holds bus slot)) [
-      | inl held ↦ rw held (handed-orderly bus (granted bus.pending) refl orderly)
+      | inl held ↦ rw held (handed-orderly bus (next_request bus.pending) refl orderly)
       | inr not_held ↦ rw not_held orderly
     ]
 

@@ -5,12 +5,12 @@ use Rattle.std.specs.List.{list_any}
 use Rattle.std.proofs.lemmas.Bool.{cases_Bool, eqb-true, eqb-false, eq-eqb, ne_eqb, ltb-true, ltb-false, or_parts, or_from}
 use Rattle.std.proofs.lemmas.List.Elements.{All-nil, All-cons, All-head, All-tail, All-weaker, All-filter}
 use Rattle.std.proofs.lemmas.List.Folds.{list_any_at}
-use Rattle.vme_arbiter.specs.Requests.{Request, granted, with_request, without_slot}
+use Rattle.vme_arbiter.specs.Requests.{BusRequest, next_request, with_request, without_slot}
 use Rattle.vme_arbiter.specs.Orderly.{IsBySlot}
 use Rattle.vme_arbiter.proofs.Grants.{granted-next}
 
 -- whether a slot has one of these requests
-abbrev pub has_slot : ℕ → List Request → Bool
+abbrev pub has_slot : ℕ → List BusRequest → Bool
 has_slot slot pending = list_any (λ r. eqb r.slot slot) pending
 
 or_swap : (a b c : Bool) → (a || (b || c)) ≡ (b || (a || c))
@@ -19,7 +19,7 @@ or_swap true false c = refl
 or_swap false b c = refl
 
 -- a slot has a request more
-pub has_slot-with : (slot : ℕ) (new : Request) (pending : List Request)
+pub has_slot-with : (slot : ℕ) (new : BusRequest) (pending : List BusRequest)
     → has_slot slot (with_request new pending) ≡ (eqb new.slot slot || has_slot slot pending)
 has_slot-with slot new [] = refl
 has_slot-with slot new (r ∷ pending) =
@@ -31,7 +31,7 @@ has_slot-with slot new (r ∷ pending) =
     ]
 
 -- a slot whose requests are taken out has none
-pub has_slot-without_same : (slot : ℕ) (pending : List Request) → has_slot slot (without_slot slot pending) ≡ false
+pub has_slot-without_same : (slot : ℕ) (pending : List BusRequest) → has_slot slot (without_slot slot pending) ≡ false
 has_slot-without_same slot [] = refl
 has_slot-without_same slot (r ∷ pending) =
     elim (cases_Bool (eqb r.slot slot)) [
@@ -40,7 +40,7 @@ has_slot-without_same slot (r ∷ pending) =
     ]
 
 -- and any other has those that it had
-pub has_slot-without_other : (slot gone : ℕ) (pending : List Request) → (slot ≡ gone → ⊥)
+pub has_slot-without_other : (slot gone : ℕ) (pending : List BusRequest) → (slot ≡ gone → ⊥)
     → has_slot slot (without_slot gone pending) ≡ has_slot slot pending
 has_slot-without_other slot gone [] other = refl
 has_slot-without_other slot gone (r ∷ pending) other =
@@ -53,13 +53,13 @@ has_slot-without_other slot gone (r ∷ pending) other =
     ]
 
 -- the request that is granted is one of the set
-pub granted-has_slot : (pending : List Request) (next : Request) → granted pending ≡ Some next → has_slot next.slot pending ≡ true
+pub granted-has_slot : (pending : List BusRequest) (next : BusRequest) → next_request pending ≡ Some next → has_slot next.slot pending ≡ true
 granted-has_slot pending next is_granted =
     let at = (granted-next pending next is_granted).pends in
     list_any_at (λ r. eqb r.slot next.slot) pending at.0 next at.1 (eq-eqb _ _ (ap (λ r. r.slot) at.2))
 
 -- what holds of a set and of a request more holds of both
-pub All-with : (P : Request → Type 0) (new : Request) (pending : List Request) → P new → All P pending
+pub All-with : (P : BusRequest → Type 0) (new : BusRequest) (pending : List BusRequest) → P new → All P pending
     → All P (with_request new pending)
 All-with P new [] holds all = All-cons P new [] holds all
 All-with P new (r ∷ pending) holds all =
@@ -71,7 +71,7 @@ All-with P new (r ∷ pending) holds all =
     ]
 
 -- a request of a slot that has none goes to its place
-pub by_slot-with : (new : Request) (pending : List Request) → has_slot new.slot pending ≡ false → IsBySlot pending
+pub by_slot-with : (new : BusRequest) (pending : List BusRequest) → has_slot new.slot pending ≡ false → IsBySlot pending
     → IsBySlot (with_request new pending)
 by_slot-with new [] none by_slot = (All-nil (λ later. new.slot < later.slot), tt)
 by_slot-with new (r ∷ pending) none by_slot =
@@ -90,7 +90,7 @@ by_slot-with new (r ∷ pending) none by_slot =
     ]
 
 -- a set stays by slot without one
-pub by_slot-without : (gone : ℕ) (pending : List Request) → IsBySlot pending → IsBySlot (without_slot gone pending)
+pub by_slot-without : (gone : ℕ) (pending : List BusRequest) → IsBySlot pending → IsBySlot (without_slot gone pending)
 by_slot-without gone [] by_slot = tt
 by_slot-without gone (r ∷ pending) by_slot =
     elim (cases_Bool (eqb r.slot gone)) [

@@ -3,8 +3,8 @@ use Rattle.std.proofs.Common.{◌≡◌, ℕ, ◌<◌, true, false, List, length
 use Rattle.std.specs.Prelude.{slice_get, is_some, option_and_then, option_map}
 use Rattle.std.proofs.lemmas.Bool.{and_parts, not-true}
 use Rattle.std.proofs.lemmas.Option.{same_Some, slice_get-get_or}
-use Rattle.vme_arbiter.specs.Requests.{Request, granted, requests_of}
-use Rattle.vme_arbiter.specs.Arbitration.{arbitration, holds, pends, can_ask, ask_step, handed_to, done_step}
+use Rattle.vme_arbiter.specs.Requests.{BusRequest, next_request, requests_of}
+use Rattle.vme_arbiter.specs.Arbitration.{arbitration, holds, pends, can_ask, ask_step, bus_after_release, done_step}
 use Rattle.vme_arbiter.proofs.Listed.{pends-listed, requests_from-set_some, requests_from-set_none}
 
 -- a place of a slot that does not pend is empty
@@ -14,7 +14,7 @@ empty_place slot levels None at none = at
 empty_place slot levels (Some level) at none = let one = rw at at none in cc
 
 -- a slot that can ask does not pend
-can_ask-pends : (holder : Option ℕ) (pending : List Request) (slot level : ℕ)
+can_ask-pends : (holder : Option ℕ) (pending : List BusRequest) (slot level : ℕ)
     → can_ask (arbitration holder pending) slot level ≡ true → pends (arbitration holder pending) slot ≡ false
 can_ask-pends holder pending slot level can = not-true _ (and_parts _ _ can).1
 
@@ -28,8 +28,8 @@ asked-waits (Some h) slot level levels within held can =
     let empty = empty_place slot levels _ (slice_get-get_or levels slot None within) none in
     rw can (ap (arbitration (Some h)) (requests_from-set_some 0 slot slot level levels (omega arith) empty))
 
-handed : (next : ℕ) (levels : List (Option ℕ)) (first : Option Request) → Some next ≡ option_map (λ r. r.slot) first
-    → arbitration (Some next) (requests_of (set levels next None)) ≡ handed_to first (requests_of levels)
+handed : (next : ℕ) (levels : List (Option ℕ)) (first : Option BusRequest) → Some next ≡ option_map (λ r. r.slot) first
+    → arbitration (Some next) (requests_of (set levels next None)) ≡ bus_after_release first (requests_of levels)
 handed next levels None is_first = cc
 handed next levels (Some r) is_first =
     let same : next ≡ r.slot = same_Some next r.slot is_first in
@@ -37,6 +37,6 @@ handed next levels (Some r) is_first =
 
 -- where a slot holds the bus and is done, the place of the next one is made empty
 pub done-hands : (holder : Option ℕ) (slot next : ℕ) (levels : List (Option ℕ)) → holds (arbitration holder (requests_of levels)) slot ≡ true
-    → Some next ≡ option_map (λ r. r.slot) (granted (requests_of levels))
+    → Some next ≡ option_map (λ r. r.slot) (next_request (requests_of levels))
     → arbitration (Some next) (requests_of (set levels next None)) ≡ (done_step (arbitration holder (requests_of levels)) slot).0
-done-hands holder slot next levels held is_first = rw held (handed next levels (granted (requests_of levels)) is_first)
+done-hands holder slot next levels held is_first = rw held (handed next levels (next_request (requests_of levels)) is_first)

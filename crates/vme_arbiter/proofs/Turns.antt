@@ -9,24 +9,18 @@ use Rattle.vme_arbiter.specs.declared.command.ArbCmd.{ArbCmd}
 use Rattle.vme_arbiter.specs.declared.command.ArbCmd.TheVariants.{Ask, Look, Done}
 use Rattle.vme_arbiter.specs.declared.command.ArbReply.{ArbReply}
 use Rattle.vme_arbiter.specs.declared.command.ArbReply.TheVariants.{Granted, Waiting, Freed, Denied}
-use Rattle.vme_arbiter.specs.Requests.{Request, request, is_slot, is_level, granted, with_request}
-use Rattle.vme_arbiter.specs.Arbitration.{Arbitration, arbitration, free_bus, holds, pends, can_ask, ask_step, taken_up, handed_to, turn_step}
+use Rattle.vme_arbiter.specs.Requests.{BusRequest, bus_request, is_slot, is_level, next_request, with_request}
+use Rattle.vme_arbiter.specs.Arbitration.{Arbitration, arbitration, free_bus, holds, pends, can_ask, ask_step, lawful_ask, bus_after_release, turn_step}
 use Rattle.vme_arbiter.specs.Orderly.{IsLawfulHolder, IsOrderly}
-use Rattle.vme_arbiter.specs.Turns.{slot_of, may_give, GoesByReplies, TakeTurns}
+use Rattle.vme_arbiter.specs.Turns.{slot_of, may_give, IsAsTold, StandsAsTold, GoesByReplies, TakeTurns}
 use Rattle.vme_arbiter.proofs.Pending.{has_slot, has_slot-with, has_slot-without_other, granted-has_slot}
 use Rattle.vme_arbiter.proofs.Orderly.{orderly-step, orderly-free}
 
--- whether a slot holds and whether it pends fit the last reply to it
-abbrev Fits : Bool → Bool → Option ArbReply → Type 0
-Fits held pending None = (held ≡ false) × (pending ≡ false)
-Fits held pending (Some Freed) = (held ≡ false) × (pending ≡ false)
-Fits held pending (Some Waiting) = (held ≡ true) ⊎ (pending ≡ true)
-Fits held pending (Some Granted) = held ≡ true
-Fits held pending (Some Denied) = ⊥
-
--- where a slot stands fits the last reply to it
-abbrev FitsAt : Arbitration → ℕ → Option ArbReply → Type 0
-FitsAt bus slot last = Fits (holds bus slot) (pends bus slot) last
+-- one that holds is the holder
+pub holds-holder : (holder : Option ℕ) (pending : List BusRequest) (slot : ℕ) → holds (arbitration holder pending) slot ≡ true
+    → holder ≡ Some slot
+holds-holder None pending slot held = cc
+holds-holder (Some h) pending slot held = ap (λ (s : ℕ). Some s) (eqb-true h slot held)
 
 -- a command that may be given names the slot
 may_give-slot : (slot : ℕ) (last : Option ArbReply) (cmd : ArbCmd) → may_give slot last cmd ≡ true → slot_of cmd ≡ slot
@@ -37,22 +31,22 @@ may_give-slot slot (Some Granted) (Done s) may = eqb-true s slot may
 may_give-slot slot last cmd may = cc
 
 -- a slot that stands nowhere and asks holds or pends after that
-taken-fits : (holder : Option ℕ) (pending : List Request) (slot level : ℕ)
-    → FitsAt (taken_up holder pending (request level slot)).0 slot (Some (taken_up holder pending (request level slot)).1)
+taken-fits : (holder : Option ℕ) (pending : List BusRequest) (slot level : ℕ)
+    → StandsAsTold (lawful_ask holder pending (bus_request level slot)).0 slot (Some (lawful_ask holder pending (bus_request level slot)).1)
 taken-fits None pending slot level = eq-eqb slot slot refl
 taken-fits (Some h) pending slot level =
-    inr (has_slot-with slot (request level slot) pending ∙ or_left _ _ (eq-eqb slot slot refl))
+    inr (has_slot-with slot (bus_request level slot) pending ∙ or_left _ _ (eq-eqb slot slot refl))
 
 ask-fits : (bus : Arbitration) (slot level : ℕ) → is_slot slot ≡ true → is_level level ≡ true → holds bus slot ≡ false
-    → pends bus slot ≡ false → FitsAt (ask_step bus slot level).0 slot (Some (ask_step bus slot level).1)
+    → pends bus slot ≡ false → StandsAsTold (ask_step bus slot level).0 slot (Some (ask_step bus slot level).1)
 ask-fits bus slot level slot_ok level_ok not_holds not_pends =
     let can : can_ask bus slot level ≡ true =
     and_from _ _ (and_from _ _ (and_from _ _ slot_ok level_ok) (not_from_false _ not_holds)) (not_from_false _ not_pends) in
     rw can (taken-fits bus.holder bus.pending slot level)
 
 -- a slot that does not pend stands nowhere when the bus is handed on
-handed-nowhere : (pending : List Request) (slot : ℕ) (first : Option Request) → granted pending ≡ first → has_slot slot pending ≡ false
-    → FitsAt (handed_to first pending) slot (Some Freed)
+handed-nowhere : (pending : List BusRequest) (slot : ℕ) (first : Option BusRequest) → next_request pending ≡ first → has_slot slot pending ≡ false
+    → StandsAsTold (bus_after_release first pending) slot (Some Freed)
 handed-nowhere pending slot None is_first none = (refl, none)
 handed-nowhere pending slot (Some next) is_first none =
     let other : next.slot ≢ slot =
@@ -60,7 +54,7 @@ handed-nowhere pending slot (Some next) is_first none =
     (ne_eqb next.slot slot other, has_slot-without_other slot next.slot pending (λ same. other (sym same)) ∙ none)
 
 -- a slot that held nothing, and is granted now, fits what was told it
-promoted : (pending : Bool) (last : Option ArbReply) → pending ≡ true → Fits false pending last → (left : Bool) → Fits true left last
+promoted : (pending : Bool) (last : Option ArbReply) → pending ≡ true → IsAsTold false pending last → (left : Bool) → IsAsTold true left last
 promoted pending None one fits left = absurd (false≢true (sym fits.1 ∙ one))
 promoted pending (Some Freed) one fits left = absurd (false≢true (sym fits.1 ∙ one))
 promoted pending (Some Waiting) one fits left = inl refl
@@ -68,8 +62,8 @@ promoted pending (Some Granted) one fits left = refl
 promoted pending (Some Denied) one fits left = fits
 
 -- another slot than the holder fits what was told it when the bus is handed on
-handed-other : (pending : List Request) (slot : ℕ) (last : Option ArbReply) (first : Option Request) → granted pending ≡ first
-    → Fits false (has_slot slot pending) last → FitsAt (handed_to first pending) slot last
+handed-other : (pending : List BusRequest) (slot : ℕ) (last : Option ArbReply) (first : Option BusRequest) → next_request pending ≡ first
+    → IsAsTold false (has_slot slot pending) last → StandsAsTold (bus_after_release first pending) slot last
 handed-other pending slot last None is_first fits = fits
 handed-other pending slot last (Some next) is_first fits =
     elim (cases_eq next.slot slot) [
@@ -84,15 +78,15 @@ handed-other pending slot last (Some next) is_first fits =
     ]
 
 -- another slot fits what was told it when a request is taken up
-taken-other : (holder : Option ℕ) (pending : List Request) (asks level slot : ℕ) (last : Option ArbReply) → asks ≢ slot
-    → FitsAt (arbitration holder pending) slot last → FitsAt (taken_up holder pending (request level asks)).0 slot last
+taken-other : (holder : Option ℕ) (pending : List BusRequest) (asks level slot : ℕ) (last : Option ArbReply) → asks ≢ slot
+    → StandsAsTold (arbitration holder pending) slot last → StandsAsTold (lawful_ask holder pending (bus_request level asks)).0 slot last
 taken-other None pending asks level slot last other fits =
     let not_held : eqb asks slot ≡ false = ne_eqb asks slot other in
     rw not_held fits
 taken-other (Some h) pending asks level slot last other fits =
     let not_slot : eqb asks slot ≡ false = ne_eqb asks slot other in
-    let stays : has_slot slot (with_request (request level asks) pending) ≡ has_slot slot pending =
-    has_slot-with slot (request level asks) pending ∙ ap (λ b. b || has_slot slot pending) not_slot in
+    let stays : has_slot slot (with_request (bus_request level asks) pending) ≡ has_slot slot pending =
+    has_slot-with slot (bus_request level asks) pending ∙ ap (λ b. b || has_slot slot pending) not_slot in
     rw stays fits
 
 -- of two slots one at most holds
@@ -101,14 +95,14 @@ other-not_holds None a b held other = refl
 other-not_holds (Some h) a b held other = ne_eqb h b (λ same. other (sym (eqb-true h a held) ∙ same))
 
 -- one that holds does not pend
-holder-not_pends : (holder : Option ℕ) (pending : List Request) (slot : ℕ) → IsLawfulHolder (arbitration holder pending)
+holder-not_pends : (holder : Option ℕ) (pending : List BusRequest) (slot : ℕ) → IsLawfulHolder (arbitration holder pending)
     → holds (arbitration holder pending) slot ≡ true → has_slot slot pending ≡ false
 holder-not_pends None pending slot lawful held = cc
 holder-not_pends (Some h) pending slot lawful held = ap (λ s. has_slot s pending) (sym (eqb-true h slot held)) ∙ lawful.1
 
 -- a slot that holds or pends and looks is told so
 look-fits : (bus : Arbitration) (slot : ℕ) → (holds bus slot ≡ true) ⊎ (pends bus slot ≡ true)
-    → FitsAt (turn_step bus (Look slot)).0 slot (Some (turn_step bus (Look slot)).1)
+    → StandsAsTold (turn_step bus (Look slot)).0 slot (Some (turn_step bus (Look slot)).1)
 look-fits bus slot fits =
     elim (cases_Bool (holds bus slot)) [
       | inl held ↦ rw held refl
@@ -121,14 +115,14 @@ look-fits bus slot fits =
 
 -- a slot that holds and is done stands nowhere after that
 done-fits : (bus : Arbitration) (slot : ℕ) → IsOrderly bus → holds bus slot ≡ true
-    → FitsAt (turn_step bus (Done slot)).0 slot (Some (turn_step bus (Done slot)).1)
+    → StandsAsTold (turn_step bus (Done slot)).0 slot (Some (turn_step bus (Done slot)).1)
 done-fits bus slot orderly held =
-    rw held (handed-nowhere bus.pending slot (granted bus.pending) refl
+    rw held (handed-nowhere bus.pending slot (next_request bus.pending) refl
     (holder-not_pends bus.holder bus.pending slot orderly.holder held))
 
 -- a command that a slot may give leaves it where the reply says
-own-turn : (bus : Arbitration) (slot : ℕ) (last : Option ArbReply) (cmd : ArbCmd) → IsOrderly bus → is_slot slot ≡ true
-    → FitsAt bus slot last → may_give slot last cmd ≡ true → FitsAt (turn_step bus cmd).0 slot (Some (turn_step bus cmd).1)
+pub own-turn : (bus : Arbitration) (slot : ℕ) (last : Option ArbReply) (cmd : ArbCmd) → IsOrderly bus → is_slot slot ≡ true
+    → StandsAsTold bus slot last → may_give slot last cmd ≡ true → StandsAsTold (turn_step bus cmd).0 slot (Some (turn_step bus cmd).1)
 own-turn bus slot None (Ask s level) orderly slot_ok fits may =
     let parts = and_parts _ _ may in
     rw (eqb-true s slot parts.0) (ask-fits bus slot level slot_ok parts.1 fits.0 fits.1)
@@ -140,8 +134,8 @@ own-turn bus slot (Some Granted) (Done s) orderly slot_ok fits may = rw (eqb-tru
 own-turn bus slot last cmd orderly slot_ok fits may = cc
 
 -- a command of another slot leaves it where the last reply said
-other-turn : (bus : Arbitration) (slot : ℕ) (last : Option ArbReply) (cmd : ArbCmd) → slot_of cmd ≢ slot → FitsAt bus slot last
-    → FitsAt (turn_step bus cmd).0 slot last
+pub other-turn : (bus : Arbitration) (slot : ℕ) (last : Option ArbReply) (cmd : ArbCmd) → slot_of cmd ≢ slot → StandsAsTold bus slot last
+    → StandsAsTold (turn_step bus cmd).0 slot last
 other-turn bus slot last (Ask asks level) other fits =
     elim (cases_Bool (can_ask bus asks level)) [
       | inl can ↦ rw can (taken-other bus.holder bus.pending asks level slot last other fits)
@@ -152,7 +146,7 @@ other-turn bus slot last (Done done) other fits =
     elim (cases_Bool (holds bus done)) [
       | inl held ↦
           let not_held : holds bus slot ≡ false = other-not_holds bus.holder done slot held other in
-          rw held (handed-other bus.pending slot last (granted bus.pending) refl (rw not_held at fits))
+          rw held (handed-other bus.pending slot last (next_request bus.pending) refl (rw not_held at fits))
       | inr not_held ↦ rw not_held fits
     ]
 
@@ -167,7 +161,7 @@ record AreMasters (k : ℕ) (slots : ℕ → ℕ) : Type 0 where
 
 -- each of them stands where the last reply says, and goes by the replies from there on
 record AreFit (k : ℕ) (slots : ℕ → ℕ) (bus : Arbitration) (last : ℕ → Option ArbReply) (h : List (Entry ArbCmd ArbReply)) : Type 0 where
-  fits : (who : ℕ) → who < k → FitsAt bus (slots who) (last who)
+  fits : (who : ℕ) → who < k → StandsAsTold bus (slots who) (last who)
   goes : (who : ℕ) → who < k → GoesByReplies (slots who) (last who) (own who h)
 
 -- what one goes by before an entry of its own, and before one of another
@@ -180,19 +174,19 @@ goes_own slot last e h goes = let same : eqb e.who e.who ≡ true = eq-eqb e.who
 fit_after : (k : ℕ) (slots : ℕ → ℕ) (bus : Arbitration) (last : ℕ → Option ArbReply) (e : Entry ArbCmd ArbReply)
     (h : List (Entry ArbCmd ArbReply)) → AreMasters k slots → IsOrderly bus → e.who < k → e.reply ≡ (turn_step bus e.cmd).1
     → AreFit k slots bus last (e ∷ h)
-    → FitsAt (turn_step bus e.cmd).0 (slots e.who) (Some e.reply) × AreFit k slots (turn_step bus e.cmd).0 (told_last last e) h
+    → StandsAsTold (turn_step bus e.cmd).0 (slots e.who) (Some e.reply) × AreFit k slots (turn_step bus e.cmd).0 (told_last last e) h
 unfolding told_last
 fit_after k slots bus last e h masters orderly within reply fit =
     let goes = goes_own (slots e.who) (last e.who) e h (fit.goes e.who within) in
     let names = may_give-slot (slots e.who) (last e.who) e.cmd goes.0 in
-    let own_fits : FitsAt (turn_step bus e.cmd).0 (slots e.who) (Some e.reply) =
+    let own_fits : StandsAsTold (turn_step bus e.cmd).0 (slots e.who) (Some e.reply) =
     rw reply (own-turn bus (slots e.who) (last e.who) e.cmd orderly (masters.in_range e.who within) (fit.fits e.who within) goes.0) in (
       own_fits,
       record {
         fits = λ who below. elim (cases_Bool (eqb e.who who)) [
           | inl same ↦
               let at : e.who ≡ who = eqb-true e.who who same in
-              rw same (subst (λ (w : ℕ). FitsAt (turn_step bus e.cmd).0 (slots w) (Some e.reply)) at own_fits)
+              rw same (subst (λ (w : ℕ). StandsAsTold (turn_step bus e.cmd).0 (slots w) (Some e.reply)) at own_fits)
           | inr other ↦
               rw other (other-turn bus (slots who) (last who) e.cmd
               (λ one. eqb-false e.who who other (masters.apart e.who who within below (sym names ∙ one))) (fit.fits who below))
@@ -215,7 +209,7 @@ none_denied k slots bus last (e ∷ h) masters orderly known legal fit =
     let within = All-head (λ e. e.who < k) e h known in
     let after = fit_after k slots bus last e h masters orderly within legal.0 fit in
     All-cons (λ e. e.reply ≢ Denied) e h
-    (λ denied. subst (λ (r : ArbReply). FitsAt (turn_step bus e.cmd).0 (slots e.who) (Some r)) denied after.0)
+    (λ denied. subst (λ (r : ArbReply). StandsAsTold (turn_step bus e.cmd).0 (slots e.who) (Some r)) denied after.0)
     (none_denied k slots (turn_step bus e.cmd).0 (told_last last e) h masters (orderly-step bus e.cmd orderly)
     (All-tail (λ e. e.who < k) e h known) legal.1 after.1)
 

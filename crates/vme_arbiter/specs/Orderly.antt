@@ -1,10 +1,10 @@
 -- What holds of every state that the arbiter comes to.
 use Rattle.std.specs.Prelude.{◌≡◌, ◌<◌, false, IsTrue, List, [], ◌∷◌, None, IfSome, All}
-use Rattle.vme_arbiter.specs.Requests.{Request, is_slot, is_level}
+use Rattle.vme_arbiter.specs.Requests.{BusRequest, is_slot, is_level}
 use Rattle.vme_arbiter.specs.Arbitration.{Arbitration, pends}
 
 -- each request is of a lower slot than those after it, so that no slot has two (this project's own)
-abbrev pub IsBySlot : List Request → Type 0
+abbrev pub IsBySlot : List BusRequest → Type 0
 IsBySlot [] = Unit {0}
 IsBySlot (r ∷ pending) = All (λ later. r.slot < later.slot) pending × IsBySlot pending
 
@@ -13,7 +13,7 @@ abbrev pub IsLawfulHolder : Arbitration → Type 0
 IsLawfulHolder bus = IfSome bus.holder (λ slot. IsTrue (is_slot slot) × (pends bus slot ≡ false))
 
 -- the slot and the level of a request are in range (this project's own)
-abbrev pub IsLawfulRequest : Request → Type 0
+abbrev pub IsLawfulRequest : BusRequest → Type 0
 IsLawfulRequest r = IsTrue (is_slot r.slot) × IsTrue (is_level r.level)
 
 -- the holder is in range and does not pend; requests are in range and listed by slot; and where nobody holds the bus,

@@ -3,13 +3,13 @@ use Rattle.std.specs.Prelude.{ℕ, ◌+◌, nat_lt, nat_le, Bool, not, ◌==◌,
 use Rattle.std.specs.List.{list_any}
 
 -- a pair (level, slot): a slot drives the bus request line of a level (IEEE 1014, section 3.2)
-pub record Request : Type 0 where
+pub record BusRequest : Type 0 where
   pub level : ℕ
   pub slot : ℕ
 
 -- a pair, by place (this project's own)
-abbrev pub request : ℕ → ℕ → Request
-request level slot = record { level = level; slot = slot }
+abbrev pub bus_request : ℕ → ℕ → BusRequest
+bus_request level slot = record { level = level; slot = slot }
 
 -- the slots of a backplane: 1 to 21 (this project's own)
 abbrev pub is_slot : ℕ → Bool
@@ -21,28 +21,28 @@ is_level level = nat_lt level 4
 
 -- whether one request goes before another: its level is greater, or its level is the same and its slot comes first on the
 -- grant daisy chain, which goes up from slot 1 (IEEE 1014, sections 3.2 and 3.3)
-abbrev pub goes_before : Request → Request → Bool
+abbrev pub goes_before : BusRequest → BusRequest → Bool
 goes_before a b = nat_lt b.level a.level || (a.level == b.level && nat_lt a.slot b.slot)
 
 -- the request, if any, that the bus is granted to next: the one which none of them goes before (IEEE 1014, section 3.3)
-abbrev pub granted : List Request → Option Request
-granted pending = find (λ next. not (list_any (λ other. goes_before other next) pending)) pending
+abbrev pub next_request : List BusRequest → Option BusRequest
+next_request pending = find (λ next. not (list_any (λ other. goes_before other next) pending)) pending
 
 -- the set with one request more; a set of requests is listed by slot (this project's own)
-abbrev pub with_request : Request → List Request → List Request
+abbrev pub with_request : BusRequest → List BusRequest → List BusRequest
 with_request new [] = new ∷ []
 with_request new (r ∷ pending) = if nat_lt new.slot r.slot then new ∷ r ∷ pending else r ∷ with_request new pending
 
 -- the set without the requests of a slot (this project's own)
-abbrev pub without_slot : ℕ → List Request → List Request
+abbrev pub without_slot : ℕ → List BusRequest → List BusRequest
 without_slot slot pending = filter (λ r. not (r.slot == slot)) pending
 
 -- the requests that an array of levels holds, by slot, counted from n (this project's own)
-abbrev pub requests_from : ℕ → List (Option ℕ) → List Request
+abbrev pub requests_from : ℕ → List (Option ℕ) → List BusRequest
 requests_from n [] = []
 requests_from n (None ∷ levels) = requests_from (n + 1) levels
-requests_from n (Some level ∷ levels) = request level n ∷ requests_from (n + 1) levels
+requests_from n (Some level ∷ levels) = bus_request level n ∷ requests_from (n + 1) levels
 
 -- and counted from 0 (this project's own)
-abbrev pub requests_of : List (Option ℕ) → List Request
+abbrev pub requests_of : List (Option ℕ) → List BusRequest
 requests_of levels = requests_from 0 levels

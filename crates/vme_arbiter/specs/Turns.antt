@@ -1,12 +1,13 @@
--- Histories of the arbiter: what their commands name, and masters that go by the replies.
-use Rattle.std.specs.Prelude.{◌≡◌, ◌<◌, ℕ, Bool, false, ◌==◌, ◌&&◌, IsTrue, List, [], ◌∷◌, ◌++◌, Option, Some, None, All}
+-- Histories of the arbiter: what their commands name, how slots stand by the replies, and masters that go by them.
+use Rattle.std.specs.Prelude.{◌≡◌, ◌<◌, ℕ, Bool, true, false, ◌==◌, ◌&&◌, ◌⊎◌, IsTrue, List, [], ◌∷◌, ◌++◌, Option, Some, None, All}
 use Rattle.vme_object.specs.declared.history.Entry.{Entry}
 use Rattle.vme_object.specs.History.{own}
 use Rattle.vme_arbiter.specs.declared.command.ArbCmd.{ArbCmd}
 use Rattle.vme_arbiter.specs.declared.command.ArbCmd.TheVariants.{Ask, Look, Done}
 use Rattle.vme_arbiter.specs.declared.command.ArbReply.{ArbReply}
-use Rattle.vme_arbiter.specs.declared.command.ArbReply.TheVariants.{Granted, Waiting, Freed}
+use Rattle.vme_arbiter.specs.declared.command.ArbReply.TheVariants.{Granted, Waiting, Freed, Denied}
 use Rattle.vme_arbiter.specs.Requests.{is_slot, is_level}
+use Rattle.vme_arbiter.specs.Arbitration.{Arbitration, holds, pends}
 
 -- the slot that a command names (this project's own)
 abbrev pub slot_of : ArbCmd → ℕ
@@ -27,6 +28,19 @@ pub record HasTheBus (slot : ℕ) (h : List (Entry ArbCmd ArbReply)) : Type 0 wh
   pub names : slot_of told.cmd ≡ slot
   pub granted : told.reply ≡ Granted
   pub kept : All (λ e. Frees slot e → ⊥) since
+
+-- whether a slot holds and whether it pends, by the last reply to it: told Granted it holds; told Waiting it holds or pends;
+-- told Freed, or nothing yet, it does neither; and it was not told Denied (this project's own)
+abbrev pub IsAsTold : Bool → Bool → Option ArbReply → Type 0
+IsAsTold held pending (Some Granted) = held ≡ true
+IsAsTold held pending (Some Waiting) = (held ≡ true) ⊎ (pending ≡ true)
+IsAsTold held pending (Some Freed) = (held ≡ false) × (pending ≡ false)
+IsAsTold held pending None = (held ≡ false) × (pending ≡ false)
+IsAsTold held pending (Some Denied) = ⊥
+
+-- a slot stands to the bus as it was told last (this project's own)
+abbrev pub StandsAsTold : Arbitration → ℕ → Option ArbReply → Type 0
+StandsAsTold bus slot last = IsAsTold (holds bus slot) (pends bus slot) last
 
 -- whether the master of a slot may give a command after this last reply to it: it asks on a level in range after none and
 -- after Freed, looks after Waiting, and is done after Granted (this project's own)

@@ -1,23 +1,23 @@
-ghost use Rattle.std.specs.Prelude.{◌≡◌, ◌≢◌, ◌↔◌, ◌⊎◌, ◌++◌, ◌∷◌, [], ℕ, List, Some, None, All, Contains};
+ghost use Rattle.std.specs.Prelude.{◌≡◌, ◌≢◌, ◌↔◌, ◌⊎◌, ◌++◌, ◌∷◌, [], ℕ, List, Option, Some, None, IsTrue, All, Contains};
 ghost use Rattle.vme_object.specs.declared.history.Entry.{Entry};
 ghost use Rattle.vme_object.specs.History.{replay, IsLegal};
 ghost use Rattle.vme_arbiter.specs.declared.command.ArbCmd.{ArbCmd};
 ghost use Rattle.vme_arbiter.specs.declared.command.ArbCmd.TheVariants.{Look};
 ghost use Rattle.vme_arbiter.specs.declared.command.ArbReply.{ArbReply};
 ghost use Rattle.vme_arbiter.specs.declared.command.ArbReply.TheVariants.{Granted, Freed, Denied};
-ghost use Rattle.vme_arbiter.specs.Requests.{Request, granted, with_request, without_slot};
+ghost use Rattle.vme_arbiter.specs.Requests.{BusRequest, is_slot, next_request, with_request, without_slot};
 ghost use Rattle.vme_arbiter.specs.Grants.{IsNext};
 ghost use Rattle.vme_arbiter.specs.Arbitration.{Arbitration, free_bus, turn_step};
 ghost use Rattle.vme_arbiter.specs.Orderly.{IsBySlot, IsOrderly};
-ghost use Rattle.vme_arbiter.specs.Turns.{slot_of, HasTheBus, TakeTurns};
+ghost use Rattle.vme_arbiter.specs.Turns.{slot_of, HasTheBus, may_give, StandsAsTold, TakeTurns};
 
 /// The bus is granted to the request on the greatest level and, among these, of the lowest slot:
 /// there is one such request in every set of requests that is not empty.
 pub fn greatest_level_then_lowest_slot()
-    ensures next { (pending : List Request) (next : Request) →
-        (granted pending ≡ Some next) ↔ IsNext pending next }
-    ensures nobody { (pending : List Request) → (granted pending ≡ None) ↔ (pending ≡ []) }
-    ensures alone { (pending : List Request) (a b : Request) →
+    ensures next { (pending : List BusRequest) (next : BusRequest) →
+        (next_request pending ≡ Some next) ↔ IsNext pending next }
+    ensures nobody { (pending : List BusRequest) → (next_request pending ≡ None) ↔ (pending ≡ []) }
+    ensures alone { (pending : List BusRequest) (a b : BusRequest) →
         IsNext pending a → IsNext pending b → a ≡ b }
 {}
 
@@ -25,18 +25,19 @@ pub fn greatest_level_then_lowest_slot()
 /// taken out of it, a slot has none and all others stay; and two such lists by slot with the same
 /// requests are the same list.
 pub fn pending_requests_are_a_set()
-    ensures added { (pending : List Request) (new r : Request) →
+    ensures added { (pending : List BusRequest) (new r : BusRequest) →
         Contains (with_request new pending) r ↔ ((r ≡ new) ⊎ Contains pending r) }
-    ensures taken_out { (pending : List Request) (slot : ℕ) (r : Request) →
+    ensures taken_out { (pending : List BusRequest) (slot : ℕ) (r : BusRequest) →
         Contains (without_slot slot pending) r ↔ (Contains pending r × (r.slot ≢ slot)) }
-    ensures same { (a b : List Request) → IsBySlot a → IsBySlot b →
-        ((r : Request) → Contains a r ↔ Contains b r) → a ≡ b }
+    ensures same { (a b : List BusRequest) → IsBySlot a → IsBySlot b →
+        ((r : BusRequest) → Contains a r ↔ Contains b r) → a ≡ b }
 {}
 
 /// In every state that the arbiter comes to, holder and requests are in range, the holder does not
-/// pend, no slot pends twice, and nothing pends where nobody holds the bus.
+/// pend, no slot pends twice, and nothing pends where nobody holds the bus; and each turn keeps that.
 pub fn states_are_orderly()
-    ensures { (h : List (Entry ArbCmd ArbReply)) → IsOrderly (replay turn_step free_bus h) }
+    ensures all { (h : List (Entry ArbCmd ArbReply)) → IsOrderly (replay turn_step free_bus h) }
+    ensures step { (bus : Arbitration) (cmd : ArbCmd) → IsOrderly bus → IsOrderly (turn_step bus cmd).0 }
 {}
 
 /// A reply tells who holds the bus: `Granted` is told to the holder alone, a look by the holder is
@@ -67,6 +68,22 @@ pub fn one_slot_has_the_bus()
     ensures freed { (h : List (Entry ArbCmd ArbReply)) (next : Entry ArbCmd ArbReply) (slot : ℕ) →
         IsLegal turn_step free_bus (h ++ next ∷ []) → HasTheBus slot h →
         next.reply ≡ Freed → slot_of next.cmd ≡ slot }
+{}
+
+/// A slot stands to the bus as it was told last, and each turn keeps that: one of its own, which it
+/// may give after that reply, and one of any other slot. So by the last reply a master knows whether
+/// its slot holds the bus, and what it may say next is never denied.
+pub fn a_turn_leaves_each_where_it_was_told()
+    ensures opening { (slot : ℕ) → StandsAsTold free_bus slot None }
+    ensures own { (bus : Arbitration) (slot : ℕ) (last : Option ArbReply) (cmd : ArbCmd) →
+        IsOrderly bus → IsTrue (is_slot slot) → StandsAsTold bus slot last →
+        IsTrue (may_give slot last cmd) →
+        StandsAsTold (turn_step bus cmd).0 slot (Some (turn_step bus cmd).1) }
+    ensures other { (bus : Arbitration) (slot : ℕ) (last : Option ArbReply) (cmd : ArbCmd) →
+        slot_of cmd ≢ slot → StandsAsTold bus slot last →
+        StandsAsTold (turn_step bus cmd).0 slot last }
+    ensures holder { (bus : Arbitration) (slot : ℕ) →
+        StandsAsTold bus slot (Some Granted) → bus.holder ≡ Some slot }
 {}
 
 /// Where each master has a slot of its own and goes by the replies, no reply is `Denied`.

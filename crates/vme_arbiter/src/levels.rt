@@ -1,6 +1,6 @@
 ghost use Rattle.std.specs.Prelude.{◌≡◌, ◌≢◌, ◌<◌, ◌≤◌, ℕ, length, Some, IfSome, MatchOption, slice_get};
 ghost use Rattle.std.specs.Option.{option_map, option_and_then};
-ghost use Rattle.vme_arbiter.specs.Requests.{granted, requests_of};
+ghost use Rattle.vme_arbiter.specs.Requests.{next_request, requests_of};
 
 /// The number of bus request lines, BR0* to BR3*.
 pub(crate) const LEVELS: u8 = 4;
@@ -20,7 +20,7 @@ pub(crate) fn level_of(levels: &[Option<u8>], slot: u16) -> Option<u8>
 pub(crate) fn next_slot(levels: &[Option<u8>]) -> Option<u16>
     requires few { length levels.now ≤ 65536 }
     requires in_range { (slot level : ℕ) → slice_get levels.now slot ≡ Some (Some level) → level < 4 }
-    ensures next { result ≡ option_map (λ next. next.slot) (granted (requests_of levels.now)) }
+    ensures next { result ≡ option_map (λ next. next.slot) (next_request (requests_of levels.now)) }
     ensures within { IfSome result (λ next. next < length levels.now) }
 {
     for level in (0..LEVELS).rev() {

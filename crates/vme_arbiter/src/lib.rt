@@ -12,6 +12,6 @@ mod levels;
 pub use arbiter::Arbiter;
 pub use command::{ArbCmd, ArbReply};
 pub use laws::{
-    greatest_level_then_lowest_slot, no_turn_is_denied, one_slot_has_the_bus,
-    pending_requests_are_a_set, replies_tell_the_holder, states_are_orderly,
+    a_turn_leaves_each_where_it_was_told, greatest_level_then_lowest_slot, no_turn_is_denied,
+    one_slot_has_the_bus, pending_requests_are_a_set, replies_tell_the_holder, states_are_orderly,
 };

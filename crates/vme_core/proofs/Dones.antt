@@ -11,8 +11,8 @@ use Rattle.vme_memory.specs.Locals.{board_step}
 use Rattle.vme_arbiter.specs.Arbitration.{turn_step}
 use Rattle.vme_core.specs.declared.event.Event.{Event}
 use Rattle.vme_core.specs.declared.event.EventReply.{EventReply}
-use Rattle.vme_core.specs.Tallies.{Went, Tells, fresh}
-use Rattle.vme_core.specs.Runs.{Machine, Move, target_of, Did, IsReplyTo, move, on_board, on_bus, board_part, bus_part, told_in}
+use Rattle.vme_core.specs.Tallies.{Went, Tells, fresh_tally}
+use Rattle.vme_core.specs.Runs.{Machine, Move, target_of, Did, IsReplyTo, move, board_entry, bus_entry, board_part, bus_part, replies_in}
 use Rattle.vme_core.specs.Machines.{HasDone, HasRun, steps_of, opening}
 use Rattle.vme_core.specs.declared.fault.RunStop.TheVariants as stops
 use Rattle.vme_core.proofs.Tallies.{went_nil, went_trans, went_tells}
@@ -30,9 +30,9 @@ pub did_trans : (r s : List Move) (a b c : Machine) → Did r a b → Did s b c 
 did_trans r s a b c first then = record {
   fitting = All-append (λ m. IsReplyTo m.event m.reply) r s first.fitting then.fitting;
   boards = AllAt-trans _ _ (λ x p q. Went board_step (board_part x (r ++ s)) p q) a.boards b.boards c.boards
-      (λ x p q z one two. rw (filter_map-append (λ m. on_board x m.who m.event m.reply) r s) (went_trans board_step (board_part x r) (board_part x s) p q z one two))
+      (λ x p q z one two. rw (filter_map-append (λ m. board_entry x m.who m.event m.reply) r s) (went_trans board_step (board_part x r) (board_part x s) p q z one two))
       first.boards then.boards;
-  bus = rw (filter_map-append (λ m. on_bus m.who m.event m.reply) r s) (went_trans turn_step (bus_part r) (bus_part s) a.bus b.bus c.bus first.bus then.bus);
+  bus = rw (filter_map-append (λ m. bus_entry m.who m.event m.reply) r s) (went_trans turn_step (bus_part r) (bus_part s) a.bus b.bus c.bus first.bus then.bus);
 }
 
 -- no event was done
@@ -51,7 +51,7 @@ done_more events i a b c old new who event reply i< here done one = record {
       ∙ ap (λ e. take i events ++ e ∷ []) (sym here)
       ∙ sym (take_more events i (who, event) i<);
   told = ap (λ rs. rs ++ reply ∷ []) done.told
-      ∙ append_assoc old (told_in done.run) (reply ∷ [])
+      ∙ append_assoc old (replies_in done.run) (reply ∷ [])
       ∙ ap (λ rs. old ++ rs) (sym (map-append (λ m. m.reply) done.run (move who event reply ∷ [])));
   did = did_trans done.run (move who event reply ∷ []) a b c done.did one;
 }
@@ -83,9 +83,9 @@ pub opened_boards :
     (memories : List Board) (k : ℕ) (run : List Move) (after : Machine) → Did run (opening memories k) after
     → AllAt (λ x memory b. Tells board_step memory (board_part x run) k b) memories after.boards
 opened_boards memories k run after did = record {
-  count = did.boards.count ∙ length-map memories (fresh k);
+  count = did.boards.count ∙ length-map memories (fresh_tally k);
   each = λ x memory b x<.
       went_tells board_step (slice_index_or memories x memory) (board_part x run) k (slice_index_or after.boards x b)
-      (subst (λ t. Went board_step (board_part x run) t (slice_index_or after.boards x b)) (get_or-map (fresh k) memories x memory)
-      (did.boards.each x (fresh k memory) b (rw (length-map memories (fresh k)) x<)));
+      (subst (λ t. Went board_step (board_part x run) t (slice_index_or after.boards x b)) (get_or-map (fresh_tally k) memories x memory)
+      (did.boards.each x (fresh_tally k memory) b (rw (length-map memories (fresh_tally k)) x<)));
 }

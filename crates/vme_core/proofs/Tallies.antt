@@ -4,7 +4,7 @@ use Rattle.std.proofs.lemmas.List.{length-replicate, get_or-replicate}
 use Rattle.vme_object.specs.declared.history.Entry.{Entry}
 use Rattle.vme_object.specs.History.{IsLegal, replay, own}
 use Rattle.vme_object.proofs.Histories.{replay-append, legal-append, own-append}
-use Rattle.vme_core.specs.Tallies.{Tally, Went, Tells, fresh}
+use Rattle.vme_core.specs.Tallies.{Tally, Went, Tells, fresh_tally}
 
 -- nothing was done
 pub went_nil : {S C R : Type 0} (step : S → C → S × R) (t : Tally S) → Went step [] t t
@@ -27,7 +27,7 @@ went_trans step g h t u v first then = record {
 
 -- what went through a history before any other step tells that history
 pub went_tells :
-    {S C R : Type 0} (step : S → C → S × R) (start : S) (h : List (Entry C R)) (k : ℕ) (t : Tally S) → Went step h (fresh k start) t
+    {S C R : Type 0} (step : S → C → S × R) (start : S) (h : List (Entry C R)) (k : ℕ) (t : Tally S) → Went step h (fresh_tally k start) t
     → Tells step start h k t
 went_tells step start h k t went = record {
   legal = went.legal;

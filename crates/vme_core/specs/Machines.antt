@@ -9,12 +9,12 @@ use Rattle.vme_core.specs.declared.event.Target.{Target}
 use Rattle.vme_core.specs.declared.event.Target.TheVariants as at
 use Rattle.vme_core.specs.declared.fault.RunStop.{RunStop}
 use Rattle.vme_core.specs.declared.fault.RunStop.TheVariants as stops
-use Rattle.vme_core.specs.Tallies.{fresh}
-use Rattle.vme_core.specs.Runs.{Machine, Move, Did, target_of, asked_in, told_in}
+use Rattle.vme_core.specs.Tallies.{fresh_tally}
+use Rattle.vme_core.specs.Runs.{Machine, Move, Did, target_of, events_in, replies_in}
 
 -- boards with these memories and a free bus, before the first step (this project's own)
 abbrev pub opening : List Board → ℕ → Machine
-opening memories k = record { boards = map (fresh k) memories; bus = fresh k free_bus }
+opening memories k = record { boards = map (fresh_tally k) memories; bus = fresh_tally k free_bus }
 
 -- how many whos there are (this project's own)
 abbrev pub whos : Machine → ℕ
@@ -38,8 +38,8 @@ made_of machine who at.Bus = slice_get machine.bus.made who
 -- events were done as a run, and its replies were appended (this project's own)
 pub record HasDone (events : List (ℕ × Event)) (before after : Machine) (old new : List EventReply) : Type 0 where
   pub run : List Move
-  pub asked : asked_in run ≡ events
-  pub told : new ≡ old ++ told_in run
+  pub asked : events_in run ≡ events
+  pub told : new ≡ old ++ replies_in run
   pub did : Did run before after
 
 -- how the result of a run goes with the number of events that were done: all of them; none; or those before one whose

@@ -46,32 +46,32 @@ IsReplyTo (asked.Bus cmd) (told.Board reply) = ⊥
 IsReplyTo (asked.Bus cmd) (told.Bus reply) = Unit {0}
 
 -- what a move adds to the history of a board, if anything (this project's own)
-abbrev pub on_board : ℕ → ℕ → Event → EventReply → Option (Entry BoardCmd Reply)
-on_board x who (asked.Board board cmd) (told.Board reply) = if board == x then Some (entry who cmd reply) else None
-on_board x who (asked.Board board cmd) (told.Bus reply) = None
-on_board x who (asked.Bus cmd) reply = None
+abbrev pub board_entry : ℕ → ℕ → Event → EventReply → Option (Entry BoardCmd Reply)
+board_entry x who (asked.Board board cmd) (told.Board reply) = if board == x then Some (entry who cmd reply) else None
+board_entry x who (asked.Board board cmd) (told.Bus reply) = None
+board_entry x who (asked.Bus cmd) reply = None
 
 -- what a move adds to the history of the arbiter, if anything (this project's own)
-abbrev pub on_bus : ℕ → Event → EventReply → Option (Entry ArbCmd ArbReply)
-on_bus who (asked.Board board cmd) reply = None
-on_bus who (asked.Bus cmd) (told.Board reply) = None
-on_bus who (asked.Bus cmd) (told.Bus reply) = Some (entry who cmd reply)
+abbrev pub bus_entry : ℕ → Event → EventReply → Option (Entry ArbCmd ArbReply)
+bus_entry who (asked.Board board cmd) reply = None
+bus_entry who (asked.Bus cmd) (told.Board reply) = None
+bus_entry who (asked.Bus cmd) (told.Bus reply) = Some (entry who cmd reply)
 
 -- the history of a board in a run (this project's own)
 abbrev pub board_part : ℕ → List Move → List (Entry BoardCmd Reply)
-board_part x run = filter_map (λ m. on_board x m.who m.event m.reply) run
+board_part x run = filter_map (λ m. board_entry x m.who m.event m.reply) run
 
 -- the history of the arbiter in a run (this project's own)
 abbrev pub bus_part : List Move → List (Entry ArbCmd ArbReply)
-bus_part run = filter_map (λ m. on_bus m.who m.event m.reply) run
+bus_part run = filter_map (λ m. bus_entry m.who m.event m.reply) run
 
 -- the events of a run, each with who gave it (this project's own)
-abbrev pub asked_in : List Move → List (ℕ × Event)
-asked_in run = map (λ m. (m.who, m.event)) run
+abbrev pub events_in : List Move → List (ℕ × Event)
+events_in run = map (λ m. (m.who, m.event)) run
 
 -- the replies of a run (this project's own)
-abbrev pub told_in : List Move → List EventReply
-told_in run = map (λ m. m.reply) run
+abbrev pub replies_in : List Move → List EventReply
+replies_in run = map (λ m. m.reply) run
 
 -- the machine made a run: each reply is of its event's kind, and each board and the arbiter went through its own part
 -- (this project's own)

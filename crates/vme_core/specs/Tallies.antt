@@ -10,8 +10,8 @@ pub record Tally (S : Type 0) : Type 0 where
   pub made : List ℕ
 
 -- an object before its first step, for the whos below k (this project's own)
-abbrev pub fresh : {S : Type 0} → ℕ → S → Tally S
-fresh k object = record { object = object; steps = 0; made = replicate k 0 }
+abbrev pub fresh_tally : {S : Type 0} → ℕ → S → Tally S
+fresh_tally k object = record { object = object; steps = 0; made = replicate k 0 }
 
 -- an object went through a history that is legal from where it stood, and each entry was counted, once in all and once
 -- for its who (this project's own)

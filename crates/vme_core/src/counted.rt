@@ -1,6 +1,6 @@
 ghost use Rattle.std.specs.Prelude.{◌≡◌, ◌<◌, ◌-◌, ◌^◌, ◌↔◌, ◌∷◌, [], length, slice_index_or, IsErr, IfOk, IfErr};
 ghost use Rattle.vme_object.specs.History.{entry};
-ghost use Rattle.vme_core.specs.Tallies.{Went, fresh};
+ghost use Rattle.vme_core.specs.Tallies.{Went, fresh_tally};
 
 use crate::fault::{OutOfMemory, Spent};
 use std::alloc::Global;
@@ -31,7 +31,7 @@ impl<O: Object> Counted<O> {
     pub(crate) fn new(alloc: Global, object: O, k: usize) -> Result<Counted<O>, OutOfMemory>
     where
         O: Drop,
-        ensures { IfOk result (λ c. c ≡ fresh k object) }
+        ensures { IfOk result (λ c. c ≡ fresh_tally k object) }
     {
         match vec![in alloc; 0; k] {
             Ok(made) => Ok(Counted {

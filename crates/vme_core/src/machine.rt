@@ -1,5 +1,5 @@
 ghost use Rattle.std.specs.Prelude.{◌≡◌, ◌<◌, ◌-◌, ◌^◌, ◌↔◌, ◌∷◌, [], length, map, slice_get, Some, All, IsErr, IfOk, IfErr};
-ghost use Rattle.vme_core.specs.Tallies.{fresh};
+ghost use Rattle.vme_core.specs.Tallies.{fresh_tally};
 ghost use Rattle.vme_core.specs.Runs.{Did, move, target_of};
 ghost use Rattle.vme_core.specs.Machines.{opening, whos, IsThere, steps_of, made_of, HasRun};
 
@@ -125,7 +125,7 @@ fn fresh_boards(
     memories: Vec<ByteMemory>,
     k: usize,
 ) -> Result<Vec<Counted<ByteMemory>>, OutOfMemory>
-    ensures { IfOk result (λ boards. boards.items ≡ map (fresh k) memories.items) }
+    ensures { IfOk result (λ boards. boards.items ≡ map (fresh_tally k) memories.items) }
 {
     let Ok(mut boards) = Vec::with_capacity(alloc, memories.len()) else {
         return Err(OutOfMemory);

@@ -9,7 +9,7 @@ use Rattle.vme_decode.specs.declared.entry.Entry.{Entry}
 use Rattle.vme_decode.specs.Entries.{covers, admits}
 use Rattle.vme_decode.specs.Lawful.{first_refusal}
 use Rattle.vme_cycle.specs.SignalLines.{first_byte}
-use Rattle.vme_decode.specs.Select.{responds, selected_at, selected, IsSelected}
+use Rattle.vme_decode.specs.Select.{responds, selection_at, selection, IsSelected}
 use Rattle.vme_decode.proofs.Ranges.{Has, has_from_covers, covers_from_has}
 use Rattle.vme_decode.proofs.Apart.{one_place}
 use Rattle.vme_decode.proofs.Found.{first_from, found_at, only_one}
@@ -32,7 +32,7 @@ responding entry code addr responds_is =
 
 -- what an entry at an address tells of the cycle that shows it
 facts_at : (entries : List Entry) (s : SignalLines) (addr place offset : ℕ) → first_byte s ≡ Some addr
-    → selected_at entries s.am addr ≡ Some (place, offset) → IsSelected entries s place offset
+    → selection_at entries s.am addr ≡ Some (place, offset) → IsSelected entries s place offset
 unfolding first_from
 facts_at entries s addr place offset first chosen =
     let test = λ (entry : Entry). responds entry s.am addr in
@@ -51,16 +51,16 @@ facts_at entries s addr place offset first chosen =
 
 -- what is selected is what the cycle selects
 pub selected_facts : (entries : List Entry) (s : SignalLines) (place offset : ℕ)
-    → selected entries s ≡ Some (place, offset) → IsSelected entries s place offset
-unfolding selected
+    → selection entries s ≡ Some (place, offset) → IsSelected entries s place offset
+unfolding selection
 selected_facts entries s place offset chosen =
-    option_and_then_some (selected_at entries s.am) (first_byte s) (place, offset) chosen
+    option_and_then_some (selection_at entries s.am) (first_byte s) (place, offset) chosen
     (λ addr first chosen_at. facts_at entries s addr place offset first chosen_at)
 
 -- in a map without a refusal, an entry that responds is the one that is selected
 selected_by : (entries : List Entry) (code : CodeRow) (addr place : ℕ) (entry : Entry) → first_refusal entries ≡ None
     → slice_get entries place ≡ Some entry → responds entry code addr ≡ true
-    → selected_at entries code addr ≡ Some (place, addr - entry.base)
+    → selection_at entries code addr ≡ Some (place, addr - entry.base)
 unfolding first_from
 selected_by entries code addr place entry lawful there responds_is =
     let test = λ (entry : Entry). responds entry code addr in
@@ -72,24 +72,24 @@ selected_by entries code addr place entry lawful there responds_is =
 
 -- and what the cycle selects is selected
 pub facts_selected : (entries : List Entry) (s : SignalLines) (place offset : ℕ) → first_refusal entries ≡ None
-    → IsSelected entries s place offset → selected entries s ≡ Some (place, offset)
-unfolding selected
+    → IsSelected entries s place offset → selection entries s ≡ Some (place, offset)
+unfolding selection
 facts_selected entries s place offset lawful facts =
     let addr = facts.entry.base + offset in
     let has : Has facts.entry s.am.space addr = record { space_is = facts.space; from = omega arith; below = omega (arith, facts.within) } in
     let responds_is = and_from _ _ (covers_from_has facts.entry s.am.space addr has) facts.admits in
     let distance : facts.entry.base + offset - facts.entry.base ≡ offset = omega arith in
-    ap (option_and_then (selected_at entries s.am)) facts.first
+    ap (option_and_then (selection_at entries s.am)) facts.first
     ∙ selected_by entries s.am addr place facts.entry lawful facts.there responds_is
     ∙ ap (λ o. Some (place, o)) distance
 
 -- the same of a function's result
-pub result_facts : (result : Option (ℕ × ℕ)) (entries : List Entry) (s : SignalLines) → result ≡ selected entries s
+pub result_facts : (result : Option (ℕ × ℕ)) (entries : List Entry) (s : SignalLines) → result ≡ selection entries s
     → IfSome result (λ found. IsSelected entries s found.0 found.1)
 result_facts None entries s result_is = tt
 result_facts (Some found) entries s result_is = selected_facts entries s found.0 found.1 (sym result_is)
 
-pub result_place : (result : Option (ℕ × ℕ)) (entries : List Entry) (s : SignalLines) → result ≡ selected entries s
+pub result_place : (result : Option (ℕ × ℕ)) (entries : List Entry) (s : SignalLines) → result ≡ selection entries s
     → IfSome result (λ found. found.0 < length entries)
 result_place None entries s result_is = tt
 result_place (Some found) entries s result_is =

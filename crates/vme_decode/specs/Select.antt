@@ -13,13 +13,13 @@ responds entry code addr = covers entry code.space addr && admits entry code
 
 -- the place of the first entry that responds, and the address counted from its base; in a map without a refusal no other
 -- entry responds (this project's own)
-abbrev pub selected_at : List Entry → CodeRow → ℕ → Option (ℕ × ℕ)
-selected_at entries code addr =
+abbrev pub selection_at : List Entry → CodeRow → ℕ → Option (ℕ × ℕ)
+selection_at entries code addr =
     option_map (λ found. (found.0, addr - found.1.base)) (find (λ found. responds found.1 code addr) (enumerate_from 0 entries))
 
 -- the place of the entry that a cycle selects by its first byte, and the offset of that byte (this project's own)
-unfoldable pub selected : List Entry → SignalLines → Option (ℕ × ℕ)
-selected entries s = option_and_then (selected_at entries s.am) (first_byte s)
+unfoldable pub selection : List Entry → SignalLines → Option (ℕ × ℕ)
+selection entries s = option_and_then (selection_at entries s.am) (first_byte s)
 
 -- a cycle selects the entry at a place: the entry is of the code's space, admits the code, and has the first byte at an
 -- offset below its size (IEEE 1014, section 2.3.5)

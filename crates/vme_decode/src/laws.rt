@@ -4,7 +4,7 @@ ghost use Rattle.vme_cycle.specs.SignalLines.{SignalLines};
 ghost use Rattle.vme_decode.specs.declared.entry.Entry.{Entry};
 ghost use Rattle.vme_decode.specs.Entries.{covers, overlap};
 ghost use Rattle.vme_decode.specs.Lawful.{first_refusal};
-ghost use Rattle.vme_decode.specs.Select.{selected, IsSelected};
+ghost use Rattle.vme_decode.specs.Select.{selection, IsSelected};
 
 /// Two entries overlap exactly where both cover some address of some space.
 #[tactic(auto, using(crate::proofs::Ranges::overlap_shared, crate::proofs::Ranges::shared_overlap))]
@@ -27,5 +27,5 @@ pub fn one_entry_covers()
 pub fn selected_is_the_one()
     ensures { (entries : List Entry) (s : SignalLines) (place offset : ℕ) →
         first_refusal entries ≡ None →
-        (selected entries s ≡ Some (place, offset)) ↔ IsSelected entries s place offset }
+        (selection entries s ≡ Some (place, offset)) ↔ IsSelected entries s place offset }
 {}

@@ -1,7 +1,7 @@
 ghost use Rattle.std.specs.Prelude.{◌≡◌, ◌≢◌, ◌↔◌, ◌<◌, ◌≤◌, length, Some, None, IsOk, IfOk, IfErr, IfSome, IfNone, IsOkUnless};
 ghost use Rattle.vme_decode.specs.Lawful.{some_overlap, first_refusal};
 ghost use Rattle.vme_cycle.specs.SignalLines.{first_byte};
-ghost use Rattle.vme_decode.specs.Select.{selected_at, selected, IsSelected};
+ghost use Rattle.vme_decode.specs.Select.{selection_at, selection, IsSelected};
 
 use crate::entry::Entry;
 use crate::fault::MapFault;
@@ -48,29 +48,12 @@ impl AddressMap {
         Ok(AddressMap { entries: copy })
     }
 
-    /// The number of entries.
-    #[tactic(auto, unfolding(crate::specs::Lawful::first_refusal))]
-    pub fn len(&self) -> usize
-        ensures value { result ≡ length self.now }
-        ensures most { result ≤ 21 }
-    {
-        self.entries.len()
-    }
-
-    /// The entries, in the caller's order.
-    pub fn entries(&self) -> &[Entry]
-        ensures value { result.now ≡ self.now }
-        ensures lawful { first_refusal self.now ≡ None }
-    {
-        self.entries.as_slice()
-    }
-
     /// The entry that a cycle selects (section 2.3.5), by its place in the caller's order, and the
     /// offset in bytes of the datum's first byte from its base; `None` where no entry covers that
     /// byte and admits the code.
-    #[tactic(auto, unfolding(crate::specs::Select::selected))]
+    #[tactic(auto, unfolding(crate::specs::Select::selection))]
     pub fn select(&self, signals: &Signals) -> Option<(usize, u32)>
-        ensures value { result ≡ selected self.now signals.now }
+        ensures value { result ≡ selection self.now signals.now }
         ensures place { IfSome result (λ found. found.0 < length self.now) }
         ensures entry { IfSome result (λ found. IsSelected self.now signals.now found.0 found.1) }
     {
@@ -112,7 +95,7 @@ fn some_overlap(entries: &[Entry]) -> bool
 /// The place of the entry that a code and an address select, and the address counted from its
 /// base.
 fn select_at(entries: &[Entry], am: Am, addr: u32) -> Option<(usize, u32)>
-    ensures { result ≡ selected_at entries.now am addr }
+    ensures { result ≡ selection_at entries.now am addr }
 {
     for (place, entry) in entries.iter().enumerate() {
         if entry.responds(am, addr) {

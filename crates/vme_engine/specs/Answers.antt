@@ -10,7 +10,7 @@ use Rattle.vme_cycle.specs.SignalLines.{SignalLines, answered_lines}
 use Rattle.vme_cycle.specs.Functions.{value}
 use Rattle.vme_cycle.specs.Plans.{signals_of, write_half_of}
 use Rattle.vme_decode.specs.declared.entry.Entry.{Entry}
-use Rattle.vme_decode.specs.Select.{selected}
+use Rattle.vme_decode.specs.Select.{selection}
 use Rattle.vme_memory.specs.declared.reply.Reply.{Reply}
 use Rattle.vme_memory.specs.declared.reply.Reply.TheVariants.{Bytes, Done, Berr}
 use Rattle.vme_memory.specs.Boards.{Board}
@@ -47,7 +47,7 @@ board_map = record { space = A32; base = 0; size = 4096; supervisory = false } �
 
 -- the offset of a transfer's first byte, if that byte selects the board (IEEE 1014, section 2.3.5)
 abbrev pub offset_of : Transfer → Option ℕ
-offset_of t = option_map (λ found. found.1) (selected board_map (signals_of t 0))
+offset_of t = option_map (λ found. found.1) (selection board_map (signals_of t 0))
 
 -- the reply to datum i and the board after it, by where the transfer's first byte is; the bus timer drives BERR* where no
 -- board is selected (IEEE 1014, section 2.3.3)

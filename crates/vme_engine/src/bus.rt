@@ -35,7 +35,7 @@ impl Model for Bus {
 
 impl Bus {
     ghost use Rattle.vme_cycle.specs.SignalLines.{first_byte, len_at};
-    ghost use Rattle.vme_decode.specs.Select.{selected};
+    ghost use Rattle.vme_decode.specs.Select.{selection};
     ghost use Rattle.vme_memory.specs.Steps.{cycle, HasLen};
     ghost use Rattle.vme_engine.specs.Answers.{board_map};
 
@@ -53,7 +53,7 @@ impl Bus {
 
     /// The offset of the first byte of a cycle, where it selects the board.
     pub(crate) fn select(&self, signals: &Signals) -> Option<u32>
-        ensures value { result ≡ option_map (λ found. found.1) (selected board_map signals.now) }
+        ensures value { result ≡ option_map (λ found. found.1) (selection board_map signals.now) }
         ensures within { IfSome result (λ offset.
             (offset < 4096) × (first_byte signals.now ≡ Some offset)) }
     {

@@ -1,0 +1,11 @@
+use Rattle.vme_arbiter.proofs.Turns.{own-turn, other-turn, holds-holder}
+use Rattle.vme_arbiter.proofs.laws.a_turn_leaves_each_where_it_was_told.Goals as goal
+
+pub returns-clause-own : goal.returns-clause-own
+returns-clause-own c = λ bus slot last cmd orderly slot_ok stands may. own-turn bus slot last cmd orderly slot_ok stands may
+
+pub returns-clause-other : goal.returns-clause-other
+returns-clause-other c = other-turn
+
+pub returns-clause-holder : goal.returns-clause-holder
+returns-clause-holder c = λ bus slot held. holds-holder bus.holder bus.pending slot held
