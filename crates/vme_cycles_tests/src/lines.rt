@@ -1,7 +1,7 @@
 //! Lines read, and texts printed, with values from this project's profile.
 use std::test::Fail;
 use vme_cycle::Request;
-use vme_lines::{LineFault, Lines, parse_line, print_berr};
+use vme_lines::{Line, LineFault, Lines, parse_line, print_berr};
 
 #[test]
 fn cuts_lines(rt: HostRuntime) -> Result<(), Fail> {
@@ -20,22 +20,22 @@ fn reads_requests(rt: HostRuntime) -> Result<(), Fail> {
     assert!(rt;
         matches!(
             &read,
-            Ok(Some(Request::Read {
+            Ok(Some(Line::Bus(Request::Read {
                 am: 0x0d,
                 addr: 0xffe,
                 n: 2
-            }))
+            })))
         )
     );
     match parse_line(b"w 0d 00000004 5aA5") {
-        Ok(Some(Request::Write { bytes, .. })) => assert_eq!(rt;
+        Ok(Some(Line::Bus(Request::Write { bytes, .. }))) => assert_eq!(rt;
             bytes.as_slice(),
             [0x5a, 0xa5].as_slice()
         ),
         _ => assert!(rt; false),
     }
     match parse_line(b"bw 0b 00000009 1 070809") {
-        Ok(Some(Request::BlockWrite { n, bytes, .. })) => {
+        Ok(Some(Line::Bus(Request::BlockWrite { n, bytes, .. }))) => {
             assert_eq!(rt; n, 1);
             assert_eq!(rt; bytes.as_slice(), [7, 8, 9].as_slice());
         }

@@ -6,7 +6,7 @@ use Rattle.vme_memory.specs.Boards.{Board}
 use Rattle.vme_engine.specs.Answers.{answer}
 use Rattle.vme_engine.specs.declared.status.Status.{Status}
 use Rattle.vme_engine.specs.declared.status.Status.TheVariants.{Clean, Marked}
-use Rattle.vme_engine.specs.Ends.{worse}
+use Rattle.vme_engine.specs.Ends.{worse_of}
 use Rattle.vme_engine.specs.Engine.{text_of, status_after}
 
 -- one line more is answered
@@ -36,19 +36,19 @@ pub text_done : (board : Board) (front text rest all : List ℕ) → (front ++ t
 text_done board front text rest all whole none =
     sym (append-nil (front ++ text)) ∙ ap (λ ls. (front ++ text) ++ text_of board ls) (sym none) ∙ whole
 
-worse_assoc : (a b c : Status) → worse (worse a b) c ≡ worse a (worse b c)
-worse_assoc Clean b c = refl
-worse_assoc Marked b c = refl
+worse_of_assoc : (a b c : Status) → worse_of (worse_of a b) c ≡ worse_of a (worse_of b c)
+worse_of_assoc Clean b c = refl
+worse_of_assoc Marked b c = refl
 
 -- one line more is counted
 pub status_more :
-    (board next : Board) (status new told all : Status) (line rest after : List ℕ) → worse status (status_after board (lines rest)) ≡ all
-    → lines rest ≡ line ∷ lines after → new ≡ worse status told → told ≡ (answer board line).status → next ≡ (answer board line).board
-    → worse new (status_after next (lines after)) ≡ all
+    (board next : Board) (status new told all : Status) (line rest after : List ℕ) → worse_of status (status_after board (lines rest)) ≡ all
+    → lines rest ≡ line ∷ lines after → new ≡ worse_of status told → told ≡ (answer board line).status → next ≡ (answer board line).board
+    → worse_of new (status_after next (lines after)) ≡ all
 status_more board next status new told all line rest after whole first counted answered moved =
-    ap (λ s. worse s (status_after next (lines after))) counted
-    ∙ ap (λ t. worse (worse status t) (status_after next (lines after))) answered
-    ∙ ap (λ b. worse (worse status (answer board line).status) (status_after b (lines after))) moved
-    ∙ worse_assoc status (answer board line).status (status_after (answer board line).board (lines after))
-    ∙ ap (λ ls. worse status (status_after board ls)) (sym first)
+    ap (λ s. worse_of s (status_after next (lines after))) counted
+    ∙ ap (λ t. worse_of (worse_of status t) (status_after next (lines after))) answered
+    ∙ ap (λ b. worse_of (worse_of status (answer board line).status) (status_after b (lines after))) moved
+    ∙ worse_of_assoc status (answer board line).status (status_after (answer board line).board (lines after))
+    ∙ ap (λ ls. worse_of status (status_after board ls)) (sym first)
     ∙ whole

@@ -1,5 +1,5 @@
 -- How a run ends: its faults by the part of the run that they come from, and the exit status.
-use Rattle.std.specs.Prelude.{◌≡◌, ℕ, ◌+◌, List, length, Option, Result, Ok, Err}
+use Rattle.std.specs.Prelude.{◌≡◌, ℕ, ◌+◌, Bool, true, false, List, length, Option, Result, Ok, Err}
 use Rattle.std.specs.Io.KnownBytes.{Consumes}
 use Rattle.vme_engine.specs.declared.engine.TheConstants.{INPUT_LIMIT}
 use Rattle.vme_engine.specs.declared.status.Status.{Status}
@@ -8,9 +8,9 @@ use Rattle.vme_engine.specs.declared.status.ProgramFault.{ProgramFault}
 use Rattle.vme_engine.specs.declared.status.ProgramFault.TheVariants.{Read, TooLong, Write, Memory}
 
 -- marked where one of the two is (this project's own)
-abbrev pub worse : Status → Status → Status
-worse Clean status = status
-worse Marked status = Marked
+abbrev pub worse_of : Status → Status → Status
+worse_of Clean status = status
+worse_of Marked status = Marked
 
 -- the faults of reading the input (this project's own)
 abbrev pub IsInputFault : ProgramFault → Type 0
@@ -25,6 +25,30 @@ IsAnswerFault Read = ⊥
 IsAnswerFault TooLong = ⊥
 IsAnswerFault Write = Unit {0}
 IsAnswerFault Memory = Unit {0}
+
+-- whether a fault tells that the reader failed (this project's own)
+abbrev pub is_read : ProgramFault → Bool
+is_read Read = true
+is_read TooLong = false
+is_read Write = false
+is_read Memory = false
+
+-- whether a fault tells that the writer failed (this project's own)
+abbrev pub is_write : ProgramFault → Bool
+is_write Read = false
+is_write TooLong = false
+is_write Write = true
+is_write Memory = false
+
+-- whether an end is told as a failure of the reader (this project's own)
+abbrev pub is_read_failure : {T : Type 0} → Result T ProgramFault → Bool
+is_read_failure (Ok x) = false
+is_read_failure (Err fault) = is_read fault
+
+-- whether an end is told as a failure of the writer (this project's own)
+abbrev pub is_write_failure : {T : Type 0} → Result T ProgramFault → Bool
+is_write_failure (Ok x) = false
+is_write_failure (Err fault) = is_write fault
 
 -- the run ended before anything could be written (this project's own)
 abbrev pub IsReadingFault : Result Status ProgramFault → Type 0

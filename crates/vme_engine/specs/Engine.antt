@@ -6,7 +6,7 @@ use Rattle.vme_memory.specs.Boards.{Board, zeros}
 use Rattle.vme_engine.specs.declared.status.Status.{Status}
 use Rattle.vme_engine.specs.declared.status.Status.TheVariants.{Clean}
 use Rattle.vme_engine.specs.Answers.{answer}
-use Rattle.vme_engine.specs.Ends.{worse}
+use Rattle.vme_engine.specs.Ends.{worse_of}
 
 -- the board of `vme cycles`: 4,096 zero bytes, width 32, all switches on (this project's own)
 unfoldable pub fresh_board : Board
@@ -20,7 +20,7 @@ text_of board (line ∷ more) = (answer board line).text ++ text_of (answer boar
 -- clean where every reply is a good one (this project's own)
 abbrev pub status_after : Board → List (List ℕ) → Status
 status_after board [] = Clean
-status_after board (line ∷ more) = worse (answer board line).status (status_after (answer board line).board more)
+status_after board (line ∷ more) = worse_of (answer board line).status (status_after (answer board line).board more)
 
 -- what `vme cycles` writes on an input (this project's own)
 abbrev pub cycles_text : List ℕ → List ℕ

@@ -4,17 +4,17 @@ ghost use Rattle.vme_cycle.specs.Requests.{addr_of, function_of, datum_len, coun
 ghost use Rattle.vme_cycle.specs.SignalLines.{row_len, len_at};
 ghost use Rattle.vme_cycle.specs.Plans.{signals_of};
 ghost use Rattle.vme_memory.specs.Steps.{HasLen};
-ghost use Rattle.vme_lines.specs.Texts.{outcome_text, ended};
-ghost use Rattle.vme_engine.specs.Answers.{whole, shown, offset_of, reply_at, reply_to, write_half_text, datum_text, transfer_answer, request_answer, answer};
+ghost use Rattle.vme_lines.specs.Texts.{outcome_text, output_line};
+ghost use Rattle.vme_engine.specs.Answers.{outcome_of, final_signals, offset_of, reply_at, reply_to, write_half_text, datum_text, transfer_answer, request_answer, answer};
 
 use crate::bus::Bus;
+use crate::request::request_of;
 use crate::status::Status;
 use std::alloc::AllocError;
 use vme_cycle::{Block, Plan, Request, Signals};
 use vme_lanes::Datum;
 use vme_lines::{
-    parse_line, print_berr, print_done, print_line_refusal, print_old, print_read, print_refusal,
-    print_signals,
+    print_berr, print_done, print_line_refusal, print_old, print_read, print_refusal, print_signals,
 };
 use vme_memory::Reply;
 
@@ -29,7 +29,7 @@ pub(crate) fn answer_line(
     ensures board { OnOk result (bus.new ≡ (answer bus.old line.now).board) }
     ensures status { IfOk result (λ status. status ≡ (answer bus.old line.now).status) }
 {
-    match parse_line(line) {
+    match request_of(line) {
         Ok(None) => Ok(Status::Clean),
         Ok(Some(request)) => answer_request(bus, &request, text),
         Err(fault) => {
@@ -78,7 +78,7 @@ fn answer_data(bus: &mut Bus, plan: &Plan<'_>, text: &mut Vec<u8>) -> Result<Sta
             }
         }
     }
-    print_whole(text, plan, replied.as_slice())?;
+    print_outcome(text, plan, replied.as_slice())?;
     Ok(Status::Clean)
 }
 
@@ -113,7 +113,7 @@ fn answer_datum(
 {
     let signals = plan.signals(i);
     let reply = reply_at(bus, plan, i, offset, &signals);
-    print_signals(text, &shown(signals, &reply))?;
+    print_signals(text, &final_signals(signals, &reply))?;
     print_write_half(text, plan, &reply)?;
     Ok(reply)
 }
@@ -141,9 +141,9 @@ fn append(block: &mut Block, datum: &Datum)
 }
 
 /// Appends the outcome of a transfer whose data were all answered, with what they replied.
-fn print_whole(text: &mut Vec<u8>, plan: &Plan<'_>, replied: &[u8]) -> Result<(), AllocError>
+fn print_outcome(text: &mut Vec<u8>, plan: &Plan<'_>, replied: &[u8]) -> Result<(), AllocError>
     ensures { OnOk result
-        (text.new.items ≡ text.old.items ++ ended (outcome_text (whole plan.now replied.now))) }
+        (text.new.items ≡ text.old.items ++ output_line (outcome_text (outcome_of plan.now replied.now))) }
 {
     if plan.reads() {
         print_read(text, replied)
@@ -155,9 +155,9 @@ fn print_whole(text: &mut Vec<u8>, plan: &Plan<'_>, replied: &[u8]) -> Result<()
 }
 
 /// What the lines show in the end: in a read what the board drives.
-fn shown(signals: Signals, reply: &Reply) -> Signals
+fn final_signals(signals: Signals, reply: &Reply) -> Signals
     requires { (len : ℕ) × (row_len signals.strobes ≡ Some len) × HasLen reply.now len }
-    ensures { result ≡ shown signals reply.now }
+    ensures { result ≡ final_signals signals reply.now }
 {
     match reply {
         Reply::Bytes(datum) => signals.answered(datum.as_slice()),

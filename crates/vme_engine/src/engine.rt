@@ -3,7 +3,7 @@ ghost use Rattle.std.specs.Prelude.{◌≡◌, ◌<◌, ◌≤◌, Err, false, t
 ghost use Rattle.std.specs.Io.KnownBytes.{Appends};
 ghost use Rattle.vme_io.specs.Fronts.{AppendsFront};
 ghost use Rattle.vme_engine.specs.Engine.{cycles_text, cycles_status};
-ghost use Rattle.vme_engine.specs.Ends.{IsInputFault, IsAnswerFault, IsReadingFault, ReadsPastLimit};
+ghost use Rattle.vme_engine.specs.Ends.{IsInputFault, IsAnswerFault, IsReadingFault, ReadsPastLimit, is_read_failure, is_write_failure};
 
 use crate::answer::answer_line;
 use crate::bus::Bus;
@@ -43,16 +43,14 @@ pub fn cycles_engine<R: Source, W: Sink>(
         IfOk result (λ status. status ≡ cycles_status input)) }
 
     // When each fault comes; `Memory` comes where a growth is refused.
-    ensures read { result ≡ Err ProgramFault.Read → R.is_marked reader.new ≡ true }
+    ensures read { R.is_marked reader.new ≡ is_read_failure result }
     ensures too_long { result ≡ Err ProgramFault.TooLong →
         IfSome (R.remaining reader.old) (λ input. INPUT_LIMIT < length input) }
     ensures no_further { result ≡ Err ProgramFault.TooLong →
         ReadsPastLimit (R.remaining reader.old) (R.remaining reader.new) }
     ensures within { IfSome (R.remaining reader.old) (λ input.
         OnOk result (length input ≤ INPUT_LIMIT)) }
-    ensures write { result ≡ Err ProgramFault.Write → W.is_marked writer.new ≡ true }
-    ensures unmarked { OnOk result
-        ((R.is_marked reader.new ≡ false) × (W.is_marked writer.new ≡ false)) }
+    ensures write { W.is_marked writer.new ≡ is_write_failure result }
 {
     let input = read_input(alloc, reader)?;
     answer_all(alloc, input.as_slice(), writer)
@@ -60,6 +58,7 @@ pub fn cycles_engine<R: Source, W: Sink>(
 
 /// Reads to the end, or to one byte past the limit.
 fn read_input<R: Source>(alloc: Global, reader: &mut R) -> Result<Vec<u8>, ProgramFault>
+    requires { R.is_marked reader.old ≡ false }
     ensures whole { IfOk result (λ input.
         IfSome (R.remaining reader.old) (λ bytes. bytes ≡ input.items)) }
     ensures limit { IfOk result (λ input. vec_len input ≤ INPUT_LIMIT) }
@@ -67,8 +66,7 @@ fn read_input<R: Source>(alloc: Global, reader: &mut R) -> Result<Vec<u8>, Progr
         IfSome (R.remaining reader.old) (λ bytes. INPUT_LIMIT < length bytes) }
     ensures no_further { result ≡ Err ProgramFault.TooLong →
         ReadsPastLimit (R.remaining reader.old) (R.remaining reader.new) }
-    ensures read { result ≡ Err ProgramFault.Read → R.is_marked reader.new ≡ true }
-    ensures unmarked { OnOk result (R.is_marked reader.new ≡ R.is_marked reader.old) }
+    ensures read { R.is_marked reader.new ≡ is_read_failure result }
     ensures faults { IfErr result IsInputFault }
 {
     let mut input = Vec::new(alloc);
@@ -91,13 +89,13 @@ fn read_input<R: Source>(alloc: Global, reader: &mut R) -> Result<Vec<u8>, Progr
 
 /// Answers each line of a text. Its answers are gathered and written in large pieces.
 fn answer_all<W: Sink>(alloc: Global, input: &[u8], writer: &mut W) -> Result<Status, ProgramFault>
+    requires { W.is_marked writer.old ≡ false }
     ensures text { OnOk result
         (Appends (W.contents writer.old) (W.contents writer.new) (cycles_text input.now)) }
     ensures front { OnErr result
         (AppendsFront (W.contents writer.old) (W.contents writer.new) (cycles_text input.now)) }
     ensures status { IfOk result (λ status. status ≡ cycles_status input.now) }
-    ensures write { result ≡ Err ProgramFault.Write → W.is_marked writer.new ≡ true }
-    ensures unmarked { OnOk result (W.is_marked writer.new ≡ W.is_marked writer.old) }
+    ensures write { W.is_marked writer.new ≡ is_write_failure result }
     ensures faults { IfErr result IsAnswerFault }
 {
     let mut bus = Bus::new(alloc)?;

@@ -6,6 +6,7 @@
 mod answer;
 mod bus;
 mod engine;
+mod request;
 mod status;
 
 pub use engine::{INPUT_LIMIT, cycles_engine};

@@ -15,11 +15,11 @@ pub enum Status {
 }
 
 impl Status {
-    ghost use Rattle.vme_engine.specs.Ends.{worse};
+    ghost use Rattle.vme_engine.specs.Ends.{worse_of};
 
     /// `Marked` where one of the two is.
     pub(crate) fn worse(self, other: Status) -> Status
-        ensures { result ≡ worse self other }
+        ensures { result ≡ worse_of self other }
     {
         match self {
             Status::Clean => other,

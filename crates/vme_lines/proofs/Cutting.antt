@@ -12,8 +12,8 @@ use Rattle.vme_lines.specs.Words.{words, is_nonempty, IsCut, IsUncut}
 abbrev is_byte : ℕ → ℕ → Bool
 is_byte byte = λ b. b == byte
 
-place_of : (p : ℕ → Bool) (xs : List ℕ) (i : ℕ) → position p xs ≡ Some i → (i < length xs) × (position_or_len p xs ≡ i)
-place_of p xs i place =
+position_is : (p : ℕ → Bool) (xs : List ℕ) (i : ℕ) → position p xs ≡ Some i → (i < length xs) × (position_or_len p xs ≡ i)
+position_is p xs i place =
     let found = cond_some (nat_lt (position_or_len p xs) (length xs)) (position_or_len p xs) i place in
     let lt = ltb-true (position_or_len p xs) (length xs) found.0 in
     (omega (arith, lt, found.1), found.1)
@@ -23,7 +23,7 @@ pub cut_at :
     (byte end : ℕ) (text before after : List ℕ) → position (λ b. b == byte) text ≡ Some end → before ≡ take end text → after ≡ drop (end + 1) text
     → IsCut byte text before after
 cut_at byte end text before after place front back =
-    let at = place_of (is_byte byte) text end place in
+    let at = position_is (is_byte byte) text end place in
     record {
       parts = slice_split_first (is_byte byte) text 0 (rw at.1 at.0) ∙ rw (at.1, front, back) refl;
       shorter = omega (arith, ap length back, length-drop (end + 1) text, at.0);

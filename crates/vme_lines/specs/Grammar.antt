@@ -1,5 +1,5 @@
 -- The grammar of a line: which lines ask for what, and which refusal another line has.
-use Rattle.std.specs.Prelude.{ℕ, nat_lt, ◌==◌, if◌then◌else◌, Bool, true, false, not, List, [], ◌∷◌, length, slice_index, slice_get, Option, Some, None, Result, Ok, Err, codes}
+use Rattle.std.specs.Prelude.{ℕ, nat_lt, ◌==◌, if◌then◌else◌, Bool, true, false, not, List, [], ◌∷◌, length, slice_get, Option, Some, None, Result, Ok, Err, codes}
 use Rattle.std.specs.Str.{bytes_eq}
 use Rattle.std.specs.Option.{ok_or, option_and_then}
 use Rattle.arrayvec.specs.ArrayVec.{ArrayVec}
@@ -7,11 +7,13 @@ use Rattle.vme_cycle.specs.declared.modify.Modify as functions
 use Rattle.vme_cycle.specs.declared.modify.Modify.TheVariants as modify
 use Rattle.vme_cycle.specs.declared.request.Request.{Request}
 use Rattle.vme_cycle.specs.declared.request.Request.TheVariants.{Read, Write, BlockRead, BlockWrite, BlockFill, Modify}
+use Rattle.vme_lines.specs.declared.line.Line.{Line}
+use Rattle.vme_lines.specs.declared.line.Line.TheVariants.{Bus}
 use Rattle.vme_lines.specs.declared.parse.Function.{Function}
 use Rattle.vme_lines.specs.declared.parse.Function.TheVariants.{Set, Exchange, Add, Compare}
-use Rattle.vme_lines.specs.declared.parse.LineFault.{LineFault}
-use Rattle.vme_lines.specs.declared.parse.LineFault.TheVariants.{LineTooLong, UnknownWord, WordCount, BadCode, BadAddress, BadNumber, BadBytes}
-use Rattle.vme_lines.specs.Words.{words}
+use Rattle.vme_lines.specs.declared.fault.LineFault.{LineFault}
+use Rattle.vme_lines.specs.declared.fault.LineFault.TheVariants.{LineTooLong, UnknownWord, WordCount, BadCode, BadAddress, BadNumber, BadBytes}
+use Rattle.vme_lines.specs.Words.{words_of}
 use Rattle.vme_lines.specs.Numbers.{hex_number, hex_bytes, exact_bytes, small_number, count_number}
 
 infixl 10 ◌>>=◌
@@ -157,24 +159,23 @@ modify_request words = do
   f ← modify_of function n parts.4
   Ok (Modify place.0 place.1 n f)
 
--- a line that asks for something (this project's own)
-abbrev pub asks : Result Request LineFault → Result (Option Request) LineFault
-asks (Ok request) = Ok (Some request)
-asks (Err fault) = Err fault
+-- what the words after the first ask for (this project's own)
+unfoldable pub request_of : List ℕ → List (List ℕ) → Result Request LineFault
+request_of word words =
+    if bytes_eq word (codes "r") then read_request words else
+    (if bytes_eq word (codes "w") then write_request words else
+    (if bytes_eq word (codes "br") then block_read_request words else
+    (if bytes_eq word (codes "bw") then block_write_request words else
+    (if bytes_eq word (codes "bf") then block_fill_request words else
+    (if bytes_eq word (codes "m") then modify_request words else Err UnknownWord)))))
 
--- what the words of a line ask for, by the first of them (this project's own)
-unfoldable pub request_of : List (List ℕ) → Result (Option Request) LineFault
-request_of [] = Ok None
-request_of (word ∷ words) =
-    if bytes_eq word (codes "r") then asks (read_request words) else
-    (if bytes_eq word (codes "w") then asks (write_request words) else
-    (if bytes_eq word (codes "br") then asks (block_read_request words) else
-    (if bytes_eq word (codes "bw") then asks (block_write_request words) else
-    (if bytes_eq word (codes "bf") then asks (block_fill_request words) else
-    (if bytes_eq word (codes "m") then asks (modify_request words) else Err UnknownWord)))))
+-- what the words of a line ask for, if there are any (this project's own)
+abbrev pub asked_line : List (List ℕ) → Result (Option Line) LineFault
+asked_line [] = Ok None
+asked_line (word ∷ words) = do
+  request ← request_of word words
+  Ok (Some (Bus request))
 
--- what a line asks for, if for anything: a line that begins with # is a comment (this project's own)
-unfoldable pub line_request : List ℕ → Result (Option Request) LineFault
-line_request line =
-    if nat_lt 80 (length line) then Err LineTooLong else
-    (if slice_index line 0 == 35 then Ok None else request_of (words line))
+-- what a line asks for, if for anything (this project's own)
+unfoldable pub line_of : List ℕ → Result (Option Line) LineFault
+line_of line = if nat_lt 80 (length line) then Err LineTooLong else asked_line (words_of line)

@@ -23,7 +23,8 @@ abbrev pub hex_pairs : List ℕ → Option (List ℕ)
 hex_pairs [] = Some []
 hex_pairs (c ∷ []) = None
 hex_pairs (c ∷ d ∷ cs) =
-    option_and_then (λ high. option_and_then (λ low. option_map (λ bytes. (16 * high + low) ∷ bytes) (hex_pairs cs)) (hex_digit d)) (hex_digit c)
+    option_and_then (λ high. option_and_then (λ low. option_map (λ bytes. (16 * high + low) ∷ bytes) (hex_pairs cs))
+    (hex_digit d)) (hex_digit c)
 
 -- the bytes that a word spells, from one to so many (this project's own)
 unfoldable pub hex_bytes : ℕ → List ℕ → Option (List ℕ)

@@ -6,8 +6,8 @@ use Rattle.vme_am.specs.declared.code.AmFault.TheVariants.{TooLarge, UserDefined
 use Rattle.vme_cycle.specs.declared.fault.CycleFault.{CycleFault}
 use Rattle.vme_cycle.specs.declared.fault.CycleFault.TheVariants.{Code, WrongKindOfCode, ProgramModify, BadCount, OutsideSpace, NoCycle, CrossesBoundary}
 use Rattle.vme_cycle.specs.SignalLines.{SignalLines}
-use Rattle.vme_lines.specs.declared.parse.LineFault.{LineFault}
-use Rattle.vme_lines.specs.declared.parse.LineFault.TheVariants.{LineTooLong, UnknownWord, WordCount, BadCode, BadAddress, BadNumber, BadBytes}
+use Rattle.vme_lines.specs.declared.fault.LineFault.{LineFault}
+use Rattle.vme_lines.specs.declared.fault.LineFault.TheVariants.{LineTooLong, UnknownWord, WordCount, BadCode, BadAddress, BadNumber, BadBytes}
 
 -- the digit of a number below 16, in lower case (this project's own)
 abbrev pub digit : ℕ → ℕ
@@ -100,6 +100,6 @@ line_fault_text BadAddress = codes "S5"
 line_fault_text BadNumber = codes "S6"
 line_fault_text BadBytes = codes "S7"
 
--- a line of output ends at LF (this project's own)
-abbrev pub ended : List ℕ → List ℕ
-ended text = text ++ 10 ∷ []
+-- a line of output: a text and LF (this project's own)
+abbrev pub output_line : List ℕ → List ℕ
+output_line text = text ++ 10 ∷ []

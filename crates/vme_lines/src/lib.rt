@@ -3,13 +3,16 @@
 //! no board and no device.
 #![tactic(auto)]
 
+mod fault;
+mod line;
 mod lines;
 mod numbers;
 mod parse;
 mod print;
 
+pub use fault::LineFault;
+pub use line::{LINE_LIMIT, Line, first_word, parse_line};
 pub use lines::Lines;
-pub use parse::{LineFault, parse_line};
 pub use print::{
     print_berr, print_done, print_line_refusal, print_old, print_read, print_refusal, print_signals,
 };

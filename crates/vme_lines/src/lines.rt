@@ -10,7 +10,7 @@ const LINE_END: u8 = b'\n';
 const SPACE: u8 = b' ';
 
 /// The place of the first such byte.
-fn place_of(text: &[u8], byte: u8) -> Option<usize>
+fn first_place(text: &[u8], byte: u8) -> Option<usize>
     ensures { result ≡ position (λ b. b == byte) text.now }
 {
     text.iter().position(|b| *b == byte)
@@ -22,7 +22,7 @@ fn cut(text: &[u8], byte: u8) -> Option<(&[u8], &[u8])>
     ensures { MatchOption result (IsUncut byte text.now) (λ parts.
         IsCut byte text.now parts.0.now parts.1.now) }
 {
-    let end = place_of(text, byte)?;
+    let end = first_place(text, byte)?;
     Some((text.split_at(end).0, text.split_at(end + 1).1))
 }
 

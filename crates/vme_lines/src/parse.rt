@@ -1,66 +1,27 @@
-//! The lines of requests.
+//! The grammar of requests.
 ghost use Rattle.std.specs.Prelude.{◌≡◌, ◌==◌, length};
 ghost use Rattle.std.specs.Option.{option_map};
 ghost use Rattle.vme_lines.specs.Words.{words};
-ghost use Rattle.vme_lines.specs.Grammar.{three, four, five, four_and_more, place_of, read_request, write_request, block_read_request, block_write_request, block_fill_request, function_named, operand_count, operand, modify_of, modify_request, line_request};
+ghost use Rattle.vme_lines.specs.Grammar.{three, four, five, four_and_more, place_of, read_request, write_request, block_read_request, block_write_request, block_fill_request, function_named, operand_count, operand, modify_of, modify_request, request_of};
 
+use crate::fault::LineFault;
 use crate::lines::Words;
 use crate::numbers::{count_number, exact_bytes, hex_bytes, hex_number, small_number};
-use thiserror::Error;
 use vme_cycle::{Modify, Request};
 use vme_lanes::Datum;
 
-/// The greatest number of bytes of a line, without its end.
-const LINE_LIMIT: usize = 80;
-
-/// Why a line asks for nothing that can be understood.
-#[derive(Clone, Copy, Debug, PartialEq, Eq, Error)]
-pub enum LineFault {
-    /// S1: more than 80 bytes.
-    #[error("S1")]
-    LineTooLong,
-    /// S2: the first word is no command, or the word in a function's place is none.
-    #[error("S2")]
-    UnknownWord,
-    /// S3: too few or too many words.
-    #[error("S3")]
-    WordCount,
-    /// S4: the address modifier code.
-    #[error("S4")]
-    BadCode,
-    /// S5: the address.
-    #[error("S5")]
-    BadAddress,
-    /// S6: the number of bytes, or of data.
-    #[error("S6")]
-    BadNumber,
-    /// S7: the bytes.
-    #[error("S7")]
-    BadBytes,
-}
-
-/// Reads a line, without its end. An empty line, a line of spaces and a comment ask for nothing.
-#[tactic(auto, unfolding(crate::specs::Grammar::line_request, crate::specs::Grammar::request_of))]
-pub fn parse_line(line: &[u8]) -> Result<Option<Request>, LineFault>
-    ensures request { result ≡ line_request line.now }
+/// What the words after the first ask for.
+#[tactic(auto, unfolding(crate::specs::Grammar::request_of))]
+pub(crate) fn request_of(word: &[u8], operands: Words<'_>) -> Result<Request, LineFault>
+    ensures { result ≡ request_of word.now (words operands.entry.rest.now) }
 {
-    if line.len() > LINE_LIMIT {
-        return Err(LineFault::LineTooLong);
-    }
-    if line.first() == Some(&b'#') {
-        return Ok(None);
-    }
-    let mut words = Words::new(line);
-    let Some(word) = words.next() else {
-        return Ok(None);
-    };
     match word {
-        b"r" => Ok(Some(read_request(words)?)),
-        b"w" => Ok(Some(write_request(words)?)),
-        b"br" => Ok(Some(block_read_request(words)?)),
-        b"bw" => Ok(Some(block_write_request(words)?)),
-        b"bf" => Ok(Some(block_fill_request(words)?)),
-        b"m" => Ok(Some(modify_request(words)?)),
+        b"r" => read_request(operands),
+        b"w" => write_request(operands),
+        b"br" => block_read_request(operands),
+        b"bw" => block_write_request(operands),
+        b"bf" => block_fill_request(operands),
+        b"m" => modify_request(operands),
         _ => Err(LineFault::UnknownWord),
     }
 }

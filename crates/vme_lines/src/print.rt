@@ -1,9 +1,9 @@
-//! The text of signals, outcomes and refusals, appended to a buffer.
-ghost use Rattle.std.specs.Prelude.{◌≡◌, ◌++◌, ◌<◌, [], ◌∷◌, OnOk, codes};
-ghost use Rattle.std.specs.Fmt.{decimal};
-ghost use Rattle.vme_lines.specs.Texts.{digit, hex_byte, hex_text, level, lane_text, address_text, levels_text, data_text, signals_text, Read, Done, Old, Berr, more_bytes, outcome_text, cycle_fault_text, line_fault_text, ended};
+//! The text of signals, outcomes and refusals, appended to a buffer: a whole line, or nothing where
+//! there is no memory for it.
+ghost use Rattle.std.specs.Prelude.{◌≡◌, ◌+◌, ◌*◌, ◌<◌, ◌≤◌, ◌++◌, length, vec_len, vec_capacity, OnOk, OnErr, codes};
+ghost use Rattle.vme_lines.specs.Texts.{digit, hex_byte, hex_text, level, lane_text, address_text, levels_text, data_text, signals_text, Read, Done, Old, Berr, more_bytes, outcome_text, cycle_fault_text, line_fault_text, output_line};
 
-use crate::parse::LineFault;
+use crate::fault::LineFault;
 use std::alloc::AllocError;
 use vme_am::AmFault;
 use vme_cycle::{CycleFault, Signals};
@@ -18,25 +18,43 @@ fn digit(n: u8) -> u8
     DIGITS[usize::from(n)]
 }
 
-fn push_text(text: &mut Vec<u8>, more: &[u8]) -> Result<(), AllocError>
-    ensures { OnOk result (text.new.items ≡ text.old.items ++ more.now) }
+/// Takes room for so many bytes and for two digits for each of some others.
+fn take_room(text: &mut Vec<u8>, fixed: usize, bytes: &[u8]) -> Result<(), AllocError>
+    ensures room { OnOk result
+        (vec_len text.new + (fixed + 2 * length bytes.now) ≤ vec_capacity text.new) }
+    ensures kept { text.new.items ≡ text.old.items }
 {
-    text.extend_from_slice(more)
+    let digits = bytes.len().checked_mul(2).ok_or(AllocError)?;
+    let room = fixed.checked_add(digits).ok_or(AllocError)?;
+    text.reserve(room)
 }
 
-fn push_hex(text: &mut Vec<u8>, byte: u8) -> Result<(), AllocError>
-    ensures { OnOk result (text.new.items ≡ text.old.items ++ hex_byte byte) }
+/// Appends a text for which there is room.
+fn push_text(text: &mut Vec<u8>, more: &[u8])
+    requires { vec_len text.old + length more.now ≤ vec_capacity text.old }
+    ensures items { text.new.items ≡ text.old.items ++ more.now }
+    ensures len { vec_len text.new ≡ vec_len text.old + length more.now }
+    ensures capacity { vec_capacity text.old ≤ vec_capacity text.new }
 {
-    push_text(text, &[digit(byte / 16), digit(byte % 16)])
+    text.extend_from_slice(more).unwrap();
 }
 
-fn push_hex_bytes(text: &mut Vec<u8>, bytes: &[u8]) -> Result<(), AllocError>
-    ensures { OnOk result (text.new.items ≡ text.old.items ++ hex_text bytes.now) }
+/// Appends bytes for whose digits there is room.
+fn push_hex_bytes(text: &mut Vec<u8>, bytes: &[u8])
+    requires { vec_len text.old + 2 * length bytes.now ≤ vec_capacity text.old }
+    ensures items { text.new.items ≡ text.old.items ++ hex_text bytes.now }
+    ensures len { vec_len text.new ≡ vec_len text.old + 2 * length bytes.now }
+    ensures capacity { vec_capacity text.old ≤ vec_capacity text.new }
 {
     for byte in bytes {
-        push_hex(text, *byte)?;
+        push_text(text, &hex_digits(*byte));
     }
-    Ok(())
+}
+
+fn hex_digits(byte: u8) -> [u8; 2]
+    ensures { result ≡ hex_byte byte }
+{
+    [digit(byte / 16), digit(byte % 16)]
 }
 
 fn level(high: bool) -> u8
@@ -79,7 +97,7 @@ fn lane_digits(lane: Option<u8>) -> [u8; 2]
     ensures { result ≡ lane_text lane }
 {
     match lane {
-        Some(byte) => [digit(byte / 16), digit(byte % 16)],
+        Some(byte) => hex_digits(byte),
         None => *b"--",
     }
 }
@@ -100,59 +118,59 @@ fn lines_text(lines: DataLines) -> [u8; 14]
     ]
 }
 
-fn push_end(text: &mut Vec<u8>) -> Result<(), AllocError>
-    ensures { OnOk result (text.new.items ≡ text.old.items ++ 10 ∷ []) }
-{
-    text.push(b'\n')?;
-    Ok(())
-}
+/// The length of the line of the signals of a cycle.
+const SIGNALS_LEN: usize = 65;
 
 /// Appends the line of the signals of a cycle.
 #[tactic(auto, unfolding(crate::specs::Texts::signals_text))]
 pub fn print_signals(text: &mut Vec<u8>, signals: &Signals) -> Result<(), AllocError>
-    ensures text { OnOk result (text.new.items ≡ text.old.items ++ ended (signals_text signals.now)) }
+    ensures text { OnOk result
+        (text.new.items ≡ text.old.items ++ output_line (signals_text signals.now)) }
+    ensures kept { OnErr result (text.new.items ≡ text.old.items) }
 {
-    push_text(text, &address(signals.am().code(), signals.addr()))?;
-    push_text(text, &levels(signals))?;
-    push_text(text, &lines_text(signals.lines()))?;
-    push_end(text)
-}
-
-fn push_decimal(text: &mut Vec<u8>, n: u16) -> Result<(), AllocError>
-    ensures { OnOk result (text.new.items ≡ text.old.items ++ decimal n) }
-{
-    push_text(text, itoa::Buffer::new().format(n).as_bytes())
+    text.reserve(SIGNALS_LEN)?;
+    push_text(text, &address(signals.am().code(), signals.addr()));
+    push_text(text, &levels(signals));
+    push_text(text, &lines_text(signals.lines()));
+    push_text(text, b"\n");
+    Ok(())
 }
 
 /// Appends the line of a transfer that read these bytes.
 #[tactic(auto, unfolding(crate::specs::Texts::outcome_text))]
 pub fn print_read(text: &mut Vec<u8>, bytes: &[u8]) -> Result<(), AllocError>
     ensures text { OnOk result
-        (text.new.items ≡ text.old.items ++ ended (outcome_text (Read bytes.now))) }
+        (text.new.items ≡ text.old.items ++ output_line (outcome_text (Read bytes.now))) }
+    ensures kept { OnErr result (text.new.items ≡ text.old.items) }
 {
-    push_text(text, b"read ")?;
-    push_hex_bytes(text, bytes)?;
-    push_end(text)
+    take_room(text, 6, bytes)?;
+    push_text(text, b"read ");
+    push_hex_bytes(text, bytes);
+    push_text(text, b"\n");
+    Ok(())
 }
 
 /// Appends the line of a read-modify-write that found these bytes.
 #[tactic(auto, unfolding(crate::specs::Texts::outcome_text))]
 pub fn print_old(text: &mut Vec<u8>, bytes: &[u8]) -> Result<(), AllocError>
     ensures text { OnOk result
-        (text.new.items ≡ text.old.items ++ ended (outcome_text (Old bytes.now))) }
+        (text.new.items ≡ text.old.items ++ output_line (outcome_text (Old bytes.now))) }
+    ensures kept { OnErr result (text.new.items ≡ text.old.items) }
 {
-    push_text(text, b"old ")?;
-    push_hex_bytes(text, bytes)?;
-    push_end(text)
+    take_room(text, 5, bytes)?;
+    push_text(text, b"old ");
+    push_hex_bytes(text, bytes);
+    push_text(text, b"\n");
+    Ok(())
 }
 
 /// Appends the line of a transfer that wrote all its data.
 #[tactic(auto, unfolding(crate::specs::Texts::outcome_text))]
 pub fn print_done(text: &mut Vec<u8>) -> Result<(), AllocError>
-    ensures text { OnOk result (text.new.items ≡ text.old.items ++ ended (outcome_text Done)) }
+    ensures text { OnOk result (text.new.items ≡ text.old.items ++ output_line (outcome_text Done)) }
+    ensures kept { OnErr result (text.new.items ≡ text.old.items) }
 {
-    push_text(text, b"done")?;
-    push_end(text)
+    text.extend_from_slice(b"done\n")
 }
 
 /// Appends the line of a transfer that ended with a bus error after `count` data, and what it had
@@ -160,70 +178,76 @@ pub fn print_done(text: &mut Vec<u8>) -> Result<(), AllocError>
 #[tactic(auto, unfolding(crate::specs::Texts::outcome_text))]
 pub fn print_berr(text: &mut Vec<u8>, count: u16, bytes: &[u8]) -> Result<(), AllocError>
     ensures text { OnOk result
-        (text.new.items ≡ text.old.items ++ ended (outcome_text (Berr count bytes.now))) }
+        (text.new.items ≡ text.old.items ++ output_line (outcome_text (Berr count bytes.now))) }
+    ensures kept { OnErr result (text.new.items ≡ text.old.items) }
 {
-    push_text(text, b"berr ")?;
-    push_decimal(text, count)?;
-    push_more_bytes(text, bytes)?;
-    push_end(text)
+    let mut buffer = itoa::Buffer::new();
+    let number = buffer.format(count).as_bytes();
+    take_room(text, 7 + number.len(), bytes)?;
+    push_text(text, b"berr ");
+    push_text(text, number);
+    push_more_bytes(text, bytes);
+    push_text(text, b"\n");
+    Ok(())
 }
 
-fn push_more_bytes(text: &mut Vec<u8>, bytes: &[u8]) -> Result<(), AllocError>
-    ensures { OnOk result (text.new.items ≡ text.old.items ++ more_bytes bytes.now) }
+/// Appends a space and some bytes, where there are any.
+fn push_more_bytes(text: &mut Vec<u8>, bytes: &[u8])
+    requires { vec_len text.old + (1 + 2 * length bytes.now) ≤ vec_capacity text.old }
+    ensures items { text.new.items ≡ text.old.items ++ more_bytes bytes.now }
+    ensures len { vec_len text.new ≤ vec_len text.old + (1 + 2 * length bytes.now) }
+    ensures capacity { vec_capacity text.old ≤ vec_capacity text.new }
 {
-    if bytes.is_empty() {
-        return Ok(());
+    if !bytes.is_empty() {
+        push_text(text, b" ");
+        push_hex_bytes(text, bytes);
     }
-    text.push(b' ')?;
-    push_hex_bytes(text, bytes)
 }
 
 /// Appends the line that tells why a request is refused.
 pub fn print_refusal(text: &mut Vec<u8>, fault: CycleFault) -> Result<(), AllocError>
     ensures text { OnOk result
-        (text.new.items ≡ text.old.items ++ ended (codes "refused " ++ cycle_fault_text fault)) }
+        (text.new.items ≡ text.old.items ++ output_line (codes "refused " ++ cycle_fault_text fault)) }
+    ensures kept { OnErr result (text.new.items ≡ text.old.items) }
 {
-    push_text(text, b"refused ")?;
-    push_text(text, &cycle_fault_number(fault))?;
-    push_end(text)
+    text.extend_from_slice(&refusal(fault))
+}
+
+fn refusal(fault: CycleFault) -> [u8; 11]
+    ensures { result ≡ output_line (codes "refused " ++ cycle_fault_text fault) }
+{
+    match fault {
+        CycleFault::Code(AmFault::TooLarge) => *b"refused K9\n",
+        CycleFault::Code(AmFault::UserDefined) => *b"refused K2\n",
+        CycleFault::Code(AmFault::Reserved) => *b"refused K1\n",
+        CycleFault::WrongKindOfCode => *b"refused K5\n",
+        CycleFault::ProgramModify => *b"refused K7\n",
+        CycleFault::BadCount => *b"refused K8\n",
+        CycleFault::OutsideSpace => *b"refused K4\n",
+        CycleFault::NoCycle => *b"refused K3\n",
+        CycleFault::CrossesBoundary => *b"refused K6\n",
+    }
 }
 
 /// Appends the line that tells why a line is refused.
 pub fn print_line_refusal(text: &mut Vec<u8>, fault: LineFault) -> Result<(), AllocError>
-    ensures text { OnOk result
-        (text.new.items ≡ text.old.items ++ ended (codes "line refused " ++ line_fault_text fault)) }
+    ensures text { OnOk result (text.new.items
+        ≡ text.old.items ++ output_line (codes "line refused " ++ line_fault_text fault)) }
+    ensures kept { OnErr result (text.new.items ≡ text.old.items) }
 {
-    push_text(text, b"line refused ")?;
-    push_text(text, &line_fault_number(fault))?;
-    push_end(text)
+    text.extend_from_slice(&line_refusal(fault))
 }
 
-fn cycle_fault_number(fault: CycleFault) -> [u8; 2]
-    ensures { result ≡ cycle_fault_text fault }
+fn line_refusal(fault: LineFault) -> [u8; 16]
+    ensures { result ≡ output_line (codes "line refused " ++ line_fault_text fault) }
 {
     match fault {
-        CycleFault::Code(AmFault::TooLarge) => *b"K9",
-        CycleFault::Code(AmFault::UserDefined) => *b"K2",
-        CycleFault::Code(AmFault::Reserved) => *b"K1",
-        CycleFault::WrongKindOfCode => *b"K5",
-        CycleFault::ProgramModify => *b"K7",
-        CycleFault::BadCount => *b"K8",
-        CycleFault::OutsideSpace => *b"K4",
-        CycleFault::NoCycle => *b"K3",
-        CycleFault::CrossesBoundary => *b"K6",
-    }
-}
-
-fn line_fault_number(fault: LineFault) -> [u8; 2]
-    ensures { result ≡ line_fault_text fault }
-{
-    match fault {
-        LineFault::LineTooLong => *b"S1",
-        LineFault::UnknownWord => *b"S2",
-        LineFault::WordCount => *b"S3",
-        LineFault::BadCode => *b"S4",
-        LineFault::BadAddress => *b"S5",
-        LineFault::BadNumber => *b"S6",
-        LineFault::BadBytes => *b"S7",
+        LineFault::LineTooLong => *b"line refused S1\n",
+        LineFault::UnknownWord => *b"line refused S2\n",
+        LineFault::WordCount => *b"line refused S3\n",
+        LineFault::BadCode => *b"line refused S4\n",
+        LineFault::BadAddress => *b"line refused S5\n",
+        LineFault::BadNumber => *b"line refused S6\n",
+        LineFault::BadBytes => *b"line refused S7\n",
     }
 }

@@ -2,7 +2,7 @@ use Rattle.std.proofs.Common.{◌≡◌, ◌++◌, List, ℕ}
 use Rattle.std.specs.Io.KnownBytes.{Appends}
 use Rattle.std.specs.Str.Lines.{lines}
 use Rattle.vme_engine.specs.Engine.{text_of, status_after, cycles_text, cycles_status}
-use Rattle.vme_engine.specs.Ends.{worse}
+use Rattle.vme_engine.specs.Ends.{worse_of}
 use Rattle.vme_engine.proofs.engine.answer_all.Given as goal
 
 -- what was written and what is gathered, with the answers to the lines that are left, is the whole text, and so is the status
@@ -10,6 +10,6 @@ abbrev pub invariant-loop-line : goal.invariant-loop-line
 invariant-loop-line g l = record {
   text : (front : List ℕ) × Appends (g.W.Sink.contents l.fn.writer) (g.W.Sink.contents l.writer) front
       × ((front ++ l.text.items) ++ text_of l.bus (lines l.line-iterator.rest.now) ≡ cycles_text l.fn.input);
-  status : worse l.status (status_after l.bus (lines l.line-iterator.rest.now)) ≡ cycles_status l.fn.input;
+  status : worse_of l.status (status_after l.bus (lines l.line-iterator.rest.now)) ≡ cycles_status l.fn.input;
   mark : g.W.Sink.is_marked l.writer ≡ g.W.Sink.is_marked l.fn.writer;
 }

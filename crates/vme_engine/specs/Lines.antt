@@ -1,0 +1,35 @@
+-- Which lines `vme cycles` knows: requests to the bus, and no others.
+use Rattle.std.specs.Prelude.{ℕ, nat_lt, if◌then◌else◌, Bool, false, not, List, [], ◌∷◌, length, slice_get, Option, Some, None, Result, Ok, Err, codes}
+use Rattle.std.specs.List.{list_any}
+use Rattle.std.specs.Str.{bytes_eq}
+use Rattle.vme_cycle.specs.declared.request.Request.{Request}
+use Rattle.vme_lines.specs.declared.fault.LineFault.{LineFault}
+use Rattle.vme_lines.specs.declared.fault.LineFault.TheVariants.{LineTooLong, UnknownWord}
+use Rattle.vme_lines.specs.declared.line.Line.{Line}
+use Rattle.vme_lines.specs.declared.line.Line.TheVariants.{Bus, Local, Await}
+use Rattle.vme_lines.specs.Words.{words_of}
+use Rattle.vme_lines.specs.Grammar.{line_of}
+
+-- whether a request begins with this word (this project's own)
+abbrev pub is_request_word : List ℕ → Bool
+is_request_word word = list_any (bytes_eq word) (codes "r" ∷ codes "w" ∷ codes "br" ∷ codes "bw" ∷ codes "bf" ∷ codes "m" ∷ [])
+
+-- whether a line's first word is another (this project's own)
+abbrev pub is_other_word : Option (List ℕ) → Bool
+is_other_word None = false
+is_other_word (Some word) = not (is_request_word word)
+
+-- the request alone that a line asks for (this project's own)
+abbrev pub request_alone : Result (Option Line) LineFault → Result (Option Request) LineFault
+request_alone (Ok None) = Ok None
+request_alone (Ok (Some (Bus request))) = Ok (Some request)
+request_alone (Ok (Some (Local command))) = Err UnknownWord
+request_alone (Ok (Some (Await am addr bytes))) = Err UnknownWord
+request_alone (Err fault) = Err fault
+
+-- what a line asks for, if for anything: a word that only scripts know is unknown here, whatever follows it
+-- (this project's own)
+unfoldable pub request_of : List ℕ → Result (Option Request) LineFault
+request_of line =
+    if nat_lt 80 (length line) then Err LineTooLong else
+    (if is_other_word (slice_get (words_of line) 0) then Err UnknownWord else request_alone (line_of line))
