@@ -1,4 +1,5 @@
 mod Ranges
 mod Apart
+mod Aligned
 mod Found
-mod Selection
+pub mod Selection

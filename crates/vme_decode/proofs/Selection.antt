@@ -1,5 +1,5 @@
 -- What is selected is the entry that responds, and in a map without a refusal the only one.
-use Rattle.std.proofs.Common.{◌≡◌, ℕ, ◌+◌, ◌-◌, ◌<◌, true, List, Option, Some, None, length, ap, sym, ◌∙◌, arith}
+use Rattle.std.proofs.Common.{◌≡◌, ℕ, ◌+◌, ◌-◌, ◌%◌, ◌<◌, true, List, Option, Some, None, length, ap, sym, ◌∙◌, arith}
 use Rattle.std.specs.Prelude.{option_map, option_and_then, slice_get, IfSome}
 use Rattle.std.proofs.lemmas.Bool.{and_parts, and_from}
 use Rattle.std.proofs.lemmas.Option.{option_and_then_some, some_pair_parts, slice_get_within}
@@ -9,8 +9,9 @@ use Rattle.vme_decode.specs.declared.entry.Entry.{Entry}
 use Rattle.vme_decode.specs.Entries.{covers, admits}
 use Rattle.vme_decode.specs.Lawful.{first_refusal}
 use Rattle.vme_cycle.specs.SignalLines.{first_byte}
-use Rattle.vme_decode.specs.Select.{responds, selection_at, selection, IsSelected}
+use Rattle.vme_decode.specs.Select.{responds, selection_at, selection, FallsTo, IsSelected}
 use Rattle.vme_decode.proofs.Ranges.{Has, has_from_covers, covers_from_has}
+use Rattle.vme_decode.proofs.Aligned.{lawful_base, same_remainder}
 use Rattle.vme_decode.proofs.Apart.{one_place}
 use Rattle.vme_decode.proofs.Found.{first_from, found_at, only_one}
 
@@ -30,32 +31,23 @@ responding entry code addr responds_is =
     let parts = and_parts (covers entry code.space addr) (admits entry code) responds_is in
     (has_from_covers entry code.space addr parts.0, parts.1)
 
--- what an entry at an address tells of the cycle that shows it
-facts_at : (entries : List Entry) (s : SignalLines) (addr place offset : ℕ) → first_byte s ≡ Some addr
-    → selection_at entries s.am addr ≡ Some (place, offset) → IsSelected entries s place offset
+-- what is found at an address has it
+pub place_falls : (entries : List Entry) (code : CodeRow) (addr place offset : ℕ)
+    → selection_at entries code addr ≡ Some (place, offset) → FallsTo entries code addr place offset
 unfolding first_from
-facts_at entries s addr place offset first chosen =
-    let test = λ (entry : Entry). responds entry s.am addr in
+place_falls entries code addr place offset chosen =
+    let test = λ (entry : Entry). responds entry code addr in
     let from = found_from (first_from test 0 entries) addr place offset chosen in
     let at = found_at test entries place from.0 from.1 in
-    let tells = responding from.0 s.am addr at.1 in
-    let distance : addr ≡ from.0.base + offset = omega (arith, from.2, tells.0.from) in
+    let tells = responding from.0 code addr at.1 in
     record {
       entry = from.0;
       there = at.0;
       space = tells.0.space_is;
       admits = tells.1;
-      first = first ∙ ap (λ n. Some n) distance;
-      within = omega (arith, tells.0.below, distance);
+      distance = omega (arith, from.2, tells.0.from);
+      within = omega (arith, tells.0.below, from.2, tells.0.from);
     }
-
--- what is selected is what the cycle selects
-pub selected_facts : (entries : List Entry) (s : SignalLines) (place offset : ℕ)
-    → selection entries s ≡ Some (place, offset) → IsSelected entries s place offset
-unfolding selection
-selected_facts entries s place offset chosen =
-    option_and_then_some (selection_at entries s.am) (first_byte s) (place, offset) chosen
-    (λ addr first chosen_at. facts_at entries s addr place offset first chosen_at)
 
 -- in a map without a refusal, an entry that responds is the one that is selected
 selected_by : (entries : List Entry) (code : CodeRow) (addr place : ℕ) (entry : Entry) → first_refusal entries ≡ None
@@ -70,18 +62,43 @@ selected_by entries code addr place entry lawful there responds_is =
     (λ k e at_k responds_k.
     one_place entries k place e entry code.space addr lawful at_k there (covers_of e responds_k) (covers_of entry responds_is)))
 
+-- so that what falls to an entry is found there
+pub falls_place : (entries : List Entry) (code : CodeRow) (addr place offset : ℕ) → first_refusal entries ≡ None
+    → FallsTo entries code addr place offset → selection_at entries code addr ≡ Some (place, offset)
+falls_place entries code addr place offset lawful facts =
+    let has : Has facts.entry code.space addr =
+    record { space_is = facts.space; from = omega (arith, facts.distance); below = omega (arith, facts.within, facts.distance) } in
+    let responds_is = and_from _ _ (covers_from_has facts.entry code.space addr has) facts.admits in
+    let distance : addr - facts.entry.base ≡ offset = omega (arith, facts.distance) in
+    selected_by entries code addr place facts.entry lawful facts.there responds_is ∙ ap (λ o. Some (place, o)) distance
+
+-- and leaves the same remainder by four there
+pub place_remainder : (entries : List Entry) (code : CodeRow) (addr place offset : ℕ) → first_refusal entries ≡ None
+    → selection_at entries code addr ≡ Some (place, offset) → offset % 4 ≡ addr % 4
+place_remainder entries code addr place offset lawful chosen =
+    let facts = place_falls entries code addr place offset chosen in
+    same_remainder facts.entry.base addr offset (lawful_base entries place facts.entry lawful facts.there) facts.distance
+
+-- what is selected is what the cycle selects
+pub selected_facts : (entries : List Entry) (s : SignalLines) (place offset : ℕ)
+    → selection entries s ≡ Some (place, offset) → IsSelected entries s place offset
+unfolding selection
+selected_facts entries s place offset chosen =
+    option_and_then_some (selection_at entries s.am) (first_byte s) (place, offset) chosen
+    (λ addr first chosen_at.
+    record { addr = addr; first = first; falls = place_falls entries s.am addr place offset chosen_at })
+
+-- a cycle selects what its code and the address of its first byte fall to
+pub selection_by : (entries : List Entry) (s : SignalLines) (addr : ℕ) → first_byte s ≡ Some addr
+    → selection entries s ≡ selection_at entries s.am addr
+unfolding selection
+selection_by entries s addr first = ap (option_and_then (selection_at entries s.am)) first
+
 -- and what the cycle selects is selected
 pub facts_selected : (entries : List Entry) (s : SignalLines) (place offset : ℕ) → first_refusal entries ≡ None
     → IsSelected entries s place offset → selection entries s ≡ Some (place, offset)
-unfolding selection
 facts_selected entries s place offset lawful facts =
-    let addr = facts.entry.base + offset in
-    let has : Has facts.entry s.am.space addr = record { space_is = facts.space; from = omega arith; below = omega (arith, facts.within) } in
-    let responds_is = and_from _ _ (covers_from_has facts.entry s.am.space addr has) facts.admits in
-    let distance : facts.entry.base + offset - facts.entry.base ≡ offset = omega arith in
-    ap (option_and_then (selection_at entries s.am)) facts.first
-    ∙ selected_by entries s.am addr place facts.entry lawful facts.there responds_is
-    ∙ ap (λ o. Some (place, o)) distance
+    selection_by entries s facts.addr facts.first ∙ falls_place entries s.am facts.addr place offset lawful facts.falls
 
 -- the same of a function's result
 pub result_facts : (result : Option (ℕ × ℕ)) (entries : List Entry) (s : SignalLines) → result ≡ selection entries s
@@ -94,4 +111,4 @@ pub result_place : (result : Option (ℕ × ℕ)) (entries : List Entry) (s : Si
 result_place None entries s result_is = tt
 result_place (Some found) entries s result_is =
     let facts = selected_facts entries s found.0 found.1 (sym result_is) in
-    slice_get_within entries found.0 facts.entry facts.there
+    slice_get_within entries found.0 facts.falls.entry facts.falls.there

@@ -21,12 +21,18 @@ selection_at entries code addr =
 unfoldable pub selection : List Entry → SignalLines → Option (ℕ × ℕ)
 selection entries s = option_and_then (selection_at entries s.am) (first_byte s)
 
--- a cycle selects the entry at a place: the entry is of the code's space, admits the code, and has the first byte at an
+-- a code and an address fall to the entry at a place: it is of the code's space, admits the code, and has the address at an
 -- offset below its size (IEEE 1014, section 2.3.5)
-pub record IsSelected (entries : List Entry) (s : SignalLines) (place offset : ℕ) : Type 0 where
+pub record FallsTo (entries : List Entry) (code : CodeRow) (addr place offset : ℕ) : Type 0 where
   pub entry : Entry
   pub there : slice_get entries place ≡ Some entry
-  pub space : entry.space ≡ s.am.space
-  pub admits : IsTrue (admits entry s.am)
-  pub first : first_byte s ≡ Some (entry.base + offset)
+  pub space : entry.space ≡ code.space
+  pub admits : IsTrue (admits entry code)
+  pub distance : addr ≡ entry.base + offset
   pub within : offset < entry.size
+
+-- a cycle selects the entry at a place: its code and the address of its first byte fall to it (IEEE 1014, section 2.3.5)
+pub record IsSelected (entries : List Entry) (s : SignalLines) (place offset : ℕ) : Type 0 where
+  pub addr : ℕ
+  pub first : first_byte s ≡ Some addr
+  pub falls : FallsTo entries s.am addr place offset

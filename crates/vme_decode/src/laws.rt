@@ -1,10 +1,11 @@
-ghost use Rattle.std.specs.Prelude.{◌≡◌, ◌↔◌, ℕ, List, Some, None, IsTrue, slice_get};
+ghost use Rattle.std.specs.Prelude.{◌≡◌, ◌↔◌, ◌%◌, ℕ, List, Some, None, IsTrue, slice_get};
 ghost use Rattle.vme_am.specs.declared.code.Space.{Space};
-ghost use Rattle.vme_cycle.specs.SignalLines.{SignalLines};
+ghost use Rattle.vme_am.specs.Codes.{CodeRow};
+ghost use Rattle.vme_cycle.specs.SignalLines.{SignalLines, first_byte};
 ghost use Rattle.vme_decode.specs.declared.entry.Entry.{Entry};
 ghost use Rattle.vme_decode.specs.Entries.{covers, overlap};
 ghost use Rattle.vme_decode.specs.Lawful.{first_refusal};
-ghost use Rattle.vme_decode.specs.Select.{selection, IsSelected};
+ghost use Rattle.vme_decode.specs.Select.{selection_at, selection, FallsTo, IsSelected};
 
 /// Two entries overlap exactly where both cover some address of some space.
 #[tactic(auto, using(crate::proofs::Ranges::overlap_shared, crate::proofs::Ranges::shared_overlap))]
@@ -28,4 +29,17 @@ pub fn selected_is_the_one()
     ensures { (entries : List Entry) (s : SignalLines) (place offset : ℕ) →
         first_refusal entries ≡ None →
         (selection entries s ≡ Some (place, offset)) ↔ IsSelected entries s place offset }
+{}
+
+/// What a cycle selects is told by its code and the address of its first byte: in a map without a
+/// refusal that is the one entry that they fall to, at an offset of the same remainder by four.
+pub fn selection_goes_by_the_address()
+    ensures first_byte { (entries : List Entry) (s : SignalLines) (addr : ℕ) →
+        first_byte s ≡ Some addr → selection entries s ≡ selection_at entries s.am addr }
+    ensures one { (entries : List Entry) (code : CodeRow) (addr place offset : ℕ) →
+        first_refusal entries ≡ None →
+        (selection_at entries code addr ≡ Some (place, offset)) ↔ FallsTo entries code addr place offset }
+    ensures remainder { (entries : List Entry) (code : CodeRow) (addr place offset : ℕ) →
+        first_refusal entries ≡ None → selection_at entries code addr ≡ Some (place, offset) →
+        offset % 4 ≡ addr % 4 }
 {}
