@@ -1,3 +1,4 @@
 pub mod Tallies
 pub mod Runs
+pub mod Calls
 pub mod Machines

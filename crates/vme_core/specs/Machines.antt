@@ -30,10 +30,14 @@ abbrev pub steps_of : Machine → Target → Option ℕ
 steps_of machine (at.Board board) = slice_get (map (λ b. b.steps) machine.boards) board
 steps_of machine at.Bus = Some machine.bus.steps
 
--- how many of the steps of an object a who made, if there are such ones (this project's own)
+-- how many of the steps of an object each who made, by place, if there is such an object (this project's own)
+abbrev pub counts_of : Machine → Target → Option (List ℕ)
+counts_of machine (at.Board board) = slice_get (map (λ b. b.made) machine.boards) board
+counts_of machine at.Bus = Some machine.bus.made
+
+-- how many of them a who made, if there are such ones (this project's own)
 abbrev pub made_of : Machine → ℕ → Target → Option ℕ
-made_of machine who (at.Board board) = option_and_then (λ made. slice_get made who) (slice_get (map (λ b. b.made) machine.boards) board)
-made_of machine who at.Bus = slice_get machine.bus.made who
+made_of machine who target = option_and_then (λ made. slice_get made who) (counts_of machine target)
 
 -- events were done as a run, and its replies were appended (this project's own)
 pub record HasDone (events : List (ℕ × Event)) (before after : Machine) (old new : List EventReply) : Type 0 where

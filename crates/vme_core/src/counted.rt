@@ -1,6 +1,7 @@
 ghost use Rattle.std.specs.Prelude.{◌≡◌, ◌<◌, ◌-◌, ◌^◌, ◌↔◌, ◌∷◌, [], length, slice_index_or, IsErr, IfOk, IfErr};
 ghost use Rattle.vme_object.specs.History.{entry};
 ghost use Rattle.vme_core.specs.Tallies.{Went, fresh_tally};
+ghost use Rattle.vme_core.specs.Calls.{counted_step};
 
 use crate::fault::{OutOfMemory, Spent};
 use std::alloc::Global;
@@ -46,6 +47,7 @@ impl<O: Object> Counted<O> {
     /// Takes a command and counts it. Where no further step can be counted, nothing is done.
     pub(crate) fn apply(&mut self, who: usize, cmd: &O::Cmd) -> Result<O::Reply, Spent>
         requires who { who < length self.old.made }
+        ensures step { IfOk result (λ reply. (self.new, reply) ≡ counted_step O.step self.old who cmd.now) }
         ensures went { IfOk result (λ reply. Went O.step (entry who cmd.now reply ∷ []) self.old self.new) }
         ensures spent { IsErr result ↔ (self.old.steps ≡ 2 ^ 64 - 1) }
         ensures unchanged { IfErr result (λ _. self.new ≡ self.old) }
@@ -77,5 +79,12 @@ impl<O: Object> Counted<O> {
         ensures { result ≡ slice_index_or self.now.made who 0 }
     {
         self.made[who]
+    }
+
+    /// How many of the steps each who made.
+    pub(crate) fn counts(&self) -> &[u64]
+        ensures { result.now ≡ self.now.made }
+    {
+        self.made.as_slice()
     }
 }

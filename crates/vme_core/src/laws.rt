@@ -1,11 +1,13 @@
-ghost use Rattle.std.specs.Prelude.{◌++◌, ℕ, List, []};
+ghost use Rattle.std.specs.Prelude.{◌++◌, ◌∷◌, ℕ, List, []};
 ghost use Rattle.vme_object.specs.Each.{AllAt};
 ghost use Rattle.vme_memory.specs.Boards.{Board};
 ghost use Rattle.vme_memory.specs.Locals.{board_step};
 ghost use Rattle.vme_arbiter.specs.Arbitration.{free_bus, turn_step};
 ghost use Rattle.vme_core.specs.Tallies.{Tells};
-ghost use Rattle.vme_core.specs.Runs.{Machine, Move, Did, board_part, bus_part};
-ghost use Rattle.vme_core.specs.Machines.{opening};
+ghost use Rattle.vme_core.specs.Runs.{Machine, Move, Did, move, target_of, board_part, bus_part};
+ghost use Rattle.vme_core.specs.Calls.{call_of, machine_step};
+ghost use Rattle.vme_core.specs.Machines.{opening, IsThere};
+ghost use Rattle.vme_core.specs.declared.event.Event.{Event};
 
 /// Runs compose: a second one goes on from where the first ends.
 pub fn runs_compose()
@@ -23,4 +25,12 @@ pub fn opening_is_replayed()
         AllAt (λ x memory b. Tells board_step memory (board_part x run) k b) memories after.boards }
     ensures bus { (memories : List Board) (k : ℕ) (run : List Move) (after : Machine) →
         Did run (opening memories k) after → Tells turn_step free_bus (bus_part run) k after.bus }
+{}
+
+/// The call that an event makes is a run of one move, with the reply of that call.
+#[tactic(auto, using(crate::proofs::Calls::did_call))]
+pub fn a_call_is_a_run_of_one()
+    ensures { (m : Machine) (who : ℕ) (event : Event) → IsThere m (target_of event) →
+        Did (move who event (machine_step m who (call_of event)).1 ∷ []) m
+        (machine_step m who (call_of event)).0 }
 {}

@@ -10,5 +10,5 @@ mod machine;
 
 pub use event::{Event, EventReply, Target};
 pub use fault::{OutOfMemory, RunStop, Spent};
-pub use laws::{opening_is_replayed, runs_compose};
+pub use laws::{a_call_is_a_run_of_one, opening_is_replayed, runs_compose};
 pub use machine::Core;

@@ -1,7 +1,8 @@
 ghost use Rattle.std.specs.Prelude.{◌≡◌, ◌<◌, ◌-◌, ◌^◌, ◌↔◌, ◌∷◌, [], length, map, slice_get, Some, All, IsErr, IfOk, IfErr};
 ghost use Rattle.vme_core.specs.Tallies.{fresh_tally};
 ghost use Rattle.vme_core.specs.Runs.{Did, move, target_of};
-ghost use Rattle.vme_core.specs.Machines.{opening, whos, IsThere, steps_of, made_of, HasRun};
+ghost use Rattle.vme_core.specs.Calls.{call_of, machine_step};
+ghost use Rattle.vme_core.specs.Machines.{opening, whos, IsThere, steps_of, counts_of, made_of, HasRun};
 
 use crate::counted::Counted;
 use crate::event::{Event, EventReply, Target};
@@ -46,6 +47,7 @@ impl Core {
     pub fn apply(&mut self, who: usize, event: &Event) -> Result<EventReply, Spent>
         requires who { who < whos self.old }
         requires there { IsThere self.old (target_of event.now) }
+        ensures step { IfOk result (λ reply. (self.new, reply) ≡ machine_step self.old who (call_of event.now)) }
         ensures did { IfOk result (λ reply. Did (move who event.now reply ∷ []) self.old self.new) }
         ensures spent { IsErr result ↔ (steps_of self.old (target_of event.now) ≡ Some (2 ^ 64 - 1)) }
         ensures unchanged { IfErr result (λ _. self.new ≡ self.old) }
@@ -107,6 +109,18 @@ impl Core {
         match target {
             Target::Board(board) => self.boards[board].made(who),
             Target::Bus => self.bus.made(who),
+        }
+    }
+
+    /// How many of the steps of an object each who made, by place.
+    pub fn counts(&self, target: Target) -> &[u64]
+        requires { IsThere self.now target }
+        ensures value { counts_of self.now target ≡ Some result.now }
+        ensures whos { length result.now ≡ whos self.now }
+    {
+        match target {
+            Target::Board(board) => self.boards[board].counts(),
+            Target::Bus => self.bus.counts(),
         }
     }
 
