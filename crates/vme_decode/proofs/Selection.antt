@@ -1,5 +1,5 @@
 -- What is selected is the entry that responds, and in a map without a refusal the only one.
-use Rattle.std.proofs.Common.{◌≡◌, ℕ, ◌+◌, ◌-◌, ◌%◌, ◌<◌, true, List, Option, Some, None, length, ap, sym, ◌∙◌, arith}
+use Rattle.std.proofs.Common.{◌≡◌, ℕ, ◌+◌, ◌-◌, ◌%◌, ◌<◌, ◌≤◌, true, List, Option, Some, None, length, ap, sym, ◌∙◌, arith}
 use Rattle.std.specs.Prelude.{option_map, option_and_then, slice_get, IfSome}
 use Rattle.std.proofs.lemmas.Bool.{and_parts, and_from}
 use Rattle.std.proofs.lemmas.Option.{option_and_then_some, some_pair_parts, slice_get_within}
@@ -106,9 +106,25 @@ pub result_facts : (result : Option (ℕ × ℕ)) (entries : List Entry) (s : Si
 result_facts None entries s result_is = tt
 result_facts (Some found) entries s result_is = selected_facts entries s found.0 found.1 (sym result_is)
 
-pub result_place : (result : Option (ℕ × ℕ)) (entries : List Entry) (s : SignalLines) → result ≡ selection entries s
-    → IfSome result (λ found. found.0 < length entries)
-result_place None entries s result_is = tt
-result_place (Some found) entries s result_is =
-    let facts = selected_facts entries s found.0 found.1 (sym result_is) in
-    slice_get_within entries found.0 facts.falls.entry facts.falls.there
+-- what a function finds at an address is in the map
+pub result_place : (result : Option (ℕ × ℕ)) (entries : List Entry) (code : CodeRow) (addr : ℕ)
+    → result ≡ selection_at entries code addr → IfSome result (λ found. found.0 < length entries)
+result_place None entries code addr result_is = tt
+result_place (Some found) entries code addr result_is =
+    let facts = place_falls entries code addr found.0 found.1 (sym result_is) in
+    slice_get_within entries found.0 facts.entry facts.there
+
+-- counted from no less than 0
+pub result_offset : (result : Option (ℕ × ℕ)) (entries : List Entry) (code : CodeRow) (addr : ℕ)
+    → result ≡ selection_at entries code addr → IfSome result (λ found. found.1 ≤ addr)
+result_offset None entries code addr result_is = tt
+result_offset (Some found) entries code addr result_is =
+    let facts = place_falls entries code addr found.0 found.1 (sym result_is) in
+    let distance = facts.distance in omega arith
+
+-- and leaves the same remainder
+pub result_remainder : (result : Option (ℕ × ℕ)) (entries : List Entry) (code : CodeRow) (addr : ℕ)
+    → first_refusal entries ≡ None → result ≡ selection_at entries code addr → IfSome result (λ found. found.1 % 4 ≡ addr % 4)
+result_remainder None entries code addr lawful result_is = tt
+result_remainder (Some found) entries code addr lawful result_is =
+    place_remainder entries code addr found.0 found.1 lawful (sym result_is)

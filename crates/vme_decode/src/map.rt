@@ -1,4 +1,4 @@
-ghost use Rattle.std.specs.Prelude.{◌≡◌, ◌≢◌, ◌↔◌, ◌<◌, ◌≤◌, length, Some, None, IsOk, IfOk, IfErr, IfSome, IfNone, IsOkUnless};
+ghost use Rattle.std.specs.Prelude.{◌≡◌, ◌≢◌, ◌↔◌, ◌<◌, ◌≤◌, ◌%◌, length, Some, None, IsOk, IfOk, IfErr, IfSome, IfNone, IsOkUnless};
 ghost use Rattle.vme_decode.specs.Lawful.{some_overlap, first_refusal};
 ghost use Rattle.vme_cycle.specs.SignalLines.{first_byte};
 ghost use Rattle.vme_decode.specs.Select.{selection_at, selection, IsSelected};
@@ -48,16 +48,27 @@ impl AddressMap {
         Ok(AddressMap { entries: copy })
     }
 
-    /// The entry that a cycle selects (section 2.3.5), by its place in the caller's order, and the
-    /// offset in bytes of the datum's first byte from its base; `None` where no entry covers that
-    /// byte and admits the code.
+    /// The entry that a code and the address of a first byte select (section 2.3.5), by its place in
+    /// the caller's order, and the offset in bytes of that address from its base; `None` where no
+    /// entry covers the address and admits the code.
+    pub fn select_at(&self, am: Am, addr: u32) -> Option<(usize, u32)>
+        ensures value { result ≡ selection_at self.now am addr }
+        ensures place { IfSome result (λ found. found.0 < length self.now) }
+        ensures offset { IfSome result (λ found. found.1 ≤ addr) }
+        ensures remainder { IfSome result (λ found. found.1 % 4 ≡ addr % 4) }
+    {
+        find(&self.entries, am, addr)
+    }
+
+    /// The entry that a cycle selects, as `select_at` of its code and of the address of its datum's
+    /// first byte.
     #[tactic(auto, unfolding(crate::specs::Select::selection))]
     pub fn select(&self, signals: &Signals) -> Option<(usize, u32)>
         ensures value { result ≡ selection self.now signals.now }
         ensures place { IfSome result (λ found. found.0 < length self.now) }
         ensures entry { IfSome result (λ found. IsSelected self.now signals.now found.0 found.1) }
     {
-        select_at(&self.entries, signals.am(), first_byte(signals))
+        self.select_at(signals.am(), first_byte(signals))
     }
 }
 
@@ -94,7 +105,7 @@ fn some_overlap(entries: &[Entry]) -> bool
 
 /// The place of the entry that a code and an address select, and the address counted from its
 /// base.
-fn select_at(entries: &[Entry], am: Am, addr: u32) -> Option<(usize, u32)>
+fn find(entries: &[Entry], am: Am, addr: u32) -> Option<(usize, u32)>
     ensures { result ≡ selection_at entries.now am addr }
 {
     for (place, entry) in entries.iter().enumerate() {

@@ -1,7 +1,7 @@
 use Rattle.std.proofs.Common.{◌≡◌, drop, find}
 use Rattle.std.specs.List.{enumerate_from}
 use Rattle.vme_decode.specs.Select.{responds}
-use Rattle.vme_decode.proofs.map.select_at.Given as goal
+use Rattle.vme_decode.proofs.map.find.Given as goal
 
 -- what is found from this place on is what is found among all
 abbrev pub invariant-loop-place : goal.invariant-loop-place
