@@ -1,5 +1,5 @@
 -- Histories compose, prefixes of legal ones are legal, and what one made is a part of the whole.
-use Rattle.std.proofs.Common.{◌≡◌, ℕ, ◌≤◌, ◌==◌, List, [], ◌∷◌, ◌++◌, length, refl}
+use Rattle.std.proofs.Common.{◌≡◌, ℕ, ◌≤◌, ◌==◌, List, [], ◌∷◌, ◌++◌, length, refl, ap, subst}
 use Rattle.std.proofs.lemmas.List.Elements.{filter-append}
 use Rattle.std.proofs.lemmas.List.Sums.{length-filter, count_by-le-length}
 use Rattle.vme_object.specs.declared.history.Entry.{Entry}
@@ -27,6 +27,20 @@ legal-begins step s (e ∷ a) b legal = (legal.0, legal-begins step (step s e.cm
 pub legal-rest : {S C R : Type 0} (step : S → C → S × R) (s : S) (a b : List (Entry C R)) → IsLegal step s (a ++ b) → IsLegal step (replay step s a) b
 legal-rest step s [] b legal = legal
 legal-rest step s (e ∷ a) b legal = legal-rest step (step s e.cmd).0 a b legal.1
+
+-- a reply of a legal history is the step's at the replay of what stands before it
+pub reply_at :
+    {S C R : Type 0} (step : S → C → S × R) (s : S) (h a b : List (Entry C R)) (e : Entry C R) → IsLegal step s h → h ≡ a ++ e ∷ b
+    → e.reply ≡ (step (replay step s a) e.cmd).1
+reply_at step s h a b e legal is = let there = subst (IsLegal step s) is legal in let here = legal-rest step s a (e ∷ b) there in here.0
+
+-- and a history of such replies is legal
+pub legal_from_replies :
+    {S C R : Type 0} (step : S → C → S × R) (s : S) (h : List (Entry C R))
+    → ((a b : List (Entry C R)) (e : Entry C R) → h ≡ a ++ e ∷ b → e.reply ≡ (step (replay step s a) e.cmd).1) → IsLegal step s h
+legal_from_replies step s [] each = tt
+legal_from_replies step s (e ∷ h) each =
+    (each [] h e refl, legal_from_replies step (step s e.cmd).0 h (λ a b f is. each (e ∷ a) b f (ap (λ l. e ∷ l) is)))
 
 -- the entries of one in two histories, one after the other
 pub own-append : {C R : Type 0} (who : ℕ) (a b : List (Entry C R)) → own who (a ++ b) ≡ own who a ++ own who b

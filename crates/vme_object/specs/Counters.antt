@@ -1,4 +1,4 @@
--- The steps of the counters.
+-- The step of a counter.
 use Rattle.std.specs.Prelude.{ℕ, ◌+◌, ◌%◌, ◌^◌}
 use Rattle.vme_object.specs.declared.counter.Counter.{Counter}
 use Rattle.vme_object.specs.declared.counter.CounterCmd.{CounterCmd}
@@ -8,8 +8,3 @@ use Rattle.vme_object.specs.declared.counter.CounterCmd.TheVariants.{Bump, Show}
 abbrev pub count_step : Counter → CounterCmd → Counter × ℕ
 count_step c Bump = (record { number = (c.number + 1) % 2 ^ 64 }, c.number)
 count_step c Show = (c, c.number)
-
--- the same over the number alone (this project's own)
-abbrev pub held_step : ℕ → CounterCmd → ℕ × ℕ
-held_step n Bump = ((n + 1) % 2 ^ 64, n)
-held_step n Show = (n, n)

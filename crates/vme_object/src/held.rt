@@ -1,6 +1,6 @@
 ghost use Rattle.std.specs.Prelude.{◌≡◌};
 
-use crate::counter::CounterCmd;
+use crate::counter::{Counter, CounterCmd};
 use crate::object::Object;
 use crossbeam_utils::Backoff;
 use std::alloc::Global;
@@ -12,29 +12,29 @@ use std::sync::atomic::{AtomicBool, Ordering};
 const LOOKS: u32 = 10_000_000;
 
 /// A counter for tests of waiting: each command tells that it has begun, and then looks for a
-/// release, for a while. Contracts see it as its number; what the two signs do is tested alone.
+/// release, for a while. Contracts see it as the counter; what the two signs do is tested alone.
 #[derive(Drop)]
 pub struct Held {
-    number: u64,
+    counter: Counter,
     entered: Arc<AtomicBool, Global>,
     release: Arc<AtomicBool, Global>,
 }
 
 impl Model for Held {
-    ghost use Rattle.std.specs.Prelude.{ℕ};
+    ghost use Rattle.vme_object.specs.declared.counter.Counter.{Counter};
 
-    ghost Value = { ℕ };
+    ghost Value = { Counter };
 
-    ghost view = { λ h. h.number };
+    ghost view = { λ h. h.counter };
 }
 
 impl Held {
     /// A counter at 0, with the sign that a command sets and the sign that it looks for.
     pub fn new(entered: Arc<AtomicBool, Global>, release: Arc<AtomicBool, Global>) -> Held
-        ensures { result ≡ 0 }
+        ensures { result.number ≡ 0 }
     {
         Held {
-            number: 0,
+            counter: Counter { number: 0 },
             entered,
             release,
         }
@@ -42,20 +42,20 @@ impl Held {
 
     /// The number of this moment.
     pub fn number(&self) -> u64
-        ensures { result ≡ self.now }
+        ensures { result ≡ self.now.number }
     {
-        self.number
+        self.counter.number
     }
 }
 
 impl Object for Held {
-    ghost use Rattle.vme_object.specs.Counters.{held_step};
+    ghost use Rattle.vme_object.specs.Counters.{count_step};
 
     type Cmd = CounterCmd;
 
     type Reply = u64;
 
-    ghost step = { held_step };
+    ghost step = { count_step };
 
     fn apply(&mut self, cmd: &CounterCmd) -> u64 {
         self.entered.store(true, Ordering::SeqCst);
@@ -66,11 +66,6 @@ impl Object for Held {
             }
             backoff.snooze();
         }
-        let number = self.number;
-        match cmd {
-            CounterCmd::Bump => self.number = number.wrapping_add(1),
-            CounterCmd::Show => {}
-        }
-        number
+        self.counter.apply(cmd)
     }
 }

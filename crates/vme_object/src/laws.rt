@@ -1,4 +1,4 @@
-ghost use Rattle.std.specs.Prelude.{◌≡◌, ◌++◌, ◌≤◌, ℕ, List, length};
+ghost use Rattle.std.specs.Prelude.{◌≡◌, ◌↔◌, ◌++◌, ◌∷◌, ◌≤◌, ℕ, List, length};
 ghost use Rattle.vme_object.specs.declared.history.Entry.{Entry};
 ghost use Rattle.vme_object.specs.History.{replay, IsLegal, own};
 
@@ -22,4 +22,12 @@ pub fn entries_of_one<O: Object>()
         own who (a ++ b) ≡ own who a ++ own who b }
     ensures within { (who : ℕ) (h : List (Entry O.Cmd O.Reply)) →
         length (own who h) ≤ length h }
+{}
+
+/// A history is legal exactly where each of its replies is the step's at the replay of what stands
+/// before it.
+pub fn replies_are_the_steps<O: Object>()
+    ensures { (s : O) (h : List (Entry O.Cmd O.Reply)) → IsLegal O.step s h ↔
+        ((a b : List (Entry O.Cmd O.Reply)) (e : Entry O.Cmd O.Reply) → h ≡ a ++ e ∷ b →
+        e.reply ≡ (O.step (replay O.step s a) e.cmd).1) }
 {}

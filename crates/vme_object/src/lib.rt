@@ -14,5 +14,5 @@ pub use count::next_count;
 pub use counter::{Counter, CounterCmd};
 pub use held::Held;
 pub use history::Entry;
-pub use laws::{entries_of_one, histories_compose};
+pub use laws::{entries_of_one, histories_compose, replies_are_the_steps};
 pub use object::Object;

@@ -7,7 +7,7 @@ use Rattle.vme_object.specs.declared.history.Entry.{Entry}
 use Rattle.vme_object.specs.History.{own}
 use Rattle.vme_object.proofs.Histories.{own-append}
 use Rattle.vme_port.specs.declared.rule.Account.{Account}
-use Rattle.vme_port.specs.Views.{named}
+use Rattle.vme_port.specs.Views.{names_among}
 use Rattle.vme_port.specs.Rule.{Fits}
 
 -- a list that stays the same when another follows it is followed by nothing
@@ -47,14 +47,14 @@ module _ {C R : Type 0} where
   }
 
   -- the accounts of a who, with one more account
-  pub named_more : (who : ℕ) (a : Account C R) (l : List (Account C R)) → named who (a ∷ l) ≡ cond (a.who == who) 1 0 + named who l
+  pub named_more : (who : ℕ) (a : Account C R) (l : List (Account C R)) → names_among who (a ∷ l) ≡ cond (a.who == who) 1 0 + names_among who l
   named_more who a l = sum_by-cons (λ (a : Account C R). cond (a.who == who) 1 0) a l
 
   -- where no account is of a who, each is of another
-  pub unnamed : (who : ℕ) (l : List (Account C R)) → named who l ≡ 0 → All (λ a. a.who ≢ who) l
+  pub unnamed : (who : ℕ) (l : List (Account C R)) → names_among who l ≡ 0 → All (λ a. a.who ≢ who) l
   unnamed who [] none = All-nil (λ (a : Account C R). a.who ≢ who)
   unnamed who (a ∷ l) none =
-      let none' : cond (a.who == who) 1 0 + named who l ≡ 0 = sym (named_more who a l) ∙ none in
+      let none' : cond (a.who == who) 1 0 + names_among who l ≡ 0 = sym (named_more who a l) ∙ none in
       All-cons (λ (a : Account C R). a.who ≢ who) a l
       (λ same.
       let one : ◌≡◌ {A = ℕ} (cond (a.who == who) 1 0) 1 = ap (λ (b : Bool). cond b 1 0) (eq-eqb a.who who same) in
@@ -64,11 +64,11 @@ module _ {C R : Type 0} where
       (unnamed who l (omega arith))
 
   -- an account is of its own who
-  pub names_self : (a : Account C R) → named a.who (a ∷ []) ≡ 1
+  pub names_self : (a : Account C R) → names_among a.who (a ∷ []) ≡ 1
   names_self a = rw (eq-eqb a.who a.who refl) refl
 
   -- all accounts of other whos fit the longer history
-  pub fits_all : (who : ℕ) (h es : List (Entry C R)) (l : List (Account C R)) → All (λ e. e.who ≡ who) es → named who l ≡ 0
+  pub fits_all : (who : ℕ) (h es : List (Entry C R)) (l : List (Account C R)) → All (λ e. e.who ≡ who) es → names_among who l ≡ 0
       → All (Fits h) l → All (Fits (h ++ es)) l
   fits_all who h es l all none fits = λ k d within.
       fits_others who h es _ all (unnamed who l none k d within) (fits k d within)

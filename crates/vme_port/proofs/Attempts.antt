@@ -1,5 +1,5 @@
 -- What one try does to a pass: the take, the command and the put, one after another.
-use Rattle.std.proofs.Common.{ℕ, ◌≡◌, ◌+◌, ◌-◌, ◌^◌, ◌<◌, ◌≤◌, false, List, [], ◌∷◌, ◌++◌, length, refl, ap, sym, ◌∙◌, subst, arith, length-append}
+use Rattle.std.proofs.Common.{ℕ, ◌≡◌, ◌+◌, ◌-◌, ◌^◌, ◌<◌, ◌≤◌, false, List, [], ◌∷◌, ◌++◌, length, All, refl, ap, sym, ◌∙◌, subst, arith, length-append}
 use Rattle.std.proofs.lemmas.List.{append-nil}
 use Rattle.std.proofs.lemmas.List.Elements.{All-nil, All-cons}
 use Rattle.atomic_table.specs.Table.{Me}
@@ -9,10 +9,11 @@ use Rattle.vme_object.specs.History.{replay, IsLegal, own, entry}
 use Rattle.vme_object.proofs.Histories.{replay-append, legal-append, own-append, own_within}
 use Rattle.vme_port.specs.declared.rule.Account.{Account}
 use Rattle.vme_port.specs.declared.rule.View.{View}
-use Rattle.vme_port.specs.declared.rule.Home.{Home}
+use Rattle.vme_port.specs.declared.home.Home.{Home}
 use Rattle.vme_port.specs.Views.{account, view}
-use Rattle.vme_port.specs.Steps.{Taken, Lost, MayPut, HasPut, IsOut, IsFull, Performed}
-use Rattle.vme_port.specs.Passes.{PassView, IsAtRest, seen_by, made_by, Follows, Adds}
+use Rattle.vme_port.specs.Steps.{HasTaken, HasLost, MayPut, HasPut, IsOut, IsFull, HasPerformed}
+use Rattle.vme_port.specs.Passes.{PassView, IsAtRest, seen_by, made_by}
+use Rattle.vme_port.specs.Calls.{Adds}
 use Rattle.vme_port.proofs.Accounts.{own_all}
 
 -- the first object of those that are out
@@ -30,10 +31,10 @@ module _ {S C R : Type 0} (step : S → C → S × R) (start : S) (k : ℕ) wher
   Opened object passes = (object ≡ start) × (passes ≡ k)
 
   -- the object is out after a take that was won
-  pub out : (a : Account C R) (m : Me (Home S) (View C R)) → Taken step Opened a m → IsOut m
+  pub out : (a : Account C R) (m : Me (Home S) (View C R)) → HasTaken step Opened a m → IsOut m
   out a m t = (t.home, ap (λ m. m.1) t.after)
 
-  module _ (a : Account C R) (m1 : Me (Home S) (View C R)) (t : Taken step Opened a m1) where
+  module _ (a : Account C R) (m1 : Me (Home S) (View C R)) (t : HasTaken step Opened a m1) where
     -- the history that was found is legal, and leads to the object
     found_legal : IsLegal step start (a.seen ++ t.others)
     found_legal = subst (λ s. IsLegal step s (a.seen ++ t.others)) t.opens.0 t.legal
@@ -59,7 +60,7 @@ module _ {S C R : Type 0} (step : S → C → S × R) (start : S) (k : ℕ) wher
         }
 
     -- a put of one entry, after a command
-    pub put_one : (who : ℕ) (cmd : C) (reply : R) (m2 : Me (Home S) (View C R)) → a.who ≡ who → Performed step cmd reply m1 m2
+    pub put_one : (who : ℕ) (cmd : C) (reply : R) (m2 : Me (Home S) (View C R)) → a.who ≡ who → HasPerformed step cmd reply m1 m2
         → MayPut step start (entry who cmd reply ∷ []) m2
     put_one who cmd reply m2 named p =
         let seen : List (Entry C R) = a.seen ++ t.others in
@@ -86,14 +87,14 @@ module _ {S C R : Type 0} (step : S → C → S × R) (start : S) (k : ℕ) wher
 
   module _ (who made : ℕ) (m0 m1 : Me (Home S) (View C R)) (rest : IsAtRest m0 who made) where
     -- a pass whose take was lost is at rest
-    pub rests_lost : Lost step Opened m0 m1 → IsAtRest m1 who made
+    pub rests_lost : HasLost step Opened m0 m1 → IsAtRest m1 who made
     rests_lost lost = subst (λ m. IsAtRest m who made) (sym lost.same) rest
 
     -- the port has two passes or more where a take was lost
-    pub shared_lost : Lost step Opened m0 m1 → 2 ≤ k
+    pub shared_lost : HasLost step Opened m0 m1 → 2 ≤ k
     shared_lost lost = omega (arith, lost.opens.1, lost.shared)
 
-    module _ (t : Taken step Opened rest.only m1) where
+    module _ (t : HasTaken step Opened rest.only m1) where
       -- the history that the take found
       abbrev found : List (Entry C R)
       found = rest.only.seen ++ t.others
@@ -112,7 +113,7 @@ module _ {S C R : Type 0} (step : S → C → S × R) (start : S) (k : ℕ) wher
       begins_found = ap (λ m. seen_by m.0.accounts ++ t.others) (sym rest.alone)
 
       -- one more entry can be counted where the command was performed
-      pub made_fits : (cmd : C) (reply : R) (m2 : Me (Home S) (View C R)) → Performed step cmd reply m1 m2 → made + 1 < 2 ^ 64
+      pub made_fits : (cmd : C) (reply : R) (m2 : Me (Home S) (View C R)) → HasPerformed step cmd reply m1 m2 → made + 1 < 2 ^ 64
       made_fits cmd reply m2 p =
           let counted : p.home.count ≡ length found = ap (λ (h : Home S). h.count) (same_home rest.only m1 t p.home p.out) ∙ t.count in
           omega (arith, made_within rest.only m1 t, rest.counted, p.room)
@@ -135,6 +136,23 @@ module _ {S C R : Type 0} (step : S → C → S × R) (start : S) (k : ℕ) wher
           counted = omega (arith, length-append rest.only.mine es, rest.counted);
         }
 
+        -- and has added them to the whole history, where that is legal and they are its own
+        adds_after : (port port' : TableId) → port' ≡ port → IsLegal step start (found ++ es) → All (λ e. e.who ≡ who) es
+            → Adds step start es (pass_view port who made m0) (pass_view port' who (made + length es) m3)
+        adds_after port port' same_port legal whose = record {
+          port = same_port;
+          who = refl;
+          others = t.others;
+          apart = apart_found;
+          seen = seen_after ∙ ap (λ l. l ++ es) begins_found;
+          whose = whose;
+          legal = subst (IsLegal step start) (sym seen_after) legal;
+          mine = mine_after;
+          sound = ap (own who) seen_after ∙ own-append who found es ∙ (λ i. own_found i ++ own_all who es whose i)
+              ∙ ap (λ m. made_by m.0.accounts ++ es) (sym rest.alone) ∙ sym mine_after;
+          made = refl;
+        }
+
       module _ (m2 m3 : Me (Home S) (View C R)) (full : IsFull m1 m2) (told : HasPut [] m2 m3) where
         same_full : m2.0 ≡ m1.0
         same_full = ap (λ m. m.0) full.same
@@ -146,24 +164,19 @@ module _ {S C R : Type 0} (step : S → C → S × R) (start : S) (k : ℕ) wher
         pub rests_full : IsAtRest m3 who made
         rests_full = subst (IsAtRest m3 who) (omega arith) (rests_after [] m2 m3 same_full told)
 
-        -- it has then seen the whole history
-        pub follows : (port port' : TableId) → Follows step start (pass_view port who made m0) (pass_view port' who made m3)
-        follows port port' =
-            let mine : made_by m3.0.accounts ≡ made_by m0.0.accounts = mine_after [] m2 m3 same_full told ∙ append-nil (made_by m0.0.accounts) in record {
-              others = t.others;
-              apart = apart_found;
-              seen = seen_full ∙ begins_found;
-              legal = subst (IsLegal step start) (sym seen_full) (found_legal rest.only m1 t);
-              mine = mine;
-              sound = ap (own who) seen_full ∙ own_found ∙ ap (λ m. made_by m.0.accounts) (sym rest.alone) ∙ sym mine;
-              made = refl;
-            }
+        -- it has then seen the whole history, and added nothing
+        pub adds_none : (port port' : TableId) → port' ≡ port → Adds step start [] (pass_view port who made m0) (pass_view port' who made m3)
+        adds_none port port' same_port =
+            let legal : IsLegal step start (found ++ []) = subst (IsLegal step start) (sym (append-nil found)) (found_legal rest.only m1 t) in
+            let after : Adds step start [] (pass_view port who made m0) (pass_view port' who (made + 0) m3) =
+            adds_after [] m2 m3 same_full told port port' same_port legal (All-nil (λ (e : Entry C R). e.who ≡ who)) in
+            subst (λ n. Adds step start [] (pass_view port who made m0) (pass_view port' who n m3)) (omega arith) after
 
         -- and that history has the last count
         pub is_full : length (seen_by m3.0.accounts) ≡ 2 ^ 64 - 1
         is_full = ap length seen_full ∙ sym t.count ∙ ap (λ (h : Home S). h.count) (sym (same_home rest.only m1 t full.home full.out)) ∙ full.last
 
-      module _ (cmd : C) (reply : R) (m2 m3 : Me (Home S) (View C R)) (p : Performed step cmd reply m1 m2) (told : HasPut (entry who cmd reply ∷ []) m2 m3) where
+      module _ (cmd : C) (reply : R) (m2 m3 : Me (Home S) (View C R)) (p : HasPerformed step cmd reply m1 m2) (told : HasPut (entry who cmd reply ∷ []) m2 m3) where
         abbrev e : Entry C R
         e = entry who cmd reply
 
@@ -181,17 +194,6 @@ module _ {S C R : Type 0} (step : S → C → S × R) (start : S) (k : ℕ) wher
             legal-append step start found (e ∷ []) (found_legal rest.only m1 t) (p.answer ∙ ap (λ s. (step s cmd).1) was, tt)
 
         -- it has then added its entry to the whole history
-        pub adds : (port port' : TableId) → Adds step start e (pass_view port who made m0) (pass_view port' who (made + 1) m3)
-        adds port port' =
-            let seen = seen_after (e ∷ []) m2 m3 same_one told in
-            let mine = mine_after (e ∷ []) m2 m3 same_one told in
-            let its = own_all who (e ∷ []) (All-cons (λ (e : Entry C R). e.who ≡ who) e [] refl (All-nil (λ (e : Entry C R). e.who ≡ who))) in record {
-              others = t.others;
-              apart = apart_found;
-              seen = seen ∙ ap (λ l. l ++ e ∷ []) begins_found;
-              legal = subst (IsLegal step start) (sym seen) legal_one;
-              mine = mine;
-              sound = ap (own who) seen ∙ own-append who found (e ∷ []) ∙ (λ i. own_found i ++ its i)
-                  ∙ ap (λ m. made_by m.0.accounts ++ e ∷ []) (sym rest.alone) ∙ sym mine;
-              made = refl;
-            }
+        pub adds_one : (port port' : TableId) → port' ≡ port → Adds step start (e ∷ []) (pass_view port who made m0) (pass_view port' who (made + 1) m3)
+        adds_one port port' same_port =
+            adds_after (e ∷ []) m2 m3 same_one told port port' same_port legal_one (All-cons (λ (e : Entry C R). e.who ≡ who) e [] refl (All-nil (λ (e : Entry C R). e.who ≡ who)))

@@ -3,9 +3,9 @@ use Rattle.std.proofs.Common.{◌≡◌, false, List, [], ◌∷◌, ◌++◌, m
 use Rattle.std.proofs.lemmas.List.Elements.{All-cons, All-nil}
 use Rattle.atomic_table.specs.Table.{Me}
 use Rattle.vme_port.specs.declared.rule.View.{View}
-use Rattle.vme_port.specs.declared.rule.Home.{Home}
+use Rattle.vme_port.specs.declared.home.Home.{Home}
 use Rattle.vme_port.specs.Views.{view}
-use Rattle.vme_port.specs.Steps.{together}
+use Rattle.vme_port.specs.Steps.{joint_view}
 use Rattle.vme_port.specs.Passes.{PassView, account_of, IsCounted}
 
 module _ {S C R : Type 0} where
@@ -23,10 +23,10 @@ module _ {S C R : Type 0} where
 
   -- one pass more
   pub next_joined : (all rest left : List (PassView C R)) (p : PassView C R) (m n m' : Me (Home S) (View C R)) → IsGathered all rest m → rest ≡ left ++ p ∷ []
-      → n ≡ (view (account_of p ∷ []) false, []) → IsCounted p → m' ≡ (together m.0 n.0, m.1) → IsGathered all left m'
+      → n ≡ (view (account_of p ∷ []) false, []) → IsCounted p → m' ≡ (joint_view m.0 n.0, m.1) → IsGathered all left m'
   next_joined all rest left p m n m' was split alone counted after = record {
     done = p ∷ was.done;
     split = was.split ∙ ap (λ l. l ++ was.done) split ∙ append_assoc left (p ∷ []) was.done;
-    joined = after ∙ λ i. (together (was.joined i).0 (alone i).0, (was.joined i).1);
+    joined = after ∙ λ i. (joint_view (was.joined i).0 (alone i).0, (was.joined i).1);
     counted = All-cons IsCounted p was.done counted was.counted;
   }

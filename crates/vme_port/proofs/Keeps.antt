@@ -13,10 +13,10 @@ use Rattle.vme_object.specs.declared.history.Entry.{Entry}
 use Rattle.vme_object.specs.History.{replay, IsLegal, own}
 use Rattle.vme_port.specs.declared.rule.Account.{Account}
 use Rattle.vme_port.specs.declared.rule.View.{View}
-use Rattle.vme_port.specs.declared.rule.Home.{Home}
+use Rattle.vme_port.specs.declared.home.Home.{Home}
 use Rattle.vme_port.specs.Views.{account, view, weight, names, holders}
 use Rattle.vme_port.specs.Rule.{Fits, AtHome, Away, Kept}
-use Rattle.vme_port.specs.Steps.{Taken, took, IsIdle}
+use Rattle.vme_port.specs.Steps.{HasTaken, take_tells, IsIdle}
 use Rattle.vme_port.proofs.Totals.{sum_at, sum_set, sum_over}
 use Rattle.vme_port.proofs.Accounts.{names_self, apart}
 
@@ -134,10 +134,10 @@ module _ {S C R : Type 0} (step : S → C → S × R) (start : S) (k : ℕ) wher
 
   -- an exchange from a free word, that is won or lost
   tries_alone : (opened : S → ℕ → Type 0) → opened start k → (slots id new : ℕ) (a : Account C R) → 0 < new
-      → Allows Rule slots id (view (a ∷ []) false, []) 0 (λ x. either (eqb x 0) new x) (took step opened (table_step slots 0 0 new none) (view (a ∷ []) false, []))
+      → Allows Rule slots id (view (a ∷ []) false, []) 0 (λ x. either (eqb x 0) new x) (take_tells step opened (table_step slots 0 0 new none) (view (a ∷ []) false, []))
   tries_alone opened opens slots id new a some_new s r wide at fits64 =
       let me : Me (Home S) (View C R) = (view (a ∷ []) false, []) in
-      let told = took step opened (table_step slots 0 0 new none) me (slice_index s.words 0) in
+      let told = take_tells step opened (table_step slots 0 0 new none) me (slice_index s.words 0) in
       exchanged (slice_index s.words 0) 0 new
       (λ n. (w : View C R) × (act : Act (Home S)) × Valid s.homes [] act × Rule (stepped s 0 n id [] w act) × told (w, carried_after [] act))
       (λ hit. elim r.place [
@@ -145,7 +145,7 @@ module _ {S C R : Type 0} (step : S → C → S × R) (start : S) (k : ℕ) wher
             let fits : Fits r.history a = r.each id (view (a ∷ []) false) at 0 a (omega arith) in
             let others = fits.begins.0 in
             let seen = sym fits.begins.1 in
-            let taken : Taken step opened a (view (account a.who (a.seen ++ others) a.mine ∷ []) true, (0, home.home) ∷ []) = record {
+            let taken : HasTaken step opened a (view (account a.who (a.seen ++ others) a.mine ∷ []) true, (0, home.home) ∷ []) = record {
               start = start;
               passes = k;
               opens = opens;
@@ -163,7 +163,7 @@ module _ {S C R : Type 0} (step : S → C → S × R) (start : S) (k : ℕ) wher
               ap (λ hs. get_elem? hs 0) home.here,
               taking s id new a r some_new at others fits.begins.1 fits home,
               λ b is. (
-                λ free. subst (λ (b : Account C R). Taken step opened b (view (account a.who (a.seen ++ others) a.mine ∷ []) true, (0, home.home) ∷ [])) (head_same a b (ap (λ m. m.0.accounts) is)) taken,
+                λ free. subst (λ (b : Account C R). HasTaken step opened b (view (account a.who (a.seen ++ others) a.mine ∷ []) true, (0, home.home) ∷ [])) (head_same a b (ap (λ m. m.0.accounts) is)) taken,
                 λ taken. absurd (taken hit),
               ),
             )
@@ -185,9 +185,9 @@ module _ {S C R : Type 0} (step : S → C → S × R) (start : S) (k : ℕ) wher
 
   -- taking the object, from a free word to another number
   pub tries : (opened : S → ℕ → Type 0) → opened start k → (slots id new : ℕ) (me : Me (Home S) (View C R)) → 0 < new → IsIdle me
-      → Allows Rule slots id me 0 (λ x. either (eqb x 0) new x) (took step opened (table_step slots 0 0 new none) me)
+      → Allows Rule slots id me 0 (λ x. either (eqb x 0) new x) (take_tells step opened (table_step slots 0 0 new none) me)
   tries opened opens slots id new me some_new idle =
-      subst (λ (m : Me (Home S) (View C R)). Allows Rule slots id m 0 (λ x. either (eqb x 0) new x) (took step opened (table_step slots 0 0 new none) m)) (sym idle.1)
+      subst (λ (m : Me (Home S) (View C R)). Allows Rule slots id m 0 (λ x. either (eqb x 0) new x) (take_tells step opened (table_step slots 0 0 new none) m)) (sym idle.1)
       (tries_alone opened opens slots id new idle.0 some_new)
 
   -- marking a taken port as wanted

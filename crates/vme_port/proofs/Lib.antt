@@ -7,3 +7,5 @@ pub mod Attempts
 pub mod Opens
 pub mod Settles
 pub mod Gathers
+pub mod Places
+pub mod OneHistory

@@ -12,58 +12,58 @@ use Rattle.atomic_table.proofs.Lists.{at_set, at_snoc, set_else}
 use Rattle.vme_object.specs.declared.history.Entry.{Entry}
 use Rattle.vme_port.specs.declared.rule.Account.{Account}
 use Rattle.vme_port.specs.declared.rule.View.{View}
-use Rattle.vme_port.specs.declared.rule.Home.{Home}
-use Rattle.vme_port.specs.Views.{account, view, fresh, newcomer, StandsFor, weight, named, names, holders}
+use Rattle.vme_port.specs.declared.home.Home.{Home}
+use Rattle.vme_port.specs.Views.{account, view, fresh_accounts, newcomer, StandsFor, weight, names_among, names, holders}
 use Rattle.vme_port.specs.Rule.{Fits, Kept}
-use Rattle.vme_port.specs.Steps.{all_but_first, first_alone, together, nobody}
+use Rattle.vme_port.specs.Steps.{all_but_first, first_alone, joint_view, empty_view}
 use Rattle.vme_port.proofs.Totals.{sum_set}
 use Rattle.vme_port.proofs.Accounts.{named_more}
 
 module _ (C R : Type 0) where
   -- there are as many fresh accounts as asked for
-  pub fresh_length : (i n : ℕ) → length (fresh {C = C} {R = R} i n) ≡ n
+  pub fresh_length : (i n : ℕ) → length (fresh_accounts {C = C} {R = R} i n) ≡ n
   fresh_length i zero = refl
   fresh_length i (suc n) = ap suc (fresh_length (suc i) n)
 
   -- none of them is of a who before the first
-  fresh_before : (who i n : ℕ) → who < i → named who (fresh {C = C} {R = R} i n) ≡ 0
+  fresh_before : (who i n : ℕ) → who < i → names_among who (fresh_accounts {C = C} {R = R} i n) ≡ 0
   fresh_before who i zero less = refl
   fresh_before who i (suc n) less =
       let other : ◌≡◌ {A = ℕ} (cond (i == who) 1 0) 0 = ap (λ (b : Bool). cond b 1 0) (ne_eqb i who (λ same. omega arith)) in
-      let rest : named who (fresh {C = C} {R = R} (suc i) n) ≡ 0 = fresh_before who (suc i) n (omega arith) in
-      omega (arith, named_more who (account {C = C} {R = R} i [] []) (fresh (suc i) n))
+      let rest : names_among who (fresh_accounts {C = C} {R = R} (suc i) n) ≡ 0 = fresh_before who (suc i) n (omega arith) in
+      omega (arith, named_more who (account {C = C} {R = R} i [] []) (fresh_accounts (suc i) n))
 
   -- nor of a who past the last
-  fresh_past : (who i n : ℕ) → i + n ≤ who → named who (fresh {C = C} {R = R} i n) ≡ 0
+  fresh_past : (who i n : ℕ) → i + n ≤ who → names_among who (fresh_accounts {C = C} {R = R} i n) ≡ 0
   fresh_past who i zero less = refl
   fresh_past who i (suc n) less =
       let other : ◌≡◌ {A = ℕ} (cond (i == who) 1 0) 0 = ap (λ (b : Bool). cond b 1 0) (ne_eqb i who (λ same. omega arith)) in
-      let rest : named who (fresh {C = C} {R = R} (suc i) n) ≡ 0 = fresh_past who (suc i) n (omega arith) in
-      omega (arith, named_more who (account {C = C} {R = R} i [] []) (fresh (suc i) n))
+      let rest : names_among who (fresh_accounts {C = C} {R = R} (suc i) n) ≡ 0 = fresh_past who (suc i) n (omega arith) in
+      omega (arith, named_more who (account {C = C} {R = R} i [] []) (fresh_accounts (suc i) n))
 
   -- one of them is of each who in between
-  fresh_in : (who i n : ℕ) → i ≤ who → who < i + n → named who (fresh {C = C} {R = R} i n) ≡ 1
+  fresh_in : (who i n : ℕ) → i ≤ who → who < i + n → names_among who (fresh_accounts {C = C} {R = R} i n) ≡ 1
   fresh_in who i zero from below = absurd (omega arith)
   fresh_in who i (suc n) from below = elim (cases_eq i who) [
     | inl here ↦
         let one : ◌≡◌ {A = ℕ} (cond (i == who) 1 0) 1 = ap (λ (b : Bool). cond b 1 0) (eq-eqb i who here) in
-        let rest : named who (fresh {C = C} {R = R} (suc i) n) ≡ 0 = fresh_before who (suc i) n (omega arith) in
-        omega (arith, named_more who (account {C = C} {R = R} i [] []) (fresh (suc i) n))
+        let rest : names_among who (fresh_accounts {C = C} {R = R} (suc i) n) ≡ 0 = fresh_before who (suc i) n (omega arith) in
+        omega (arith, named_more who (account {C = C} {R = R} i [] []) (fresh_accounts (suc i) n))
     | inr later ↦
         let other : ◌≡◌ {A = ℕ} (cond (i == who) 1 0) 0 = ap (λ (b : Bool). cond b 1 0) (ne_eqb i who later) in
-        let rest : named who (fresh {C = C} {R = R} (suc i) n) ≡ 1 = fresh_in who (suc i) n (omega arith) (omega arith) in
-        omega (arith, named_more who (account {C = C} {R = R} i [] []) (fresh (suc i) n))
+        let rest : names_among who (fresh_accounts {C = C} {R = R} (suc i) n) ≡ 1 = fresh_in who (suc i) n (omega arith) (omega arith) in
+        omega (arith, named_more who (account {C = C} {R = R} i [] []) (fresh_accounts (suc i) n))
   ]
 
   -- at the start each who below k has one account
-  fresh_shared : (k who : ℕ) (b : Bool) → ltb who k ≡ b → named who (fresh {C = C} {R = R} 0 k) ≡ cond b 1 0
+  fresh_shared : (k who : ℕ) (b : Bool) → ltb who k ≡ b → names_among who (fresh_accounts {C = C} {R = R} 0 k) ≡ cond b 1 0
   fresh_shared k who true below = fresh_in who 0 k (omega arith) (let less = ltb-true who k below in omega arith)
   fresh_shared k who false past = fresh_past who 0 k (let least = ltb-false who k past in omega arith)
 
   -- each account fits the history of no entries
-  fresh_fits : (i n : ℕ) → All (Fits []) (fresh {C = C} {R = R} i n)
+  fresh_fits : (i n : ℕ) → All (Fits []) (fresh_accounts {C = C} {R = R} i n)
   fresh_fits i zero = All-nil (Fits {C = C} {R = R} [])
-  fresh_fits i (suc n) = All-cons (Fits []) (account i [] []) (fresh (suc i) n) (record { begins = ([], refl); sound = refl; whole = refl }) (fresh_fits (suc i) n)
+  fresh_fits i (suc n) = All-cons (Fits []) (account i [] []) (fresh_accounts (suc i) n) (record { begins = ([], refl); sound = refl; whole = refl }) (fresh_fits (suc i) n)
 
 module _ {C R : Type 0} where
   -- what a cut view and the part that is cut off weigh together
@@ -72,7 +72,7 @@ module _ {C R : Type 0} where
   cut_length (a ∷ rest) = omega arith
 
   -- and how many of their accounts are of a who
-  cut_named : (who : ℕ) (accounts : List (Account C R)) → named who (drop 1 accounts) + named who (take 1 accounts) ≡ named who accounts
+  cut_named : (who : ℕ) (accounts : List (Account C R)) → names_among who (drop 1 accounts) + names_among who (take 1 accounts) ≡ names_among who accounts
   cut_named who [] = refl
   cut_named who (a ∷ rest) = omega (arith, named_more who a rest, named_more who a [])
 
@@ -90,7 +90,7 @@ module _ {S C R : Type 0} (step : S → C → S × R) (start : S) (k : ℕ) wher
       | zero ↦ λ v at. subst (λ (v : View C R). All (Fits []) v.accounts) (some-injective (newcomer k) v at) (fresh_fits C R 0 k)
       | suc j ↦ λ v at. absurd (some-ne-none v (sym at))
     ];
-    shared = λ who. let named = fresh_shared C R k who (ltb who k) refl in omega arith;
+    shared = λ who. let shares = fresh_shared C R k who (ltb who k) refl in omega arith;
     weights = let long = fresh_length C R 0 k in omega arith;
     known = All-nil (λ (e : Entry C R). e.who < k);
     place = inl (record { free = refl; home = home; here = refl; object = object; count = count; none_out = refl });
@@ -143,10 +143,10 @@ module _ {S C R : Type 0} (step : S → C → S × R) (start : S) (k : ℕ) wher
       ])
 
   -- taking another's accounts in
-  pub gathers : (id other : ℕ) (v w : View C R) → v.out ≡ false → w.out ≡ false → Joins Rule id v other w (together v w) nobody
+  pub gathers : (id other : ℕ) (v w : View C R) → v.out ≡ false → w.out ≡ false → Joins Rule id v other w (joint_view v w) empty_view
   gathers id other v w in' in'' s r at apart there =
-      let both : View C R = together v w in
-      let spent : View C R = nobody in
+      let both : View C R = joint_view v w in
+      let spent : View C R = empty_view in
       let views : List (View C R) = set s.views id both in
       let was : get_elem? s.views other ≡ some w = sym (set_else s.views id other both apart) ∙ there in
       let fits : All (Fits r.history) both.accounts = All-append (Fits r.history) w.accounts v.accounts (r.each other w was) (r.each id v at) in
@@ -184,7 +184,7 @@ module _ {S C R : Type 0} where
       → (m.0.out ≡ false) × StandsFor k (who + 1) (all_but_first m.0, m.1) × (first_alone m.0 ≡ view (account who [] [] ∷ []) false)
   dealt k who m (zero, sum, is) below = absurd (omega arith)
   dealt k who m (suc n, sum, is) below =
-      let next : fresh {C = C} {R = R} (suc who) n ≡ fresh (who + 1) n = ap (λ i. fresh i n) (omega arith) in (
+      let next : fresh_accounts {C = C} {R = R} (suc who) n ≡ fresh_accounts (who + 1) n = ap (λ i. fresh_accounts i n) (omega arith) in (
         ap (λ m. m.0.out) is,
         (n, omega arith, ap (λ m. (all_but_first m.0, m.1)) is ∙ ap (λ l. (view l false, [])) next),
         ap (λ m. first_alone m.0) is,

@@ -2,8 +2,8 @@
 use Rattle.std.proofs.Common.{◌≡◌, ◌+◌, ◌-◌, ◌^◌, ◌<◌, [], ◌∷◌, ap, sym, ◌∙◌}
 use Rattle.atomic_table.specs.Table.{Me, rest}
 use Rattle.vme_port.specs.declared.rule.View.{View}
-use Rattle.vme_port.specs.declared.rule.Home.{Home}
-use Rattle.vme_port.specs.Steps.{IsOut, IsFull, Performed}
+use Rattle.vme_port.specs.declared.home.Home.{Home}
+use Rattle.vme_port.specs.Steps.{IsOut, IsFull, HasPerformed}
 
 module _ {S C R : Type 0} where
   -- the object that is out is the only one
@@ -26,7 +26,7 @@ module _ {S C R : Type 0} where
   -- a command is performed, and one more counted
   pub performed : (step : S → C → S × R) (cmd : C) (reply : R) (m : Me (Home S) (View C R)) (home next : Home S) → m.1 ≡ (0, home) ∷ rest m.1 → IsOut m
       → home.count < 2 ^ 64 - 1 → next.count ≡ home.count + 1 → next.object ≡ (step home.object cmd).0 → reply ≡ (step home.object cmd).1
-      → Performed step cmd reply m (m.0, (0, next) ∷ rest m.1)
+      → HasPerformed step cmd reply m (m.0, (0, next) ∷ rest m.1)
   performed step cmd reply m home next there out room count object answer = record {
     home = home;
     out = alone m home there out;

@@ -11,10 +11,10 @@ use Rattle.vme_object.specs.History.{replay, IsLegal, own}
 use Rattle.vme_object.proofs.Histories.{own-append, legal-append}
 use Rattle.vme_port.specs.declared.rule.Account.{Account}
 use Rattle.vme_port.specs.declared.rule.View.{View}
-use Rattle.vme_port.specs.declared.rule.Home.{Home}
-use Rattle.vme_port.specs.Views.{account, view, weight, named, names}
+use Rattle.vme_port.specs.declared.home.Home.{Home}
+use Rattle.vme_port.specs.Views.{account, view, weight, names_among, names}
 use Rattle.vme_port.specs.Rule.{Fits, Away, Kept}
-use Rattle.vme_port.specs.Steps.{MayPut, put}
+use Rattle.vme_port.specs.Steps.{MayPut, put_tells}
 use Rattle.vme_port.proofs.Totals.{sum_set, sum_two}
 use Rattle.vme_port.proofs.Accounts.{own_all, fits_all, names_self}
 use Rattle.vme_port.proofs.Keeps.{word_set, head_same, out_counts, counts_once, who_below, is_away}
@@ -25,7 +25,7 @@ module _ {S C R : Type 0} (step : S → C → S × R) (start : S) (k : ℕ) wher
 
   -- the accounts of a view beside the holder's are of other whos
   others_named : (s : State (Home S) (View C R)) (id j : ℕ) (a : Account C R) (out : Bool) (u : View C R) → Rule s → get_elem? s.views id ≡ some (view (a ∷ []) out)
-      → get_elem? s.views j ≡ some u → j ≢ id → named a.who u.accounts ≡ 0
+      → get_elem? s.views j ≡ some u → j ≢ id → names_among a.who u.accounts ≡ 0
   others_named s id j a out u r at there apart =
       let self = names_self a in
       let both = sum_two (names a.who) s.views id j (view (a ∷ []) out) u at there apart in
@@ -76,9 +76,9 @@ module _ {S C R : Type 0} (step : S → C → S × R) (start : S) (k : ℕ) wher
 
   -- putting the object home after entries of the holder
   pub puts : (slots id : ℕ) (es : List (Entry C R)) (me : Me (Home S) (View C R)) → MayPut step start es me
-      → Allows Rule slots id me 0 (λ x. 0) (put es (table_step slots 0 0 0 none) me)
+      → Allows Rule slots id me 0 (λ x. 0) (put_tells es (table_step slots 0 0 0 none) me)
   puts slots id es me may =
-      subst (λ (m : Me (Home S) (View C R)). Allows Rule slots id m 0 (λ x. 0) (put es (table_step slots 0 0 0 none) m)) (sym may.has) (λ s r wide at fits64.
+      subst (λ (m : Me (Home S) (View C R)). Allows Rule slots id m 0 (λ x. 0) (put_tells es (table_step slots 0 0 0 none) m)) (sym may.has) (λ s r wide at fits64.
       let a = may.holder in
       let away : Away step start r.history s = is_away step start k r.history s (out_counts s.views id (view (a ∷ []) true) at refl) r.place in
       let held = away.holder id (view (a ∷ []) true) at refl in

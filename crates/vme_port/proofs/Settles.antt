@@ -12,17 +12,18 @@ use Rattle.vme_object.specs.declared.history.Entry.{Entry}
 use Rattle.vme_object.specs.History.{own, Begins}
 use Rattle.vme_port.specs.declared.rule.Account.{Account}
 use Rattle.vme_port.specs.declared.rule.View.{View}
-use Rattle.vme_port.specs.declared.rule.Home.{Home}
-use Rattle.vme_port.specs.Views.{view, weight, named, names}
+use Rattle.vme_port.specs.declared.home.Home.{Home}
+use Rattle.vme_port.specs.Views.{view, weight, names_among, names}
 use Rattle.vme_port.specs.Rule.{Fits, AtHome, Away, Kept}
-use Rattle.vme_port.specs.Passes.{PassView, account_of, IsCounted, Closes, Settled}
+use Rattle.vme_port.specs.Passes.{PassView, account_of, IsCounted}
+use Rattle.vme_port.specs.Settlements.{Closes, Settles}
 use Rattle.vme_port.proofs.Totals.{sum_at, sum_over}
 use Rattle.vme_port.proofs.Accounts.{named_more}
 use Rattle.vme_port.proofs.Keeps.{out_weighs}
 
 module _ {C R : Type 0} where
   -- how many accounts of a who a view has is at most how many accounts it has
-  names_within : (who : ℕ) (l : List (Account C R)) → named who l ≤ length l
+  names_within : (who : ℕ) (l : List (Account C R)) → names_among who l ≤ length l
   names_within who l = count_by-le-length (λ (a : Account C R). a.who == who) l
 
   -- a who's part of a history with one more entry
@@ -48,13 +49,13 @@ module _ {C R : Type 0} where
   owned_none (a ∷ l) = omega (arith, sum_by-cons (λ (a : Account C R). length (own {C = C} {R = R} a.who [])) a l, owned_none l)
 
   -- one entry more
-  owned_more : (l : List (Account C R)) (e : Entry C R) (h : List (Entry C R)) → owned l (e ∷ h) ≡ owned l h + named e.who l
+  owned_more : (l : List (Account C R)) (e : Entry C R) (h : List (Entry C R)) → owned l (e ∷ h) ≡ owned l h + names_among e.who l
   owned_more [] e h = refl
   owned_more (a ∷ l) e h =
       omega (arith, sum_by-cons (λ (a : Account C R). length (own a.who (e ∷ h))) a l, sum_by-cons (λ (a : Account C R). length (own a.who h)) a l, named_more e.who a l, own_more a.who e h, owned_more l e h)
 
   -- where one account is of each who, each entry is owned once
-  owned_once : (k : ℕ) (l : List (Account C R)) (h : List (Entry C R)) → ((who : ℕ) → who < k → named who l ≡ 1) → All (λ e. e.who < k) h → owned l h ≡ length h
+  owned_once : (k : ℕ) (l : List (Account C R)) (h : List (Entry C R)) → ((who : ℕ) → who < k → names_among who l ≡ 1) → All (λ e. e.who < k) h → owned l h ≡ length h
   owned_once k l [] one known = owned_none l
   owned_once k l (e ∷ h) one known =
       let below : e.who < k = All-head (λ (e : Entry C R). e.who < k) e h known in
@@ -72,7 +73,7 @@ module _ {C R : Type 0} where
       omega (arith, sum_by-cons (λ (p : PassView C R). p.made) p ps, sum_by-cons (λ (a : Account C R). length (own a.who h)) (account_of p) (map account_of ps), ap length fit.whole)
 
   -- passes of a who are accounts of it
-  named_passes : (who : ℕ) (ps : List (PassView C R)) → count_by (λ p. p.who == who) ps ≡ named who (map account_of ps)
+  named_passes : (who : ℕ) (ps : List (PassView C R)) → count_by (λ p. p.who == who) ps ≡ names_among who (map account_of ps)
   named_passes who [] = refl
   named_passes who (p ∷ ps) =
       omega (arith, sum_by-cons (λ (p : PassView C R). cond (p.who == who) 1 0) p ps, named_more who (account_of p) (map account_of ps), named_passes who ps)
@@ -98,7 +99,7 @@ module _ {S C R : Type 0} (step : S → C → S × R) (start : S) (k : ℕ) wher
 
   -- and its accounts are one of each who
   each_named : (s : State (Home S) (View C R)) (id : ℕ) (accounts : List (Account C R)) (r : Rule s) → get_elem? s.views id ≡ some (view accounts false)
-      → k ≤ length accounts → (who : ℕ) → who < k → named who accounts ≡ 1
+      → k ≤ length accounts → (who : ℕ) → who < k → names_among who accounts ≡ 1
   each_named s id accounts r at enough who below =
       let less = λ (j : ℕ) (v : View C R) (there : get_elem? s.views j ≡ some v). names_within who v.accounts in
       let over = sum_over (names who) weight s.views id (view accounts false) less at in
@@ -137,7 +138,7 @@ module _ {S C R : Type 0} (step : S → C → S × R) (start : S) (k : ℕ) wher
 
   -- what the accounts of some passes tell is told of the passes
   pub settled : (passes : List (PassView C R)) (object : S) (n : ℕ) → Closes step start k (map account_of passes) object n → All IsCounted passes
-      → Settled step start k passes object n
+      → Settles step start k passes object n
   settled passes object n told counted =
       let h : List (Entry C R) = told.history in
       let fits = fits_passes h passes told.fits in record {
@@ -150,6 +151,7 @@ module _ {S C R : Type 0} (step : S → C → S × R) (start : S) (k : ℕ) wher
         all = sym (length-map passes account_of) ∙ told.all;
         each_who = λ who below. named_passes who passes ∙ told.each_who who below;
         seen = All-weaker (λ (p : PassView C R). Fits h (account_of p)) (λ (p : PassView C R). Begins p.seen h) (λ p fit. fit.begins) passes fits;
+        sound = All-weaker (λ (p : PassView C R). Fits h (account_of p)) (λ (p : PassView C R). own p.who p.seen ≡ p.mine) (λ p fit. fit.sound) passes fits;
         mine = All-weaker (λ (p : PassView C R). Fits h (account_of p)) (λ (p : PassView C R). own p.who h ≡ p.mine) (λ p fit. fit.whole) passes fits;
         made = counted;
       }

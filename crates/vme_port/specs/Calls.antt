@@ -1,15 +1,54 @@
--- What the refusals of a call tell.
-use Rattle.std.specs.Prelude.{Result, Ok, Err}
+-- What calls do to the pass that makes them, and what their refusals tell.
+use Rattle.std.specs.Prelude.{ℕ, ◌≡◌, ◌+◌, List, [], ◌∷◌, ◌++◌, length, All, Result, Ok, Err}
+use Rattle.vme_object.specs.declared.history.Entry.{Entry}
+use Rattle.vme_object.specs.History.{IsLegal, own, entry}
 use Rattle.vme_port.specs.declared.fault.PortFault.{PortFault}
 use Rattle.vme_port.specs.declared.fault.PortFault.TheVariants.{OutOfMemory, BadCount}
 use Rattle.vme_port.specs.declared.fault.TryFault.{TryFault}
 use Rattle.vme_port.specs.declared.fault.TryFault.TheVariants.{Busy, Spent}
+use Rattle.vme_port.specs.Passes.{PassView}
+
+-- the entries that a call adds: one with its reply, or none where it was refused (this project's own)
+abbrev pub entries_of : {C R F : Type 0} → ℕ → C → Result R F → List (Entry C R)
+entries_of who cmd (Ok reply) = entry who cmd reply ∷ []
+entries_of who cmd (Err fault) = []
+
+-- over a call a pass, which is of the same port and who, has seen more of the history with nothing of its own, and then added
+-- these entries of its own; what it has seen now is legal, and has of its own just what it made (this project's own)
+pub record Adds {S C R : Type 0} (step : S → C → S × R) (start : S) (es : List (Entry C R)) (p q : PassView C R) : Type 0 where
+  pub port : q.port ≡ p.port
+  pub who : q.who ≡ p.who
+  pub others : List (Entry C R)
+  pub apart : own p.who others ≡ []
+  pub seen : q.seen ≡ p.seen ++ others ++ es
+  pub whose : All (λ e. e.who ≡ p.who) es
+  pub legal : IsLegal step start q.seen
+  pub mine : q.mine ≡ p.mine ++ es
+  pub sound : own p.who q.seen ≡ q.mine
+  pub made : q.made ≡ p.made + length es
+
+-- over any number of calls a pass, which is of the same port and who, made these entries: it has seen more of the history, in
+-- which just these are its own (this project's own)
+pub record Makes {C R : Type 0} (es : List (Entry C R)) (p q : PassView C R) : Type 0 where
+  pub port : q.port ≡ p.port
+  pub who : q.who ≡ p.who
+  pub since : List (Entry C R)
+  pub seen : q.seen ≡ p.seen ++ since
+  pub its : own p.who since ≡ es
+  pub mine : q.mine ≡ p.mine ++ es
+  pub made : q.made ≡ p.made + length es
 
 -- what holds where a call was busy (this project's own)
 abbrev pub IfBusy : {R : Type 0} → Result R TryFault → Type 0 → Type 0
 IfBusy (Err Busy) holds = holds
 IfBusy (Err Spent) holds = Unit {0}
 IfBusy (Ok reply) holds = Unit {0}
+
+-- what holds where a call was not busy (this project's own)
+abbrev pub UnlessBusy : {R : Type 0} → Result R TryFault → Type 0 → Type 0
+UnlessBusy (Err Busy) holds = Unit {0}
+UnlessBusy (Err Spent) holds = holds
+UnlessBusy (Ok reply) holds = holds
 
 -- what holds where the history was full (this project's own)
 abbrev pub IfSpent : {R : Type 0} → Result R TryFault → Type 0 → Type 0

@@ -4,3 +4,4 @@ pub mod Steps
 pub mod Passes
 pub mod Ports
 pub mod Calls
+pub mod Settlements

@@ -8,7 +8,7 @@ use Rattle.vme_object.specs.declared.history.Entry.{Entry}
 use Rattle.vme_object.specs.History.{replay, IsLegal, own, Begins}
 use Rattle.vme_port.specs.declared.rule.Account.{Account}
 use Rattle.vme_port.specs.declared.rule.View.{View}
-use Rattle.vme_port.specs.declared.rule.Home.{Home}
+use Rattle.vme_port.specs.declared.home.Home.{Home}
 use Rattle.vme_port.specs.Views.{weight, names, holders}
 
 -- what an account has seen begins the history, which has of its who just what the account made (this project's own)
@@ -32,9 +32,11 @@ module _ {S C R : Type 0} (step : S → C → S × R) (start : S) where
     pub taken : slice_index s.words 0 ≢ 0
     pub gone : s.homes ≡ none ∷ []
     pub one_out : holders s.views ≡ 1
-    pub holder : (j : ℕ) (v : View C R) → get_elem? s.views j ≡ some v → v.out ≡ true → (a : Account C R) × (v.accounts ≡ a ∷ []) × (a.seen ≡ h)
+    pub holder : (j : ℕ) (v : View C R) → get_elem? s.views j ≡ some v → v.out ≡ true
+        → (a : Account C R) × (v.accounts ≡ a ∷ []) × (a.seen ≡ h)
 
-  -- the rule: all accounts fit one legal history, whose entries are of whos below k; there is one account of each of these, k in all; and the object is at home or away (this project's own)
+  -- the rule: all accounts fit one legal history, whose entries are of whos below k; there is one account of each of these, k in
+  -- all; and the object is at home or away (this project's own)
   pub record Kept (k : ℕ) (s : State (Home S) (View C R)) : Type 0 where
     pub history : List (Entry C R)
     pub legal : IsLegal step start history

@@ -5,7 +5,7 @@ use Rattle.atomic_table.specs.Table.{Me}
 use Rattle.vme_object.specs.declared.history.Entry.{Entry}
 use Rattle.vme_port.specs.declared.rule.Account.{Account}
 use Rattle.vme_port.specs.declared.rule.View.{View}
-use Rattle.vme_port.specs.declared.rule.Home.{Home}
+use Rattle.vme_port.specs.declared.home.Home.{Home}
 
 module _ {C R : Type 0} where
   -- an account of a who: the history that it has seen, and its own entries (this project's own)
@@ -21,26 +21,26 @@ module _ {C R : Type 0} where
   weight v = length v.accounts
 
   -- how many of some accounts are of a who (this project's own)
-  abbrev pub named : ℕ → List (Account C R) → ℕ
-  named who accounts = count_by (λ a. a.who == who) accounts
+  abbrev pub names_among : ℕ → List (Account C R) → ℕ
+  names_among who accounts = count_by (λ a. a.who == who) accounts
 
   -- how many of a view's accounts are of a who (this project's own)
   abbrev pub names : ℕ → View C R → ℕ
-  names who v = named who v.accounts
+  names who v = names_among who v.accounts
 
   -- with how many views the object is out (this project's own)
   abbrev pub holders : List (View C R) → ℕ
   holders views = count_by (λ v. v.out) views
 
   -- accounts of so many whos, from a first one on, that have seen nothing (this project's own)
-  abbrev pub fresh : ℕ → ℕ → List (Account C R)
-  fresh first zero = []
-  fresh first (suc n) = account first [] [] ∷ fresh (suc first) n
+  abbrev pub fresh_accounts : ℕ → ℕ → List (Account C R)
+  fresh_accounts first zero = []
+  fresh_accounts first (suc n) = account first [] [] ∷ fresh_accounts (suc first) n
 
   -- the view of the first seat of a port, which stands for all its passes (this project's own)
   abbrev pub newcomer : ℕ → View C R
-  newcomer k = view (fresh 0 k) false
+  newcomer k = view (fresh_accounts 0 k) false
 
   -- a seat stands for the passes of each who from this one on and below k, which have seen nothing (this project's own)
   abbrev pub StandsFor : {S : Type 0} → ℕ → ℕ → Me (Home S) (View C R) → Type 0
-  StandsFor k who m = (n : ℕ) × (who + n ≡ k) × (m ≡ (view (fresh who n) false, []))
+  StandsFor k who m = (n : ℕ) × (who + n ≡ k) × (m ≡ (view (fresh_accounts who n) false, []))

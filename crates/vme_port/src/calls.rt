@@ -1,9 +1,7 @@
 //! The calls of a port, each through a pass.
-ghost use Rattle.std.specs.Prelude.{◌≡◌, ◌-◌, ◌^◌, ◌<◌, ◌≤◌, length, IfOk, IfErr};
-ghost use Rattle.vme_port.specs.Passes.{Adds, Follows};
-ghost use Rattle.vme_object.specs.History.{entry};
+ghost use Rattle.std.specs.Prelude.{◌≡◌, ◌-◌, ◌^◌, ◌≤◌, length, IfErr};
 ghost use Rattle.vme_port.specs.Ports.{IsPassOf, opening, passes_of};
-ghost use Rattle.vme_port.specs.Calls.{IfBusy, IfSpent};
+ghost use Rattle.vme_port.specs.Calls.{entries_of, Adds, UnlessBusy, IfBusy, IfSpent};
 
 use crate::fault::{Spent, TryFault};
 use crate::pass::Pass;
@@ -27,12 +25,10 @@ impl<O: Object> Port<O> {
         taking: Taking,
     ) -> Result<O::Reply, TryFault>
         requires { IsPassOf self.now pass.old }
-        ensures port { pass.new.port ≡ pass.old.port }
-        ensures who { pass.new.who ≡ pass.old.who }
-        ensures ok { IfOk result (λ r. Adds O.step (opening self.now) (entry pass.old.who cmd.now r) pass.old pass.new) }
+        ensures adds { UnlessBusy result
+            (Adds O.step (opening self.now) (entries_of pass.old.who cmd.now result) pass.old pass.new) }
         ensures busy { IfBusy result (pass.new ≡ pass.old) }
         ensures shared { IfBusy result (2 ≤ passes_of self.now) }
-        ensures spent { IfSpent result (Follows O.step (opening self.now) pass.old pass.new) }
         ensures full { IfSpent result (length pass.new.seen ≡ 2 ^ 64 - 1) }
     {
         if !self.take::<Brand>(&mut pass.seat, taking) {
@@ -54,19 +50,17 @@ impl<O: Object> Port<O> {
     /// entries; neither adds an entry.
     pub fn try_call(&self, pass: &mut Pass<O>, cmd: &O::Cmd) -> Result<O::Reply, TryFault>
         requires { IsPassOf self.now pass.old }
-        ensures port { pass.new.port ≡ pass.old.port }
-        ensures who { pass.new.who ≡ pass.old.who }
-        ensures ok { IfOk result (λ r. Adds O.step (opening self.now) (entry pass.old.who cmd.now r) pass.old pass.new) }
+        ensures adds { UnlessBusy result
+            (Adds O.step (opening self.now) (entries_of pass.old.who cmd.now result) pass.old pass.new) }
         ensures busy { IfBusy result (pass.new ≡ pass.old) }
         ensures shared { IfBusy result (2 ≤ passes_of self.now) }
-        ensures spent { IfSpent result (Follows O.step (opening self.now) pass.old pass.new) }
         ensures full { IfSpent result (length pass.new.seen ≡ 2 ^ 64 - 1) }
     {
         self.attempt(pass, cmd, Taking::Alone)
     }
 
-    /// Parks until the object may be at home, and tries, until a try is not busy. Each try leaves
-    /// the port wanted, so that its put wakes the next one who waits.
+    /// Parks until the object may be at home, and tries, until a try is not busy. A try that takes
+    /// the object leaves the port wanted, so that its put wakes the next one who waits.
     fn call_parked<R: Wait>(
         &self,
         rt: &R,
@@ -74,10 +68,7 @@ impl<O: Object> Port<O> {
         cmd: &O::Cmd,
     ) -> Result<O::Reply, Spent>
         requires { IsPassOf self.now pass.old }
-        ensures port { pass.new.port ≡ pass.old.port }
-        ensures who { pass.new.who ≡ pass.old.who }
-        ensures ok { IfOk result (λ r. Adds O.step (opening self.now) (entry pass.old.who cmd.now r) pass.old pass.new) }
-        ensures spent { IfErr result (λ _. Follows O.step (opening self.now) pass.old pass.new) }
+        ensures adds { Adds O.step (opening self.now) (entries_of pass.old.who cmd.now result) pass.old pass.new }
         ensures full { IfErr result (λ _. length pass.new.seen ≡ 2 ^ 64 - 1) }
     {
         for _ in rt.forever() {
@@ -110,10 +101,7 @@ impl<O: Object> Port<O> {
     /// `Spent` where the history has 2^64 - 1 entries; no entry is added.
     pub fn call<R: Wait>(&self, rt: &R, pass: &mut Pass<O>, cmd: &O::Cmd) -> Result<O::Reply, Spent>
         requires { IsPassOf self.now pass.old }
-        ensures port { pass.new.port ≡ pass.old.port }
-        ensures who { pass.new.who ≡ pass.old.who }
-        ensures ok { IfOk result (λ r. Adds O.step (opening self.now) (entry pass.old.who cmd.now r) pass.old pass.new) }
-        ensures spent { IfErr result (λ _. Follows O.step (opening self.now) pass.old pass.new) }
+        ensures adds { Adds O.step (opening self.now) (entries_of pass.old.who cmd.now result) pass.old pass.new }
         ensures full { IfErr result (λ _. length pass.new.seen ≡ 2 ^ 64 - 1) }
     {
         match self.try_call(pass, cmd) {
@@ -134,10 +122,7 @@ impl<O: Object> Port<O> {
         cmd: &O::Cmd,
     ) -> Result<O::Reply, Spent>
         requires { IsPassOf self.now pass.old }
-        ensures port { pass.new.port ≡ pass.old.port }
-        ensures who { pass.new.who ≡ pass.old.who }
-        ensures ok { IfOk result (λ r. Adds O.step (opening self.now) (entry pass.old.who cmd.now r) pass.old pass.new) }
-        ensures spent { IfErr result (λ _. Follows O.step (opening self.now) pass.old pass.new) }
+        ensures adds { Adds O.step (opening self.now) (entries_of pass.old.who cmd.now result) pass.old pass.new }
         ensures full { IfErr result (λ _. length pass.new.seen ≡ 2 ^ 64 - 1) }
     {
         let backoff = Backoff::new();

@@ -4,6 +4,8 @@
 
 mod calls;
 mod fault;
+mod home;
+mod laws;
 mod pass;
 mod port;
 mod rule;
@@ -11,6 +13,7 @@ mod seats;
 mod settle;
 
 pub use fault::{PortFault, Spent, TryFault};
+pub use laws::{calls_compose, calls_make_one_history};
 pub use pass::Pass;
 pub use port::Port;
 pub use settle::Unsettled;

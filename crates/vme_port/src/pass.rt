@@ -2,7 +2,8 @@ ghost use Rattle.std.specs.Prelude.{◌≡◌, ◌∷◌, [], false, length};
 ghost use Rattle.vme_port.specs.Views.{view};
 ghost use Rattle.vme_port.specs.Passes.{account_of, IsCounted};
 
-use crate::rule::{Home, View};
+use crate::home::Home;
+use crate::rule::View;
 use atomic_table::Seat;
 use std::marker::Model;
 use vme_object::Object;

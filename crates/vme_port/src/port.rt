@@ -5,9 +5,10 @@ ghost use Rattle.vme_port.specs.Views.{StandsFor};
 ghost use Rattle.vme_port.specs.Passes.{IsUnused};
 
 use crate::fault::PortFault;
+use crate::home::{Home, Opening};
 use crate::pass::Pass;
-use crate::rule::{Dealing, Home, Law, Opening, View};
-use crate::seats::FREE;
+use crate::rule::{Dealing, Law, View};
+use crate::seats::{FREE, WANTED};
 use atomic_table::{Seat, Table};
 use std::alloc::{AllocError, Global};
 use std::snapshot::Snapshot;
@@ -66,6 +67,12 @@ impl<O: Object> Port<O> {
         let Opened { port, seat } = opened;
         port.deal(seat, &mut passes);
         Ok((port, passes))
+    }
+
+    /// Whether a call waits for the object, or is about to. Other threads may change that at any
+    /// time, so no clause says anything of the answer.
+    pub fn is_wanted(&self) -> bool {
+        self.table.shared.peek(0) == WANTED
     }
 
     /// The port, with one seat that has all its passes.

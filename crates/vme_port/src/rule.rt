@@ -1,11 +1,16 @@
 //! The rule of a port, over one word, one slot and the views of all seats, with the kinds of step
 //! that keep it. No value of these views is made: they are for the proofs alone.
-ghost use Rattle.std.specs.Prelude.{◌≡◌};
-
+//!
+//! A kind of step tells its caller something, and can speak of nothing but the seat that makes the
+//! step. Two kinds need more: a take tells what the port was opened with, and a put which entries it
+//! adds. So each of them has a parameter whose trait, `Knows` or `Tells`, has one ghost member and no
+//! function. A call passes `Brand` for it, and the proof of the caller picks what the member is, from
+//! the call's arguments: `Port::attempt` picks the opening of its own port, and the one entry of its
+//! command. A `Brand` that nobody picks for knows nothing, and adds no entry.
+use crate::home::{Home, Opening};
 use atomic_table::{Join, Play, Split, TableRule};
 use std::collections::LinkedList;
 use std::marker::{Brand, PhantomData};
-use std::snapshot::Snapshot;
 use vme_object::{Entry, Object};
 
 /// What one pass knows: the history that it has seen, and its own entries.
@@ -19,52 +24,6 @@ pub struct Account<C, R> {
 pub struct View<C, R> {
     pub accounts: LinkedList<Account<C, R>>,
     pub out: bool,
-}
-
-/// What the slot holds: the object, with the number of entries in its history. There are 64 unused
-/// bytes on each side, so that the word and other values are on other lines of the cache.
-#[derive(Drop)]
-#[repr(C)]
-pub struct Home<O> {
-    before: [u64; 8],
-    pub object: O,
-    pub count: u64,
-    after: [u64; 8],
-}
-
-impl<O> Home<O> {
-    /// The home of an object that has made no step.
-    pub fn unused(object: O) -> Home<O>
-        ensures object { result.object ≡ object }
-        ensures count { result.count ≡ 0 }
-    {
-        Home {
-            before: [0; 8],
-            object,
-            count: 0,
-            after: [0; 8],
-        }
-    }
-
-    /// The object, and how many steps it has made.
-    pub fn into_parts(self) -> (O, u64)
-        ensures { result ≡ (self.object, self.count) }
-    {
-        let Home {
-            before: _,
-            object,
-            count,
-            after: _,
-        } = self;
-        (object, count)
-    }
-}
-
-/// How a port was opened: with which object, and for how many passes.
-#[derive(Drop)]
-pub struct Opening<O> {
-    pub start: Snapshot<O>,
-    pub passes: usize,
 }
 
 /// The rule.
@@ -93,17 +52,17 @@ impl<O> Knows<O> for Brand {
 }
 
 /// The entries that a put adds. Each call picks them.
-pub trait Told<C, R> {
+pub trait Tells<C, R> {
     ghost use Rattle.std.specs.Prelude.{List};
     ghost use Rattle.vme_object.specs.declared.history.Entry.{Entry};
 
-    ghost told: { List (Entry C R) };
+    ghost entries: { List (Entry C R) };
 }
 
-impl<C, R> Told<C, R> for Brand {
+impl<C, R> Tells<C, R> for Brand {
     ghost use Rattle.std.specs.Prelude.{[]};
 
-    ghost told = { [] };
+    ghost entries = { [] };
 }
 
 /// Taking the object, which is won or lost.
@@ -112,9 +71,9 @@ pub struct Takes<O, W> {
 }
 
 impl<O: Object, W: Knows<O>> Play<Home<O>, View<O::Cmd, O::Reply>> for Takes<O, W> {
-    ghost use Rattle.vme_port.specs.Steps.{took};
+    ghost use Rattle.vme_port.specs.Steps.{take_tells};
 
-    ghost then = { took O.step W.opened };
+    ghost then = { take_tells O.step W.opened };
 }
 
 /// Putting the object home, with the entries that were made.
@@ -122,19 +81,19 @@ pub struct Puts<O, W> {
     of: PhantomData<(O, W)>,
 }
 
-impl<O: Object, W: Told<O::Cmd, O::Reply>> Play<Home<O>, View<O::Cmd, O::Reply>> for Puts<O, W> {
-    ghost use Rattle.vme_port.specs.Steps.{put};
+impl<O: Object, W: Tells<O::Cmd, O::Reply>> Play<Home<O>, View<O::Cmd, O::Reply>> for Puts<O, W> {
+    ghost use Rattle.vme_port.specs.Steps.{put_tells};
 
-    ghost then = { put W.told };
+    ghost then = { put_tells W.entries };
 }
 
 /// Marking the word as wanted.
 pub struct Marks;
 
 impl<T, C, R> Play<T, View<C, R>> for Marks {
-    ghost use Rattle.vme_port.specs.Steps.{marked};
+    ghost use Rattle.vme_port.specs.Steps.{mark_tells};
 
-    ghost then = { marked };
+    ghost then = { mark_tells };
 }
 
 /// Cutting the first account off.
@@ -152,9 +111,9 @@ impl<C, R> Split<View<C, R>> for Dealing {
 pub struct Gathering;
 
 impl<C, R> Join<View<C, R>> for Gathering {
-    ghost use Rattle.vme_port.specs.Steps.{together, nobody};
+    ghost use Rattle.vme_port.specs.Steps.{joint_view, empty_view};
 
-    ghost both = { together };
+    ghost both = { joint_view };
 
-    ghost spent = { nobody };
+    ghost spent = { empty_view };
 }

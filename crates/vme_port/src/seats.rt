@@ -1,11 +1,12 @@
 //! What a call does with its seat: it takes the object, performs a command on it, and puts it home.
 ghost use Rattle.std.specs.Prelude.{◌≡◌, ◌<◌, ◌∷◌, [], MatchOption};
-ghost use Rattle.vme_port.specs.Steps.{IsIdle, IsOut, IsFull, Performed, Tried, MayPut, HasPut};
+ghost use Rattle.vme_port.specs.Steps.{IsIdle, IsOut, IsFull, HasPerformed, HasTried, MayPut, HasPut};
 ghost use Rattle.vme_object.specs.History.{entry};
 ghost use Rattle.vme_port.specs.Ports.{port_id, opening, passes_of};
 
+use crate::home::Home;
 use crate::port::Port;
-use crate::rule::{Home, Knows, Puts, Takes, Told, View};
+use crate::rule::{Knows, Puts, Takes, Tells, View};
 use atomic_table::Seat;
 use std::marker::Brand;
 use vme_object::{Object, next_count};
@@ -51,7 +52,7 @@ impl<O: Object> Port<O> {
         requires idle { IsIdle seat.old.me }
         requires opened { W.opened (opening self.now) (passes_of self.now) }
         ensures port { seat.new.table_id ≡ seat.old.table_id }
-        ensures told { Tried O.step W.opened seat.old.me result seat.new.me }
+        ensures told { HasTried O.step W.opened seat.old.me result seat.new.me }
     {
         self.table
             .shared
@@ -68,7 +69,7 @@ impl<O: Object> Port<O> {
         requires port { seat.old.table_id ≡ port_id self.now }
         requires out { IsOut seat.old.me }
         ensures port { seat.new.table_id ≡ seat.old.table_id }
-        ensures done { MatchOption result (IsFull seat.old.me seat.new.me) (λ r. Performed O.step cmd.now r seat.old.me seat.new.me) }
+        ensures done { MatchOption result (IsFull seat.old.me seat.new.me) (λ r. HasPerformed O.step cmd.now r seat.old.me seat.new.me) }
     {
         let home = seat.slot_mut(&self.table.shared, 0);
         let Some(count) = next_count(home.count) else {
@@ -79,14 +80,14 @@ impl<O: Object> Port<O> {
     }
 
     /// Puts the object home with these entries behind its history, and wakes one who waits for it.
-    pub(crate) fn put_entries<W: Told<O::Cmd, O::Reply>>(
+    pub(crate) fn put_entries<W: Tells<O::Cmd, O::Reply>>(
         &self,
         seat: &mut Seat<Home<O>, View<O::Cmd, O::Reply>>,
     )
         requires port { seat.old.table_id ≡ port_id self.now }
-        requires out { MayPut O.step (opening self.now) W.told seat.old.me }
+        requires out { MayPut O.step (opening self.now) W.entries seat.old.me }
         ensures port { seat.new.table_id ≡ seat.old.table_id }
-        ensures told { HasPut W.told seat.old.me seat.new.me }
+        ensures told { HasPut W.entries seat.old.me seat.new.me }
     {
         if self.table.shared.swap::<Puts<O, W>>(seat, 0, FREE) == WANTED {
             self.wake();
@@ -113,7 +114,7 @@ impl<O: Object> Port<O> {
     }
 
     /// Puts the object home with one entry. The entry is named so that the call can pick it.
-    pub(crate) fn put_entry<W: Told<O::Cmd, O::Reply>>(
+    pub(crate) fn put_entry<W: Tells<O::Cmd, O::Reply>>(
         &self,
         seat: &mut Seat<Home<O>, View<O::Cmd, O::Reply>>,
         who: usize,
@@ -121,7 +122,7 @@ impl<O: Object> Port<O> {
         reply: &O::Reply,
     )
         requires port { seat.old.table_id ≡ port_id self.now }
-        requires told { W.told ≡ entry who cmd.now reply.now ∷ [] }
+        requires told { W.entries ≡ entry who cmd.now reply.now ∷ [] }
         requires out { MayPut O.step (opening self.now) (entry who cmd.now reply.now ∷ []) seat.old.me }
         ensures port { seat.new.table_id ≡ seat.old.table_id }
         ensures told { HasPut (entry who cmd.now reply.now ∷ []) seat.old.me seat.new.me }

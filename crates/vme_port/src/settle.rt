@@ -1,12 +1,14 @@
 //! The end of a port: its passes come together, and it gives the object back.
 ghost use Rattle.std.specs.Prelude.{◌≡◌, ◌<◌, ◌≤◌, ◌∷◌, [], false, length, map, vec_len, All, IfOk, IfErr};
 ghost use Rattle.vme_port.specs.Views.{view};
-ghost use Rattle.vme_port.specs.Passes.{account_of, IsCounted, Closes, Settled};
+ghost use Rattle.vme_port.specs.Passes.{account_of, IsCounted};
+ghost use Rattle.vme_port.specs.Settlements.{Closes, Settles};
 ghost use Rattle.vme_port.specs.Ports.{IsPassOf, port_id, opening, passes_of};
 
+use crate::home::Home;
 use crate::pass::Pass;
 use crate::port::Port;
-use crate::rule::{Gathering, Home, View};
+use crate::rule::{Gathering, View};
 use atomic_table::Seat;
 use vme_object::Object;
 
@@ -27,7 +29,7 @@ impl<O: Object> Port<O> {
     /// `Unsettled` where fewer passes are given than the port has, with all that was given.
     pub fn settle(self, passes: Vec<Pass<O>>) -> Result<(O, u64), Unsettled<O>>
         requires { All (IsPassOf self) passes.items }
-        ensures settled { IfOk result (λ r. Settled O.step (opening self) (passes_of self) passes.items r.0 r.1) }
+        ensures settled { IfOk result (λ r. Settles O.step (opening self) (passes_of self) passes.items r.0 r.1) }
         ensures not_all { IfErr result (λ u. vec_len passes < passes_of self) }
         ensures port { IfErr result (λ u. u.port ≡ self) }
         ensures passes { IfErr result (λ u. u.passes ≡ passes) }

@@ -1,6 +1,6 @@
-use Rattle.std.proofs.Common.{◌+◌, ◌^◌, ◌<◌, arith}
+use Rattle.std.proofs.Common.{◌+◌, ◌^◌, ◌<◌, ◌∙◌, arith}
 use Rattle.vme_port.specs.Passes.{seen_by, made_by}
-use Rattle.vme_port.proofs.Attempts.{out, put_none, put_one, rests_lost, shared_lost, rests_full, follows, is_full, made_fits, rests_one, adds}
+use Rattle.vme_port.proofs.Attempts.{out, put_none, put_one, rests_lost, shared_lost, rests_full, adds_none, is_full, made_fits, rests_one, adds_one}
 use Rattle.vme_port.proofs.port.Port.attempt.Goals as goal
 
 pub invariant_of-pass : goal.invariant_of-pass
@@ -40,10 +40,11 @@ invariant_of-pass-in_default g c =
     let rest = c.pass.invariant in
     rests_full _ _ _ _ _ _ _ rest (c.if-not-take.ensures.told rest.only rest.alone) _ _ c.in_default.ensures.done c.put_unchanged.ensures.told
 
-pub returns-in_default-clause-spent : goal.returns-in_default-clause-spent
-returns-in_default-clause-spent g c =
+pub returns-in_default-clause-adds : goal.returns-in_default-clause-adds
+returns-in_default-clause-adds g c =
     let rest = c.pass.invariant in
-    rw (← c.pass.view_is) (follows _ _ _ _ _ _ _ rest (c.if-not-take.ensures.told rest.only rest.alone) _ _ c.in_default.ensures.done c.put_unchanged.ensures.told _ _)
+    let port = c.put_unchanged.ensures.port ∙ c.in_default.ensures.port ∙ c.if-not-take.ensures.port in
+    rw (← c.pass.view_is) (adds_none _ _ _ _ _ _ _ rest (c.if-not-take.ensures.told rest.only rest.alone) _ _ c.in_default.ensures.done c.put_unchanged.ensures.told _ _ port)
 
 pub returns-in_default-clause-full : goal.returns-in_default-clause-full
 returns-in_default-clause-full g c =
@@ -66,7 +67,8 @@ invariant_of-pass-2 g c =
     let rest = c.pass.invariant in
     rests_one _ _ _ _ _ _ _ rest (c.if-not-take.ensures.told rest.only rest.alone) _ _ _ _ c.in-Some.ensures.done c.put_entry.ensures.told
 
-pub returns-clause-ok : goal.returns-clause-ok
-returns-clause-ok g c =
+pub returns-clause-adds : goal.returns-clause-adds
+returns-clause-adds g c =
     let rest = c.pass.invariant in
-    rw (← c.pass.view_is) (adds _ _ _ _ _ _ _ rest (c.if-not-take.ensures.told rest.only rest.alone) _ _ _ _ c.in-Some.ensures.done c.put_entry.ensures.told _ _)
+    let port = c.put_entry.ensures.port ∙ c.in-Some.ensures.port ∙ c.if-not-take.ensures.port in
+    rw (← c.pass.view_is) (adds_one _ _ _ _ _ _ _ rest (c.if-not-take.ensures.told rest.only rest.alone) _ _ _ _ c.in-Some.ensures.done c.put_entry.ensures.told _ _ port)

@@ -1,5 +1,5 @@
 use Rattle.std.proofs.Common.{ap, subst}
-use Rattle.vme_port.specs.Passes.{Closes}
+use Rattle.vme_port.specs.Settlements.{Closes}
 use Rattle.vme_port.specs.Ports.{opening, passes_of}
 use Rattle.vme_port.proofs.Settles.{settled}
 use Rattle.vme_port.proofs.port.Port.settle.Goals as goal

@@ -1,0 +1,49 @@
+//! What calls, one after another and in any threads, come to.
+ghost use Rattle.std.specs.Prelude.{◌≡◌, ◌+◌, ◌++◌, [], ℕ, List, take, length, Contains};
+ghost use Rattle.std.specs.List.{sum_by};
+ghost use Rattle.atomic_table.specs.Seated.{TableId};
+ghost use Rattle.vme_object.specs.declared.history.Entry.{Entry};
+ghost use Rattle.vme_object.specs.History.{own};
+ghost use Rattle.vme_object.specs.Each.{Each};
+ghost use Rattle.vme_port.specs.Passes.{PassView, IsUnused};
+ghost use Rattle.vme_port.specs.Calls.{Adds, Makes};
+ghost use Rattle.vme_port.specs.Settlements.{Settles, StandsIn};
+
+use vme_object::Object;
+
+/// A pass makes over one call what it adds, and over several what it makes over each, in order.
+pub fn calls_compose<O: Object>()
+    ensures none { (p : PassView O.Cmd O.Reply) → Makes [] p p }
+    ensures one { (start : O) (es : List (Entry O.Cmd O.Reply)) (p q : PassView O.Cmd O.Reply) →
+        Adds O.step start es p q → Makes es p q }
+    ensures more { (a b : List (Entry O.Cmd O.Reply)) (p q r : PassView O.Cmd O.Reply) →
+        Makes a p q → Makes b q r → Makes (a ++ b) p r }
+{}
+
+/// The calls of all passes make one history. Let a port be settled, and let a pass have made some
+/// entries since any moment of its own. Each of them has its one place in the history: behind all
+/// that the pass had seen at that moment and the entries that it made before this one, and with the
+/// reply of the step there. The history has no other entries than those of the passes, and as many
+/// as they made; and of a pass just what it made since it was unused.
+pub fn calls_make_one_history<O: Object>()
+    ensures placed { (start object : O) (k n : ℕ) (passes : List (PassView O.Cmd O.Reply))
+        (told : Settles O.step start k passes object n)
+        (es : List (Entry O.Cmd O.Reply)) (p q : PassView O.Cmd O.Reply) →
+        Contains passes q → Makes es p q →
+        Each (λ i e. StandsIn O.step start told.history p.seen (p.mine ++ take i es) e) es }
+    ensures one_place { (start : O) (h seen others mine : List (Entry O.Cmd O.Reply))
+        (e f : Entry O.Cmd O.Reply) → e.who ≡ f.who →
+        (a : StandsIn O.step start h seen mine e) → (b : StandsIn O.step start h others mine f) →
+        a.before ≡ b.before }
+    ensures no_others { (start object : O) (k n : ℕ) (passes : List (PassView O.Cmd O.Reply))
+        (told : Settles O.step start k passes object n) (e : Entry O.Cmd O.Reply) →
+        Contains told.history e →
+        (p : PassView O.Cmd O.Reply) × Contains passes p × Contains p.mine e }
+    ensures as_many { (start object : O) (k n : ℕ) (passes : List (PassView O.Cmd O.Reply))
+        (told : Settles O.step start k passes object n) →
+        length told.history ≡ sum_by (λ p. length p.mine) passes }
+    ensures parts { (start object : O) (k n : ℕ) (passes : List (PassView O.Cmd O.Reply))
+        (told : Settles O.step start k passes object n) (port : TableId) (who : ℕ)
+        (es : List (Entry O.Cmd O.Reply)) (p q : PassView O.Cmd O.Reply) →
+        IsUnused port who p → Makes es p q → Contains passes q → own who told.history ≡ es }
+{}
