@@ -25,6 +25,7 @@ impl<O: Object> Port<O> {
         taking: Taking,
     ) -> Result<O::Reply, TryFault>
         requires { IsPassOf self.now pass.old }
+        ensures pass { IsPassOf self.now pass.new }
         ensures adds { UnlessBusy result
             (Adds O.step (opening self.now) (entries_of pass.old.who cmd.now result) pass.old pass.new) }
         ensures busy { IfBusy result (pass.new ≡ pass.old) }
@@ -50,6 +51,7 @@ impl<O: Object> Port<O> {
     /// entries; neither adds an entry.
     pub fn try_call(&self, pass: &mut Pass<O>, cmd: &O::Cmd) -> Result<O::Reply, TryFault>
         requires { IsPassOf self.now pass.old }
+        ensures pass { IsPassOf self.now pass.new }
         ensures adds { UnlessBusy result
             (Adds O.step (opening self.now) (entries_of pass.old.who cmd.now result) pass.old pass.new) }
         ensures busy { IfBusy result (pass.new ≡ pass.old) }

@@ -1,1 +1,2 @@
 mod Totals
+mod Bumps

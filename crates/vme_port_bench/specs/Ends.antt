@@ -1,5 +1,5 @@
 -- How the program ends.
-use Rattle.std.specs.Prelude.{ℕ}
+use Rattle.std.specs.Prelude.{ℕ, Result, Ok, Err}
 use Rattle.vme_port_bench.specs.declared.fault.BenchFault.{BenchFault}
 use Rattle.vme_port_bench.specs.declared.fault.BenchFault.TheVariants.{Usage, Memory, Thread, Spent, Write}
 
@@ -10,3 +10,12 @@ exit_status_of Memory = 3
 exit_status_of Thread = 3
 exit_status_of Spent = 3
 exit_status_of Write = 3
+
+-- whether a run was refused for its arguments (this project's own)
+abbrev pub IsUsage : {A : Type 0} → Result A BenchFault → Type 0
+IsUsage (Err Usage) = Unit {0}
+IsUsage (Err Memory) = ⊥
+IsUsage (Err Thread) = ⊥
+IsUsage (Err Spent) = ⊥
+IsUsage (Err Write) = ⊥
+IsUsage (Ok outcome) = ⊥

@@ -1,15 +1,18 @@
 -- What the threads do with their passes.
-use Rattle.std.specs.Prelude.{ℕ, ◌≡◌}
+use Rattle.std.specs.Prelude.{ℕ, ◌≡◌, All}
 use Rattle.vme_object.specs.declared.counter.Counter.{Counter}
 use Rattle.vme_object.specs.declared.counter.CounterCmd.{CounterCmd}
+use Rattle.vme_object.specs.declared.counter.CounterCmd.TheVariants.{Bump}
 use Rattle.vme_port.specs.declared.port.Port.{Port}
 use Rattle.vme_port.specs.Passes.{PassView}
 use Rattle.vme_port.specs.Ports.{IsPassOf}
 use Rattle.vme_port_bench.specs.declared.worker.CallsOf.{CallsOf}
 
--- a pass of the port that made n calls (this project's own)
-abbrev pub HasMade : Port Counter CounterCmd ℕ → ℕ → PassView CounterCmd ℕ → Type 0
-HasMade port n p = IsPassOf port p × (p.made ≡ n)
+-- a pass of the port that made n entries, all of them bumps (this project's own)
+pub record HasBumped (port : Port Counter CounterCmd ℕ) (n : ℕ) (p : PassView CounterCmd ℕ) : Type 0 where
+  pub of_port : IsPassOf port p
+  pub count : p.made ≡ n
+  pub bumps : All (λ e. e.cmd ≡ Bump) p.mine
 
 -- two threads make as many calls of the same port (this project's own)
 abbrev pub IsSameWork : CallsOf → CallsOf → Type 0

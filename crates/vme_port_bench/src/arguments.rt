@@ -1,4 +1,5 @@
-ghost use Rattle.std.specs.Prelude.{◌≡◌, length, IfOk, IfErr};
+ghost use Rattle.std.specs.Prelude.{◌≡◌, OkIff, IfErr};
+ghost use Rattle.vme_port_bench.specs.Words.{AreTwoNumbers, arguments_of};
 
 use crate::fault::BenchFault;
 
@@ -14,15 +15,19 @@ pub struct Arguments {
 /// Reads the words of the command line, of which the first is the program's name.
 ///
 /// # Errors
-/// `Usage` where there are not two more, each a number.
+/// `Usage` where there are not two more, each a number of at most 64 bits.
 pub fn read_arguments(words: &[String]) -> Result<Arguments, BenchFault>
-    ensures words { IfOk result (λ _. length words.now ≡ 3) }
+    ensures read { OkIff result (AreTwoNumbers words.now) (arguments_of words.now) }
     ensures usage { IfErr result (λ fault. fault ≡ BenchFault.Usage) }
 {
     let [_, threads, calls] = words else {
         return Err(BenchFault::Usage);
     };
-    let threads = threads.parse().map_err(|_| BenchFault::Usage)?;
-    let calls = calls.parse().map_err(|_| BenchFault::Usage)?;
+    let Ok(threads) = threads.parse() else {
+        return Err(BenchFault::Usage);
+    };
+    let Ok(calls) = calls.parse() else {
+        return Err(BenchFault::Usage);
+    };
     Ok(Arguments { threads, calls })
 }

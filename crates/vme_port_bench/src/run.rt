@@ -1,6 +1,7 @@
-ghost use Rattle.std.specs.Prelude.{◌≡◌, ◌*◌, ◌≤◌, All, IfOk, vec_len, vec_capacity};
-ghost use Rattle.vme_port.specs.Ports.{IsPassOf, passes_of};
-ghost use Rattle.vme_port_bench.specs.Workers.{HasMade, IsSameWork};
+ghost use Rattle.std.specs.Prelude.{◌≡◌, ◌↔◌, ◌⊎◌, ◌<◌, ◌*◌, ◌^◌, ◌≤◌, All, IfOk, vec_len, vec_capacity};
+ghost use Rattle.vme_port.specs.Ports.{IsPassOf, opening, passes_of};
+ghost use Rattle.vme_port_bench.specs.Ends.{IsUsage};
+ghost use Rattle.vme_port_bench.specs.Workers.{HasBumped, IsSameWork};
 
 use crate::arguments::Arguments;
 use crate::fault::BenchFault;
@@ -21,6 +22,18 @@ pub struct Outcome {
     pub steps: u64,
 }
 
+impl Outcome {
+    /// What a counter and the number of its steps come to.
+    fn of(counter: Counter, steps: u64) -> Outcome
+        ensures number { result.number ≡ counter.number }
+        ensures steps { result.steps ≡ steps }
+        ensures fits { steps < 2 ^ 64 }
+    {
+        let Counter { number } = counter;
+        Outcome { number, steps }
+    }
+}
+
 /// A thread that works, and brings its pass back.
 type Child<'a> = PromisedHandle<Option<Pass<Counter>>, CallsOf<'a>>;
 
@@ -34,24 +47,25 @@ pub fn run<R: Threads + Wait + Sync>(
     alloc: Global,
     arguments: Arguments,
 ) -> Result<Outcome, BenchFault>
-    ensures { IfOk result (λ o. o.steps ≡ arguments.threads * arguments.calls) }
+    ensures number { IfOk result (λ o. o.number ≡ arguments.threads * arguments.calls) }
+    ensures steps { IfOk result (λ o. o.steps ≡ arguments.threads * arguments.calls) }
+    ensures usage { IsUsage result ↔ ((arguments.threads ≡ 0) ⊎ (21 < arguments.threads)) }
 {
     let (port, passes) = open(alloc, arguments.threads)?;
     let passes = call_all(rt, alloc, &port, passes, arguments.calls)?;
     match port.settle(passes) {
-        Ok((counter, steps)) => Ok(Outcome {
-            number: counter.number,
-            steps,
-        }),
+        Ok((counter, steps)) => Ok(Outcome::of(counter, steps)),
         Err(_) => unreachable!(),
     }
 }
 
 /// A port of a counter at 0, with its passes.
 fn open(alloc: Global, threads: usize) -> Result<(Port<Counter>, Vec<Pass<Counter>>), BenchFault>
+    ensures opening { IfOk result (λ r. (opening r.0).number ≡ 0) }
     ensures passes { IfOk result (λ r. passes_of r.0 ≡ threads) }
     ensures count { IfOk result (λ r. vec_len r.1 ≡ threads) }
-    ensures unused { IfOk result (λ r. All (HasMade r.0 0) r.1.items) }
+    ensures unused { IfOk result (λ r. All (HasBumped r.0 0) r.1.items) }
+    ensures usage { IsUsage result ↔ ((threads ≡ 0) ⊎ (21 < threads)) }
 {
     match Port::new(alloc, Counter { number: 0 }, threads) {
         Ok(opened) => Ok(opened),
@@ -68,17 +82,19 @@ fn call_all<R: Threads + Wait + Sync>(
     passes: Vec<Pass<Counter>>,
     calls: u64,
 ) -> Result<Vec<Pass<Counter>>, BenchFault>
-    requires { All (HasMade port.now 0) passes.items }
+    requires { All (HasBumped port.now 0) passes.items }
     ensures count { IfOk result (λ r. vec_len r ≡ vec_len passes) }
-    ensures made { IfOk result (λ r. All (HasMade port.entry.now calls) r.items) }
+    ensures made { IfOk result (λ r. All (HasBumped port.entry.now calls) r.items) }
+    ensures usage { ¬ (IsUsage result) }
 {
     thread::scope(
         thread::scope_env(),
         rt,
         move |scope| -> Result<Vec<Pass<Counter>>, BenchFault>
-            requires { All (HasMade port.now 0) passes.items }
+            requires { All (HasBumped port.now 0) passes.items }
             ensures count { IfOk result (λ r. vec_len r ≡ vec_len passes) }
-            ensures made { IfOk result (λ r. All (HasMade port.entry.now calls) r.items) }
+            ensures made { IfOk result (λ r. All (HasBumped port.entry.now calls) r.items) }
+            ensures usage { ¬ (IsUsage result) }
         {
             let promise = CallsOf { port, calls };
             let count = passes.len();
@@ -103,11 +119,12 @@ fn start_all<'s, E, R: Threads + Wait + Sync>(
     passes: Vec<Pass<Counter>>,
     children: &mut Vec<Child<'s>>,
 ) -> Result<(), BenchFault>
-    requires unused { All (HasMade promise.port.now 0) passes.items }
+    requires unused { All (HasBumped promise.port.now 0) passes.items }
     requires none { vec_len children.old ≡ 0 }
     requires room { vec_len passes ≤ vec_capacity children.old }
     ensures count { IfOk result (λ _. vec_len children.new ≡ vec_len passes) }
     ensures promised { All (λ c. IsSameWork c.promise promise.entry) children.new.items }
+    ensures usage { ¬ (IsUsage result) }
 {
     let CallsOf { port, calls } = promise;
     for pass in passes {
@@ -130,7 +147,8 @@ fn join_all<'s, R: Threads>(
     requires none { vec_len passes.old ≡ 0 }
     requires room { vec_len children ≤ vec_capacity passes.old }
     ensures count { IfOk result (λ _. vec_len passes.new ≡ vec_len children.entry) }
-    ensures made { IfOk result (λ _. All (HasMade promise.entry.port.now promise.entry.calls) passes.new.items) }
+    ensures made { IfOk result (λ _. All (HasBumped promise.entry.port.now promise.entry.calls) passes.new.items) }
+    ensures usage { ¬ (IsUsage result) }
 {
     for child in children {
         let Some(pass) = child.join(rt) else {

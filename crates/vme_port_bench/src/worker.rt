@@ -1,12 +1,12 @@
 ghost use Rattle.std.specs.Prelude.{IfSome};
-ghost use Rattle.vme_port_bench.specs.Workers.{HasMade};
+ghost use Rattle.vme_port_bench.specs.Workers.{HasBumped};
 
 use std::sync::Wait;
 use std::thread::Promise;
 use vme_object::{Counter, CounterCmd};
 use vme_port::{Pass, Port};
 
-/// What a thread promises: to bring back a pass of the port that made so many calls.
+/// What a thread promises: to bring back a pass of the port that counted so often.
 #[derive(Clone, Copy)]
 pub struct CallsOf<'a> {
     /// The port that it calls.
@@ -16,7 +16,7 @@ pub struct CallsOf<'a> {
 }
 
 impl<'a> Promise<Option<Pass<Counter>>> for CallsOf<'a> {
-    ghost kept_by = { λ p r. IfSome r (HasMade p.port.now p.calls) };
+    ghost kept_by = { λ p r. IfSome r (HasBumped p.port.now p.calls) };
 }
 
 /// Makes so many calls with this pass, each of which counts one up. `None` where the history is full.
@@ -26,8 +26,8 @@ pub fn work<R: Wait>(
     mut pass: Pass<Counter>,
     calls: u64,
 ) -> Option<Pass<Counter>>
-    requires { HasMade port.now 0 pass }
-    ensures { IfSome result (HasMade port.entry.now calls) }
+    requires { HasBumped port.now 0 pass }
+    ensures { IfSome result (HasBumped port.entry.now calls) }
 {
     for _ in 0..calls {
         // A call that is refused adds nothing, which shows in the number of those made.

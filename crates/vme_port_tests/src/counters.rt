@@ -1,51 +1,18 @@
 //! Ports of counters, in one thread and in several.
-ghost use Rattle.std.specs.Prelude.{◌≡◌, All, IfSome, vec_len};
-ghost use Rattle.vme_port.specs.Ports.{IsPassOf, passes_of};
+ghost use Rattle.std.specs.Prelude.{◌≡◌, All, IfSome};
+ghost use Rattle.vme_port.specs.Ports.{IsPassOf};
 
-use crossbeam_utils::Backoff;
+use crate::ports::{next_pass, open};
 use std::alloc::Global;
 use std::process::Abort;
-use std::sync::atomic::{AtomicBool, Ordering};
-use std::sync::{Arc, Wait};
+use std::sync::Wait;
 use std::test::Fail;
 use std::thread::{Threads, join};
-use vme_object::{Counter, CounterCmd, Held, Object};
-use vme_port::{Pass, Port, PortFault, TryFault, Unsettled};
+use vme_object::{Counter, CounterCmd};
+use vme_port::{Pass, Port, PortFault, Unsettled};
 
 /// How many calls each thread makes.
 const CALLS: usize = 1_000;
-
-/// How often a thread looks for a sign.
-const LOOKS: u32 = 10_000_000;
-
-/// A port of an object, with all its passes.
-fn open<O: Object + Drop>(
-    rt: &impl Abort,
-    alloc: Global,
-    object: O,
-    count: usize,
-) -> (Port<O>, Vec<Pass<O>>)
-    ensures port { All (IsPassOf result.0) result.1.items }
-    ensures passes { passes_of result.0 ≡ count }
-{
-    match Port::new(alloc, object, count) {
-        Ok(opened) => opened,
-        Err(PortFault::OutOfMemory) => panic!(rt; "no memory"),
-        Err(PortFault::BadCount) => panic!(rt; "a bad count"),
-    }
-}
-
-/// The last of some passes.
-fn next_pass<O: Object>(rt: &impl Abort, port: &Port<O>, passes: &mut Vec<Pass<O>>) -> Pass<O>
-    requires { All (IsPassOf port.now) passes.old.items }
-    ensures pass { IsPassOf port.now result }
-    ensures passes { All (IsPassOf port.now) passes.new.items }
-{
-    match passes.pop() {
-        Some(pass) => pass,
-        None => panic!(rt; "no pass"),
-    }
-}
 
 /// What a thread brings back.
 #[derive(Drop)]
@@ -241,63 +208,5 @@ fn a_port_without_one_pass_is_not_settled(rt: HostRuntime) -> Result<(), Fail> {
     };
     assert_eq!(&rt; bumped, 2);
     assert_eq!(&rt; second.who(), 1);
-    Ok(())
-}
-
-/// Looks for a sign, for a while.
-fn seen(sign: &AtomicBool) -> bool {
-    let backoff = Backoff::new();
-    for _ in 0..LOOKS {
-        if sign.load(Ordering::SeqCst) {
-            return true;
-        }
-        backoff.snooze();
-    }
-    false
-}
-
-/// A try while another thread is inside its call, and one after it.
-fn try_meanwhile<R: Threads + Wait + Abort + Sync>(
-    rt: &R,
-    port: &Port<Held>,
-    entered: &AtomicBool,
-    release: &AtomicBool,
-    mut first: Pass<Held>,
-    mut second: Pass<Held>,
-)
-    requires first { IsPassOf port.now first }
-    requires second { IsPassOf port.now second }
-{
-    let (reply, mut second) = join(
-        rt,
-        move || -> Option<u64>
-            requires { IsPassOf port.now first }
-        { port.call(rt, &mut first, &CounterCmd::Bump).ok() },
-        move || -> Pass<Held>
-            requires { IsPassOf port.now second }
-            ensures { IsPassOf port.entry.now result }
-        {
-            assert!(rt; seen(entered), "the call began");
-            let busy = port.try_call(&mut second, &CounterCmd::Bump);
-            assert!(rt; matches!(&busy, Err(TryFault::Busy)));
-            assert_eq!(rt; second.made(), 0);
-            release.store(true, Ordering::SeqCst);
-            second
-        },
-    );
-    assert_eq!(rt; reply, Some(0));
-    let after = port.try_call(&mut second, &CounterCmd::Bump);
-    assert!(rt; matches!(&after, Ok(1)));
-}
-
-#[test]
-fn a_port_is_busy_while_a_call_is_inside(rt: HostRuntime) -> Result<(), Fail> {
-    let entered = Arc::new(rt.alloc(), AtomicBool::new(false))?;
-    let release = Arc::new(rt.alloc(), AtomicBool::new(false))?;
-    let held = Held::new(entered.clone()?, release.clone()?);
-    let (port, mut passes) = open(&rt, rt.alloc(), held, 2);
-    let second = next_pass(&rt, &port, &mut passes);
-    let first = next_pass(&rt, &port, &mut passes);
-    try_meanwhile(&rt, &port, &entered, &release, first, second);
     Ok(())
 }

@@ -6,3 +6,7 @@
 mod boards;
 #[cfg(test)]
 mod counters;
+#[cfg(test)]
+mod held;
+#[cfg(test)]
+mod ports;

@@ -1,0 +1,37 @@
+//! What the tests of ports share.
+ghost use Rattle.std.specs.Prelude.{◌≡◌, All};
+ghost use Rattle.vme_port.specs.Ports.{IsPassOf, passes_of};
+
+use std::alloc::Global;
+use std::process::Abort;
+use vme_object::Object;
+use vme_port::{Pass, Port, PortFault};
+
+/// A port of an object, with all its passes.
+pub fn open<O: Object + Drop>(
+    rt: &impl Abort,
+    alloc: Global,
+    object: O,
+    count: usize,
+) -> (Port<O>, Vec<Pass<O>>)
+    ensures port { All (IsPassOf result.0) result.1.items }
+    ensures passes { passes_of result.0 ≡ count }
+{
+    match Port::new(alloc, object, count) {
+        Ok(opened) => opened,
+        Err(PortFault::OutOfMemory) => panic!(rt; "no memory"),
+        Err(PortFault::BadCount) => panic!(rt; "a bad count"),
+    }
+}
+
+/// The last of some passes.
+pub fn next_pass<O: Object>(rt: &impl Abort, port: &Port<O>, passes: &mut Vec<Pass<O>>) -> Pass<O>
+    requires { All (IsPassOf port.now) passes.old.items }
+    ensures pass { IsPassOf port.now result }
+    ensures passes { All (IsPassOf port.now) passes.new.items }
+{
+    match passes.pop() {
+        Some(pass) => pass,
+        None => panic!(rt; "no pass"),
+    }
+}
