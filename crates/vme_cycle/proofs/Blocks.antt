@@ -99,7 +99,7 @@ begins_aligned request block found =
     ]
 
 -- the row of datum i of a block
-block_datum_row :
+pub block_datum_row :
     (row : CodeRow) (request : Request) (i : ℕ) → IsLawful row request → is_block_request request ≡ true
     → (l : Location) × IsBlockRow (address_of request i) (datum_len request) l
 block_datum_row row request i is block =

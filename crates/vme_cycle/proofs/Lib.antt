@@ -1,4 +1,6 @@
+mod Ands
 mod Lawful
 mod Blocks
 pub mod Transfers
+pub mod Lengths
 pub mod Numbers

@@ -1,5 +1,5 @@
 -- The transfer of a lawful request, and what a slave senses of each of its data.
-use Rattle.std.proofs.Common.{◌≡◌, ℕ, ◌%◌, ◌<◌, zero, Bool, Option, None, Some, Result, Ok, Err, ap, sym, ◌∙◌, arith, refl, unwrap_or}
+use Rattle.std.proofs.Common.{◌≡◌, ℕ, ◌%◌, ◌<◌, zero, Option, None, Some, Result, Ok, Err, ap, sym, ◌∙◌, arith, refl, unwrap_or}
 use Rattle.std.specs.Prelude.{nat_le, if◌then◌else◌}
 use Rattle.vme_am.specs.declared.code.AmFault.{AmFault}
 use Rattle.vme_am.specs.Codes.{CodeRow, read_code}
@@ -7,13 +7,14 @@ use Rattle.vme_am.specs.Kinds.{is_block}
 use Rattle.vme_lanes.specs.declared.location.Location.{Location}
 use Rattle.vme_lanes.specs.declared.location.Location.TheVariants.{Byte0}
 use Rattle.vme_lanes.specs.Rows.{row_of, location_at, location_sensed}
+use Rattle.vme_lanes.proofs.Tables.{found_row}
 use Rattle.vme_cycle.specs.declared.request.Request.{Request}
 use Rattle.vme_cycle.specs.declared.fault.CycleFault.{CycleFault}
 use Rattle.vme_cycle.specs.Requests.{code_of, datum_len, count_of, address_of}
 use Rattle.vme_cycle.specs.Lawful.{Transfer, first_refusal, transfer_with, refusal_or, transfer_of, IsLawfulTransfer}
 use Rattle.vme_cycle.specs.Parts.{IsLawful}
 use Rattle.vme_cycle.specs.SignalLines.{SignalLines, sensed_at}
-use Rattle.vme_cycle.specs.Plans.{location_from, own_location, shown_strobes, signals_of}
+use Rattle.vme_cycle.specs.Plans.{location_from, own_location, signals_of}
 use Rattle.vme_cycle.proofs.Lawful.{lawful}
 use Rattle.vme_cycle.proofs.Blocks.{datum_found, counts_on}
 
@@ -39,6 +40,23 @@ comes_from request t h = comes_by request t (first_refusal request) (read_code (
 -- the transfer of a request is lawful
 pub transfer_is_lawful : (request : Request) (t : Transfer) → transfer_of request ≡ Ok t → IsLawfulTransfer t
 transfer_is_lawful request t h = ap transfer_of (comes_from request t h).same ∙ h
+
+-- the same of a request that is the same
+pub same_transfer :
+    (request same : Request) (code : CodeRow) (t : Transfer) → transfer_of request ≡ Ok t → code ≡ t.am → same ≡ request
+    → transfer_of same ≡ Ok (record { am = code; request = same })
+same_transfer request same code t h row copy =
+    ap transfer_of copy ∙ h
+    ∙ ap (λ (r : CodeRow). Ok (record { am = r; request = t.request })) (sym row)
+    ∙ ap (λ (r : Request). Ok (record { am = code; request = r })) ((comes_from request t h).same ∙ sym copy)
+
+-- the row of its code
+pub row_of_lawful : (t : Transfer) → IsLawfulTransfer t → read_code (code_of t.request) ≡ Ok t.am
+row_of_lawful t h = (comes_from t.request t h).row
+
+-- it has no refusal
+pub none_of_lawful : (t : Transfer) → IsLawfulTransfer t → first_refusal t.request ≡ None
+none_of_lawful t h = (comes_from t.request t h).none
 
 -- part by part
 pub lawful_parts : (t : Transfer) → IsLawfulTransfer t → IsLawful t.am t.request
@@ -68,3 +86,12 @@ own_sensed_at t i at is less same =
     sensed_alike (signals_of t i) at (address_of t.request i) same
     ∙ counts_on t.am t.request i first.0 own.0 (signals_of t i) is less first.1 own.1 refl (rw (← first_is, ← here) refl)
     ∙ ap Some (sym here)
+
+-- that location has the place and the length of the datum
+pub own_row :
+    (t : Transfer) (i : ℕ) → IsLawful t.am t.request → i < count_of t.request
+    → ((row_of (own_location t i)).first ≡ address_of t.request i % 4) × ((row_of (own_location t i)).len ≡ datum_len t.request)
+own_row t i is less =
+    let own = datum_found t.am t.request i is less in
+    let row = found_row (address_of t.request i) (datum_len t.request) own.0 own.1 in
+    rw (own_is t i own.0 own.1) row

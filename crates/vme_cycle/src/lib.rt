@@ -9,9 +9,11 @@ mod modify;
 mod plan;
 mod request;
 mod signals;
+mod transfer;
 
 pub use fault::CycleFault;
 pub use modify::Modify;
 pub use plan::Plan;
 pub use request::{Block, Request};
 pub use signals::Signals;
+pub use transfer::Transfer;

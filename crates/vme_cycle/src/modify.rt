@@ -1,10 +1,10 @@
 ghost use Rattle.std.specs.Prelude.{◌≡◌, ◌<◌, ◌≤◌, ◌^◌, [], length};
 ghost use Rattle.vme_cycle.specs.Functions.{number_from, bytes_onto, sum_of, with_top_bit};
 
-use vme_lanes::Datum;
+use vme_lanes::{Datum, copy_bytes};
 
 /// The function of a read-modify-write cycle: what is written in the place of what was read.
-#[derive(Debug, Drop)]
+#[derive(Debug, Drop, PartialEq, Eq)]
 pub enum Modify {
     /// Bit 7 of the byte at the lowest address is set.
     Set,
@@ -28,15 +28,30 @@ impl Modify {
     {
         match self {
             Modify::Set => with_top_bit(old),
-            Modify::Exchange(put) => copy(put),
+            Modify::Exchange(put) => copy_bytes(put),
             Modify::Add(by) => sum_of(old, by),
             Modify::Compare { expect, put } => {
                 if old.as_slice() == expect.as_slice() {
-                    copy(put)
+                    copy_bytes(put)
                 } else {
-                    copy(old)
+                    copy_bytes(old)
                 }
             }
+        }
+    }
+
+    /// The same function once more. It takes no memory.
+    pub fn copy(&self) -> Modify
+        ensures { result ≡ self.now }
+    {
+        match self {
+            Modify::Set => Modify::Set,
+            Modify::Exchange(put) => Modify::Exchange(copy_bytes(put)),
+            Modify::Add(by) => Modify::Add(copy_bytes(by)),
+            Modify::Compare { expect, put } => Modify::Compare {
+                expect: copy_bytes(expect),
+                put: copy_bytes(put),
+            },
         }
     }
 
@@ -53,16 +68,10 @@ impl Modify {
     }
 }
 
-fn copy(datum: &Datum) -> Datum
-    ensures { result.items ≡ datum.now.items }
-{
-    Datum::try_from(datum.as_slice()).unwrap()
-}
-
 fn with_top_bit(old: &Datum) -> Datum
     ensures { result.items ≡ with_top_bit old.now.items }
 {
-    let mut new = copy(old);
+    let mut new = copy_bytes(old);
     if let Some(first) = new.as_mut_slice().first_mut() {
         *first |= 0x80;
     }

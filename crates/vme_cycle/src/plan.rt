@@ -1,10 +1,10 @@
-ghost use Rattle.std.specs.Prelude.{◌≡◌, ◌<◌, ◌≤◌, ◌*◌, ◌-◌, ◌%◌, ◌↔◌, length, Some, None, IsSome, IsTrue, IsOk, IfErr, IfSome};
+ghost use Rattle.std.specs.Prelude.{◌≡◌, ◌<◌, ◌≤◌, ◌+◌, ◌*◌, ◌^◌, ◌-◌, ◌%◌, ◌↔◌, length, Some, None, IsSome, IsTrue, IsOk, IfErr, IfSome};
 ghost use Rattle.vme_am.specs.Spaces.{addresses_of};
 ghost use Rattle.vme_lanes.specs.Rows.{row_of, location_at};
 ghost use Rattle.std.specs.Option.{option_map};
 ghost use Rattle.vme_cycle.specs.Functions.{has_len};
 ghost use Rattle.vme_cycle.specs.Requests.{addr_of, function_of, reads, datum_len, count_of, address_of};
-ghost use Rattle.vme_cycle.specs.Lawful.{first_refusal, transfer_of};
+ghost use Rattle.vme_cycle.specs.Lawful.{first_refusal, transfer_of, IsLawfulTransfer};
 ghost use Rattle.vme_cycle.specs.Parts.{IsLawful};
 ghost use Rattle.vme_cycle.specs.SignalLines.{row_len, first_byte, sensed_at, len_at};
 ghost use Rattle.vme_cycle.specs.Plans.{shown_strobes, own_location, signals_of, write_half_of};
@@ -67,6 +67,14 @@ impl<'a> Plan<'a> {
         Ok(Plan { am, request })
     }
 
+    /// The plan of a request that is known to be lawful, with the address modifier of its code.
+    pub(crate) fn of_lawful(am: Am, request: &'a Request) -> Plan<'a>
+        requires { IsLawfulTransfer (record { am = am; request = request.now }) }
+        ensures { result ≡ record { am = am; request = request.now } }
+    {
+        Plan { am, request }
+    }
+
     /// The request, which is lawful.
     #[tactic(auto, using(crate::proofs::Lawful::lawful))]
     fn request(&self) -> &'a Request
@@ -81,6 +89,7 @@ impl<'a> Plan<'a> {
         ensures value { result ≡ count_of self.now.request }
         ensures some { 0 < result }
         ensures unit { datum_len self.now.request * result ≤ 256 }
+        ensures end { addr_of self.now.request + datum_len self.now.request * result ≤ 2 ^ 32 }
     {
         self.request().count()
     }
@@ -97,6 +106,7 @@ impl<'a> Plan<'a> {
     pub fn modify(&self) -> Option<&Modify>
         ensures value { option_map (λ f. f.now) result ≡ function_of self.now.request }
         ensures len { IfSome result (λ f. IsTrue (has_len f.now (datum_len self.now.request))) }
+        ensures one { IsSome result → count_of self.now.request ≡ 1 }
     {
         self.request().function()
     }

@@ -3,7 +3,7 @@ ghost use Rattle.vme_cycle.specs.Counts.{is_single_len, is_block_len, is_modify_
 
 use crate::modify::Modify;
 use arrayvec::ArrayVec;
-use vme_lanes::{Datum, Location};
+use vme_lanes::{Datum, Location, copy_bytes};
 
 /// The bytes of a block, in order of address.
 pub type Block = ArrayVec<u8, 256>;
@@ -13,7 +13,7 @@ const BOUNDARY: u64 = 256;
 
 /// What a master asks of the bus. `am` is the address modifier code, `addr` the address of the
 /// first byte, `n` the number of bytes of each datum.
-#[derive(Debug, Drop)]
+#[derive(Debug, Drop, PartialEq, Eq)]
 pub enum Request {
     /// A read of `n` bytes.
     Read {
@@ -90,6 +90,55 @@ impl Request {
     ghost use Rattle.std.specs.Option.{option_map};
     ghost use Rattle.vme_cycle.specs.Requests.{code_of, addr_of, is_block_request, function_of, reads, datum_len, count_of, is_counted, datum_of, span_of};
     ghost use Rattle.vme_cycle.specs.Lawful.{is_aligned_kind, first_location, crosses_boundary};
+
+    /// The same request once more. It takes no memory.
+    pub fn copy(&self) -> Request
+        ensures { result ≡ self.now }
+    {
+        match self {
+            Request::Read { am, addr, n } => Request::Read {
+                am: *am,
+                addr: *addr,
+                n: *n,
+            },
+            Request::Write { am, addr, bytes } => Request::Write {
+                am: *am,
+                addr: *addr,
+                bytes: copy_bytes(bytes),
+            },
+            Request::BlockRead { am, addr, n, count } => Request::BlockRead {
+                am: *am,
+                addr: *addr,
+                n: *n,
+                count: *count,
+            },
+            Request::BlockWrite { am, addr, n, bytes } => Request::BlockWrite {
+                am: *am,
+                addr: *addr,
+                n: *n,
+                bytes: copy_bytes(bytes),
+            },
+            Request::BlockFill {
+                am,
+                addr,
+                n,
+                count,
+                bytes,
+            } => Request::BlockFill {
+                am: *am,
+                addr: *addr,
+                n: *n,
+                count: *count,
+                bytes: copy_bytes(bytes),
+            },
+            Request::Modify { am, addr, n, f } => Request::Modify {
+                am: *am,
+                addr: *addr,
+                n: *n,
+                f: f.copy(),
+            },
+        }
+    }
 
     pub(crate) fn code(&self) -> u8
         ensures { result ≡ code_of self.now }

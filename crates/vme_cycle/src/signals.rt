@@ -8,7 +8,7 @@ use vme_lanes::{DataLines, Location, Strobes, place};
 
 /// The lines of one cycle: the address modifier, the address lines from A02 up, the strobes with
 /// A01 and LWORD*, WRITE*, and the data lines. The strobes are always those of a byte location.
-#[derive(Clone, Copy, Debug)]
+#[derive(Clone, Copy, Debug, PartialEq, Eq)]
 pub struct Signals {
     am: Am,
     addr: u32,

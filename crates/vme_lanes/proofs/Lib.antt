@@ -1,2 +1,3 @@
 mod Full
 pub mod Tables
+pub mod Placing

@@ -1,6 +1,7 @@
 -- No two rows of the table have the same strobes, nor the same first byte and length.
-use Rattle.std.proofs.Common.{◌≡◌, ℕ, ◌%◌, ◌&&◌, find, Some, Option, refl, ap, sym, ◌∙◌}
+use Rattle.std.proofs.Common.{◌≡◌, ℕ, ◌%◌, Bool, true, ◌&&◌, List, [], ◌∷◌, find, Some, Option, refl, ap, sym, ◌∙◌, inl, inr}
 use Rattle.std.specs.Prelude.{◌==◌}
+use Rattle.std.proofs.lemmas.Bool.{cases_Bool, and_parts, eqb-true}
 use Rattle.vme_lanes.specs.declared.location.Location.{Location}
 use Rattle.vme_lanes.specs.declared.location.Location.TheVariants.{Byte0, Byte1, Byte2, Byte3, Bytes01, Bytes23, Bytes03, Bytes02, Bytes13, Bytes12}
 use Rattle.vme_lanes.specs.Rows.{row_of, locations, location_at, location_sensed}
@@ -40,3 +41,19 @@ own_row Bytes12 = refl
 pub own_found : (l : Location) (addr : ℕ) → (row_of l).first ≡ addr % 4 → location_at addr (row_of l).len ≡ Some l
 unfolding row_from location_at
 own_found l addr h = ap (λ first. row_from first (row_of l).len) (sym h) ∙ own_row l
+
+-- what is found passes the test
+find_passes : (test : Location → Bool) (ls : List Location) (l : Location) → find test ls ≡ Some l → test l ≡ true
+find_passes test [] l h = absurd cc
+find_passes test (m ∷ ls) l h =
+    elim (cases_Bool (test m)) [
+      | inl passes ↦ let same : m ≡ l = let found = rw passes at h in cc in ap test (sym same) ∙ passes
+      | inr fails ↦ find_passes test ls l (rw fails at h)
+    ]
+
+-- a location that is found has the place and the length that were looked for
+pub found_row : (addr n : ℕ) (l : Location) → location_at addr n ≡ Some l → ((row_of l).first ≡ addr % 4) × ((row_of l).len ≡ n)
+unfolding location_at
+found_row addr n l h =
+    let both = and_parts _ _ (find_passes (λ m. (row_of m).first == addr % 4 && (row_of m).len == n) locations l h) in
+    (eqb-true _ _ both.0, eqb-true _ _ both.1)

@@ -7,5 +7,5 @@
 mod lines;
 mod location;
 
-pub use lines::{DataLines, Datum, pick, place, placed_is_picked};
+pub use lines::{DataLines, Datum, copy_bytes, pick, place, placed_is_picked};
 pub use location::{Location, Strobes, places_are_found, strobes_are_sensed};

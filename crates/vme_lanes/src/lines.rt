@@ -9,6 +9,13 @@ use arrayvec::ArrayVec;
 /// The bytes of one cycle, in order of address.
 pub type Datum = ArrayVec<u8, 8>;
 
+/// The same bytes once more. It takes no memory.
+pub fn copy_bytes<const N: usize>(bytes: &ArrayVec<u8, N>) -> ArrayVec<u8, N>
+    ensures { result ≡ bytes.now }
+{
+    ArrayVec::try_from(bytes.as_slice()).unwrap()
+}
+
 /// The data lines by lanes, from D31-D24 to D07-D00: each carries a byte or nothing.
 #[derive(Clone, Copy, Debug, PartialEq, Eq)]
 pub struct DataLines {
@@ -73,6 +80,7 @@ pub fn pick(location: Location, lines: DataLines) -> Datum
 }
 
 /// What is placed on the lanes of a location is picked from them.
+#[tactic(auto, using(crate::proofs::Placing::lanes_carry, crate::proofs::Placing::bytes_again))]
 pub fn placed_is_picked()
     ensures carries { (l : Location) (bytes : List ℕ) →
         length bytes ≡ (row_of l).len → IsTrue (carries l (lanes_with l bytes)) }

@@ -1,8 +1,11 @@
+ghost use Rattle.std.specs.Prelude.{◌≡◌};
+ghost use Rattle.std.specs.Option.{option_map};
+
 use vme_cycle::{Modify, Signals};
-use vme_lanes::Datum;
+use vme_lanes::{Datum, copy_bytes};
 
 /// A command to a board, by one of its two ports.
-#[derive(Debug, Drop)]
+#[derive(Debug, Drop, PartialEq, Eq)]
 pub enum BoardCmd {
     /// A read of `n` bytes from `offset` on, by the local port: one, two or four.
     LocalRead {
@@ -27,4 +30,41 @@ pub enum BoardCmd {
         at: u32,
         f: Option<Modify>,
     },
+}
+
+impl BoardCmd {
+    /// The same command once more. It takes no memory.
+    pub fn copy(&self) -> BoardCmd
+        ensures { result ≡ self.now }
+    {
+        match self {
+            BoardCmd::LocalRead { offset, n } => BoardCmd::LocalRead {
+                offset: *offset,
+                n: *n,
+            },
+            BoardCmd::LocalWrite { offset, bytes } => BoardCmd::LocalWrite {
+                offset: *offset,
+                bytes: copy_bytes(bytes),
+            },
+            BoardCmd::LocalModify { offset, n, f } => BoardCmd::LocalModify {
+                offset: *offset,
+                n: *n,
+                f: f.copy(),
+            },
+            BoardCmd::Cycle { signals, at, f } => BoardCmd::Cycle {
+                signals: *signals,
+                at: *at,
+                f: copy_function(f.as_ref()),
+            },
+        }
+    }
+}
+
+fn copy_function(f: Option<&Modify>) -> Option<Modify>
+    ensures { result ≡ option_map (λ f. f.now) f.entry }
+{
+    match f {
+        Some(f) => Some(f.copy()),
+        None => None,
+    }
 }

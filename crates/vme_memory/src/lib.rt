@@ -12,5 +12,7 @@ mod reply;
 pub use board::{ByteMemory, MemoryFault};
 pub use class::{Class, Width8To32};
 pub use command::BoardCmd;
-pub use laws::{bytes_are_overwritten, written_is_read};
+pub use laws::{
+    bytes_are_overwritten, cycles_are_the_requests_own, replies_have_their_form, written_is_read,
+};
 pub use reply::Reply;

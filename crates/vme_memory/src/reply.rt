@@ -1,7 +1,7 @@
 use vme_lanes::Datum;
 
 /// What a board replies to one cycle.
-#[derive(Debug, Drop)]
+#[derive(Debug, Drop, PartialEq, Eq)]
 pub enum Reply {
     /// The bytes that were read, in order of address.
     Bytes(Datum),
