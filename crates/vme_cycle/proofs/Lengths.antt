@@ -1,12 +1,12 @@
 -- What a slave senses of a datum, wherever it has counted to, is as long as the datum.
-use Rattle.std.proofs.Common.{◌≡◌, ℕ, ◌%◌, ◌<◌, zero, Bool, true, false, not, find, Some, option_map, ap, sym, ◌∙◌, arith, refl, inl, inr}
-use Rattle.std.specs.Prelude.{◌==◌, ◌&&◌, nat_le, List, [], ◌∷◌}
-use Rattle.std.proofs.lemmas.Bool.{cases_Bool, and_parts, eqb-true}
+use Rattle.std.proofs.Common.{◌≡◌, ℕ, ◌%◌, ◌<◌, zero, Bool, true, false, not, Some, option_map, ap, sym, ◌∙◌, arith, refl, inl, inr}
+use Rattle.std.specs.Prelude.{◌==◌, nat_le}
+use Rattle.std.proofs.lemmas.Bool.{cases_Bool, eqb-true}
 use Rattle.vme_am.specs.Kinds.{is_block}
 use Rattle.vme_lanes.specs.declared.location.Location.{Location}
 use Rattle.vme_lanes.specs.declared.location.Location.TheVariants.{Byte0, Byte1, Byte2, Byte3, Bytes01, Bytes23, Bytes03, Bytes02, Bytes13, Bytes12}
 use Rattle.vme_lanes.specs.declared.location.Strobes.{Strobes}
-use Rattle.vme_lanes.specs.Rows.{row_of, locations, location_at, location_sensed}
+use Rattle.vme_lanes.specs.Rows.{row_of, location_sensed}
 use Rattle.vme_lanes.proofs.Tables.{own_sensed, found_row}
 use Rattle.vme_cycle.specs.Requests.{datum_len, count_of, is_block_request, address_of}
 use Rattle.vme_cycle.specs.Lawful.{Transfer}

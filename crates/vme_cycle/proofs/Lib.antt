@@ -4,3 +4,4 @@ mod Blocks
 pub mod Transfers
 pub mod Lengths
 pub mod Numbers
+pub mod Sums

@@ -9,14 +9,22 @@ abbrev pub number_from : ℕ → List ℕ → ℕ
 number_from n [] = n
 number_from n (byte ∷ bytes) = number_from (256 * n + byte) bytes
 
+-- the number that bytes spell, the first most significant (this project's own)
+abbrev pub number_of : List ℕ → ℕ
+number_of bytes = number_from 0 bytes
+
 -- the last bytes of a number, so many, before some bytes (this project's own)
 abbrev pub bytes_onto : ℕ → ℕ → List ℕ → List ℕ
 bytes_onto zero n bytes = bytes
 bytes_onto (suc len) n bytes = bytes_onto len (n / 256) ((n % 256) ∷ bytes)
 
+-- the last bytes of a number, so many (this project's own)
+abbrev pub number_bytes : ℕ → ℕ → List ℕ
+number_bytes len n = bytes_onto len n []
+
 -- the sum of two numbers, in as many bytes as the first has: what goes beyond them is lost (this project's own)
 unfoldable pub sum_of : List ℕ → List ℕ → List ℕ
-sum_of a b = bytes_onto (length a) (number_from 0 a + number_from 0 b) []
+sum_of a b = number_bytes (length a) (number_of a + number_of b)
 
 -- bit 7 of the byte at the lowest address set (this project's own)
 abbrev pub with_top_bit : List ℕ → List ℕ

@@ -5,6 +5,7 @@
 #![tactic(auto)]
 
 mod fault;
+mod laws;
 mod modify;
 mod plan;
 mod request;
@@ -12,6 +13,7 @@ mod signals;
 mod transfer;
 
 pub use fault::CycleFault;
+pub use laws::{bytes_are_their_number, sums_are_modulo};
 pub use modify::Modify;
 pub use plan::Plan;
 pub use request::{Block, Request};
