@@ -2,11 +2,12 @@ ghost use Rattle.std.specs.Prelude.{ℕ, ◌≡◌, ◌↔◌, ◌+◌, ◌%◌,
 ghost use Rattle.vme_lanes.specs.Rows.{row_of};
 ghost use Rattle.vme_cycle.specs.SignalLines.{len_at};
 ghost use Rattle.vme_memory.specs.Classes.{is_block_place, is_modify_place, is_local_len};
-ghost use Rattle.vme_memory.specs.Boards.{is_board_size, zeros, bytes_after_write};
+ghost use Rattle.vme_memory.specs.Boards.{is_board_size, zeros};
 
 use crate::class::Class;
 use crate::command::BoardCmd;
 use crate::reply::Reply;
+use crate::storage::Storage;
 use std::alloc::Global;
 use std::marker::Model;
 use vme_cycle::{Modify, Signals};
@@ -24,19 +25,16 @@ pub enum MemoryFault {
 /// The memory of a board, with what its slave is able to answer.
 #[derive(Drop)]
 pub struct ByteMemory {
-    bytes: Vec<u8>,
+    storage: Storage,
     class: Class,
 }
 
 impl Model for ByteMemory {
-    ghost use Rattle.std.specs.Prelude.{ℕ, ◌≡◌, true, length};
-    ghost use Rattle.vme_memory.specs.Boards.{Board, is_board_size};
+    ghost use Rattle.vme_memory.specs.Boards.{Board};
 
     ghost Value = { Board };
 
-    ghost view = { λ m. record { bytes = m.bytes.items; class = m.class } };
-
-    ghost invariant = { λ m. is_board_size (length m.bytes.items) ≡ true };
+    ghost view = { λ m. record { bytes = m.storage; class = m.class } };
 }
 
 impl ByteMemory {
@@ -56,8 +54,8 @@ impl ByteMemory {
         if size < 4 || size > 1_048_576 || size % 4 != 0 {
             return Err(MemoryFault::BadSize);
         }
-        match vec![in alloc; 0; size as usize] {
-            Ok(bytes) => Ok(ByteMemory { bytes, class }),
+        match Storage::new(alloc, size) {
+            Ok(storage) => Ok(ByteMemory { storage, class }),
             Err(_) => Err(MemoryFault::OutOfMemory),
         }
     }
@@ -67,14 +65,14 @@ impl ByteMemory {
         ensures value { result ≡ length self.now.bytes }
         ensures size { is_board_size result ≡ true }
     {
-        self.bytes.len() as u32
+        self.storage.len()
     }
 
     /// The byte at an offset, or `None` past the end.
     pub fn byte(&self, offset: u32) -> Option<u8>
         ensures { result ≡ slice_get self.now.bytes offset }
     {
-        self.bytes.get(offset as usize).copied()
+        self.storage.byte(offset)
     }
 
     /// Answers the cycle that the signals show, with its first byte at offset `at`, and with the
@@ -137,7 +135,7 @@ impl ByteMemory {
     fn fits(&self, at: u32, len: u8) -> bool
         ensures { result ≡ fits self.now at len }
     {
-        at as usize + usize::from(len) <= self.bytes.len()
+        u64::from(at) + u64::from(len) <= u64::from(self.storage.len())
     }
 
     fn read(&self, block: bool, location: Location, at: u32) -> Reply
@@ -177,7 +175,7 @@ impl ByteMemory {
         if block && !self.has_block(location, at) {
             return Reply::Berr;
         }
-        overwrite(&mut self.bytes, at as usize, bytes.as_slice());
+        self.storage.overwrite(at, bytes.as_slice());
         Reply::Done
     }
 
@@ -220,7 +218,7 @@ impl ByteMemory {
         if !self.is_local_place(at, bytes.as_slice().len() as u8) {
             return Reply::Berr;
         }
-        overwrite(&mut self.bytes, at as usize, bytes.as_slice());
+        self.storage.overwrite(at, bytes.as_slice());
         Reply::Done
     }
 
@@ -255,7 +253,7 @@ impl ByteMemory {
     {
         let old = self.datum_at(at, len);
         let new = f.value(&old);
-        overwrite(&mut self.bytes, at as usize, new.as_slice());
+        self.storage.overwrite(at, new.as_slice());
         Reply::Bytes(old)
     }
 
@@ -266,8 +264,7 @@ impl ByteMemory {
         ensures value { result.items ≡ bytes_at self.now at len }
         ensures len { length result.items ≡ len }
     {
-        let start = at as usize;
-        datum_of(&self.bytes[start..start + usize::from(len)])
+        self.storage.datum(at, len)
     }
 }
 
@@ -300,18 +297,4 @@ fn is_modify_place(len: u8, at: u32) -> bool
         4 => at % 4 == 0,
         _ => false,
     }
-}
-
-fn datum_of(bytes: &[u8]) -> Datum
-    requires { length bytes.now ≤ 8 }
-    ensures { result.items ≡ bytes.now }
-{
-    Datum::try_from(bytes).unwrap()
-}
-
-fn overwrite(bytes: &mut [u8], at: usize, new: &[u8])
-    requires { at + length new.now ≤ length bytes.old }
-    ensures { bytes.new ≡ bytes_after_write bytes.old at new.now }
-{
-    bytes[at..at + new.len()].copy_from_slice(new);
 }

@@ -8,6 +8,7 @@ mod class;
 mod command;
 mod laws;
 mod reply;
+mod storage;
 
 pub use board::{ByteMemory, MemoryFault};
 pub use class::{Class, Width8To32};
