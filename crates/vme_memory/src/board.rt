@@ -75,6 +75,13 @@ impl ByteMemory {
         self.storage.byte(offset)
     }
 
+    /// The bytes, each at its offset.
+    pub fn bytes(&self) -> &[u8]
+        ensures { result.now ≡ self.now.bytes }
+    {
+        self.storage.as_slice()
+    }
+
     /// Answers the cycle that the signals show, with its first byte at offset `at`, and with the
     /// function of a read-modify-write. The reply and the memory after it are those of the command
     /// that the cycle stands for; after `Berr` nothing has changed.

@@ -48,6 +48,13 @@ impl Storage {
         self.bytes.get(offset as usize).copied()
     }
 
+    /// All bytes.
+    pub(crate) fn as_slice(&self) -> &[u8]
+        ensures { result.now ≡ self.now }
+    {
+        self.bytes.as_slice()
+    }
+
     /// The `len` bytes from `at` on.
     pub(crate) fn datum(&self, at: u32, len: u8) -> Datum
         requires within { at + len ≤ length self.now }
