@@ -1,0 +1,53 @@
+-- What requests and commands are for.
+use Rattle.std.proofs.Common.{◌≡◌, ℕ, List, Option, Some, None, refl, ap}
+use Rattle.std.specs.Prelude.{if◌then◌else◌, is_some, Bool, true, false}
+use Rattle.std.specs.Option.{option_and_then}
+use Rattle.vme_cycle.specs.declared.request.Request.{Request}
+use Rattle.vme_cycle.specs.declared.request.Request.TheVariants as requests
+use Rattle.vme_cycle.specs.Requests.{datum_len, count_of, function_of, reads}
+use Rattle.vme_memory.specs.declared.reply.Reply.{Reply}
+use Rattle.vme_memory.specs.Steps.{Command, LocalRead, LocalWrite, LocalModify, Read, Write, Modify, BlockRead, BlockWrite}
+use Rattle.vme_memory.specs.Locals.{command_given}
+use Rattle.vme_memory.specs.Data.{datum_command, reply_len, has_form}
+use Rattle.vme_core.specs.declared.event.EventReply.TheVariants as told
+use Rattle.vme_master.specs.declared.aim.Aim.{Aim}
+use Rattle.vme_master.specs.declared.aim.Aim.TheVariants as aims
+use Rattle.vme_master.specs.declared.job.LocalJob.{LocalJob}
+use Rattle.vme_master.specs.declared.job.Job.TheVariants.{Local}
+use Rattle.vme_master.specs.Jobs.{local_call, fits, request_aim, command_aim}
+use Rattle.vme_master.specs.Machine.{aim_len, job_aim}
+
+-- what a request is for, by its tests
+pub aim_by_tests : (request : Request)
+    → (if reads request then aims.Read (datum_len request) else if is_some (function_of request) then aims.Modify (datum_len request) else aims.Write)
+    ≡ request_aim request
+aim_by_tests (requests.Read am addr n) = refl
+aim_by_tests (requests.Write am addr bytes) = refl
+aim_by_tests (requests.BlockRead am addr n count) = refl
+aim_by_tests (requests.BlockWrite am addr n bytes) = refl
+aim_by_tests (requests.BlockFill am addr n count bytes) = refl
+aim_by_tests (requests.Modify am addr n f) = refl
+
+-- the length that is wanted of a datum is its request's
+pub datum_len_wanted : (request : Request) (i at : ℕ) → reply_len (datum_command request i at) ≡ aim_len (request_aim request)
+datum_len_wanted (requests.Read am addr n) i at = refl
+datum_len_wanted (requests.Write am addr bytes) i at = refl
+datum_len_wanted (requests.BlockRead am addr n count) i at = refl
+datum_len_wanted (requests.BlockWrite am addr n bytes) i at = refl
+datum_len_wanted (requests.BlockFill am addr n count bytes) i at = refl
+datum_len_wanted (requests.Modify am addr n f) i at = refl
+
+-- and that of a command is the command's
+command_len_wanted : (command : Option Command) → option_and_then reply_len command ≡ aim_len (command_aim command)
+command_len_wanted None = refl
+command_len_wanted (Some (LocalRead at n)) = refl
+command_len_wanted (Some (LocalWrite at new)) = refl
+command_len_wanted (Some (LocalModify at n f)) = refl
+command_len_wanted (Some (Read at n)) = refl
+command_len_wanted (Some (Write at new)) = refl
+command_len_wanted (Some (Modify at n f)) = refl
+command_len_wanted (Some (BlockRead at n)) = refl
+command_len_wanted (Some (BlockWrite at new)) = refl
+
+pub local_len_wanted : (j : LocalJob) (reply : Reply) → fits (local_call j) (told.Board reply) ≡ has_form (aim_len (job_aim (Local j))) reply
+local_len_wanted j reply = ap (λ wanted. has_form wanted reply) (command_len_wanted (command_given j.cmd))

@@ -1,0 +1,107 @@
+-- What a task is for: the calls that it makes, the replies that fit them, and what comes of the whole.
+use Rattle.std.specs.Prelude.{ℕ, ◌+◌, ◌*◌, Bool, true, false, List, Option, Some, None}
+use Rattle.std.specs.Option.{option_and_then}
+use Rattle.vme_cycle.specs.declared.request.Request.{Request}
+use Rattle.vme_cycle.specs.declared.request.Request.TheVariants as requests
+use Rattle.vme_cycle.specs.Requests.{addr_of, datum_len}
+use Rattle.vme_cycle.specs.Lawful.{Transfer}
+use Rattle.vme_decode.specs.declared.entry.Entry.{Entry}
+use Rattle.vme_decode.specs.Select.{selection_at}
+use Rattle.vme_memory.specs.declared.command.BoardCmd.{BoardCmd}
+use Rattle.vme_memory.specs.Steps.{Command, LocalRead, LocalWrite, LocalModify, Read, Write, Modify, BlockRead, BlockWrite}
+use Rattle.vme_memory.specs.Locals.{command_given}
+use Rattle.vme_memory.specs.Data.{datum_command, reply_len, has_form}
+use Rattle.vme_arbiter.specs.declared.command.ArbCmd.{ArbCmd}
+use Rattle.vme_arbiter.specs.declared.command.ArbCmd.TheVariants.{Ask, Look, Done}
+use Rattle.vme_arbiter.specs.declared.command.ArbReply.{ArbReply}
+use Rattle.vme_arbiter.specs.declared.command.ArbReply.TheVariants.{Granted, Waiting, Freed}
+use Rattle.vme_core.specs.declared.event.EventReply.{EventReply}
+use Rattle.vme_core.specs.declared.event.EventReply.TheVariants as told
+use Rattle.vme_core.specs.Calls.{Call, OnBoard, OnBus}
+use Rattle.vme_master.specs.declared.job.BusJob.{BusJob}
+use Rattle.vme_master.specs.declared.job.LocalJob.{LocalJob}
+use Rattle.vme_master.specs.declared.job.Job.{Job}
+use Rattle.vme_master.specs.declared.job.Job.TheVariants.{Bus, Local}
+use Rattle.vme_master.specs.declared.aim.Aim.{Aim}
+use Rattle.vme_master.specs.declared.aim.Aim.TheVariants as aims
+use Rattle.vme_master.specs.declared.outcome.Outcome.{Outcome}
+use Rattle.vme_master.specs.declared.outcome.Outcome.TheVariants as outcomes
+
+-- the job of a slot, on a level, of a lawful request: its first byte selects a board of the map, or none
+-- (IEEE 1014, section 2.3.5)
+abbrev pub bus_job : List Entry → ℕ → ℕ → Transfer → Job
+bus_job map slot level t =
+    Bus (record { slot = slot; level = level; transfer = t; place = selection_at map t.am (addr_of t.request) })
+
+-- the job of a command to the local port of the board at a place (this project's own)
+abbrev pub local_job : ℕ → BoardCmd → Job
+local_job board cmd = Local (record { board = board; cmd = cmd })
+
+-- the slot asks for the bus on its level (IEEE 1014, section 3.2)
+abbrev pub ask_call : BusJob → Call
+ask_call job = OnBus (Ask job.slot job.level)
+
+-- it looks whether it holds the bus (this project's own)
+abbrev pub look_call : BusJob → Call
+look_call job = OnBus (Look job.slot)
+
+-- it gives the bus back (this project's own)
+abbrev pub done_call : BusJob → Call
+done_call job = OnBus (Done job.slot)
+
+-- datum i goes to the board that the first datum selects, which counts the offset on (IEEE 1014, section 2.3.6); where none is
+-- selected the bus is given back
+abbrev pub datum_call : BusJob → Option (ℕ × ℕ) → ℕ → Call
+datum_call job None i = done_call job
+datum_call job (Some place) i =
+    OnBoard place.0 (Some (datum_command job.transfer.request i (place.1 + i * datum_len job.transfer.request)))
+
+-- the one call of a command to a board's local port (this project's own)
+abbrev pub local_call : LocalJob → Call
+local_call job = OnBoard job.board (command_given job.cmd)
+
+-- whether the arbiter may reply so to a command (this project's own)
+abbrev pub answers_turn : ArbCmd → ArbReply → Bool
+answers_turn (Ask slot level) Freed = false
+answers_turn (Look slot) Freed = false
+answers_turn (Done slot) Granted = false
+answers_turn (Done slot) Waiting = false
+answers_turn cmd reply = true
+
+-- whether a reply fits a call: the arbiter's is one to such a command; a board's has the bytes that are wanted, or none where
+-- none are wanted, or is a bus error (this project's own)
+abbrev pub fits : Call → EventReply → Bool
+fits (OnBus cmd) (told.Bus reply) = answers_turn cmd reply
+fits (OnBoard board command) (told.Board reply) = has_form (option_and_then reply_len command) reply
+fits call reply = false
+
+-- what a request is for, with the length of its data (this project's own)
+abbrev pub request_aim : Request → Aim
+request_aim (requests.Read am addr n) = aims.Read n
+request_aim (requests.BlockRead am addr n count) = aims.Read n
+request_aim (requests.Modify am addr n f) = aims.Modify n
+request_aim (requests.Write am addr bytes) = aims.Write
+request_aim (requests.BlockWrite am addr n bytes) = aims.Write
+request_aim (requests.BlockFill am addr n count bytes) = aims.Write
+
+-- the same of a command to a board; what is none is answered by a bus error, and no bytes are wanted (this project's own)
+abbrev pub command_aim : Option Command → Aim
+command_aim (Some (LocalRead at n)) = aims.Read n
+command_aim (Some (Read at n)) = aims.Read n
+command_aim (Some (BlockRead at n)) = aims.Read n
+command_aim (Some (LocalModify at n f)) = aims.Modify n
+command_aim (Some (Modify at n f)) = aims.Modify n
+command_aim (Some (LocalWrite at new)) = aims.Write
+command_aim (Some (Write at new)) = aims.Write
+command_aim (Some (BlockWrite at new)) = aims.Write
+command_aim None = aims.Write
+
+-- what comes of it where all was answered, with the bytes that were replied (this project's own)
+abbrev pub aim_outcome : Aim → List ℕ → Outcome
+aim_outcome (aims.Read n) bytes = outcomes.Read (record { items = bytes })
+aim_outcome (aims.Modify n) bytes = outcomes.Old (record { items = bytes })
+aim_outcome aims.Write bytes = outcomes.Done
+
+-- and where a bus error came after so many data, with the bytes that were replied before it (this project's own)
+abbrev pub error_outcome : ℕ → List ℕ → Outcome
+error_outcome count bytes = outcomes.Berr count (record { items = bytes })

@@ -1,0 +1,4 @@
+pub mod Jobs
+pub mod Tables
+pub mod Machine
+pub mod Events

@@ -1,0 +1,92 @@
+-- What a task does next: a table over what it was called with so far.
+use Rattle.std.specs.Prelude.{ℕ, ◌+◌, nat_lt, if◌then◌else◌, List, [], ◌∷◌, ◌++◌, Option, Some, None}
+use Rattle.vme_cycle.specs.Requests.{count_of}
+use Rattle.vme_memory.specs.declared.reply.Reply.TheVariants.{Bytes, Done, Berr}
+use Rattle.vme_memory.specs.Locals.{command_given}
+use Rattle.vme_arbiter.specs.declared.command.ArbReply.TheVariants as turned
+use Rattle.vme_core.specs.declared.event.EventReply.{EventReply}
+use Rattle.vme_core.specs.declared.event.EventReply.TheVariants as told
+use Rattle.vme_core.specs.Calls.{Call}
+use Rattle.vme_master.specs.declared.job.BusJob.{BusJob}
+use Rattle.vme_master.specs.declared.job.LocalJob.{LocalJob}
+use Rattle.vme_master.specs.declared.job.Job.{Job}
+use Rattle.vme_master.specs.declared.job.Job.TheVariants.{Bus, Local}
+use Rattle.vme_master.specs.declared.outcome.Outcome.{Outcome}
+use Rattle.vme_master.specs.declared.outcome.Outcome.TheVariants as outcomes
+use Rattle.vme_master.specs.Jobs.{ask_call, look_call, done_call, datum_call, local_call, fits, request_aim, command_aim, aim_outcome, error_outcome}
+
+-- what a task does next: it rests until its first call; it makes a call, and wants the reply; or it has ended
+-- (this project's own)
+pub data Next : Type 0 where
+  Rests : Next
+  Makes : Call → Next
+  Ends : Outcome → Next
+
+-- what a task was given so far, the newest first: each time the reply to its call, or none (this project's own)
+abbrev pub Given : Type 0
+Given = List (Option EventReply)
+
+-- how many data were answered (this project's own)
+abbrev pub data_in : Given → ℕ
+data_in [] = 0
+data_in (Some (told.Board (Bytes datum)) ∷ before) = data_in before + 1
+data_in (Some (told.Board Done) ∷ before) = data_in before + 1
+data_in (given ∷ before) = data_in before
+
+-- the bytes that were replied, in order (this project's own)
+abbrev pub bytes_in : Given → List ℕ
+bytes_in [] = []
+bytes_in (Some (told.Board (Bytes datum)) ∷ before) = bytes_in before ++ datum.items
+bytes_in (given ∷ before) = bytes_in before
+
+-- datum i, where there is such a one; past the last the bus is given back (this project's own)
+abbrev pub datum_or_done : BusJob → ℕ → Call
+datum_or_done job i = if nat_lt i (count_of job.transfer.request) then datum_call job job.place i else done_call job
+
+-- what comes of a transfer by what was given before the bus was free again: a bus error where no board is selected, or a board
+-- replied one (IEEE 1014, section 2.3.3), and else what the request asks for
+abbrev pub outcome_by : BusJob → Option (ℕ × ℕ) → Given → Outcome
+outcome_by job None before = error_outcome 0 []
+outcome_by job (Some place) (Some (told.Board Berr) ∷ before) = error_outcome (data_in before) (bytes_in before)
+outcome_by job (Some place) before = aim_outcome (request_aim job.transfer.request) (bytes_in before)
+
+-- the table of a transfer over the bus, by the last reply, which fits, and what was given before (this project's own)
+abbrev pub bus_row : BusJob → EventReply → Given → Next
+bus_row job (told.Bus turned.Waiting) before = Makes (look_call job)
+bus_row job (told.Bus turned.Granted) before = Makes (datum_or_done job 0)
+bus_row job (told.Board (Bytes datum)) before = Makes (datum_or_done job (data_in before + 1))
+bus_row job (told.Board Done) before = Makes (datum_or_done job (data_in before + 1))
+bus_row job (told.Board Berr) before = Makes (done_call job)
+bus_row job (told.Bus turned.Freed) before = Ends (outcome_by job job.place before)
+bus_row job (told.Bus turned.Denied) before = Ends outcomes.Denied
+
+-- the table of a command to a local port, by the reply, which fits (this project's own)
+abbrev pub local_row : LocalJob → EventReply → Next
+local_row job (told.Board (Bytes datum)) = Ends (aim_outcome (command_aim (command_given job.cmd)) datum.items)
+local_row job (told.Board Done) = Ends (aim_outcome (command_aim (command_given job.cmd)) [])
+local_row job (told.Board Berr) = Ends (error_outcome 0 [])
+local_row job (told.Bus reply) = Ends outcomes.Denied
+
+-- either table (this project's own)
+abbrev pub row_of_reply : Job → EventReply → Given → Next
+row_of_reply (Bus job) last before = bus_row job last before
+row_of_reply (Local job) last before = local_row job last
+
+-- the first call: a transfer over the bus asks for it (this project's own)
+abbrev pub first_call : Job → Call
+first_call (Bus job) = ask_call job
+first_call (Local job) = local_call job
+
+-- what comes after what was next: the first call is given no reply, each later one a reply that fits, and an end is for good;
+-- anything else is a denial (this project's own)
+abbrev pub next_after : Job → Next → Option EventReply → Given → Next
+next_after job Rests None before = Makes (first_call job)
+next_after job Rests (Some reply) before = Ends outcomes.Denied
+next_after job (Makes call) None before = Ends outcomes.Denied
+next_after job (Makes call) (Some reply) before = if fits call reply then row_of_reply job reply before else Ends outcomes.Denied
+next_after job (Ends outcome) given before = Ends outcome
+
+-- what a task does next, by what it was given so far (this project's own)
+abbrev pub next_of : Job → Given → Next
+next_of job [] = Rests
+next_of job (last ∷ before) = next_after job (next_of job before) last before

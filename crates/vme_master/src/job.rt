@@ -1,0 +1,225 @@
+ghost use Rattle.std.specs.Prelude.{◌≡◌, ◌<◌, ◌≤◌, ◌*◌, ℕ, List, IsTrue, option_map};
+ghost use Rattle.vme_cycle.specs.Requests.{count_of};
+ghost use Rattle.vme_core.specs.Calls.{call_of};
+ghost use Rattle.vme_master.specs.Jobs.{ask_call, look_call, done_call, datum_call, local_call};
+ghost use Rattle.vme_master.specs.Machine.{job_aim, datum_phase, phase_at, phase_broken, first_phase, phase_told, phase_replied, is_at_work, bus_next, local_next, job_next, IsPlaced, IsShort, call_count, most_bytes};
+ghost use Rattle.vme_master.specs.declared.phase.Phase.TheVariants.{Moves};
+ghost use Rattle.vme_master.specs.Events.{next_in};
+
+use crate::aim::Aim;
+use crate::outcome::Outcome;
+use crate::phase::Phase;
+use crate::todo::Todo;
+use vme_arbiter::{ArbCmd, ArbReply};
+use vme_core::Event;
+use vme_cycle::{Modify, Transfer};
+use vme_memory::{BoardCmd, Reply};
+
+/// A transfer over the bus: whose it is, and where its first byte lies, by the place of a board in
+/// the map and the offset there, if a board is selected.
+#[derive(Debug, Drop)]
+pub struct BusJob {
+    pub(crate) slot: u16,
+    pub(crate) level: u8,
+    pub(crate) transfer: Transfer,
+    pub(crate) place: Option<(usize, u32)>,
+}
+
+impl BusJob {
+    pub(crate) fn ask(&self) -> Event
+        ensures { call_of result ≡ ask_call self.now }
+    {
+        Event::Bus(ArbCmd::Ask {
+            slot: self.slot,
+            level: self.level,
+        })
+    }
+
+    pub(crate) fn look(&self) -> Event
+        ensures { call_of result ≡ look_call self.now }
+    {
+        Event::Bus(ArbCmd::Look { slot: self.slot })
+    }
+
+    pub(crate) fn done(&self) -> Event
+        ensures { call_of result ≡ done_call self.now }
+    {
+        Event::Bus(ArbCmd::Done { slot: self.slot })
+    }
+
+    /// The event of datum `i`: a cycle of the board that the first datum selects. Where there is no
+    /// such board, the bus is given back.
+    pub(crate) fn datum(&self, i: u16) -> Event
+        requires in_count { i < count_of self.now.transfer.request }
+        requires placed { IsPlaced (Job.Bus self.now) }
+        ensures { call_of result ≡ datum_call self.now self.now.place i }
+    {
+        let Some((board, offset)) = self.place else {
+            return self.done();
+        };
+        let plan = self.transfer.plan();
+        prove!(i < plan.len());
+        let at = offset + u32::from(i) * u32::from(plan.datum_len());
+        let cmd = BoardCmd::Cycle {
+            signals: plan.signals(i),
+            at,
+            f: copy_function(plan.modify()),
+        };
+        Event::Board { board, cmd }
+    }
+
+    /// What it does next while it has not ended.
+    fn todo(&self, phase: Phase) -> Todo
+        requires in_count { (i : ℕ) → phase ≡ Moves i → i < count_of self.now.transfer.request }
+        requires placed { IsPlaced (Job.Bus self.now) }
+        ensures { (read : List ℕ) → IsTrue (is_at_work phase) → next_in result ≡ bus_next self.now phase read }
+    {
+        match phase {
+            Phase::Asks => Todo::Call(self.ask()),
+            Phase::Looks => Todo::Call(self.look()),
+            Phase::Moves { i } => Todo::Call(self.datum(i)),
+            Phase::Frees { .. } => Todo::Call(self.done()),
+            _ => Todo::Finished(Outcome::Denied),
+        }
+    }
+
+    /// Where it is at datum `i`, if there is such a one and a board for it.
+    fn at(&self, i: u16) -> Phase
+        ensures { result ≡ datum_phase self.now self.now.place i }
+    {
+        if self.place.is_none() {
+            return Phase::Frees { berr: Some(0) };
+        }
+        if i < self.transfer.plan().len() {
+            Phase::Moves { i }
+        } else {
+            Phase::Frees { berr: None }
+        }
+    }
+}
+
+fn copy_function(f: Option<&Modify>) -> Option<Modify>
+    ensures { result ≡ option_map (λ f. f.now) f.entry }
+{
+    match f {
+        Some(f) => Some(f.copy()),
+        None => None,
+    }
+}
+
+/// A command to a board's local port.
+#[derive(Debug, Drop)]
+pub struct LocalJob {
+    pub(crate) board: usize,
+    pub(crate) cmd: BoardCmd,
+}
+
+impl LocalJob {
+    pub(crate) fn event(&self) -> Event
+        ensures { call_of result ≡ local_call self.now }
+    {
+        Event::Board {
+            board: self.board,
+            cmd: self.cmd.copy(),
+        }
+    }
+
+    /// What it does next while it has not ended.
+    fn todo(&self, phase: Phase) -> Todo
+        ensures { (read : List ℕ) → IsTrue (is_at_work phase) → next_in result ≡ local_next self.now phase read }
+    {
+        match phase {
+            Phase::Moves { .. } => Todo::Call(self.event()),
+            _ => Todo::Finished(Outcome::Denied),
+        }
+    }
+}
+
+/// What a task is for.
+#[derive(Debug, Drop)]
+pub enum Job {
+    /// A transfer over the bus.
+    Bus(BusJob),
+    /// A command to a board's local port.
+    Local(LocalJob),
+}
+
+impl Job {
+    pub(crate) fn aim(&self) -> Aim
+        ensures value { result ≡ job_aim self.now }
+        ensures short { IsShort result (most_bytes self.now * call_count self.now) }
+    {
+        match self {
+            Job::Bus(job) => Aim::of_plan(&job.transfer.plan()),
+            Job::Local(job) => Aim::of_command(&job.cmd),
+        }
+    }
+
+    /// What it does next while it has not ended.
+    pub(crate) fn todo(&self, phase: Phase) -> Todo
+        requires in_count { (i : ℕ) → phase ≡ Moves i → i < call_count self.now }
+        requires placed { IsPlaced self.now }
+        ensures { (read : List ℕ) → IsTrue (is_at_work phase) → next_in result ≡ job_next self.now phase read }
+    {
+        match self {
+            Job::Bus(job) => job.todo(phase),
+            Job::Local(job) => job.todo(phase),
+        }
+    }
+
+    /// The number of its calls on a board.
+    pub(crate) fn count(&self) -> u16
+        ensures value { result ≡ call_count self.now }
+        ensures room { most_bytes self.now * result ≤ 256 }
+    {
+        match self {
+            Job::Bus(job) => job.transfer.plan().len(),
+            Job::Local(_) => 1,
+        }
+    }
+
+    /// Where it is at its call `i` on a board.
+    fn at(&self, i: u16) -> Phase
+        ensures { result ≡ phase_at self.now i }
+    {
+        match self {
+            Job::Bus(job) => job.at(i),
+            Job::Local(_) if i == 0 => Phase::Moves { i },
+            Job::Local(_) => Phase::Ended { berr: None },
+        }
+    }
+
+    /// Where the first call leads.
+    pub(crate) fn first_phase(&self) -> Phase
+        ensures { result ≡ first_phase self.now }
+    {
+        match self {
+            Job::Bus(_) => Phase::Asks,
+            Job::Local(_) => self.at(0),
+        }
+    }
+
+    /// Where the arbiter's reply to an ask or a look leads.
+    pub(crate) fn phase_told(&self, reply: ArbReply) -> Phase
+        ensures { result ≡ phase_told self.now reply }
+    {
+        match reply {
+            ArbReply::Granted => self.at(0),
+            ArbReply::Waiting => Phase::Looks,
+            ArbReply::Freed | ArbReply::Denied => Phase::Denied,
+        }
+    }
+
+    /// Where a board's reply to its call `i` leads.
+    pub(crate) fn phase_replied(&self, i: u16, reply: &Reply) -> Phase
+        requires { i < call_count self.now }
+        ensures { result ≡ phase_replied self.now i reply.now }
+    {
+        prove!(i < self.count());
+        match (self, reply) {
+            (_, Reply::Bytes(_) | Reply::Done) => self.at(i + 1),
+            (Job::Bus(_), Reply::Berr) => Phase::Frees { berr: Some(i) },
+            (Job::Local(_), Reply::Berr) => Phase::Ended { berr: Some(i) },
+        }
+    }
+}
