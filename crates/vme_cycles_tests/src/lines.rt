@@ -1,7 +1,8 @@
 //! Lines read, and texts printed, with values from this project's profile.
 use std::test::Fail;
-use vme_cycle::Request;
+use vme_cycle::{Modify, Request};
 use vme_lines::{Line, LineFault, Lines, parse_line, print_berr};
+use vme_memory::BoardCmd;
 
 #[test]
 fn cuts_lines(rt: HostRuntime) -> Result<(), Fail> {
@@ -44,6 +45,75 @@ fn reads_requests(rt: HostRuntime) -> Result<(), Fail> {
     assert!(rt; matches!(&parse_line(b"# r 0d 00000000 1"), Ok(None)));
     assert!(rt; matches!(&parse_line(b"x"), Err(LineFault::UnknownWord)));
     Ok(())
+}
+
+#[test]
+fn reads_lines_of_scripts(rt: HostRuntime) {
+    assert!(rt;
+        matches!(
+            &parse_line(b"lr 0000000C 4"),
+            Ok(Some(Line::Local(BoardCmd::LocalRead { offset: 0x0c, n: 4 })))
+        )
+    );
+    match parse_line(b"lw 0000000f aabb") {
+        Ok(Some(Line::Local(BoardCmd::LocalWrite { offset, bytes }))) => {
+            assert_eq!(rt; offset, 15);
+            assert_eq!(rt; bytes.as_slice(), [0xaa, 0xbb].as_slice());
+        }
+        _ => assert!(rt; false),
+    }
+    match parse_line(b"lm 00000008 1 cas 01 02") {
+        Ok(
+            Some(
+                Line::Local(
+                    BoardCmd::LocalModify {
+                        offset: 8,
+                        n: 1,
+                        f: Modify::Compare { expect, put },
+                    },
+                ),
+            ),
+        ) => {
+            assert_eq!(rt; expect.as_slice(), [1].as_slice());
+            assert_eq!(rt; put.as_slice(), [2].as_slice());
+        }
+        _ => assert!(rt; false),
+    }
+    match parse_line(b"await 09 00001000 0102030405060708") {
+        Ok(Some(Line::Await { am, addr, bytes })) => {
+            assert_eq!(rt; am, 9);
+            assert_eq!(rt; addr, 0x1000);
+            assert_eq!(rt; bytes.len(), 8);
+        }
+        _ => assert!(rt; false),
+    }
+}
+
+static REFUSED_LINES: [(&str, LineFault); 14] = [
+    ("lr", LineFault::WordCount),
+    ("lm 00000008 1", LineFault::WordCount),
+    ("lm 00000008 3 swap", LineFault::UnknownWord),
+    ("lm 00000008 1 set 01", LineFault::WordCount),
+    ("await 09 00000000", LineFault::WordCount),
+    ("Lr 00000000 1", LineFault::UnknownWord),
+    ("lr 0000000 1", LineFault::BadAddress),
+    ("lr 00000000 3", LineFault::BadNumber),
+    ("lr 00000000 8", LineFault::BadNumber),
+    ("lw 00000000 010203", LineFault::BadBytes),
+    ("lw 00000000 0102030405060708", LineFault::BadBytes),
+    ("lm 00000000 2 add 01", LineFault::BadBytes),
+    ("await 9 0 0", LineFault::BadCode),
+    ("await 09 00000000 010203040506070809", LineFault::BadBytes),
+];
+
+#[test]
+fn refuses_lines_of_scripts(rt: HostRuntime) {
+    for (line, fault) in &REFUSED_LINES {
+        match parse_line(line.as_bytes()) {
+            Err(told) => assert_eq!(rt; told, *fault, "{line}"),
+            Ok(_) => assert!(rt; false, "{line}"),
+        }
+    }
 }
 
 static BUS_ERRORS: [(u16, &[u8], &str); 3] = [

@@ -213,7 +213,7 @@ read 00
 ];
 
 /// Lines that are refused, as requests or as lines.
-static REFUSED: [(&str, &str); 63] = [
+static REFUSED: [(&str, &str); 65] = [
     ("r 08 00000000 1", "refused K1\n"),
     ("r 0c 00000000 1", "refused K1\n"),
     ("r 10 00000000 1", "refused K2\n"),
@@ -234,6 +234,8 @@ static REFUSED: [(&str, &str); 63] = [
     ("w 0d 00000000 010203040506070809", "line refused S7\n"),
     ("r 0g 0000 9", "line refused S4\n"),
     ("lr 00000000 1", "line refused S2\n"),
+    ("lr", "line refused S2\n"),
+    ("await 0g", "line refused S2\n"),
     ("bf 0b 00000000 1 257 5a", "refused K8\n"),
     ("br 0b 00000001 1 256", "refused K6\n"),
     ("br 0b 000000fc 4 2", "refused K6\n"),

@@ -1,2 +1,4 @@
 pub mod Cutting
 pub mod Digits
+pub mod Naming
+pub mod Spelling

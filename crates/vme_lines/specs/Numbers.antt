@@ -1,6 +1,8 @@
 -- Numbers and bytes as words of a line.
-use Rattle.std.specs.Prelude.{ℕ, ◌+◌, ◌-◌, ◌*◌, nat_le, ◌==◌, ◌&&◌, if◌then◌else◌, List, [], ◌∷◌, length, slice_index, Option, Some, None}
+use Rattle.std.specs.Prelude.{ℕ, ◌+◌, ◌-◌, ◌*◌, nat_le, ◌==◌, ◌&&◌, if◌then◌else◌, List, [], ◌∷◌, length, slice_index, Option, Some, None, codes}
 use Rattle.std.specs.Option.{option_map, option_and_then}
+use Rattle.std.specs.Str.{bytes_eq}
+use Rattle.vme_memory.specs.Classes.{is_local_len}
 
 -- the value of a hexadecimal digit of either case: 0 to 9, a to f, A to F (this project's own)
 abbrev pub hex_digit : ℕ → Option ℕ
@@ -39,6 +41,18 @@ unfoldable pub small_number : List ℕ → Option ℕ
 small_number word =
     let c = slice_index word 0 in
     if length word == 1 && nat_le 49 c && nat_le c 56 then Some (c - 48) else None
+
+-- the number that a digit 1, 2 or 4 spells (this project's own)
+unfoldable pub local_number : List ℕ → Option ℕ
+local_number word =
+    if bytes_eq word (codes "1") then Some 1 else
+    (if bytes_eq word (codes "2") then Some 2 else
+    (if bytes_eq word (codes "4") then Some 4 else None))
+
+-- the one, two or four bytes that a word spells (this project's own)
+unfoldable pub local_bytes : List ℕ → Option (List ℕ)
+local_bytes word =
+    option_and_then (λ bytes. if is_local_len (length bytes) then Some bytes else None) (hex_bytes 8 word)
 
 -- the value of a decimal digit (this project's own)
 abbrev pub decimal_digit : ℕ → Option ℕ

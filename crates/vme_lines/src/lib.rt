@@ -4,15 +4,22 @@
 #![tactic(auto)]
 
 mod fault;
+mod field;
+mod form;
+mod laws;
 mod line;
 mod lines;
 mod numbers;
-mod parse;
+mod operands;
+mod parts;
 mod print;
+mod words;
 
 pub use fault::LineFault;
-pub use line::{LINE_LIMIT, Line, first_word, parse_line};
+pub use laws::lines_are_spelled;
+pub use line::{LINE_LIMIT, Line, parse_line};
 pub use lines::Lines;
 pub use print::{
     print_berr, print_done, print_line_refusal, print_old, print_read, print_refusal, print_signals,
 };
+pub use words::first_word;

@@ -1,12 +1,11 @@
 //! What a line asks for.
-ghost use Rattle.std.specs.Prelude.{◌≡◌, slice_get};
-ghost use Rattle.std.specs.Option.{option_map};
-ghost use Rattle.vme_lines.specs.Words.{words, words_of};
+ghost use Rattle.std.specs.Prelude.{◌≡◌};
 ghost use Rattle.vme_lines.specs.Grammar.{line_of};
 
 use crate::fault::LineFault;
-use crate::lines::Words;
-use crate::parse::request_of;
+use crate::form::Form;
+use crate::operands::Operands;
+use crate::words::words_of;
 use vme_cycle::Request;
 use vme_lanes::Datum;
 use vme_memory::BoardCmd;
@@ -25,34 +24,20 @@ pub enum Line {
     Await { am: u8, addr: u32, bytes: Datum },
 }
 
-/// The words of a line: a comment has none.
-fn words_of(line: &[u8]) -> Words<'_>
-    ensures { words result.rest.now ≡ words_of line.now }
-{
-    if line.first() == Some(&b'#') {
-        return Words::new(&[]);
-    }
-    Words::new(line)
-}
-
-/// The first word of a line, unless it is a comment.
-pub fn first_word(line: &[u8]) -> Option<&[u8]>
-    ensures word { option_map (λ word. word.now) result ≡ slice_get (words_of line.now) 0 }
-{
-    words_of(line).next()
-}
-
 /// Reads a line, without its end. An empty line, a line of spaces and a comment ask for nothing.
-#[tactic(auto, unfolding(crate::specs::Grammar::line_of))]
+#[tactic(auto, unfolding(crate::specs::Grammar::line_of, crate::specs::Grammar::line_of_words))]
 pub fn parse_line(line: &[u8]) -> Result<Option<Line>, LineFault>
     ensures line { result ≡ line_of line.now }
 {
-    if line.len() > LINE_LIMIT {
+    if LINE_LIMIT < line.len() {
         return Err(LineFault::LineTooLong);
     }
-    let mut words = words_of(line);
-    match words.next() {
-        Some(word) => Ok(Some(Line::Bus(request_of(word, words)?))),
-        None => Ok(None),
-    }
+    let words = words_of(line);
+    let mut rest = words;
+    let Some(word) = rest.next() else {
+        return Ok(None);
+    };
+    let form = Form::of(word, rest)?;
+    let operands = Operands::of(form.fields(), words)?;
+    Ok(Some(form.line(operands)))
 }

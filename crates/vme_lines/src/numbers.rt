@@ -1,7 +1,7 @@
 //! Numbers and bytes as words of a line.
 ghost use Rattle.std.specs.Prelude.{◌≡◌, ◌<◌, ◌≤◌, ◌^◌, IfSome};
 ghost use Rattle.std.specs.Option.{option_map};
-ghost use Rattle.vme_lines.specs.Numbers.{hex_digit, hex_number, hex_bytes, exact_bytes, small_number, decimal_digit, count_number};
+ghost use Rattle.vme_lines.specs.Numbers.{hex_digit, hex_number, hex_bytes, exact_bytes, small_number, local_number, local_bytes, decimal_digit, count_number};
 
 use arrayvec::ArrayVec;
 use vme_lanes::Datum;
@@ -71,6 +71,31 @@ pub(crate) fn small_number(word: &[u8]) -> Option<u8>
 {
     match word {
         [digit @ b'1'..=b'8'] => Some(*digit - b'0'),
+        _ => None,
+    }
+}
+
+/// The number that a digit 1, 2 or 4 spells.
+#[tactic(auto, unfolding(crate::specs::Numbers::local_number))]
+pub(crate) fn local_number(word: &[u8]) -> Option<u8>
+    ensures { result ≡ local_number word.now }
+{
+    match word {
+        b"1" => Some(1),
+        b"2" => Some(2),
+        b"4" => Some(4),
+        _ => None,
+    }
+}
+
+/// The one, two or four bytes that a word spells.
+#[tactic(auto, unfolding(crate::specs::Numbers::local_bytes))]
+pub(crate) fn local_bytes(word: &[u8]) -> Option<Datum>
+    ensures { option_map (λ bytes. bytes.items) result ≡ local_bytes word.now }
+{
+    let bytes: Datum = hex_bytes(word)?;
+    match bytes.len() {
+        1 | 2 | 4 => Some(bytes),
         _ => None,
     }
 }

@@ -1,0 +1,39 @@
+-- The fields of a line: what each reads, and what it gives.
+use Rattle.std.specs.Prelude.{ℕ, List, Option, Some}
+use Rattle.std.specs.Option.{option_map}
+use Rattle.vme_lines.specs.declared.fault.LineFault.{LineFault}
+use Rattle.vme_lines.specs.declared.fault.LineFault.TheVariants.{UnknownWord, BadCode, BadAddress, BadNumber, BadBytes}
+use Rattle.vme_lines.specs.declared.field.Field.{Field}
+use Rattle.vme_lines.specs.declared.field.Field.TheVariants.{Name, Code, Address, Offset, Length, LocalLength, Count, Bytes, LocalBytes, BlockBytes, Expected, Datum}
+use Rattle.vme_lines.specs.Operands.{Operands}
+use Rattle.vme_lines.specs.Numbers.{hex_number, hex_bytes, exact_bytes, local_bytes, small_number, local_number, count_number}
+
+-- what a line's fields give, with that of one more, if a word spells it: AM, ADDR, OFF, N, COUNT and HEX (this project's own)
+unfoldable pub with_field : Field → List ℕ → Operands → Option Operands
+with_field Name word o = Some o
+with_field Code word o = option_map (λ am. record o { am = am }) (hex_number 2 word)
+with_field Address word o = option_map (λ addr. record o { addr = addr }) (hex_number 8 word)
+with_field Offset word o = option_map (λ addr. record o { addr = addr }) (hex_number 8 word)
+with_field Length word o = option_map (λ n. record o { n = n }) (small_number word)
+with_field LocalLength word o = option_map (λ n. record o { n = n }) (local_number word)
+with_field Count word o = option_map (λ count. record o { count = count }) (count_number word)
+with_field Bytes word o = option_map (λ bytes. record o { bytes = bytes }) (hex_bytes 8 word)
+with_field LocalBytes word o = option_map (λ bytes. record o { bytes = bytes }) (local_bytes word)
+with_field BlockBytes word o = option_map (λ bytes. record o { block = bytes }) (hex_bytes 256 word)
+with_field Expected word o = option_map (λ bytes. record o { expected = bytes }) (exact_bytes o.n word)
+with_field Datum word o = option_map (λ bytes. record o { bytes = bytes }) (exact_bytes o.n word)
+
+-- the refusal of a word that spells no such field (this project's own)
+abbrev pub fault_of : Field → LineFault
+fault_of Name = UnknownWord
+fault_of Code = BadCode
+fault_of Address = BadAddress
+fault_of Offset = BadAddress
+fault_of Length = BadNumber
+fault_of LocalLength = BadNumber
+fault_of Count = BadNumber
+fault_of Bytes = BadBytes
+fault_of LocalBytes = BadBytes
+fault_of BlockBytes = BadBytes
+fault_of Expected = BadBytes
+fault_of Datum = BadBytes

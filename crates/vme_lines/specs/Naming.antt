@@ -1,0 +1,37 @@
+-- How the form of a line is found, word by word.
+use Rattle.std.specs.Prelude.{ℕ, true, List, [], ◌∷◌, find, slice_get, Option, Some, None, Result, Ok, Err}
+use Rattle.std.specs.Option.{ok_or}
+use Rattle.std.specs.Str.{bytes_eq}
+use Rattle.vme_lines.specs.declared.fault.LineFault.{LineFault}
+use Rattle.vme_lines.specs.declared.fault.LineFault.TheVariants.{UnknownWord, WordCount}
+use Rattle.vme_lines.specs.declared.form.Form.{Form}
+use Rattle.vme_lines.specs.declared.form.Form.TheVariants.{Read, Write, BlockRead, BlockWrite, BlockFill, Modify, LocalRead, LocalWrite, LocalModify, Await}
+use Rattle.vme_lines.specs.declared.form.Function.{Function}
+use Rattle.vme_lines.specs.Forms.{name_of, functions, places, forms}
+use Rattle.vme_lines.specs.Grammar.{◌>>=◌, go_by}
+
+-- the first form whose first word this is (this project's own)
+unfoldable pub form_named : List ℕ → Option Form
+form_named word = find (λ form. go_by true (places form) (word ∷ [])) forms
+
+-- the function that a word names, if there is a word (this project's own)
+unfoldable pub function_of : Option (List ℕ) → Result Function LineFault
+function_of None = Err WordCount
+function_of (Some word) = ok_or (find (λ function. bytes_eq word (name_of function)) functions) UnknownWord
+
+-- a form, with the function that the words after the first name in its place, if it has one (this project's own)
+abbrev pub with_function : Form → List (List ℕ) → Result Form LineFault
+with_function (Modify first) words = do
+  function ← function_of (slice_get words 3)
+  Ok (Modify function)
+with_function (LocalModify first) words = do
+  function ← function_of (slice_get words 2)
+  Ok (LocalModify function)
+with_function Read words = Ok Read
+with_function Write words = Ok Write
+with_function BlockRead words = Ok BlockRead
+with_function BlockWrite words = Ok BlockWrite
+with_function BlockFill words = Ok BlockFill
+with_function LocalRead words = Ok LocalRead
+with_function LocalWrite words = Ok LocalWrite
+with_function Await words = Ok Await
