@@ -4,9 +4,9 @@ use Rattle.std.proofs.lemmas.List.{append-nil}
 use Rattle.std.specs.Str.Lines.{lines}
 use Rattle.vme_memory.specs.Boards.{Board}
 use Rattle.vme_engine.specs.Answers.{answer}
-use Rattle.vme_engine.specs.declared.status.Status.{Status}
-use Rattle.vme_engine.specs.declared.status.Status.TheVariants.{Clean, Marked}
-use Rattle.vme_engine.specs.Ends.{worse_of}
+use Rattle.vme_shared.specs.declared.status.Status.{Status}
+use Rattle.vme_shared.specs.declared.status.Status.TheVariants.{Clean, Marked}
+use Rattle.vme_shared.specs.Statuses.{worse_of}
 use Rattle.vme_engine.specs.Engine.{text_of, status_after}
 
 -- one line more is answered

@@ -2,15 +2,10 @@
 use Rattle.std.specs.Prelude.{◌≡◌, ℕ, ◌+◌, Bool, true, false, List, length, Option, Result, Ok, Err}
 use Rattle.std.specs.Io.KnownBytes.{Consumes}
 use Rattle.vme_engine.specs.declared.engine.TheConstants.{INPUT_LIMIT}
-use Rattle.vme_engine.specs.declared.status.Status.{Status}
-use Rattle.vme_engine.specs.declared.status.Status.TheVariants.{Clean, Marked}
+use Rattle.vme_shared.specs.declared.status.Status.{Status}
+use Rattle.vme_shared.specs.declared.status.Status.TheVariants.{Clean, Marked}
 use Rattle.vme_engine.specs.declared.status.ProgramFault.{ProgramFault}
 use Rattle.vme_engine.specs.declared.status.ProgramFault.TheVariants.{Read, TooLong, Write, Memory}
-
--- marked where one of the two is (this project's own)
-abbrev pub worse_of : Status → Status → Status
-worse_of Clean status = status
-worse_of Marked status = Marked
 
 -- the faults of reading the input (this project's own)
 abbrev pub IsInputFault : ProgramFault → Type 0

@@ -3,10 +3,10 @@ use Rattle.std.specs.Prelude.{ℕ, true, List, [], ◌∷◌, ◌++◌}
 use Rattle.std.specs.Str.Lines.{lines}
 use Rattle.vme_memory.specs.declared.class.Width8To32.TheVariants.{D32}
 use Rattle.vme_memory.specs.Boards.{Board, zeros}
-use Rattle.vme_engine.specs.declared.status.Status.{Status}
-use Rattle.vme_engine.specs.declared.status.Status.TheVariants.{Clean}
+use Rattle.vme_shared.specs.declared.status.Status.{Status}
+use Rattle.vme_shared.specs.declared.status.Status.TheVariants.{Clean}
 use Rattle.vme_engine.specs.Answers.{answer}
-use Rattle.vme_engine.specs.Ends.{worse_of}
+use Rattle.vme_shared.specs.Statuses.{worse_of}
 
 -- the board of `vme cycles`: 4,096 zero bytes, width 32, all switches on (this project's own)
 unfoldable pub fresh_board : Board

@@ -9,7 +9,6 @@ ghost use Rattle.vme_engine.specs.Answers.{outcome_of, final_signals, offset_of,
 
 use crate::bus::Bus;
 use crate::request::request_of;
-use crate::status::Status;
 use std::alloc::AllocError;
 use vme_cycle::{Block, Plan, Request, Signals};
 use vme_lanes::Datum;
@@ -17,6 +16,7 @@ use vme_lines::{
     print_berr, print_done, print_line_refusal, print_old, print_read, print_refusal, print_signals,
 };
 use vme_memory::Reply;
+use vme_shared::Status;
 
 /// Answers a line: appends its text, and leaves the board as the line's cycle does.
 #[tactic(auto, unfolding(crate::specs::Answers::answer))]

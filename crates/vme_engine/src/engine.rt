@@ -7,10 +7,11 @@ ghost use Rattle.vme_engine.specs.Ends.{IsInputFault, IsAnswerFault, IsReadingFa
 
 use crate::answer::answer_line;
 use crate::bus::Bus;
-use crate::status::{ProgramFault, Status};
+use crate::status::ProgramFault;
 use std::alloc::Global;
 use vme_io::{Sink, Source, write_all};
 use vme_lines::Lines;
+use vme_shared::Status;
 
 /// The greatest number of bytes of an input.
 pub const INPUT_LIMIT: usize = 1_048_576;

@@ -10,4 +10,5 @@ mod request;
 mod status;
 
 pub use engine::{INPUT_LIMIT, cycles_engine};
-pub use status::{ProgramFault, Status, exit_status};
+pub use status::{ProgramFault, exit_status};
+pub use vme_shared::Status;

@@ -4,29 +4,7 @@ ghost use Rattle.vme_engine.specs.Ends.{exit_status_of};
 
 use std::alloc::AllocError;
 use thiserror::Error;
-
-/// How the replies of a run were.
-#[derive(Clone, Copy, Debug, PartialEq, Eq)]
-pub enum Status {
-    /// Every reply is a good one.
-    Clean,
-    /// Some reply is a bus error or a refusal.
-    Marked,
-}
-
-impl Status {
-    ghost use Rattle.vme_engine.specs.Ends.{worse_of};
-
-    /// `Marked` where one of the two is.
-    pub(crate) fn worse(self, other: Status) -> Status
-        ensures { result ≡ worse_of self other }
-    {
-        match self {
-            Status::Clean => other,
-            Status::Marked => Status::Marked,
-        }
-    }
-}
+use vme_shared::Status;
 
 /// Why a run ended early.
 #[derive(Clone, Copy, Debug, PartialEq, Eq, Error)]

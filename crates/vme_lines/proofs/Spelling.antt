@@ -14,8 +14,8 @@ use Rattle.vme_lines.specs.declared.line.Line.{Line}
 use Rattle.vme_lines.specs.Words.{words_of}
 use Rattle.vme_lines.specs.Operands.{Operands, no_operands}
 use Rattle.vme_lines.specs.Fields.{with_field}
-use Rattle.vme_lines.specs.Forms.{Place, Word, Of, places, name_of, field_at, fields_of, forms}
-use Rattle.vme_lines.specs.Grammar.{go_by, form_of, fields_read, operands_of, line_of_words, line_if_any, line_of, Fill, no_place, word, field, Spell}
+use Rattle.vme_lines.specs.Forms.{Place, Word, Of, places, name_of, field_at, fields_of, forms, line_at}
+use Rattle.vme_lines.specs.Grammar.{go_by, form_of, fields_read, operands_of, line_of_words, line_if_any, line_of, Fill, no_place, word, field, Spell, IsOwnLine}
 use Rattle.vme_lines.specs.Naming.{function_of}
 use Rattle.vme_lines.proofs.Naming.{find_passes, own_word}
 
@@ -179,3 +179,21 @@ pub spelled_line_is_read :
 unfolding line_of
 spelled_line_is_read text line short spelled =
     rw (le-ltb _ _ short, read_if_any (words_of text) line (spelled_read (words_of text) line spelled)) refl
+
+own_at : (form : Form) (o : Operands) → IsOwnLine (line_at form o)
+own_at Read o = tt
+own_at Write o = tt
+own_at BlockRead o = tt
+own_at BlockWrite o = tt
+own_at BlockFill o = tt
+own_at (Modify function) o = tt
+own_at LocalRead o = tt
+own_at LocalWrite o = tt
+own_at (LocalModify function) o = tt
+own_at Await o = tt
+
+-- no line asks the local port for a cycle of the bus
+pub line_is_own : (text : List ℕ) (line : Line) → line_of text ≡ Ok (Some line) → IsOwnLine line
+line_is_own text line read =
+    let spelled = (line_is_spelled text line read).1 in
+    rw spelled.same (own_at spelled.form spelled.operands)

@@ -8,6 +8,8 @@ use Rattle.vme_lines.specs.declared.fault.LineFault.TheVariants.{LineTooLong, Un
 use Rattle.vme_lines.specs.declared.field.Field.{Field}
 use Rattle.vme_lines.specs.declared.form.Form.{Form}
 use Rattle.vme_lines.specs.declared.line.Line.{Line}
+use Rattle.vme_lines.specs.declared.line.Line.TheVariants.{Bus, Local, Await}
+use Rattle.vme_memory.specs.declared.command.BoardCmd.TheVariants.{LocalRead, LocalWrite, LocalModify, Cycle}
 use Rattle.vme_lines.specs.Words.{words_of}
 use Rattle.vme_lines.specs.Operands.{Operands, no_operands}
 use Rattle.vme_lines.specs.Fields.{with_field, fault_of}
@@ -84,3 +86,12 @@ pub record Spell (words : List (List ℕ)) (line : Line) : Type 0 where
   pub operands : Operands
   pub places_filled : Fill (places form) words no_operands operands
   pub same : line ≡ line_at form operands
+
+-- a line that a script can ask for: the local port has no cycles of the bus (this project's own)
+abbrev pub IsOwnLine : Line → Type 0
+IsOwnLine (Bus request) = Unit {0}
+IsOwnLine (Local (LocalRead offset n)) = Unit {0}
+IsOwnLine (Local (LocalWrite offset bytes)) = Unit {0}
+IsOwnLine (Local (LocalModify offset n f)) = Unit {0}
+IsOwnLine (Local (Cycle signals at f)) = ⊥
+IsOwnLine (Await am addr bytes) = Unit {0}

@@ -2,10 +2,12 @@
 ghost use Rattle.std.specs.Prelude.{◌≡◌, ℕ, ◌≤◌, ◌↔◌, List, length, Some, Ok};
 ghost use Rattle.vme_lines.specs.declared.line.Line.{Line};
 ghost use Rattle.vme_lines.specs.Words.{words_of};
-ghost use Rattle.vme_lines.specs.Grammar.{line_of, Spell};
+ghost use Rattle.vme_lines.specs.Grammar.{line_of, Spell, IsOwnLine};
 
-/// A line is read exactly where its words spell it: they fill the places of a form, one each.
+/// A line is read exactly where its words spell it: they fill the places of a form, one each. So
+/// none asks the local port for a cycle of the bus.
 pub fn lines_are_spelled()
-    ensures { (text : List ℕ) (line : Line) →
+    ensures spelled { (text : List ℕ) (line : Line) →
         (line_of text ≡ Ok (Some line)) ↔ ((length text ≤ 80) × Spell (words_of text) line) }
+    ensures own { (text : List ℕ) (line : Line) → line_of text ≡ Ok (Some line) → IsOwnLine line }
 {}

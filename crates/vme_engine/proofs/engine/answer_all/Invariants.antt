@@ -2,7 +2,7 @@ use Rattle.std.proofs.Common.{◌≡◌, ◌++◌, List, ℕ}
 use Rattle.std.specs.Io.KnownBytes.{Appends}
 use Rattle.std.specs.Str.Lines.{lines}
 use Rattle.vme_engine.specs.Engine.{text_of, status_after, cycles_text, cycles_status}
-use Rattle.vme_engine.specs.Ends.{worse_of}
+use Rattle.vme_shared.specs.Statuses.{worse_of}
 use Rattle.vme_engine.proofs.engine.answer_all.Given as goal
 
 -- what was written and what is gathered, with the answers to the lines that are left, is the whole text, and so is the status
