@@ -1,0 +1,4 @@
+pub mod Gatherings
+pub mod Statuses
+pub mod Wholes
+pub mod Reports

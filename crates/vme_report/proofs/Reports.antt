@@ -1,0 +1,67 @@
+-- The parts of a report, one after another, and where the sink fails in one.
+use Rattle.std.proofs.Common.{◌≡◌, ℕ, List, [], ◌++◌, Option, refl, sym}
+use Rattle.std.proofs.lemmas.List.{append-nil}
+use Rattle.std.specs.List.{flat_map}
+use Rattle.vme_io.specs.Fronts.{AppendsFront}
+use Rattle.vme_report.specs.declared.part.Part.TheVariants.{Replies, Counts, Memory}
+use Rattle.vme_report.specs.Boards.{BoardText}
+use Rattle.vme_report.specs.Ends.{Gathers}
+use Rattle.vme_report.specs.Reports.{part_text, report_text}
+use Rattle.vme_report.proofs.Wholes.{SoFar, so_far_none, so_far_more, so_far_fails}
+
+module _ (boards : List BoardText) where
+  abbrev replies : List ℕ
+  replies = flat_map (part_text Replies) boards
+
+  abbrev counts : List ℕ
+  counts = flat_map (part_text Counts) boards
+
+  abbrev memories : List ℕ
+  memories = flat_map (part_text Memory) boards
+
+  by_parts : report_text boards ≡ replies ++ (counts ++ memories)
+  unfolding report_text
+  by_parts = refl
+
+  -- the replies are told
+  pub replies_told :
+      (old new : Option (List ℕ)) (before after : List ℕ) → before ≡ [] → Gathers old new before after replies
+      → SoFar old new after (counts ++ memories) (report_text boards)
+  replies_told old new before after none told =
+      so_far_more old old new before after replies (report_text boards) (counts ++ memories) (report_text boards)
+      (so_far_none old before (report_text boards) none) by_parts told
+
+  -- then the counts
+  pub counts_told :
+      (old mid new : Option (List ℕ)) (before after : List ℕ) → SoFar old mid before (counts ++ memories) (report_text boards)
+      → Gathers mid new before after counts → SoFar old new after memories (report_text boards)
+  counts_told old mid new before after so_far told =
+      so_far_more old mid new before after counts (counts ++ memories) memories (report_text boards) so_far refl told
+
+  -- then the memories
+  pub memory_told :
+      (old mid new : Option (List ℕ)) (before after : List ℕ) → SoFar old mid before memories (report_text boards)
+      → Gathers mid new before after memories → SoFar old new after [] (report_text boards)
+  memory_told old mid new before after so_far told =
+      so_far_more old mid new before after memories memories [] (report_text boards) so_far (sym (append-nil memories)) told
+
+  -- the sink fails in the replies
+  pub replies_cut :
+      (old new : Option (List ℕ)) (before : List ℕ) → before ≡ [] → AppendsFront old new (before ++ replies) → AppendsFront old new (report_text boards)
+  replies_cut old new before none failed =
+      so_far_fails old old new before replies (report_text boards) (counts ++ memories) (report_text boards)
+      (so_far_none old before (report_text boards) none) by_parts failed
+
+  -- or in the counts
+  pub counts_cut :
+      (old mid new : Option (List ℕ)) (before : List ℕ) → SoFar old mid before (counts ++ memories) (report_text boards)
+      → AppendsFront mid new (before ++ counts) → AppendsFront old new (report_text boards)
+  counts_cut old mid new before so_far failed =
+      so_far_fails old mid new before counts (counts ++ memories) memories (report_text boards) so_far refl failed
+
+  -- or in the memories
+  pub memory_cut :
+      (old mid new : Option (List ℕ)) (before : List ℕ) → SoFar old mid before memories (report_text boards)
+      → AppendsFront mid new (before ++ memories) → AppendsFront old new (report_text boards)
+  memory_cut old mid new before so_far failed =
+      so_far_fails old mid new before memories memories [] (report_text boards) so_far (sym (append-nil memories)) failed

@@ -1,0 +1,22 @@
+-- How a text goes to a sink piece by piece, and how that ends.
+use Rattle.std.specs.Prelude.{◌≡◌, ℕ, Bool, true, false, List, ◌++◌, Option, Result, Ok, Err}
+use Rattle.std.specs.Io.KnownBytes.{Appends}
+use Rattle.vme_report.specs.declared.fault.ReportFault.{ReportFault}
+use Rattle.vme_report.specs.declared.fault.ReportFault.TheVariants.{Memory, Write}
+
+-- a text was gathered behind another: a front of the two went to the sink, and their rest is what is gathered now
+-- (this project's own)
+pub record Gathers (old new : Option (List ℕ)) (before after text : List ℕ) : Type 0 where
+  pub front : List ℕ
+  pub appends : Appends old new front
+  pub split : before ++ text ≡ front ++ after
+
+-- whether a fault tells that the sink failed (this project's own)
+abbrev pub is_write : ReportFault → Bool
+is_write Memory = false
+is_write Write = true
+
+-- whether an end is told as a failure of the sink (this project's own)
+abbrev pub is_write_failure : {T : Type 0} → Result T ReportFault → Bool
+is_write_failure (Ok x) = false
+is_write_failure (Err fault) = is_write fault

@@ -1,0 +1,4 @@
+pub mod Boards
+pub mod Ends
+pub mod Texts
+pub mod Reports

@@ -1,0 +1,161 @@
+//! The lines of a report, appended to a buffer.
+ghost use Rattle.std.specs.Prelude.{◌≡◌, ◌<◌, ◌++◌, length, take, flat_map, OnOk, OnErr};
+ghost use Rattle.std.specs.Fmt.{decimal};
+ghost use Rattle.vme_lines.specs.Texts.{digit, hex_byte, hex_text, output_line};
+ghost use Rattle.vme_report.specs.Texts.{place_text, transfer_text, reply_text, line_text, count_text, counts_text, is_blank, row_text};
+
+use std::alloc::AllocError;
+use vme_lines::{print_berr, print_done, print_old, print_read, print_refusal};
+use vme_master::Outcome;
+use vme_shared::LineReply;
+
+/// Appends the whole line that tells what a line of a slot's script was answered, or nothing where
+/// there is no memory for it.
+#[tactic(auto, unfolding(crate::specs::Texts::line_text))]
+pub fn reply_line(
+    slot: u16,
+    line: u16,
+    reply: &LineReply,
+    text: &mut Vec<u8>,
+) -> Result<(), AllocError>
+    ensures text { OnOk result (text.new.items ≡ text.old.items ++ line_text slot line reply.now) }
+    ensures kept { OnErr result (text.new.items ≡ text.old.items) }
+{
+    let start = text.len();
+    let end = print_line(slot, line, reply, text);
+    if end.is_err() {
+        text.truncate(start);
+    }
+    end
+}
+
+/// Appends a line, or a front of it.
+#[tactic(auto, unfolding(crate::specs::Texts::line_text))]
+fn print_line(slot: u16, line: u16, reply: &LineReply, text: &mut Vec<u8>) -> Result<(), AllocError>
+    ensures text { OnOk result (text.new.items ≡ text.old.items ++ line_text slot line reply.now) }
+    ensures before { OnErr result (take (length text.old.items) text.new.items ≡ text.old.items) }
+{
+    print_place(slot, line, text)?;
+    print_reply(reply, text)
+}
+
+fn print_place(slot: u16, line: u16, text: &mut Vec<u8>) -> Result<(), AllocError>
+    ensures text { OnOk result (text.new.items ≡ text.old.items ++ place_text slot line) }
+    ensures before { OnErr result (take (length text.old.items) text.new.items ≡ text.old.items) }
+{
+    print_number(u64::from(slot), text)?;
+    text.extend_from_slice(b":")?;
+    print_number(u64::from(line), text)?;
+    text.extend_from_slice(b" ")
+}
+
+fn print_reply(reply: &LineReply, text: &mut Vec<u8>) -> Result<(), AllocError>
+    ensures text { OnOk result (text.new.items ≡ text.old.items ++ output_line (reply_text reply.now)) }
+    ensures kept { OnErr result (text.new.items ≡ text.old.items) }
+{
+    match reply {
+        LineReply::Transfer(outcome) => print_outcome(outcome, text),
+        LineReply::Refused(fault) => print_refusal(text, *fault),
+        LineReply::Met => text.extend_from_slice(b"met\n"),
+        LineReply::Timeout => text.extend_from_slice(b"timeout\n"),
+        LineReply::Unfinished => text.extend_from_slice(b"unfinished\n"),
+    }
+}
+
+fn print_outcome(outcome: &Outcome, text: &mut Vec<u8>) -> Result<(), AllocError>
+    ensures text { OnOk result
+        (text.new.items ≡ text.old.items ++ output_line (transfer_text outcome.now)) }
+    ensures kept { OnErr result (text.new.items ≡ text.old.items) }
+{
+    match outcome {
+        Outcome::Read(bytes) => print_read(text, bytes.as_slice()),
+        Outcome::Done => print_done(text),
+        Outcome::Old(bytes) => print_old(text, bytes.as_slice()),
+        Outcome::Berr { count, bytes } => print_berr(text, *count, bytes.as_slice()),
+        Outcome::Denied => text.extend_from_slice(b"denied\n"),
+    }
+}
+
+fn print_number(number: u64, text: &mut Vec<u8>) -> Result<(), AllocError>
+    ensures text { OnOk result (text.new.items ≡ text.old.items ++ decimal number) }
+    ensures kept { OnErr result (text.new.items ≡ text.old.items) }
+{
+    let mut buffer = itoa::Buffer::new();
+    text.extend_from_slice(buffer.format(number).as_bytes())
+}
+
+/// Appends the line of a board's steps and of who made them.
+#[tactic(auto, unfolding(crate::specs::Texts::counts_text))]
+pub(crate) fn print_counts(
+    slot: u16,
+    steps: u64,
+    made: &[u64],
+    text: &mut Vec<u8>,
+) -> Result<(), AllocError>
+    ensures { OnOk result (text.new.items ≡ text.old.items ++ counts_text slot steps made.now) }
+{
+    text.extend_from_slice(b"board ")?;
+    print_number(u64::from(slot), text)?;
+    text.extend_from_slice(b" steps ")?;
+    print_number(steps, text)?;
+    text.extend_from_slice(b" made")?;
+    print_made(made, text)?;
+    text.extend_from_slice(b"\n")
+}
+
+fn print_made(made: &[u64], text: &mut Vec<u8>) -> Result<(), AllocError>
+    ensures { OnOk result (text.new.items ≡ text.old.items ++ flat_map count_text made.now) }
+{
+    for count in made {
+        text.extend_from_slice(b" ")?;
+        print_number(*count, text)?;
+    }
+    Ok(())
+}
+
+/// Appends the line of a row of memory, if one of its bytes is not zero.
+#[tactic(auto, unfolding(crate::specs::Texts::row_text))]
+pub(crate) fn print_row(
+    slot: u16,
+    offset: u32,
+    row: &[u8],
+    text: &mut Vec<u8>,
+) -> Result<(), AllocError>
+    ensures { OnOk result (text.new.items ≡ text.old.items ++ row_text slot offset row.now) }
+{
+    if is_blank(row) {
+        return Ok(());
+    }
+    text.extend_from_slice(b"mem ")?;
+    print_number(u64::from(slot), text)?;
+    text.extend_from_slice(b" ")?;
+    print_hex(&offset.to_be_bytes(), text)?;
+    text.extend_from_slice(b" ")?;
+    print_hex(row, text)?;
+    text.extend_from_slice(b"\n")
+}
+
+/// Whether all bytes are zero.
+fn is_blank(row: &[u8]) -> bool
+    ensures { result ≡ is_blank row.now }
+{
+    row.iter().all(|byte| *byte == 0)
+}
+
+fn print_hex(bytes: &[u8], text: &mut Vec<u8>) -> Result<(), AllocError>
+    ensures { OnOk result (text.new.items ≡ text.old.items ++ hex_text bytes.now) }
+{
+    for byte in bytes {
+        text.extend_from_slice(&[digit(*byte / 16), digit(*byte % 16)])?;
+    }
+    Ok(())
+}
+
+const DIGITS: [u8; 16] = *b"0123456789abcdef";
+
+fn digit(n: u8) -> u8
+    requires { n < 16 }
+    ensures { result ≡ digit n }
+{
+    DIGITS[usize::from(n)]
+}

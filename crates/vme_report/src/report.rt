@@ -1,0 +1,41 @@
+//! A report as a whole.
+ghost use Rattle.std.specs.Prelude.{◌≡◌, false, IfOk, OnOk, OnErr};
+ghost use Rattle.std.specs.Io.KnownBytes.{Appends};
+ghost use Rattle.vme_io.specs.Fronts.{AppendsFront};
+ghost use Rattle.vme_report.specs.Ends.{is_write_failure};
+ghost use Rattle.vme_report.specs.Reports.{report_text, report_status};
+
+use crate::board::BoardReport;
+use crate::fault::ReportFault;
+use crate::gather::{WRITE_SIZE, gather_boards, write_text};
+use crate::part::Part;
+use crate::status::status_of;
+use std::alloc::Global;
+use vme_io::Sink;
+use vme_shared::Status;
+
+/// Writes the report of these boards, in order: a line for each reply, a line for each board's
+/// steps, and a line for each row of memory that is not all zero.
+///
+/// Before a fault a front of the report is written. Of a writer that tells no bytes only the
+/// faults are promised. `Memory` comes where a growth is refused.
+pub fn write_report<W: Sink>(
+    alloc: Global,
+    boards: &[BoardReport<'_>],
+    writer: &mut W,
+) -> Result<Status, ReportFault>
+    requires { W.is_marked writer.old ≡ false }
+    ensures text { OnOk result
+        (Appends (W.contents writer.old) (W.contents writer.new) (report_text boards.now)) }
+    ensures front { OnErr result
+        (AppendsFront (W.contents writer.old) (W.contents writer.new) (report_text boards.now)) }
+    ensures status { IfOk result (λ status. status ≡ report_status boards.now) }
+    ensures write { W.is_marked writer.new ≡ is_write_failure result }
+{
+    let mut text = Vec::with_capacity(alloc, WRITE_SIZE)?;
+    gather_boards(Part::Replies, boards, &mut text, writer)?;
+    gather_boards(Part::Counts, boards, &mut text, writer)?;
+    gather_boards(Part::Memory, boards, &mut text, writer)?;
+    write_text(text.as_slice(), writer)?;
+    Ok(status_of(boards))
+}
