@@ -1,0 +1,265 @@
+-- What holds of every configuration, by the refusals that do not hold of its file.
+use Rattle.std.proofs.Common.{◌≡◌, ℕ, zero, suc, ◌+◌, ◌<◌, ◌≤◌, Bool, true, false, List, [], ◌∷◌, length, Option, None, Some, Result, Ok, Err, refl, ap, subst, sym, ◌∙◌, arith, inl, inr}
+use Rattle.std.specs.Prelude.{nat_lt, nat_le, not, ◌&&◌, ◌==◌, is_ok, slice_get, codes}
+use Rattle.std.specs.Str.{bytes_eq}
+use Rattle.std.specs.Str.Lines.{lines}
+use Rattle.std.specs.List.{list_all}
+use Rattle.std.proofs.lemmas.Bool.{and_parts, ltb-true, ltb-false, leb-true, le-leb, lt-ltb, le-ltb, cases_lt}
+use Rattle.std.proofs.lemmas.Bool.Decides.{nat_tests}
+use Rattle.vme_decode.specs.declared.entry.Entry.{Entry}
+use Rattle.vme_decode.specs.Lawful.{some_overlap}
+use Rattle.vme_lines.specs.declared.line.Line.{Line}
+use Rattle.vme_lines.specs.Grammar.{line_of}
+use Rattle.vme_script.specs.declared.board.BoardConfig.{BoardConfig}
+use Rattle.vme_script.specs.declared.fault.ConfigFault.{ConfigFault}
+use Rattle.vme_script.specs.declared.fault.ConfigFault.TheVariants.{NoBoard, TooMany, BadWord, BadSchedule, Overlap}
+use Rattle.vme_script.specs.declared.fault.ScriptRefusal.{ScriptRefusal}
+use Rattle.vme_script.specs.declared.script.ScriptLine.{ScriptLine}
+use Rattle.vme_script.specs.Answers.{◌>>=◌, refuse}
+use Rattle.vme_script.specs.Files.{BoardValues, FileValues}
+use Rattle.vme_script.specs.Boards.{range_refused, boards_after, entries_of, map_of}
+use Rattle.vme_script.specs.Schedules.{has_boards, turns_of, lawful_schedule, schedule_of}
+use Rattle.vme_script.specs.Scripts.{asked_at, line_before, lines_from, script_of, script_in, scripts_of}
+use Rattle.vme_script.specs.Configurations.{Configuration, configuration_of}
+use Rattle.vme_script.specs.Lawful.{IsLawfulBoard, IsLawful}
+use Rattle.vme_script.proofs.Maps.{refusal_of_lawful, size_of_range}
+use Rattle.vme_script.proofs.Facts.{ascend, is_lawful, boards_known, ranges_known, true_from_not}
+
+-- ---- the parts of a configuration
+
+ended :
+    {A B : Type 0} (first : Result A ConfigFault) (second : Result B ConfigFault) (make : A → B → Configuration) (c : Configuration)
+    → (first >>= (λ x. second >>= (λ y. Ok (make x y)))) ≡ Ok c → (x : A) × (y : B) × (first ≡ Ok x) × (second ≡ Ok y) × (c ≡ make x y)
+ended (Err fault) second make c e = cc
+ended (Ok x) (Err fault) make c e = cc
+ended (Ok x) (Ok y) make c e = (x, y, refl, refl, cc)
+
+passed :
+    {A B : Type 0} (map : Result A ConfigFault) (wrong : Bool) (rest : Result B ConfigFault) (c : B)
+    → (map >>= (λ _. refuse wrong BadWord >>= (λ _. rest))) ≡ Ok c → (m : A) × (map ≡ Ok m) × (rest ≡ Ok c)
+passed (Err fault) wrong rest c e = cc
+passed (Ok m) true rest c e = cc
+passed (Ok m) false rest c e = (m, refl, e)
+
+counted :
+    {A B : Type 0} (none many : Bool) (boards : Result A ConfigFault) (rest : A → Result B ConfigFault) (c : B)
+    → (refuse none NoBoard >>= (λ _. refuse many TooMany >>= (λ _. boards >>= rest))) ≡ Ok c
+    → (none ≡ false) × (many ≡ false) × ((x : A) × (boards ≡ Ok x) × (rest x ≡ Ok c))
+counted true many boards rest c e = cc
+counted false true boards rest c e = cc
+counted false false (Err fault) rest c e = cc
+counted false false (Ok x) rest c e = (refl, refl, (x, refl, e))
+
+-- what a configuration is made of
+pub record Made (file : FileValues) (c : Configuration) : Type 0 where
+  pub some : (length file.boards == 0) ≡ false
+  pub most : nat_lt 21 (length file.boards) ≡ false
+  pub boards : boards_after 0 file.boards ≡ Ok c.boards
+  pub map : List Entry
+  pub mapped : map_of (entries_of c.boards) ≡ Ok map
+  pub schedule : schedule_of c.boards file ≡ Ok c.schedule
+  pub scripts : scripts_of file.boards ≡ Ok c.scripts
+  pub tries : c.tries ≡ file.tries
+  pub rounds : c.rounds ≡ file.rounds
+
+-- the rest of a configuration, where its boards are known
+rest_of : FileValues → List BoardConfig → Result Configuration ConfigFault
+unfolding configuration_of
+rest_of file boards =
+    map_of (entries_of boards) >>= (λ _. refuse (not (bytes_eq file.arbiter (codes "priority"))) BadWord >>= (λ _.
+    schedule_of boards file >>= (λ schedule. scripts_of file.boards >>= (λ scripts.
+    Ok (record { boards = boards; scripts = scripts; tries = file.tries; schedule = schedule; rounds = file.rounds })))))
+
+pub made : (file : FileValues) (c : Configuration) → configuration_of file ≡ Ok c → Made file c
+unfolding configuration_of rest_of
+made file c e =
+    let first = counted (length file.boards == 0) (nat_lt 21 (length file.boards)) (boards_after 0 file.boards) (rest_of file) c e in
+    let second = passed (map_of (entries_of first.2.0)) (not (bytes_eq file.arbiter (codes "priority")))
+    (schedule_of first.2.0 file >>= (λ schedule. scripts_of file.boards >>= (λ scripts.
+    Ok (record { boards = first.2.0; scripts = scripts; tries = file.tries; schedule = schedule; rounds = file.rounds })))) c first.2.2 in
+    let last = ended (schedule_of first.2.0 file) (scripts_of file.boards)
+    (λ schedule scripts. record { boards = first.2.0; scripts = scripts; tries = file.tries; schedule = schedule; rounds = file.rounds }) c second.2 in
+    subst (Made file) (sym last.4) (record {
+      some = first.0;
+      most = first.1;
+      boards = first.2.1;
+      map = second.0;
+      mapped = second.1;
+      schedule = last.2;
+      scripts = last.3;
+      tries = refl;
+      rounds = refl;
+    })
+
+-- ---- boards
+
+lawful_one : (before : ℕ) (board : BoardConfig) → is_lawful board ≡ true → before < board.slot → IsLawfulBoard board
+lawful_one before board lawful above =
+    let outer = and_parts (nat_le board.slot 21 && not (nat_lt 3 board.level)) (is_ok (range_refused board.entry)) lawful in
+    let inner = and_parts (nat_le board.slot 21) (not (nat_lt 3 board.level)) outer.0 in
+    record {
+      first_slot = omega (arith, above);
+      last_slot = leb-true board.slot 21 inner.0;
+      level = ltb-false 3 board.level (false_from_not _ inner.1);
+      size = size_of_range board.entry outer.1;
+    }
+  where
+    false_from_not : (b : Bool) → not b ≡ true → b ≡ false
+    false_from_not true e = cc
+    false_from_not false e = refl
+
+-- a board is lawful wherever it stands, and its slot is above
+board_at :
+    (before : ℕ) (boards : List BoardConfig) (i : ℕ) (board : BoardConfig) → list_all is_lawful boards ≡ true → ascend before boards ≡ true
+    → slice_get boards i ≡ Some board → IsLawfulBoard board × (before < board.slot)
+board_at before [] i board lawful ascending there = cc
+board_at before (first ∷ more) zero board lawful ascending there =
+    let own = and_parts (is_lawful first) (list_all is_lawful more) lawful in
+    let above = ltb-true before first.slot (and_parts (nat_lt before first.slot) (ascend first.slot more) ascending).0 in
+    let same : first ≡ board = cc in
+    subst (λ b. IsLawfulBoard b × (before < b.slot)) same (lawful_one before first own.0 above, above)
+board_at before (first ∷ more) (suc i) board lawful ascending there =
+    let own = and_parts (is_lawful first) (list_all is_lawful more) lawful in
+    let next = and_parts (nat_lt before first.slot) (ascend first.slot more) ascending in
+    let later = board_at first.slot more i board own.1 next.1 there in
+    (later.0, omega (arith, later.1, ltb-true before first.slot next.0))
+
+-- two boards in one slot are one board
+one_slot :
+    (before : ℕ) (boards : List BoardConfig) (i j : ℕ) (a b : BoardConfig) → list_all is_lawful boards ≡ true → ascend before boards ≡ true
+    → slice_get boards i ≡ Some a → slice_get boards j ≡ Some b → a.slot ≡ b.slot → i ≡ j
+one_slot before [] i j a b lawful ascending here there same = cc
+one_slot before (first ∷ more) zero zero a b lawful ascending here there same = refl
+one_slot before (first ∷ more) zero (suc j) a b lawful ascending here there same =
+    let own = and_parts (is_lawful first) (list_all is_lawful more) lawful in
+    let next = and_parts (nat_lt before first.slot) (ascend first.slot more) ascending in
+    let later = board_at first.slot more j b own.1 next.1 there in
+    let head : first ≡ a = cc in
+    absurd (omega (arith, later.1, ap (λ x. x.slot) head, same))
+one_slot before (first ∷ more) (suc i) zero a b lawful ascending here there same =
+    let own = and_parts (is_lawful first) (list_all is_lawful more) lawful in
+    let next = and_parts (nat_lt before first.slot) (ascend first.slot more) ascending in
+    let later = board_at first.slot more i a own.1 next.1 here in
+    let head : first ≡ b = cc in
+    absurd (omega (arith, later.1, ap (λ x. x.slot) head, same))
+one_slot before (first ∷ more) (suc i) (suc j) a b lawful ascending here there same =
+    let own = and_parts (is_lawful first) (list_all is_lawful more) lawful in
+    let next = and_parts (nat_lt before first.slot) (ascend first.slot more) ascending in
+    ap suc (one_slot first.slot more i j a b own.1 next.1 here there same)
+
+-- ranges of which a map was made share no address
+clear_map : (entries map : List Entry) → map_of entries ≡ Ok map → some_overlap entries ≡ false
+unfolding map_of
+clear_map entries map e = clear (some_overlap entries) e
+  where
+    clear : (overlap : Bool) → (refuse overlap Overlap >>= (λ _. Ok entries)) ≡ Ok map → overlap ≡ false
+    clear true e = cc
+    clear false e = refl
+
+-- ---- scripts
+
+-- whether a script is no longer than its text may be
+abbrev pub is_short : List ScriptLine → Bool
+is_short script = nat_le (length script) 1000
+
+one_line :
+    (number count : ℕ) (asked : Result (Option Line) ScriptRefusal) (others : Result (List ScriptLine) ScriptRefusal) (script : List ScriptLine)
+    → ((rest : List ScriptLine) → others ≡ Ok rest → length rest ≤ count) → line_before number asked others ≡ Ok script → length script ≤ suc count
+one_line number count (Err refusal) others script within e = cc
+one_line number count (Ok line) (Err refusal) script within e = cc
+one_line number count (Ok None) (Ok rest) script within e =
+    let same : rest ≡ script = cc in omega (arith, within rest refl, ap length same)
+one_line number count (Ok (Some line)) (Ok rest) script within e =
+    let same : record { number = number; line = line } ∷ rest ≡ script = cc in omega (arith, within rest refl, ap length same)
+
+lines_count : (number : ℕ) (text : List (List ℕ)) (script : List ScriptLine) → lines_from number text ≡ Ok script → length script ≤ length text
+lines_count number [] script e = let none : [] ≡ script = cc in omega (arith, ap length none)
+lines_count number (line ∷ more) script e =
+    one_line number (length more) (asked_at number (line_of line)) (lines_from (number + 1) more) script (λ rest f. lines_count (number + 1) more rest f) e
+
+script_short : (text : List ℕ) (script : List ScriptLine) → script_of text ≡ Ok script → is_short script ≡ true
+unfolding script_of
+script_short text script e =
+    elim (cases_lt 1000 (length (lines text))) [
+      | inl many ↦ absurd (let told = rw (lt-ltb 1000 (length (lines text)) many) at e in cc)
+      | inr few ↦
+          let read = rw (le-ltb 1000 (length (lines text)) few) at e in
+          le-leb (length script) 1000 (omega (arith, lines_count 1 (lines text) script read, few))
+    ]
+
+one_script :
+    (slot : ℕ) (first : Result (List ScriptLine) ScriptRefusal) (others : Result (List (List ScriptLine)) ConfigFault) (scripts : List (List ScriptLine))
+    → (script_in slot first >>= (λ x. others >>= (λ xs. Ok (x ∷ xs)))) ≡ Ok scripts
+    → (x : List ScriptLine) × (xs : List (List ScriptLine)) × (first ≡ Ok x) × (others ≡ Ok xs) × (x ∷ xs ≡ scripts)
+one_script slot (Err refusal) others scripts e = cc
+one_script slot (Ok x) (Err fault) scripts e = cc
+one_script slot (Ok x) (Ok xs) scripts e = (x, xs, refl, refl, cc)
+
+-- a script for each board, none of them too long
+pub scripts_known :
+    (boards : List BoardValues) (scripts : List (List ScriptLine)) → scripts_of boards ≡ Ok scripts
+    → (length scripts ≡ length boards) × (list_all is_short scripts ≡ true)
+scripts_known [] scripts e =
+    let none : [] ≡ scripts = cc in
+    subst (λ s. (length s ≡ 0) × (list_all is_short s ≡ true)) none (refl, refl)
+scripts_known (board ∷ more) scripts e =
+    let parts = one_script board.slot (script_of board.script) (scripts_of more) scripts e in
+    let others = scripts_known more parts.1 parts.3 in
+    subst (λ s. (length s ≡ suc (length more)) × (list_all is_short s ≡ true)) parts.4
+    (ap suc others.0, rw (script_short board.script parts.0 parts.2) others.1)
+
+-- ---- schedules
+
+scheduled :
+    (wrong unlawful : Bool) (pairs schedule : List (ℕ × ℕ)) → (refuse wrong BadSchedule >>= (λ _. refuse unlawful BadSchedule >>= (λ _. Ok pairs))) ≡ Ok schedule
+    → (wrong ≡ false) × (unlawful ≡ false) × (pairs ≡ schedule)
+scheduled true unlawful pairs schedule e = cc
+scheduled false true pairs schedule e = cc
+scheduled false false pairs schedule e = (refl, refl, cc)
+
+-- what is known of a lawful schedule
+record Timed (boards : List BoardConfig) (file : FileValues) (schedule : List (ℕ × ℕ)) : Type 0 where
+  tries_some : 1 ≤ file.tries
+  tries_most : file.tries ≤ 1000000
+  rounds : file.rounds ≤ 1000000
+  slots : has_boards boards schedule ≡ true
+  turns : turns_of schedule ≤ 1000000
+
+timed : (boards : List BoardConfig) (file : FileValues) (schedule : List (ℕ × ℕ)) → schedule_of boards file ≡ Ok schedule → Timed boards file schedule
+unfolding schedule_of lawful_schedule
+timed boards file schedule e =
+    let parts = scheduled (not (nat_le 1 file.tries && nat_le file.tries 1000000 && nat_le file.rounds 1000000))
+    (not (has_boards boards file.schedule && nat_le (turns_of file.schedule) 1000000)) file.schedule schedule e in
+    let numbers = and_parts (nat_le 1 file.tries && nat_le file.tries 1000000) (nat_le file.rounds 1000000) (true_from_not _ parts.0) in
+    let tries = and_parts (nat_le 1 file.tries) (nat_le file.tries 1000000) numbers.0 in
+    let pairs = and_parts (has_boards boards file.schedule) (nat_le (turns_of file.schedule) 1000000) (true_from_not _ parts.1) in
+    subst (Timed boards file) parts.2 (record {
+      tries_some = leb-true 1 file.tries tries.0;
+      tries_most = leb-true file.tries 1000000 tries.1;
+      rounds = leb-true file.rounds 1000000 numbers.1;
+      slots = pairs.0;
+      turns = leb-true (turns_of file.schedule) 1000000 pairs.1;
+    })
+
+-- a file that is not refused configures lawfully
+pub configuration_known : (file : FileValues) (c : Configuration) → configuration_of file ≡ Ok c → IsLawful c
+configuration_known file c e =
+    let m = made file c e in
+    let known = boards_known 0 file.boards c.boards m.boards in
+    let few : length file.boards ≤ 21 = ltb-false 21 (length file.boards) m.most in
+    let some : 0 < length file.boards = grind (arith, nat_tests, m.some) in
+    let scripts = scripts_known file.boards c.scripts m.scripts in
+    let times = timed c.boards file c.schedule m.schedule in
+    record {
+      some = omega (arith, some, known.count);
+      most = omega (arith, few, known.count);
+      boards = λ i board there. (board_at 0 c.boards i board known.lawful known.ascending there).0;
+      apart = λ i j a b here there same. one_slot 0 c.boards i j a b known.lawful known.ascending here there same;
+      map = refusal_of_lawful c.boards (omega (arith, few, known.count)) (ranges_known c.boards known.lawful) ∙ rw (clear_map _ m.map m.mapped) refl;
+      scripts = scripts.0 ∙ sym known.count;
+      lines = scripts.1;
+      tries = (omega (arith, m.tries, times.tries_some), omega (arith, m.tries, times.tries_most));
+      rounds = omega (arith, m.rounds, times.rounds);
+      slots = times.slots;
+      turns = times.turns;
+    }

@@ -1,0 +1,5 @@
+pub mod Names
+pub mod Lists
+pub mod Maps
+pub mod Facts
+pub mod Lawful

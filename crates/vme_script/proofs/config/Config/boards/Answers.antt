@@ -1,0 +1,6 @@
+-- A configuration is that of a file, and so lawful.
+use Rattle.vme_script.proofs.Lawful.{configuration_known}
+use Rattle.vme_script.proofs.config.Config.boards.Goals as goal
+
+pub returns-clause-lawful : goal.returns-clause-lawful
+returns-clause-lawful c = rw (← c.self.view_is) (configuration_known c.self.invariant.1.0 _ c.self.invariant.1.1)

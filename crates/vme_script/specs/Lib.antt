@@ -1,0 +1,10 @@
+pub mod Answers
+pub mod Values
+pub mod Files
+pub mod Keys
+pub mod Boards
+pub mod Schedules
+pub mod Scripts
+pub mod Configurations
+pub mod Readings
+pub mod Lawful

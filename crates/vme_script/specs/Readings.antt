@@ -1,0 +1,16 @@
+-- What the text of a file reads as.
+use Rattle.std.specs.Prelude.{Option, Result}
+use Rattle.std.specs.Option.{ok_or}
+use Rattle.toml.specs.Data.{Members}
+use Rattle.vme_script.specs.declared.fault.ConfigFault.{ConfigFault}
+use Rattle.vme_script.specs.declared.fault.ConfigFault.TheVariants.{NotToml, BadKey}
+use Rattle.vme_script.specs.Answers.{◌>>=◌}
+use Rattle.vme_script.specs.Keys.{file_values}
+use Rattle.vme_script.specs.Configurations.{Configuration, configuration_of}
+
+-- what the document that a text is configures, or the first refusal (this project's own)
+unfoldable pub configuration_in : Option Members → Result Configuration ConfigFault
+configuration_in document = do
+  keys ← ok_or document NotToml
+  file ← ok_or (file_values keys) BadKey
+  configuration_of file

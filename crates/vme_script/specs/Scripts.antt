@@ -1,0 +1,67 @@
+-- Scripts: what the lines of a text ask for, each with its number, or the first refusal.
+use Rattle.std.specs.Prelude.{◌≡◌, ℕ, ◌+◌, nat_lt, nat_le, Bool, if◌then◌else◌, List, [], ◌∷◌, ◌++◌, length, Option, Some, None, Result, Ok, Err}
+use Rattle.std.specs.List.{list_all}
+use Rattle.std.specs.Str.Lines.{lines}
+use Rattle.vme_lines.specs.declared.line.Line.{Line}
+use Rattle.vme_lines.specs.declared.fault.LineFault.{LineFault}
+use Rattle.vme_lines.specs.Grammar.{line_of}
+use Rattle.vme_script.specs.declared.fault.ConfigFault.{ConfigFault}
+use Rattle.vme_script.specs.declared.fault.ConfigFault.TheVariants.{BadScript}
+use Rattle.vme_script.specs.declared.fault.ScriptFault.{ScriptFault}
+use Rattle.vme_script.specs.declared.fault.ScriptFault.TheVariants.{Refused, OutOfMemory}
+use Rattle.vme_script.specs.declared.fault.ScriptRefusal.{ScriptRefusal}
+use Rattle.vme_script.specs.declared.fault.ScriptRefusal.TheVariants.{BadLine, TooManyLines}
+use Rattle.vme_script.specs.declared.script.ScriptLine.{ScriptLine}
+use Rattle.vme_script.specs.Answers.{◌>>=◌}
+use Rattle.vme_script.specs.Files.{BoardValues}
+
+-- what a line adds to the lines that ask for something (this project's own)
+abbrev pub numbered : ℕ → Option Line → List ScriptLine
+numbered number None = []
+numbered number (Some line) = record { number = number; line = line } ∷ []
+
+-- a line before others: it adds itself to theirs, unless one of them is refused (this project's own)
+abbrev pub with_line : List ScriptLine → Result (List ScriptLine) ScriptRefusal → Result (List ScriptLine) ScriptRefusal
+with_line first (Ok others) = Ok (first ++ others)
+with_line first (Err refusal) = Err refusal
+
+-- what a line asks for, or its refusal by its number (this project's own)
+abbrev pub asked_at : ℕ → Result (Option Line) LineFault → Result (Option Line) ScriptRefusal
+asked_at number (Ok line) = Ok line
+asked_at number (Err fault) = Err (BadLine number fault)
+
+-- the same with the lines after it: a line that is refused is told before those (this project's own)
+abbrev pub line_before : ℕ → Result (Option Line) ScriptRefusal → Result (List ScriptLine) ScriptRefusal → Result (List ScriptLine) ScriptRefusal
+line_before number (Ok line) others = with_line (numbered number line) others
+line_before number (Err refusal) others = Err refusal
+
+-- the lines that ask for something, with numbers from this one on, or the first line that is refused (this project's own)
+abbrev pub lines_from : ℕ → List (List ℕ) → Result (List ScriptLine) ScriptRefusal
+lines_from number [] = Ok []
+lines_from number (line ∷ more) = line_before number (asked_at number (line_of line)) (lines_from (number + 1) more)
+
+-- the script that a text is: it has at most 1,000 lines, whatever they are (this project's own)
+unfoldable pub script_of : List ℕ → Result (List ScriptLine) ScriptRefusal
+script_of text = if nat_lt 1000 (length (lines text)) then Err TooManyLines else lines_from 1 (lines text)
+
+-- a fault is the refusal of a script; where memory was refused nothing is said (this project's own)
+abbrev pub IsRefusalOf : Result (List ScriptLine) ScriptRefusal → ScriptFault → Type 0
+IsRefusalOf expected (Refused refusal) = expected ≡ Err refusal
+IsRefusalOf expected OutOfMemory = Unit {0}
+
+-- the refusal of a script is told with the slot of its processor (this project's own)
+abbrev pub script_in : ℕ → Result (List ScriptLine) ScriptRefusal → Result (List ScriptLine) ConfigFault
+script_in slot (Ok script) = Ok script
+script_in slot (Err refusal) = Err (BadScript slot refusal)
+
+-- the scripts of boards, in order of slots (this project's own)
+abbrev pub scripts_of : List BoardValues → Result (List (List ScriptLine)) ConfigFault
+scripts_of [] = Ok []
+scripts_of (board ∷ more) = do
+  first ← script_in board.slot (script_of board.script)
+  others ← scripts_of more
+  Ok (first ∷ others)
+
+-- whether boards are in slots of a backplane (this project's own)
+abbrev pub has_slots : List BoardValues → Bool
+has_slots boards = list_all (λ board. nat_le board.slot 21) boards

@@ -1,0 +1,63 @@
+//! Lawful schedules.
+ghost use Rattle.std.specs.Prelude.{◌≡◌, is_some, IfSome};
+ghost use Rattle.vme_script.specs.Answers.{Gives};
+ghost use Rattle.vme_script.specs.Schedules.{has_slot, lawful_schedule, schedule_of};
+
+use crate::board::BoardConfig;
+use crate::fault::ConfigFault;
+use crate::file::FileTable;
+use std::alloc::Global;
+
+/// The greatest number of tries, of rounds, and of the turns of a schedule.
+const MOST_TURNS: u32 = 1_000_000;
+
+/// The slot, if there is a board in it.
+#[tactic(auto, unfolding(crate::specs::Schedules::has_slot))]
+fn slot_among(boards: &[BoardConfig], slot: u32) -> Option<u16>
+    ensures there { is_some result ≡ has_slot boards.now slot }
+    ensures same { IfSome result (λ found. found ≡ slot) }
+{
+    for board in boards {
+        if u32::from(board.slot) == slot {
+            return Some(board.slot);
+        }
+    }
+    None
+}
+
+/// The pairs of a schedule, if they are lawful.
+#[tactic(auto, unfolding(crate::specs::Schedules::lawful_schedule))]
+fn lawful_schedule(
+    alloc: Global,
+    boards: &[BoardConfig],
+    pairs: &[(u32, u32)],
+) -> Result<Vec<(u16, u32)>, ConfigFault>
+    ensures { Gives (λ schedule. schedule.items) result (lawful_schedule boards.now pairs.now) }
+{
+    let mut schedule = Vec::with_capacity(alloc, pairs.len())?;
+    let mut left = MOST_TURNS;
+    for (slot, turns) in pairs {
+        let slot = slot_among(boards, *slot).ok_or(ConfigFault::BadSchedule)?;
+        if *turns > left {
+            return Err(ConfigFault::BadSchedule);
+        }
+        left -= *turns;
+        schedule.push((slot, *turns))?;
+    }
+    Ok(schedule)
+}
+
+/// The schedule of a file, if that and its numbers are lawful.
+#[tactic(auto, unfolding(crate::specs::Schedules::schedule_of))]
+pub(crate) fn schedule_of(
+    alloc: Global,
+    boards: &[BoardConfig],
+    file: &FileTable<'_>,
+) -> Result<Vec<(u16, u32)>, ConfigFault>
+    ensures { Gives (λ schedule. schedule.items) result (schedule_of boards.now file.now) }
+{
+    if file.tries < 1 || file.tries > MOST_TURNS || file.rounds > MOST_TURNS {
+        return Err(ConfigFault::BadSchedule);
+    }
+    lawful_schedule(alloc, boards, &file.schedule)
+}
