@@ -1,0 +1,5 @@
+//! Tests of the text of a report. They stand apart so that `vme_report` is not proved twice.
+#![tactic(auto)]
+
+#[cfg(test)]
+mod replies;

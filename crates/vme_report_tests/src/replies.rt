@@ -1,0 +1,58 @@
+//! What each reply is told as.
+use std::process::Abort;
+use std::test::Fail;
+use vme_cycle::{Block, CycleFault};
+use vme_lanes::Datum;
+use vme_master::Outcome;
+use vme_report::reply_line;
+use vme_shared::LineReply;
+
+static REPLIES: &str = "21:1000 read 00ff
+21:1000 done
+21:1000 old 80
+21:1000 berr 0
+21:1000 berr 1 00000000
+21:1000 denied
+21:1000 refused K3
+21:1000 met
+21:1000 timeout
+21:1000 unfinished
+";
+
+fn block(bytes: &[u8]) -> Block {
+    Block::try_from(bytes).unwrap_or_default()
+}
+
+fn berr(count: u16, bytes: &[u8]) -> LineReply {
+    LineReply::Transfer(Outcome::Berr {
+        count,
+        bytes: block(bytes),
+    })
+}
+
+/// Each form of reply.
+fn replies() -> [LineReply; 10] {
+    let old = Datum::try_from(&[0x80][..]).unwrap_or_default();
+    [
+        LineReply::Transfer(Outcome::Read(block(&[0, 0xff]))),
+        LineReply::Transfer(Outcome::Done),
+        LineReply::Transfer(Outcome::Old(old)),
+        berr(0, &[]),
+        berr(1, &[0, 0, 0, 0]),
+        LineReply::Transfer(Outcome::Denied),
+        LineReply::Refused(CycleFault::NoCycle),
+        LineReply::Met,
+        LineReply::Timeout,
+        LineReply::Unfinished,
+    ]
+}
+
+#[test]
+fn tells_each_reply(rt: HostRuntime) -> Result<(), Fail> {
+    let mut text = Vec::new(rt.alloc());
+    for reply in &replies() {
+        reply_line(21, 1000, reply, &mut text)?;
+    }
+    assert_eq!(rt; text.as_slice(), REPLIES.as_bytes());
+    Ok(())
+}
