@@ -55,8 +55,8 @@ Ends (Err stops.Spent) after done events =
     MatchOption (slice_get events done) ⊥ (λ e. steps_of after (target_of e.1) ≡ Some (2 ^ 64 - 1))
 
 -- the first of the events were done, as many as the result goes with (this project's own)
-pub record HasRun (events : List (ℕ × Event)) (before after : Machine) (old new : List EventReply) (result : Result (Unit {0}) RunStop) :
-    Type 0 where
+pub record HasRun (events : List (ℕ × Event)) (before after : Machine) (old new : List EventReply)
+    (result : Result (Unit {0}) RunStop) : Type 0 where
   pub done : ℕ
   pub has : HasDone (take done events) before after old new
   pub ends : Ends result after done events

@@ -2,3 +2,4 @@ pub mod Jobs
 pub mod Tables
 pub mod Machine
 pub mod Events
+pub mod Laws

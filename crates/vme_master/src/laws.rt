@@ -1,11 +1,96 @@
-ghost use Rattle.std.specs.Prelude.{◌≡◌};
+ghost use Rattle.std.specs.Prelude.{◌≡◌, ◌≢◌, ◌<◌, ◌⊎◌, ◌∷◌, [], ℕ, false, List, length, Option, Some, None, IsTrue};
+ghost use Rattle.vme_cycle.specs.Requests.{addr_of};
+ghost use Rattle.vme_cycle.specs.Lawful.{Transfer};
+ghost use Rattle.vme_decode.specs.declared.entry.Entry.{Entry};
+ghost use Rattle.vme_decode.specs.Select.{FallsTo};
+ghost use Rattle.vme_memory.specs.Boards.{Board};
+ghost use Rattle.vme_memory.specs.Steps.{Command};
+ghost use Rattle.vme_arbiter.specs.declared.command.ArbCmd.{ArbCmd};
+ghost use Rattle.vme_arbiter.specs.declared.command.ArbCmd.TheVariants as turns;
+ghost use Rattle.vme_arbiter.specs.declared.command.ArbReply.TheVariants.{Granted, Freed};
+ghost use Rattle.vme_arbiter.specs.Requests.{is_level};
+ghost use Rattle.vme_arbiter.specs.Arbitration.{Arbitration, turn_step};
+ghost use Rattle.vme_arbiter.specs.Turns.{may_give};
+ghost use Rattle.vme_core.specs.declared.event.EventReply.{EventReply};
+ghost use Rattle.vme_core.specs.declared.event.EventReply.TheVariants as told;
+ghost use Rattle.vme_core.specs.Calls.{Call, OnBoard, OnBus, command_step};
+ghost use Rattle.vme_master.specs.declared.job.BusJob.{BusJob};
+ghost use Rattle.vme_master.specs.declared.job.LocalJob.{LocalJob};
 ghost use Rattle.vme_master.specs.declared.job.Job.{Job};
-ghost use Rattle.vme_master.specs.Tables.{Given, next_of};
+ghost use Rattle.vme_master.specs.declared.job.Job.TheVariants.{Bus, Local};
+ghost use Rattle.vme_master.specs.declared.outcome.Outcome.{Outcome};
+ghost use Rattle.vme_master.specs.declared.outcome.Outcome.TheVariants.{Denied};
+ghost use Rattle.vme_master.specs.Jobs.{bus_job, local_call, fits, error_outcome};
+ghost use Rattle.vme_master.specs.Tables.{Given, Makes, Ends, next_of};
 ghost use Rattle.vme_master.specs.Machine.{task_given, to_do};
+ghost use Rattle.vme_master.specs.Laws.{last_turn, IsNextDatum, IsBelow};
 
 /// A task goes by the table: after calls with any replies, fitting or not, it does next what the
-/// table says of them.
+/// table says of them. What does not fit, is absent or comes early is a denial, and an end is for
+/// good.
 #[tactic(auto, using(crate::proofs::Stands::by_the_table))]
 pub fn tasks_go_by_the_table()
-    ensures { (job : Job) (given : Given) → to_do (task_given job given) ≡ next_of job given }
+    ensures table { (job : Job) (given : Given) → to_do (task_given job given) ≡ next_of job given }
+    ensures misfit { (job : Job) (given : Given) (call : Call) (reply : EventReply) →
+        next_of job given ≡ Makes call → fits call reply ≡ false →
+        next_of job (Some reply ∷ given) ≡ Ends Denied }
+    ensures absent { (job : Job) (given : Given) (call : Call) →
+        next_of job given ≡ Makes call → next_of job (None ∷ given) ≡ Ends Denied }
+    ensures early { (job : Job) (reply : EventReply) → next_of job (Some reply ∷ []) ≡ Ends Denied }
+    ensures end { (job : Job) (given : Given) (outcome : Outcome) (last : Option EventReply) →
+        next_of job given ≡ Ends outcome → next_of job (last ∷ given) ≡ Ends outcome }
+{}
+
+/// A transfer's calls on a board are the commands of its data, one for each and in their order, on
+/// the board that its first byte selects; a command to a local port is its one call. Where no board
+/// is selected there is no such call, and the bus timer's error is what comes of it.
+pub fn data_go_in_order()
+    ensures data { (job : BusJob) (given : Given) (board : ℕ) (command : Option Command) →
+        next_of (Bus job) given ≡ Makes (OnBoard board command) →
+        IsNextDatum job given board command }
+    ensures local { (job : LocalJob) (given : Given) (call : Call) →
+        next_of (Local job) given ≡ Makes call → call ≡ local_call job }
+    ensures nowhere { (job : BusJob) (given : Given) (outcome : Outcome) → job.place ≡ None →
+        next_of (Bus job) given ≡ Ends outcome →
+        (outcome ≡ Denied) ⊎ (outcome ≡ error_outcome 0 []) }
+{}
+
+/// Each board that a transfer calls is one of the map, by the code and the address of its first
+/// byte; and each that any job calls is among the first n, where its own are.
+pub fn boards_are_of_the_map()
+    ensures falls { (map : List Entry) (slot level : ℕ) (t : Transfer) (given : Given) (board : ℕ)
+        (command : Option Command) →
+        next_of (bus_job map slot level t) given ≡ Makes (OnBoard board command) →
+        (offset : ℕ) × FallsTo map t.am (addr_of t.request) board offset }
+    ensures map { (map : List Entry) (slot level : ℕ) (t : Transfer) →
+        IsBelow (length map) (bus_job map slot level t) }
+    ensures below { (n : ℕ) (job : Job) (given : Given) (board : ℕ) (command : Option Command) →
+        IsBelow n job → next_of job given ≡ Makes (OnBoard board command) → board < n }
+{}
+
+/// A transfer keeps to its tenure of the bus. Its commands to the arbiter are its slot's own, and go
+/// by the arbiter's last reply; while its data go to the board that reply is `Granted`; and without a
+/// denial it ends with the reply `Freed` alone.
+pub fn transfers_keep_their_tenure()
+    ensures own { (job : BusJob) (given : Given) (cmd : ArbCmd) →
+        next_of (Bus job) given ≡ Makes (OnBus cmd) →
+        (cmd ≡ turns.Ask job.slot job.level)
+        ⊎ ((cmd ≡ turns.Look job.slot) ⊎ (cmd ≡ turns.Done job.slot)) }
+    ensures turns { (job : BusJob) (given : Given) (cmd : ArbCmd) → IsTrue (is_level job.level) →
+        next_of (Bus job) given ≡ Makes (OnBus cmd) →
+        IsTrue (may_give job.slot (last_turn given) cmd) }
+    ensures holds { (job : BusJob) (given : Given) (board : ℕ) (command : Option Command) →
+        next_of (Bus job) given ≡ Makes (OnBoard board command) → last_turn given ≡ Some Granted }
+    ensures frees { (job : BusJob) (given : Given) (call : Call) (reply : EventReply)
+        (outcome : Outcome) → next_of (Bus job) given ≡ Makes call →
+        next_of (Bus job) (Some reply ∷ given) ≡ Ends outcome → outcome ≢ Denied →
+        reply ≡ told.Bus Freed }
+{}
+
+/// Whatever a board or the arbiter is told, its reply fits.
+pub fn replies_fit()
+    ensures board { (memory : Board) (board : ℕ) (command : Option Command) →
+        IsTrue (fits (OnBoard board command) (told.Board (command_step memory command).1)) }
+    ensures bus { (bus : Arbitration) (cmd : ArbCmd) →
+        IsTrue (fits (OnBus cmd) (told.Bus (turn_step bus cmd).1)) }
 {}

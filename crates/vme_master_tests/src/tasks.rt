@@ -1,0 +1,310 @@
+//! What tasks do next, call by call, in worked orders of replies.
+use std::process::Abort;
+use std::test::Fail;
+use vme_am::Space;
+use vme_arbiter::{ArbCmd, ArbReply};
+use vme_core::{Event, EventReply};
+use vme_cycle::{Block, CycleFault, Modify, Request};
+use vme_decode::{AddressMap, Entry};
+use vme_lanes::Datum;
+use vme_master::{Outcome, Task, Todo};
+use vme_memory::{BoardCmd, Reply};
+
+/// One board of 64 bytes from address 1000 hex on.
+static BOARDS: [Entry; 1] = [Entry {
+    space: Space::A32,
+    base: 0x1000,
+    size: 64,
+    supervisory: false,
+}];
+
+const ASK: Step = Step::Bus(ArbCmd::Ask { slot: 2, level: 3 });
+
+const LOOK: Step = Step::Bus(ArbCmd::Look { slot: 2 });
+
+const DONE: Step = Step::Bus(ArbCmd::Done { slot: 2 });
+
+/// What a task does, without the lines of a cycle.
+#[derive(Clone, Copy, Debug, PartialEq, Eq)]
+enum Step {
+    Bus(ArbCmd),
+    /// A cycle of the board at a place, at an offset.
+    Cycle(usize, u32),
+    /// A command to the local port of the board at a place.
+    Local(usize),
+    End,
+}
+
+fn step_of(todo: &Todo) -> Step {
+    match todo {
+        Todo::Call(Event::Bus(cmd)) => Step::Bus(*cmd),
+        Todo::Call(Event::Board { board, cmd }) => match cmd {
+            BoardCmd::Cycle { at, .. } => Step::Cycle(*board, *at),
+            _ => Step::Local(*board),
+        },
+        Todo::Finished(_) => Step::End,
+    }
+}
+
+/// What a task is given.
+#[derive(Clone, Copy, Debug, PartialEq, Eq)]
+enum Given {
+    Nothing,
+    Turn(ArbReply),
+    /// These bytes, of a board.
+    Bytes(&'static [u8]),
+    Done,
+    Berr,
+}
+
+const GRANTED: Given = Given::Turn(ArbReply::Granted);
+
+const FREED: Given = Given::Turn(ArbReply::Freed);
+
+fn reply(given: Given) -> Option<EventReply> {
+    match given {
+        Given::Nothing => None,
+        Given::Turn(turn) => Some(EventReply::Bus(turn)),
+        Given::Bytes(bytes) => {
+            let datum = Datum::try_from(bytes).unwrap_or_default();
+            Some(EventReply::Board(Reply::Bytes(datum)))
+        }
+        Given::Done => Some(EventReply::Board(Reply::Done)),
+        Given::Berr => Some(EventReply::Board(Reply::Berr)),
+    }
+}
+
+/// What is given and what it leads to, call by call.
+type Course = &'static [(Given, Step)];
+
+/// Calls a task as in a course, and once more after its end with each reply: its outcome.
+fn outcome(rt: &impl Abort, task: &mut Task, course: Course) -> Outcome {
+    for (given, wanted) in course {
+        let todo = task.next(reply(*given));
+        assert_eq!(rt; step_of(&todo), *wanted, "{given:?}");
+    }
+    let Todo::Finished(first) = task.next(None) else {
+        panic!(rt; "not ended")
+    };
+    let Todo::Finished(again) = task.next(reply(GRANTED)) else {
+        panic!(rt; "not ended")
+    };
+    assert_eq!(rt; first, again);
+    first
+}
+
+fn block(bytes: &[u8]) -> Block {
+    Block::try_from(bytes).unwrap_or_default()
+}
+
+fn datum(bytes: &[u8]) -> Datum {
+    Datum::try_from(bytes).unwrap_or_default()
+}
+
+/// Runs a request of slot 2 on level 3 through a course.
+fn run(
+    rt: &impl Abort,
+    map: &AddressMap,
+    request: &Request,
+    course: Course,
+) -> Result<Outcome, CycleFault> {
+    let mut task = Task::start(map, 2, 3, request)?;
+    Ok(outcome(rt, &mut task, course))
+}
+
+static TWO_READ: [(Given, Step); 6] = [
+    (Given::Nothing, ASK),
+    (Given::Turn(ArbReply::Waiting), LOOK),
+    (GRANTED, Step::Cycle(0, 8)),
+    (Given::Bytes(&[1, 2, 3, 4]), Step::Cycle(0, 12)),
+    (Given::Bytes(&[5, 6, 7, 8]), DONE),
+    (FREED, Step::End),
+];
+
+static SECOND_BERR: [(Given, Step); 5] = [
+    (Given::Nothing, ASK),
+    (GRANTED, Step::Cycle(0, 8)),
+    (Given::Bytes(&[1, 2, 3, 4]), Step::Cycle(0, 12)),
+    (Given::Berr, DONE),
+    (FREED, Step::End),
+];
+
+static WRONG_LENGTH: [(Given, Step); 3] = [
+    (Given::Nothing, ASK),
+    (GRANTED, Step::Cycle(0, 8)),
+    (Given::Bytes(&[1, 2]), Step::End),
+];
+
+static WRONG_KIND: [(Given, Step); 3] = [
+    (Given::Nothing, ASK),
+    (GRANTED, Step::Cycle(0, 8)),
+    (Given::Done, Step::End),
+];
+
+static OTHER_OBJECT: [(Given, Step); 3] = [
+    (Given::Nothing, ASK),
+    (GRANTED, Step::Cycle(0, 8)),
+    (GRANTED, Step::End),
+];
+
+static DENIED: [(Given, Step); 2] = [
+    (Given::Nothing, ASK),
+    (Given::Turn(ArbReply::Denied), Step::End),
+];
+
+static NO_REPLY: [(Given, Step); 2] = [(Given::Nothing, ASK), (Given::Nothing, Step::End)];
+
+static EARLY: [(Given, Step); 1] = [(GRANTED, Step::End)];
+
+#[test]
+fn reads_two_data_in_order(rt: HostRuntime) -> Result<(), Fail> {
+    let map = AddressMap::new(rt.alloc(), &BOARDS)?;
+    let request = Request::BlockRead {
+        am: 0x0b,
+        addr: 0x1008,
+        n: 4,
+        count: 2,
+    };
+    let read = Outcome::Read(block(&[1, 2, 3, 4, 5, 6, 7, 8]));
+    assert_eq!(&rt; run(&rt, &map, &request, &TWO_READ)?, read);
+    let berr = Outcome::Berr {
+        count: 1,
+        bytes: block(&[1, 2, 3, 4]),
+    };
+    assert_eq!(&rt; run(&rt, &map, &request, &SECOND_BERR)?, berr);
+    for course in [
+        &WRONG_LENGTH[..],
+        &WRONG_KIND[..],
+        &OTHER_OBJECT[..],
+        &DENIED[..],
+        &NO_REPLY[..],
+        &EARLY[..],
+    ] {
+        assert_eq!(&rt;
+            run(&rt, &map, &request, course)?,
+            Outcome::Denied,
+            "{course:?}"
+        );
+    }
+    Ok(())
+}
+
+static NOWHERE: [(Given, Step); 3] = [(Given::Nothing, ASK), (GRANTED, DONE), (FREED, Step::End)];
+
+#[test]
+fn no_board_selected_is_a_bus_error(rt: HostRuntime) -> Result<(), Fail> {
+    let map = AddressMap::new(rt.alloc(), &BOARDS)?;
+    let request = Request::Read {
+        am: 0x09,
+        addr: 0x2000,
+        n: 1,
+    };
+    let berr = Outcome::Berr {
+        count: 0,
+        bytes: block(&[]),
+    };
+    assert_eq!(&rt; run(&rt, &map, &request, &NOWHERE)?, berr);
+    Ok(())
+}
+
+static MODIFIED: [(Given, Step); 4] = [
+    (Given::Nothing, ASK),
+    (GRANTED, Step::Cycle(0, 8)),
+    (Given::Bytes(&[0x7f]), DONE),
+    (FREED, Step::End),
+];
+
+static WRITTEN: [(Given, Step); 4] = [
+    (Given::Nothing, ASK),
+    (GRANTED, Step::Cycle(0, 6)),
+    (Given::Done, DONE),
+    (FREED, Step::End),
+];
+
+#[test]
+fn a_modify_is_one_call_and_a_write_too(rt: HostRuntime) -> Result<(), Fail> {
+    let map = AddressMap::new(rt.alloc(), &BOARDS)?;
+    let modify = Request::Modify {
+        am: 0x09,
+        addr: 0x1008,
+        n: 1,
+        f: Modify::Set,
+    };
+    assert_eq!(&rt;
+        run(&rt, &map, &modify, &MODIFIED)?,
+        Outcome::Old(datum(&[0x7f]))
+    );
+    let write = Request::Write {
+        am: 0x09,
+        addr: 0x1006,
+        bytes: datum(&[1, 2]),
+    };
+    assert_eq!(&rt; run(&rt, &map, &write, &WRITTEN)?, Outcome::Done);
+    Ok(())
+}
+
+#[test]
+fn a_fill_of_256_data_calls_the_board_256_times(rt: HostRuntime) -> Result<(), Fail> {
+    let map = AddressMap::new(rt.alloc(), &BOARDS)?;
+    let request = Request::BlockFill {
+        am: 0x0b,
+        addr: 0x1000,
+        n: 1,
+        count: 256,
+        bytes: datum(&[7]),
+    };
+    let mut task = Task::start(&map, 2, 3, &request)?;
+    assert_eq!(&rt; step_of(&task.next(None)), ASK);
+    let mut given = GRANTED;
+    let mut calls = 0u32;
+    for at in 0..256u32 {
+        assert_eq!(&rt; step_of(&task.next(reply(given))), Step::Cycle(0, at));
+        given = Given::Done;
+        calls = at + 1;
+    }
+    assert_eq!(&rt; calls, 256);
+    assert_eq!(&rt; step_of(&task.next(reply(Given::Done))), DONE);
+    let Todo::Finished(outcome) = task.next(reply(FREED)) else {
+        panic!(&rt; "not ended")
+    };
+    assert_eq!(&rt; outcome, Outcome::Done);
+    Ok(())
+}
+
+static LOCAL_READ: [(Given, Step); 2] = [
+    (Given::Nothing, Step::Local(3)),
+    (Given::Bytes(&[1, 2]), Step::End),
+];
+
+static LOCAL_BERR: [(Given, Step); 2] = [
+    (Given::Nothing, Step::Local(3)),
+    (Given::Berr, Step::End),
+];
+
+#[test]
+fn a_local_command_is_one_call(rt: HostRuntime) {
+    let mut task = Task::local(3, BoardCmd::LocalRead { offset: 1, n: 2 });
+    assert_eq!(&rt;
+        outcome(&rt, &mut task, &LOCAL_READ),
+        Outcome::Read(block(&[1, 2]))
+    );
+    task.again();
+    let berr = Outcome::Berr {
+        count: 0,
+        bytes: block(&[]),
+    };
+    assert_eq!(&rt; outcome(&rt, &mut task, &LOCAL_BERR), berr);
+}
+
+#[test]
+fn a_refused_request_has_no_task(rt: HostRuntime) -> Result<(), Fail> {
+    let map = AddressMap::new(rt.alloc(), &BOARDS)?;
+    let request = Request::Read {
+        am: 0x0b,
+        addr: 0x1000,
+        n: 4,
+    };
+    let task = Task::start(&map, 2, 3, &request);
+    assert!(&rt; matches!(task, Err(CycleFault::WrongKindOfCode)));
+    Ok(())
+}
