@@ -3,3 +3,5 @@
 
 #[cfg(test)]
 mod replies;
+#[cfg(test)]
+mod reports;
