@@ -22,7 +22,8 @@ pub record IsNextDatum (job : BusJob) (given : Given) (board : ℕ) (command : O
   pub offset : ℕ
   pub placed : job.place ≡ Some (board, offset)
   pub more : data_in given < count_of job.transfer.request
-  pub own : command ≡ Some (datum_command job.transfer.request (data_in given) (offset + data_in given * datum_len job.transfer.request))
+  pub own : command
+      ≡ Some (datum_command job.transfer.request (data_in given) (offset + data_in given * datum_len job.transfer.request))
 
 -- the boards that a job may call are among the first n (this project's own)
 abbrev pub IsBelow : ℕ → Job → Type 0
