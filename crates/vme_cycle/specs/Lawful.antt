@@ -46,15 +46,18 @@ crosses_boundary request =
     is_block_request request && not (addr_of request / 256 == (addr_of request + span_of request - 1) / 256)
 
 -- the refusals that hold of a request, in the order in which they are told: a code without a row; a block without a block
--- code, or a block code without a block; a read-modify-write with a program code; numbers or bytes that do not agree; a byte outside the code's space; a first
--- datum that no location has; a block over a boundary (this project's own)
+-- code, or a block code without a block; a read-modify-write with a program code; numbers or bytes that do not agree; a byte
+-- outside the code's space; a first datum that no location has; a block over a boundary (this project's own)
 abbrev pub refusals : Request → List (Option CycleFault)
 refusals request =
     code_refusal (read_code (code_of request))
-    ∷ where_true (row_passes (λ row. not (beq (is_block row.kind) (is_block_request request))) (read_code (code_of request))) WrongKindOfCode
+    ∷ where_true (row_passes (λ row. not (beq (is_block row.kind) (is_block_request request))) (read_code (code_of request)))
+    WrongKindOfCode
     ∷ where_true (row_passes (λ row. is_some (function_of request) && is_program row.kind) (read_code (code_of request))) ProgramModify
     ∷ where_true (not (is_counted request)) BadCount
-    ∷ where_true (row_passes (λ row. nat_lt (addresses_of row.space) (addr_of request + span_of request)) (read_code (code_of request))) OutsideSpace
+    ∷ where_true
+    (row_passes (λ row. nat_lt (addresses_of row.space) (addr_of request + span_of request)) (read_code (code_of request)))
+    OutsideSpace
     ∷ where_true (is_none (first_location request)) NoCycle
     ∷ where_true (crosses_boundary request) CrossesBoundary
     ∷ []

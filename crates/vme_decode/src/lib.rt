@@ -11,6 +11,7 @@ mod map;
 pub use entry::Entry;
 pub use fault::MapFault;
 pub use laws::{
-    one_entry_covers, overlap_is_a_shared_address, selected_is_the_one, selection_goes_by_the_address,
+    one_entry_covers, overlap_is_a_shared_address, selected_is_the_one,
+    selection_goes_by_the_address,
 };
 pub use map::AddressMap;

@@ -102,14 +102,17 @@ driven_write block l at lanes = option_map (write_command block at) (driven_byte
 -- the command of a cycle at a location's own place, by whether its code is a block code, the level of WRITE*, and whether
 -- it comes with a function, which only the read half of a cycle by itself does (IEEE 1014, section 2.2.4)
 abbrev pub command_at : Bool → Bool → Option functions.Modify → ℕ → Location → List (Option ℕ) → Option Command
-command_at block write None at l lanes = if write then Some (read_command block at (row_of l).len) else driven_write block l at lanes
+command_at block write None at l lanes =
+    if write then Some (read_command block at (row_of l).len) else driven_write block l at lanes
 command_at block write (Some f) at l lanes = if write && not block then Some (Modify at (row_of l).len f) else None
 
 -- the command that a cycle at an offset stands for, if any: by the location that the board senses there, at that location's
 -- place in the group of four (IEEE 1014, sections 2.2.1 and 2.2.4)
 abbrev pub command_of : SignalLines → ℕ → Option functions.Modify → Option Command
 command_of s at f =
-    option_and_then (λ l. if (row_of l).first == at % 4 then command_at (is_block s.am.kind) s.write f at l s.lanes else None) (sensed_at s at)
+    option_and_then
+    (λ l. if (row_of l).first == at % 4 then command_at (is_block s.am.kind) s.write f at l s.lanes else None)
+    (sensed_at s at)
 
 -- what stands for no command is answered by a bus error (this project's own)
 abbrev pub answer : Board → Option Command → Reply × Board

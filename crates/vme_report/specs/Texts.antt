@@ -57,7 +57,7 @@ unfoldable pub row_text : ℕ → ℕ → List ℕ → List ℕ
 row_text slot offset row =
     if is_blank row then []
     else output_line (codes "mem " ++ (decimal slot ++ (codes " "
-        ++ (hex_text (to_be_bytes w32 offset) ++ (codes " " ++ hex_text row)))))
+    ++ (hex_text (to_be_bytes w32 offset) ++ (codes " " ++ hex_text row)))))
 
 -- row i of a memory: sixteen bytes, or those that are left (this project's own)
 abbrev pub row : List ℕ → ℕ → List ℕ

@@ -1,5 +1,5 @@
--- The keys of a configuration file, with what each says: the value that is written, or its default. A key that is none of these, one
--- that is required and absent, and a value of another kind leave nothing to be read.
+-- The keys of a configuration file, with what each says: the value that is written, or its default. A key that is none of
+-- these, one that is required and absent, and a value of another kind leave nothing to be read.
 use Rattle.std.specs.Prelude.{ℕ, Bool, true, false, ◌==◌, List, [], ◌∷◌, Option, Some, None, codes}
 use Rattle.std.specs.Option.{option_and_then}
 use Rattle.toml.specs.Data.{Data, Members, as_str, as_bool, as_table}

@@ -22,7 +22,9 @@ pub record IsLawful (config : Configuration) : Type 0 where
   pub some : 0 < length config.boards
   pub most : length config.boards ≤ 21
   pub boards : (i : ℕ) (board : BoardConfig) → slice_get config.boards i ≡ Some board → IsLawfulBoard board
-  pub apart : (i j : ℕ) (a b : BoardConfig) → slice_get config.boards i ≡ Some a → slice_get config.boards j ≡ Some b → a.slot ≡ b.slot → i ≡ j
+  pub apart :
+      (i j : ℕ) (a b : BoardConfig) → slice_get config.boards i ≡ Some a → slice_get config.boards j ≡ Some b
+      → a.slot ≡ b.slot → i ≡ j
   pub map : first_refusal (entries_of config.boards) ≡ None
   pub scripts : length config.scripts ≡ length config.boards
   pub lines : list_all (λ script. nat_le (length script) 1000) config.scripts ≡ true

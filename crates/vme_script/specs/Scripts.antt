@@ -31,7 +31,8 @@ asked_at number (Ok line) = Ok line
 asked_at number (Err fault) = Err (BadLine number fault)
 
 -- the same with the lines after it: a line that is refused is told before those (this project's own)
-abbrev pub line_before : ℕ → Result (Option Line) ScriptRefusal → Result (List ScriptLine) ScriptRefusal → Result (List ScriptLine) ScriptRefusal
+abbrev pub line_before :
+    ℕ → Result (Option Line) ScriptRefusal → Result (List ScriptLine) ScriptRefusal → Result (List ScriptLine) ScriptRefusal
 line_before number (Ok line) others = with_line (numbered number line) others
 line_before number (Err refusal) others = Err refusal
 
