@@ -1,28 +1,24 @@
 -- What holds of every configuration, by the refusals that do not hold of its file.
-use Rattle.std.proofs.Common.{◌≡◌, ℕ, zero, suc, ◌+◌, ◌<◌, ◌≤◌, Bool, true, false, List, [], ◌∷◌, length, Option, None, Some, Result, Ok, Err, refl, ap, subst, sym, ◌∙◌, arith, inl, inr}
+use Rattle.std.proofs.Common.{◌≡◌, ℕ, zero, suc, ◌<◌, ◌≤◌, Bool, true, false, List, [], ◌∷◌, length, Some, Result, Ok, Err, refl, ap, subst, sym, ◌∙◌, arith}
 use Rattle.std.specs.Prelude.{nat_lt, nat_le, not, ◌&&◌, ◌==◌, is_ok, slice_get, codes}
 use Rattle.std.specs.Str.{bytes_eq}
-use Rattle.std.specs.Str.Lines.{lines}
 use Rattle.std.specs.List.{list_all}
-use Rattle.std.proofs.lemmas.Bool.{and_parts, ltb-true, ltb-false, leb-true, le-leb, lt-ltb, le-ltb, cases_lt}
+use Rattle.std.proofs.lemmas.Bool.{and_parts, ltb-true, ltb-false, leb-true}
 use Rattle.std.proofs.lemmas.Bool.Decides.{nat_tests}
 use Rattle.vme_decode.specs.declared.entry.Entry.{Entry}
 use Rattle.vme_decode.specs.Lawful.{some_overlap}
-use Rattle.vme_lines.specs.declared.line.Line.{Line}
-use Rattle.vme_lines.specs.Grammar.{line_of}
 use Rattle.vme_script.specs.declared.board.BoardConfig.{BoardConfig}
 use Rattle.vme_script.specs.declared.fault.ConfigFault.{ConfigFault}
 use Rattle.vme_script.specs.declared.fault.ConfigFault.TheVariants.{NoBoard, TooMany, BadWord, BadSchedule, Overlap}
-use Rattle.vme_script.specs.declared.fault.ScriptRefusal.{ScriptRefusal}
-use Rattle.vme_script.specs.declared.script.ScriptLine.{ScriptLine}
 use Rattle.vme_script.specs.Answers.{◌>>=◌, refuse}
-use Rattle.vme_script.specs.Files.{BoardValues, FileValues}
+use Rattle.vme_script.specs.Files.{FileValues}
 use Rattle.vme_script.specs.Boards.{range_refused, boards_after, entries_of, map_of}
 use Rattle.vme_script.specs.Schedules.{has_boards, turns_of, lawful_schedule, schedule_of}
-use Rattle.vme_script.specs.Scripts.{asked_at, line_before, lines_from, script_of, script_in, scripts_of}
+use Rattle.vme_script.specs.Scripts.{scripts_of}
 use Rattle.vme_script.specs.Configurations.{Configuration, configuration_of}
 use Rattle.vme_script.specs.Lawful.{IsLawfulBoard, IsLawful}
 use Rattle.vme_script.proofs.Maps.{refusal_of_lawful, size_of_range}
+use Rattle.vme_script.proofs.Scripts.{scripts_known, own_scripts}
 use Rattle.vme_script.proofs.Facts.{ascend, is_lawful, boards_known, ranges_known, true_from_not}
 
 -- ---- the parts of a configuration
@@ -156,58 +152,6 @@ clear_map entries map e = clear (some_overlap entries) e
     clear true e = cc
     clear false e = refl
 
--- ---- scripts
-
--- whether a script is no longer than its text may be
-abbrev pub is_short : List ScriptLine → Bool
-is_short script = nat_le (length script) 1000
-
-one_line :
-    (number count : ℕ) (asked : Result (Option Line) ScriptRefusal) (others : Result (List ScriptLine) ScriptRefusal) (script : List ScriptLine)
-    → ((rest : List ScriptLine) → others ≡ Ok rest → length rest ≤ count) → line_before number asked others ≡ Ok script → length script ≤ suc count
-one_line number count (Err refusal) others script within e = cc
-one_line number count (Ok line) (Err refusal) script within e = cc
-one_line number count (Ok None) (Ok rest) script within e =
-    let same : rest ≡ script = cc in omega (arith, within rest refl, ap length same)
-one_line number count (Ok (Some line)) (Ok rest) script within e =
-    let same : record { number = number; line = line } ∷ rest ≡ script = cc in omega (arith, within rest refl, ap length same)
-
-lines_count : (number : ℕ) (text : List (List ℕ)) (script : List ScriptLine) → lines_from number text ≡ Ok script → length script ≤ length text
-lines_count number [] script e = let none : [] ≡ script = cc in omega (arith, ap length none)
-lines_count number (line ∷ more) script e =
-    one_line number (length more) (asked_at number (line_of line)) (lines_from (number + 1) more) script (λ rest f. lines_count (number + 1) more rest f) e
-
-script_short : (text : List ℕ) (script : List ScriptLine) → script_of text ≡ Ok script → is_short script ≡ true
-unfolding script_of
-script_short text script e =
-    elim (cases_lt 1000 (length (lines text))) [
-      | inl many ↦ absurd (let told = rw (lt-ltb 1000 (length (lines text)) many) at e in cc)
-      | inr few ↦
-          let read = rw (le-ltb 1000 (length (lines text)) few) at e in
-          le-leb (length script) 1000 (omega (arith, lines_count 1 (lines text) script read, few))
-    ]
-
-one_script :
-    (slot : ℕ) (first : Result (List ScriptLine) ScriptRefusal) (others : Result (List (List ScriptLine)) ConfigFault) (scripts : List (List ScriptLine))
-    → (script_in slot first >>= (λ x. others >>= (λ xs. Ok (x ∷ xs)))) ≡ Ok scripts
-    → (x : List ScriptLine) × (xs : List (List ScriptLine)) × (first ≡ Ok x) × (others ≡ Ok xs) × (x ∷ xs ≡ scripts)
-one_script slot (Err refusal) others scripts e = cc
-one_script slot (Ok x) (Err fault) scripts e = cc
-one_script slot (Ok x) (Ok xs) scripts e = (x, xs, refl, refl, cc)
-
--- a script for each board, none of them too long
-pub scripts_known :
-    (boards : List BoardValues) (scripts : List (List ScriptLine)) → scripts_of boards ≡ Ok scripts
-    → (length scripts ≡ length boards) × (list_all is_short scripts ≡ true)
-scripts_known [] scripts e =
-    let none : [] ≡ scripts = cc in
-    subst (λ s. (length s ≡ 0) × (list_all is_short s ≡ true)) none (refl, refl)
-scripts_known (board ∷ more) scripts e =
-    let parts = one_script board.slot (script_of board.script) (scripts_of more) scripts e in
-    let others = scripts_known more parts.1 parts.3 in
-    subst (λ s. (length s ≡ suc (length more)) × (list_all is_short s ≡ true)) parts.4
-    (ap suc others.0, rw (script_short board.script parts.0 parts.2) others.1)
-
 -- ---- schedules
 
 scheduled :
@@ -258,6 +202,7 @@ configuration_known file c e =
       map = refusal_of_lawful c.boards (omega (arith, few, known.count)) (ranges_known c.boards known.lawful) ∙ rw (clear_map _ m.map m.mapped) refl;
       scripts = scripts.0 ∙ sym known.count;
       lines = scripts.1;
+      own = λ i j script line here there. own_scripts file.boards c.scripts m.scripts i script here j line there;
       tries = (omega (arith, m.tries, times.tries_some), omega (arith, m.tries, times.tries_most));
       rounds = omega (arith, m.rounds, times.rounds);
       slots = times.slots;

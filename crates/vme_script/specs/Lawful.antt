@@ -1,9 +1,11 @@
 -- What holds of every configuration.
-use Rattle.std.specs.Prelude.{◌≡◌, ℕ, ◌<◌, ◌≤◌, nat_le, true, length, Some, None, slice_get}
+use Rattle.std.specs.Prelude.{◌≡◌, ℕ, ◌<◌, ◌≤◌, nat_le, true, List, length, Some, None, slice_get}
 use Rattle.std.specs.List.{list_all}
 use Rattle.vme_decode.specs.Lawful.{first_refusal}
+use Rattle.vme_lines.specs.Grammar.{IsOwnLine}
 use Rattle.vme_memory.specs.Boards.{is_board_size}
 use Rattle.vme_script.specs.declared.board.BoardConfig.{BoardConfig}
+use Rattle.vme_script.specs.declared.script.ScriptLine.{ScriptLine}
 use Rattle.vme_script.specs.Boards.{entries_of}
 use Rattle.vme_script.specs.Schedules.{has_boards, turns_of}
 use Rattle.vme_script.specs.Configurations.{Configuration}
@@ -17,7 +19,8 @@ pub record IsLawfulBoard (board : BoardConfig) : Type 0 where
   pub size : is_board_size board.entry.size ≡ true
 
 -- one to 21 lawful boards, each in a slot of its own; ranges that share no address; a script for each board, of at most 1,000
--- lines; tries and rounds within their limits; and a schedule of such boards' turns, within its limit (this project's own)
+-- lines, none of which asks the local port for a cycle of the bus; tries and rounds within their limits; and a schedule of such
+-- boards' turns, within its limit (this project's own)
 pub record IsLawful (config : Configuration) : Type 0 where
   pub some : 0 < length config.boards
   pub most : length config.boards ≤ 21
@@ -28,6 +31,9 @@ pub record IsLawful (config : Configuration) : Type 0 where
   pub map : first_refusal (entries_of config.boards) ≡ None
   pub scripts : length config.scripts ≡ length config.boards
   pub lines : list_all (λ script. nat_le (length script) 1000) config.scripts ≡ true
+  pub own :
+      (i j : ℕ) (script : List ScriptLine) (line : ScriptLine) → slice_get config.scripts i ≡ Some script
+      → slice_get script j ≡ Some line → IsOwnLine line.line
   pub tries : (1 ≤ config.tries) × (config.tries ≤ 1000000)
   pub rounds : config.rounds ≤ 1000000
   pub slots : has_boards config.boards config.schedule ≡ true

@@ -10,8 +10,9 @@ use crate::fault::{ConfigFault, ScriptFault};
 use crate::file::{BoardTable, FileTable};
 use crate::schedule::schedule_of;
 use crate::script::Script;
-use std::alloc::{AllocError, Global};
+use std::alloc::Global;
 use std::marker::Model;
+use vme_core::OutOfMemory;
 use vme_decode::AddressMap;
 use vme_memory::ByteMemory;
 
@@ -120,14 +121,14 @@ impl Config {
     }
 
     /// The memory of board `i` before anything is written.
-    pub fn memory(&self, alloc: Global, i: usize) -> Result<ByteMemory, AllocError>
+    pub fn memory(&self, alloc: Global, i: usize) -> Result<ByteMemory, OutOfMemory>
         requires { i < length self.now.boards }
         ensures { IfOk result (λ memory. slice_get (map opening_memory self.now.boards) i ≡ Some memory) }
     {
         let board = self.boards[i];
         match ByteMemory::new(alloc, board.entry.size, board.class) {
             Ok(memory) => Ok(memory),
-            Err(_) => Err(AllocError),
+            Err(_) => Err(OutOfMemory),
         }
     }
 

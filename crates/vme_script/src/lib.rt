@@ -17,4 +17,7 @@ pub use board::BoardConfig;
 pub use config::Config;
 pub use fault::{ConfigFault, ScriptFault, ScriptRefusal};
 pub use script::{Script, ScriptLine};
+pub use vme_core::OutOfMemory;
 pub use vme_lines::{Line, LineFault, parse_line};
+pub use vme_report::reply_line;
+pub use vme_shared::LineReply;
