@@ -1,0 +1,5 @@
+pub mod Scripts
+pub mod Tables
+pub mod Machine
+pub mod Events
+pub mod Courses
