@@ -3,21 +3,19 @@ ghost use Rattle.std.specs.Prelude.{◌≡◌, ◌<◌, ◌≤◌, Err, false, t
 ghost use Rattle.std.specs.Io.KnownBytes.{Appends};
 ghost use Rattle.vme_io.specs.Fronts.{AppendsFront};
 ghost use Rattle.vme_engine.specs.Engine.{cycles_text, cycles_status};
-ghost use Rattle.vme_engine.specs.Ends.{IsInputFault, IsAnswerFault, IsReadingFault, ReadsPastLimit, is_read_failure, is_write_failure};
+ghost use Rattle.vme_engine.specs.Ends.{IsAnswerFault, IsCyclesFault};
+ghost use Rattle.vme_program.specs.Ends.{IsReadingFault, ReadsPastLimit, is_read_failure, is_write_failure};
 
 use crate::answer::answer_line;
 use crate::bus::Bus;
-use crate::status::ProgramFault;
 use std::alloc::Global;
 use vme_io::{Sink, Source, write_all};
 use vme_lines::Lines;
+use vme_program::{ProgramFault, read_input};
 use vme_shared::Status;
 
 /// The greatest number of bytes of an input.
 pub const INPUT_LIMIT: usize = 1_048_576;
-
-/// How many bytes are read at a time.
-const READ_SIZE: usize = 16_384;
 
 /// How many bytes of text are gathered before they are written.
 const WRITE_SIZE: usize = 65_536;
@@ -48,44 +46,14 @@ pub fn cycles_engine<R: Source, W: Sink>(
     ensures too_long { result ≡ Err ProgramFault.TooLong →
         IfSome (R.remaining reader.old) (λ input. INPUT_LIMIT < length input) }
     ensures no_further { result ≡ Err ProgramFault.TooLong →
-        ReadsPastLimit (R.remaining reader.old) (R.remaining reader.new) }
+        ReadsPastLimit INPUT_LIMIT (R.remaining reader.old) (R.remaining reader.new) }
     ensures within { IfSome (R.remaining reader.old) (λ input.
         OnOk result (length input ≤ INPUT_LIMIT)) }
     ensures write { W.is_marked writer.new ≡ is_write_failure result }
+    ensures faults { IfErr result IsCyclesFault }
 {
-    let input = read_input(alloc, reader)?;
+    let input = read_input(alloc, reader, INPUT_LIMIT)?;
     answer_all(alloc, input.as_slice(), writer)
-}
-
-/// Reads to the end, or to one byte past the limit.
-fn read_input<R: Source>(alloc: Global, reader: &mut R) -> Result<Vec<u8>, ProgramFault>
-    requires { R.is_marked reader.old ≡ false }
-    ensures whole { IfOk result (λ input.
-        IfSome (R.remaining reader.old) (λ bytes. bytes ≡ input.items)) }
-    ensures limit { IfOk result (λ input. vec_len input ≤ INPUT_LIMIT) }
-    ensures too_long { result ≡ Err ProgramFault.TooLong →
-        IfSome (R.remaining reader.old) (λ bytes. INPUT_LIMIT < length bytes) }
-    ensures no_further { result ≡ Err ProgramFault.TooLong →
-        ReadsPastLimit (R.remaining reader.old) (R.remaining reader.new) }
-    ensures read { R.is_marked reader.new ≡ is_read_failure result }
-    ensures faults { IfErr result IsInputFault }
-{
-    let mut input = Vec::new(alloc);
-    let mut chunk = [0; READ_SIZE];
-    loop {
-        let room = READ_SIZE.min(INPUT_LIMIT + 1 - input.len());
-        let buffer = &mut chunk[..room];
-        let Ok(count) = reader.read(buffer) else {
-            return Err(ProgramFault::Read);
-        };
-        if count == 0 {
-            return Ok(input);
-        }
-        input.extend_from_slice(buffer.split_at(count).0)?;
-        if INPUT_LIMIT < input.len() {
-            return Err(ProgramFault::TooLong);
-        }
-    }
 }
 
 /// Answers each line of a text. Its answers are gathered and written in large pieces.

@@ -7,8 +7,6 @@ mod answer;
 mod bus;
 mod engine;
 mod request;
-mod status;
 
 pub use engine::{INPUT_LIMIT, cycles_engine};
-pub use status::{ProgramFault, exit_status};
-pub use vme_shared::Status;
+pub use vme_program::{ProgramFault, Status, exit_status};
