@@ -11,7 +11,7 @@ use Rattle.vme_script.specs.declared.board.BoardConfig.{BoardConfig}
 use Rattle.vme_script.specs.declared.fault.ConfigFault.{ConfigFault}
 use Rattle.vme_script.specs.declared.fault.ConfigFault.TheVariants.{NoBoard, TooMany, BadWord, BadSchedule, Overlap}
 use Rattle.vme_script.specs.Answers.{◌>>=◌, refuse}
-use Rattle.vme_script.specs.Files.{FileValues}
+use Rattle.vme_document.specs.Files.{FileValues}
 use Rattle.vme_script.specs.Boards.{range_refused, boards_after, entries_of, map_of}
 use Rattle.vme_script.specs.Schedules.{has_boards, turns_of, lawful_schedule, schedule_of}
 use Rattle.vme_script.specs.Scripts.{scripts_of}

@@ -1,4 +1,3 @@
-pub mod Names
 pub mod Lists
 pub mod Maps
 pub mod Facts

@@ -12,7 +12,7 @@ use Rattle.vme_script.specs.declared.fault.ConfigFault.{ConfigFault}
 use Rattle.vme_script.specs.declared.fault.ScriptRefusal.{ScriptRefusal}
 use Rattle.vme_script.specs.declared.script.ScriptLine.{ScriptLine}
 use Rattle.vme_script.specs.Answers.{◌>>=◌}
-use Rattle.vme_script.specs.Files.{BoardValues}
+use Rattle.vme_document.specs.Files.{BoardValues}
 use Rattle.vme_script.specs.Scripts.{asked_at, line_before, lines_from, script_of, script_in, scripts_of}
 
 -- whether a script is no longer than its text may be

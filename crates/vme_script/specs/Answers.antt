@@ -1,7 +1,9 @@
 -- Refusals one after another, and what a call answers where memory may be refused.
-use Rattle.std.specs.Prelude.{◌≡◌, ◌≢◌, Bool, true, false, Option, Some, None, Result, Ok, Err}
+use Rattle.std.specs.Prelude.{◌≡◌, ◌≢◌, Bool, true, false, Result, Ok, Err}
+use Rattle.vme_document.specs.declared.fault.DocumentFault.{DocumentFault}
+use Rattle.vme_document.specs.declared.fault.DocumentFault.TheVariants.{NotToml, BadKey, OutOfMemory}
 use Rattle.vme_script.specs.declared.fault.ConfigFault.{ConfigFault}
-use Rattle.vme_script.specs.declared.fault.ConfigFault.TheVariants.{BadKey, OutOfMemory}
+use Rattle.vme_script.specs.declared.fault.ConfigFault.TheVariants as config
 
 infixl 10 ◌>>=◌
 -- one refusal after another: the first that is met is told (this project's own)
@@ -14,13 +16,13 @@ abbrev pub refuse : Bool → ConfigFault → Result (Unit {0}) ConfigFault
 refuse true fault = Err fault
 refuse false fault = Ok tt
 
--- a call gives what there is to be read, and refuses the key of a value that is not there; where memory was refused nothing is
--- said (this project's own)
-abbrev pub Reads : {T A : Type 0} → (T → A) → Result T ConfigFault → Option A → Type 0
-Reads view (Ok x) expected = expected ≡ Some (view x)
-Reads view (Err fault) expected = fault ≢ OutOfMemory → (expected ≡ None) × (fault ≡ BadKey)
-
 -- a call answers what was expected; where memory was refused nothing is said (this project's own)
 abbrev pub Gives : {T A : Type 0} → (T → A) → Result T ConfigFault → Result A ConfigFault → Type 0
 Gives view (Ok x) expected = expected ≡ Ok (view x)
-Gives view (Err fault) expected = fault ≢ OutOfMemory → expected ≡ Err fault
+Gives view (Err fault) expected = fault ≢ config.OutOfMemory → expected ≡ Err fault
+
+-- a fault of a document is the configuration's of the same name (this project's own)
+abbrev pub told_as : DocumentFault → ConfigFault
+told_as NotToml = config.NotToml
+told_as BadKey = config.BadKey
+told_as OutOfMemory = config.OutOfMemory

@@ -1,7 +1,4 @@
 pub mod Answers
-pub mod Values
-pub mod Files
-pub mod Keys
 pub mod Boards
 pub mod Schedules
 pub mod Scripts

@@ -4,10 +4,10 @@ ghost use Rattle.vme_script.specs.Answers.{Gives};
 ghost use Rattle.vme_script.specs.Boards.{space_named, width_of, entry_of, class_of, range_refused, entries_of, map_of, board_config, boards_after, have_ranges};
 
 use crate::fault::ConfigFault;
-use crate::file::{BoardTable, ClassTable, RangeTable};
 use std::alloc::{AllocError, Global};
 use vme_am::Space;
 use vme_decode::{AddressMap, Entry, MapFault};
+use vme_document::{BoardTable, ClassTable, RangeTable};
 use vme_memory::{Class, Width8To32};
 
 /// The greatest number of a slot.

@@ -7,13 +7,13 @@ ghost use Rattle.vme_script.specs.Lawful.{IsLawful};
 
 use crate::board::{BoardConfig, board_configs, map_of};
 use crate::fault::{ConfigFault, ScriptFault};
-use crate::file::{BoardTable, FileTable};
 use crate::schedule::schedule_of;
 use crate::script::Script;
 use std::alloc::Global;
 use std::marker::Model;
 use vme_core::OutOfMemory;
 use vme_decode::AddressMap;
+use vme_document::{BoardTable, FileTable};
 use vme_memory::ByteMemory;
 
 /// The greatest number of boards: a backplane has 21 slots.
@@ -34,7 +34,7 @@ pub struct Config {
 impl Model for Config {
     ghost use Rattle.std.specs.Prelude.{◌≡◌, Ok};
     ghost use Rattle.vme_script.specs.Boards.{entries_of};
-    ghost use Rattle.vme_script.specs.Files.{FileValues};
+    ghost use Rattle.vme_document.specs.Files.{FileValues};
     ghost use Rattle.vme_script.specs.Configurations.{Configuration, configuration_of};
 
     ghost Value = { Configuration };

@@ -1,9 +1,11 @@
 ghost use Rattle.std.specs.Prelude.{◌≡◌};
 ghost use Rattle.vme_script.specs.declared.fault.ConfigFault.TheVariants.{OutOfMemory};
 ghost use Rattle.vme_script.specs.declared.fault.ScriptFault.TheVariants as script;
+ghost use Rattle.vme_script.specs.Answers.{told_as};
 
 use std::alloc::{AllocError, AllocFailed};
 use thiserror::Error;
+use vme_document::DocumentFault;
 use vme_lines::LineFault;
 
 /// Why a text is no configuration, in the order in which this is told, memory apart.
@@ -68,6 +70,18 @@ impl<T: Drop> From<AllocFailed<T>> for ConfigFault {
 
     fn from(_error: AllocFailed<T>) -> ConfigFault {
         ConfigFault::OutOfMemory
+    }
+}
+
+impl From<DocumentFault> for ConfigFault {
+    ghost from_gives = { λ fault refusal. refusal ≡ told_as fault };
+
+    fn from(fault: DocumentFault) -> ConfigFault {
+        match fault {
+            DocumentFault::NotToml => ConfigFault::NotToml,
+            DocumentFault::BadKey => ConfigFault::BadKey,
+            DocumentFault::OutOfMemory => ConfigFault::OutOfMemory,
+        }
     }
 }
 

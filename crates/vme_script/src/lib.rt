@@ -6,12 +6,9 @@
 mod board;
 mod config;
 mod fault;
-mod file;
-mod keys;
 mod read;
 mod schedule;
 mod script;
-mod values;
 
 pub use board::BoardConfig;
 pub use config::Config;

@@ -1,14 +1,12 @@
 //! Configurations from the text of a file.
-ghost use Rattle.std.specs.Prelude.{◌≡◌, ◌≢◌, Err, None, Some, IfOk, IfErr, IsUtf8};
+ghost use Rattle.std.specs.Prelude.{◌≡◌, ◌≢◌, Err, IsUtf8};
 ghost use Rattle.toml.specs.Parse.{parse_document};
-ghost use Rattle.toml.specs.View.{table_view};
 ghost use Rattle.vme_script.specs.Readings.{configuration_in};
 
 use crate::config::Config;
 use crate::fault::ConfigFault;
-use crate::keys::file_values;
 use std::alloc::Global;
-use toml::Table;
+use vme_document::{file_values, table_of};
 
 impl Config {
     /// Reads the text of a TOML file. The refusals are looked for in this order: C6; C7; C11 and
@@ -25,18 +23,5 @@ impl Config {
         let table = table_of(alloc, text)?;
         let file = file_values(alloc, &table)?;
         Config::of(alloc, &file)
-    }
-}
-
-/// The table that a text is.
-fn table_of(alloc: Global, text: &[u8]) -> Result<Table, ConfigFault>
-    ensures table { IfOk result (λ table. IsUtf8 text.now × (parse_document text.now ≡ Some (table_view table))) }
-    ensures refused { IfErr result (λ fault. fault ≢ ConfigFault.OutOfMemory →
-        (fault ≡ ConfigFault.NotToml) × (IsUtf8 text.now → parse_document text.now ≡ None)) }
-{
-    match toml::table_from_slice(alloc, text) {
-        Ok(table) => Ok(table),
-        Err(error) if error.is_memory() => Err(ConfigFault::OutOfMemory),
-        Err(_) => Err(ConfigFault::NotToml),
     }
 }

@@ -5,8 +5,8 @@ ghost use Rattle.vme_script.specs.Schedules.{has_slot, lawful_schedule, schedule
 
 use crate::board::BoardConfig;
 use crate::fault::ConfigFault;
-use crate::file::FileTable;
 use std::alloc::Global;
+use vme_document::FileTable;
 
 /// The greatest number of tries, of rounds, and of the turns of a schedule.
 const MOST_TURNS: u32 = 1_000_000;

@@ -1,11 +1,11 @@
 //! The keys of a configuration file.
 ghost use Rattle.std.specs.Prelude.{◌≡◌, [], codes};
 ghost use Rattle.toml.specs.View.{view, table_view, items_view};
-ghost use Rattle.vme_script.specs.Answers.{Reads};
-ghost use Rattle.vme_script.specs.Values.{pair, items_of, list_of, optional, has_only};
-ghost use Rattle.vme_script.specs.Keys.{is_board_key, range_values, class_values, board_values, board, is_file_key, file_values};
+ghost use Rattle.vme_document.specs.Answers.{Reads};
+ghost use Rattle.vme_document.specs.Values.{pair, items_of, list_of, optional, has_only};
+ghost use Rattle.vme_document.specs.Keys.{is_board_key, range_values, class_values, board_values, board, is_file_key, file_values};
 
-use crate::fault::ConfigFault;
+use crate::fault::DocumentFault;
 use crate::file::{BoardTable, ClassTable, FileTable, RangeTable};
 use crate::values::{required_whole, text_or, truth_or, value_at, whole, whole_or};
 use std::alloc::Global;
@@ -118,24 +118,24 @@ fn board(value: &Value) -> Option<BoardTable<'_>>
 }
 
 /// The boards of an array.
-fn boards_in(alloc: Global, items: &Vec<Value>) -> Result<Vec<BoardTable<'_>>, ConfigFault>
+fn boards_in(alloc: Global, items: &Vec<Value>) -> Result<Vec<BoardTable<'_>>, DocumentFault>
     ensures { Reads (λ boards. boards.items) result (items_of board (items_view items.now.items)) }
 {
     let mut boards = Vec::new(alloc);
     for item in items {
-        boards.push(board(item).ok_or(ConfigFault::BadKey)?)?;
+        boards.push(board(item).ok_or(DocumentFault::BadKey)?)?;
     }
     Ok(boards)
 }
 
 /// The boards of a file; a file without the key has none.
 #[tactic(auto, unfolding(crate::specs::Values::optional))]
-fn boards_of(alloc: Global, table: &Table) -> Result<Vec<BoardTable<'_>>, ConfigFault>
+fn boards_of(alloc: Global, table: &Table) -> Result<Vec<BoardTable<'_>>, DocumentFault>
     ensures { Reads (λ boards. boards.items) result
         (optional (list_of board) (codes "board") [] (table_view table.now)) }
 {
     match value_at(table, "board") {
-        Some(value) => boards_in(alloc, value.as_array().ok_or(ConfigFault::BadKey)?),
+        Some(value) => boards_in(alloc, value.as_array().ok_or(DocumentFault::BadKey)?),
         None => Ok(Vec::new(alloc)),
     }
 }
@@ -152,40 +152,40 @@ fn pair(value: &Value) -> Option<(u32, u32)>
 }
 
 /// The pairs of an array.
-fn pairs_in(alloc: Global, items: &Vec<Value>) -> Result<Vec<(u32, u32)>, ConfigFault>
+fn pairs_in(alloc: Global, items: &Vec<Value>) -> Result<Vec<(u32, u32)>, DocumentFault>
     ensures { Reads (λ pairs. pairs.items) result (items_of pair (items_view items.now.items)) }
 {
     let mut pairs = Vec::new(alloc);
     for item in items {
-        pairs.push(pair(item).ok_or(ConfigFault::BadKey)?)?;
+        pairs.push(pair(item).ok_or(DocumentFault::BadKey)?)?;
     }
     Ok(pairs)
 }
 
 /// The schedule of a file; a file without the key has none.
 #[tactic(auto, unfolding(crate::specs::Values::optional))]
-fn schedule_of(alloc: Global, table: &Table) -> Result<Vec<(u32, u32)>, ConfigFault>
+fn schedule_of(alloc: Global, table: &Table) -> Result<Vec<(u32, u32)>, DocumentFault>
     ensures { Reads (λ pairs. pairs.items) result
         (optional (list_of pair) (codes "schedule") [] (table_view table.now)) }
 {
     match value_at(table, "schedule") {
-        Some(value) => pairs_in(alloc, value.as_array().ok_or(ConfigFault::BadKey)?),
+        Some(value) => pairs_in(alloc, value.as_array().ok_or(DocumentFault::BadKey)?),
         None => Ok(Vec::new(alloc)),
     }
 }
 
 /// What a file says, if its keys and their values are those of a configuration.
 #[tactic(auto, unfolding(crate::specs::Keys::file_values))]
-pub(crate) fn file_values(alloc: Global, table: &Table) -> Result<FileTable<'_>, ConfigFault>
+pub fn file_values(alloc: Global, table: &Table) -> Result<FileTable<'_>, DocumentFault>
     ensures { Reads (λ file. file) result (file_values (table_view table.now)) }
 {
     if !has_file_keys(table) {
-        return Err(ConfigFault::BadKey);
+        return Err(DocumentFault::BadKey);
     }
-    let arbiter = text_or(table, "arbiter", "priority").ok_or(ConfigFault::BadKey)?;
-    let tries = whole_or(table, "tries", 1000).ok_or(ConfigFault::BadKey)?;
+    let arbiter = text_or(table, "arbiter", "priority").ok_or(DocumentFault::BadKey)?;
+    let tries = whole_or(table, "tries", 1000).ok_or(DocumentFault::BadKey)?;
     let schedule = schedule_of(alloc, table)?;
-    let rounds = whole_or(table, "rounds", 0).ok_or(ConfigFault::BadKey)?;
+    let rounds = whole_or(table, "rounds", 0).ok_or(DocumentFault::BadKey)?;
     let boards = boards_of(alloc, table)?;
     Ok(FileTable {
         arbiter,

@@ -1,6 +1,6 @@
 -- What a configuration file says, as plain values.
 use Rattle.std.specs.Prelude.{ℕ, Bool, List}
-use Rattle.vme_script.specs.declared.file.ClassTable.{ClassTable}
+use Rattle.vme_document.specs.declared.file.ClassTable.{ClassTable}
 
 -- what a table says of the range of a board (this project's own)
 pub record RangeValues : Type 0 where

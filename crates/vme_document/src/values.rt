@@ -3,7 +3,7 @@ ghost use Rattle.std.specs.Prelude.{◌≡◌, Option, option_copied};
 ghost use Rattle.std.specs.Option.{option_map};
 ghost use Rattle.toml.specs.Data.{get_member, as_str, as_bool};
 ghost use Rattle.toml.specs.View.{view, table_view};
-ghost use Rattle.vme_script.specs.Values.{whole, required, optional};
+ghost use Rattle.vme_document.specs.Values.{whole, required, optional};
 
 use toml::{Table, Value};
 

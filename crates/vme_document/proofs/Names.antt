@@ -4,7 +4,7 @@ use Rattle.std.specs.List.{list_all}
 use Rattle.std.specs.Map.{keys_of}
 use Rattle.toml.specs.View.{members_view}
 use Rattle.toml.specs.declared.value.Value.{Value}
-use Rattle.vme_script.specs.Values.{has_only}
+use Rattle.vme_document.specs.Values.{has_only}
 
 -- each key of a map is known where each member's is
 pub has_only_keys :

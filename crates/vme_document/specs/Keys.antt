@@ -3,9 +3,9 @@
 use Rattle.std.specs.Prelude.{ℕ, Bool, true, false, ◌==◌, List, [], ◌∷◌, Option, Some, None, codes}
 use Rattle.std.specs.Option.{option_and_then}
 use Rattle.toml.specs.Data.{Data, Members, as_str, as_bool, as_table}
-use Rattle.vme_script.specs.declared.file.ClassTable.{ClassTable}
-use Rattle.vme_script.specs.Files.{RangeValues, BoardValues, FileValues}
-use Rattle.vme_script.specs.Values.{whole, pair, list_of, required, optional, is_among, has_only}
+use Rattle.vme_document.specs.declared.file.ClassTable.{ClassTable}
+use Rattle.vme_document.specs.Files.{RangeValues, BoardValues, FileValues}
+use Rattle.vme_document.specs.Values.{whole, pair, list_of, required, optional, is_among, has_only}
 
 infixl 10 ◌>>=◌
 -- one value after another: nothing is read where one of them is not there (this project's own)

@@ -1,8 +1,8 @@
 use Rattle.std.proofs.Common.{◌≡◌, drop}
 use Rattle.toml.specs.View.{items_view}
-use Rattle.vme_script.specs.Values.{items_of, pair}
-use Rattle.vme_script.proofs.Lists.{with_front}
-use Rattle.vme_script.proofs.keys.pairs_in.Given as goal
+use Rattle.vme_document.specs.Values.{items_of, pair}
+use Rattle.vme_document.proofs.Lists.{with_front}
+use Rattle.vme_document.proofs.keys.pairs_in.Given as goal
 
 -- what was read, with what the values that are left are read as, is the whole
 abbrev pub invariant-loop-item : goal.invariant-loop-item

@@ -1,9 +1,9 @@
 use Rattle.std.proofs.Common.{◌≡◌, drop}
 use Rattle.toml.specs.View.{items_view}
-use Rattle.vme_script.specs.Values.{items_of}
-use Rattle.vme_script.specs.Keys.{board}
-use Rattle.vme_script.proofs.Lists.{with_front}
-use Rattle.vme_script.proofs.keys.boards_in.Given as goal
+use Rattle.vme_document.specs.Values.{items_of}
+use Rattle.vme_document.specs.Keys.{board}
+use Rattle.vme_document.proofs.Lists.{with_front}
+use Rattle.vme_document.proofs.keys.boards_in.Given as goal
 
 -- what was read, with what the values that are left are read as, is the whole
 abbrev pub invariant-loop-item : goal.invariant-loop-item

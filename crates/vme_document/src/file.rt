@@ -4,15 +4,15 @@ use std::marker::Model;
 
 /// The range of a board, as its table says it.
 #[derive(Drop)]
-pub(crate) struct RangeTable<'a> {
-    pub(crate) space: &'a str,
-    pub(crate) base: u32,
-    pub(crate) size: u32,
-    pub(crate) supervisory: bool,
+pub struct RangeTable<'a> {
+    pub space: &'a str,
+    pub base: u32,
+    pub size: u32,
+    pub supervisory: bool,
 }
 
 impl<'a> Model for RangeTable<'a> {
-    ghost use Rattle.vme_script.specs.Files.{RangeValues};
+    ghost use Rattle.vme_document.specs.Files.{RangeValues};
 
     ghost Value = { RangeValues };
 
@@ -26,25 +26,25 @@ impl<'a> Model for RangeTable<'a> {
 
 /// What a board's slave is able to answer, as its table says it.
 #[derive(Clone, Copy)]
-pub(crate) struct ClassTable {
-    pub(crate) width: u32,
-    pub(crate) uat: bool,
-    pub(crate) blt: bool,
-    pub(crate) rmw: bool,
+pub struct ClassTable {
+    pub width: u32,
+    pub uat: bool,
+    pub blt: bool,
+    pub rmw: bool,
 }
 
 /// What a table of `board` says.
 #[derive(Drop)]
-pub(crate) struct BoardTable<'a> {
-    pub(crate) slot: u32,
-    pub(crate) level: u32,
-    pub(crate) range: RangeTable<'a>,
-    pub(crate) class: ClassTable,
-    pub(crate) script: &'a str,
+pub struct BoardTable<'a> {
+    pub slot: u32,
+    pub level: u32,
+    pub range: RangeTable<'a>,
+    pub class: ClassTable,
+    pub script: &'a str,
 }
 
 impl<'a> Model for BoardTable<'a> {
-    ghost use Rattle.vme_script.specs.Files.{BoardValues};
+    ghost use Rattle.vme_document.specs.Files.{BoardValues};
 
     ghost Value = { BoardValues };
 
@@ -59,16 +59,16 @@ impl<'a> Model for BoardTable<'a> {
 
 /// What a file says.
 #[derive(Drop)]
-pub(crate) struct FileTable<'a> {
-    pub(crate) arbiter: &'a str,
-    pub(crate) tries: u32,
-    pub(crate) schedule: Vec<(u32, u32)>,
-    pub(crate) rounds: u32,
-    pub(crate) boards: Vec<BoardTable<'a>>,
+pub struct FileTable<'a> {
+    pub arbiter: &'a str,
+    pub tries: u32,
+    pub schedule: Vec<(u32, u32)>,
+    pub rounds: u32,
+    pub boards: Vec<BoardTable<'a>>,
 }
 
 impl<'a> Model for FileTable<'a> {
-    ghost use Rattle.vme_script.specs.Files.{FileValues};
+    ghost use Rattle.vme_document.specs.Files.{FileValues};
 
     ghost Value = { FileValues };
 
