@@ -3,6 +3,8 @@ use Rattle.std.specs.Prelude.{◌≡◌, ℕ, Bool, true, false, List, ◌++◌,
 use Rattle.std.specs.Io.KnownBytes.{Appends}
 use Rattle.vme_report.specs.declared.fault.ReportFault.{ReportFault}
 use Rattle.vme_report.specs.declared.fault.ReportFault.TheVariants.{Memory, Write}
+use Rattle.vme_report.specs.declared.fault.RunFault.{RunFault}
+use Rattle.vme_report.specs.declared.fault.RunFault.TheVariants as run
 
 -- a text was gathered behind another: a front of the two went to the sink, and their rest is what is gathered now
 -- (this project's own)
@@ -20,3 +22,13 @@ is_write Write = true
 abbrev pub is_write_failure : {T : Type 0} → Result T ReportFault → Bool
 is_write_failure (Ok x) = false
 is_write_failure (Err fault) = is_write fault
+
+-- the fault of a run whose report ended early (this project's own)
+abbrev pub fault_of : ReportFault → RunFault
+fault_of Memory = run.Memory
+fault_of Write = run.Write
+
+-- whether a run ended with a failure of the sink (this project's own)
+abbrev pub is_write_end : {T : Type 0} → Result T RunFault → Bool
+is_write_end (Err run.Write) = true
+is_write_end end = false

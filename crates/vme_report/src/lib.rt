@@ -12,6 +12,6 @@ mod report;
 mod status;
 
 pub use board::BoardReport;
-pub use fault::ReportFault;
+pub use fault::{ReportFault, RunFault};
 pub use print::reply_line;
 pub use report::write_report;
