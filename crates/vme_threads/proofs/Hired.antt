@@ -1,0 +1,79 @@
+-- Workers, as they get passes.
+use Rattle.std.proofs.Common.{◌≡◌, ℕ, ◌<◌, ◌≤◌, List, [], ◌∷◌, ◌++◌, length, slice_index_or, vec_len, vec_capacity, ap, sym, subst, ◌∙◌, arith}
+use Rattle.vme_object.specs.Each.{Each, AllAt}
+use Rattle.vme_object.proofs.Eachs.{AllAt-push}
+use Rattle.vme_memory.specs.declared.command.BoardCmd.{BoardCmd}
+use Rattle.vme_memory.specs.declared.reply.Reply.{Reply}
+use Rattle.vme_arbiter.specs.declared.command.ArbCmd.{ArbCmd}
+use Rattle.vme_arbiter.specs.declared.command.ArbReply.{ArbReply}
+use Rattle.vme_arbiter.specs.Arbitration.{Arbitration}
+use Rattle.vme_port.specs.declared.port.Port.{Port}
+use Rattle.vme_port.specs.Passes.{PassView, IsUnused}
+use Rattle.vme_port.specs.Ports.{port_id}
+use Rattle.vme_script.specs.declared.board.BoardConfig.{BoardConfig}
+use Rattle.vme_script.specs.Configurations.{Configuration}
+use Rattle.vme_threads.specs.declared.worker.Worker.{Worker}
+use Rattle.vme_threads.specs.declared.ports.BoardPort.{BoardPort}
+use Rattle.vme_threads.specs.Ports.{script_of, IsPortOf, IsHired, AreHired}
+use Rattle.vme_threads.specs.Dealings.{Gets, HaveRoom}
+
+-- a worker with the arbiter's pass alone
+pub hired_first :
+    (config : Configuration) (arbiter : Port Arbitration ArbCmd ArbReply) (i : ℕ) (w : Worker) (p : PassView ArbCmd ArbReply)
+    → IsUnused (port_id arbiter) i p → w.desk.who ≡ p.who → w.desk.bus ≡ p → w.desk.boards.items ≡ []
+    → length config.boards ≤ vec_capacity w.desk.boards → vec_len w.lines ≡ 0 → length (script_of config i) ≤ vec_capacity w.lines
+    → IsHired config [] arbiter i w
+hired_first config arbiter i w p unused who bus none room lines lines_room = record {
+  who = who ∙ unused.who;
+  boards = record { count = ap length none; each = λ k a b k<. absurd (omega arith) };
+  bus = subst (IsUnused (port_id arbiter) i) (sym bus) unused;
+  room = room;
+  lines = lines;
+  lines_room = lines_room;
+}
+
+-- a worker with the pass of one more board
+pub hired_more :
+    (config : Configuration) (opened : List BoardPort) (o : BoardPort) (arbiter : Port Arbitration ArbCmd ArbReply) (i : ℕ) (w v : Worker)
+    (p : PassView BoardCmd Reply) → IsHired config opened arbiter i w → IsUnused (port_id o.port) i p → Gets p w v
+    → IsHired config (opened ++ o ∷ []) arbiter i v
+hired_more config opened o arbiter i w v p hired unused gets =
+    let P = λ (x : ℕ) (o : BoardPort) (p : PassView BoardCmd Reply). IsUnused (port_id o.port) i p in
+    record {
+      who = gets.who ∙ hired.who;
+      boards = subst (AllAt P (opened ++ o ∷ [])) (sym gets.boards) (AllAt-push P opened w.desk.boards.items o p hired.boards unused);
+      bus = subst (IsUnused (port_id arbiter) i) (sym gets.bus) hired.bus;
+      room = subst (λ n. length config.boards ≤ n) (sym gets.room) hired.room;
+      lines = subst (λ ls. vec_len ls ≡ 0) (sym gets.lines) hired.lines;
+      lines_room = subst (λ ls. length (script_of config i) ≤ vec_capacity ls) (sym gets.lines) hired.lines_room;
+    }
+
+-- all workers, each with the pass of one more board
+pub all_hired_more :
+    (config : Configuration) (opened : List BoardPort) (o : BoardPort) (arbiter : Port Arbitration ArbCmd ArbReply)
+    (passes : List (PassView BoardCmd Reply)) (ws vs : List Worker) → AreHired config opened arbiter ws
+    → Each (λ i p. IsUnused (port_id o.port) i p) passes → length passes ≡ length ws
+    → AllAt (λ i w v. (d : PassView BoardCmd Reply) → Gets (slice_index_or passes i d) w v) ws vs
+    → AreHired config (opened ++ o ∷ []) arbiter vs
+all_hired_more config opened o arbiter passes ws vs hired unused count got = record {
+  count = got.count ∙ hired.count;
+  each = λ k d k<.
+      let none : PassView BoardCmd Reply = record { port = port_id o.port; who = 0; made = 0; seen = []; mine = [] } in
+      hired_more config opened o arbiter k (slice_index_or ws k d) (slice_index_or vs k d) (slice_index_or passes k none)
+      (hired.each k d (omega (arith, got.count)))
+      (unused k none (omega (arith, got.count)))
+      (got.each k d d (omega (arith, got.count)) none);
+}
+
+-- before all boards have their ports each worker has room for one more pass
+pub hired_have_room :
+    (config : Configuration) (opened : List BoardPort) (arbiter : Port Arbitration ArbCmd ArbReply) (ws : List Worker)
+    → AreHired config opened arbiter ws → length opened < length config.boards → HaveRoom ws
+hired_have_room config opened arbiter ws hired less k d k< =
+    let it = hired.each k d k< in omega (arith, it.boards.count, it.room)
+
+-- a port of each board, by place
+pub all_ports :
+    (n : ℕ) (boards : List BoardConfig) (opened : List BoardPort) → length opened ≡ length boards
+    → Each (λ x o. (d : BoardConfig) → IsPortOf n (slice_index_or boards x d) o) opened → AllAt (λ x own o. IsPortOf n own o) boards opened
+all_ports n boards opened count each = record { count = count; each = λ k own o k<. each k o (omega arith) own }

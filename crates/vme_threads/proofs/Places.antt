@@ -1,0 +1,28 @@
+-- Elements by their places.
+use Rattle.std.proofs.Common.{◌≡◌, ℕ, zero, suc, ◌+◌, List, [], ◌∷◌, slice_index_or, map, Some, subst, arith}
+use Rattle.std.specs.List.{slice_get}
+use Rattle.std.proofs.lemmas.Option.{none-some, same_Some}
+use Rattle.vme_object.specs.Each.{Each}
+
+-- what is told of an element
+pub told_at : {A B : Type 0} (f : A → B) (xs : List A) (i : ℕ) (y : B) (d : A) → slice_get (map f xs) i ≡ Some y → f (slice_index_or xs i d) ≡ y
+told_at f [] i y d told = absurd (none-some y told)
+told_at f (x ∷ xs) zero y d told = same_Some (f x) y told
+told_at f (x ∷ xs) (suc i) y d told = told_at f xs i y d told
+
+-- the first element
+pub first_of_each :
+    {A : Type 0} (P : ℕ → A → Type 0) (n : ℕ) (xs : List A) (x : A) (rest : List A) → xs ≡ x ∷ rest → Each (λ i. P (n + i)) xs → P n x
+first_of_each P n xs x rest is each =
+    let same : n + 0 ≡ n = omega arith in
+    let was = subst (Each (λ i. P (n + i))) is each in
+    subst (λ i. P i x) same (was 0 x (omega arith))
+
+-- all others
+pub rest_of_each :
+    {A : Type 0} (P : ℕ → A → Type 0) (n m : ℕ) (xs : List A) (x : A) (rest : List A) → xs ≡ x ∷ rest → m ≡ n + 1
+    → Each (λ i. P (n + i)) xs → Each (λ i. P (m + i)) rest
+rest_of_each P n m xs x rest is more each k d k< =
+    let same : n + suc k ≡ m + k = omega arith in
+    let was = subst (Each (λ i. P (n + i))) is each in
+    subst (λ i. P i (slice_index_or rest k d)) same (was (suc k) d (omega arith))

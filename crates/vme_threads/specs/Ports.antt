@@ -1,0 +1,65 @@
+-- What is built of a configuration: a port of each board and of the arbiter, and the workers that have their passes.
+use Rattle.std.specs.Prelude.{ℕ, ◌≡◌, ◌≤◌, List, [], length, slice_index_or, vec_len, vec_capacity}
+use Rattle.vme_object.specs.Each.{Each, AllAt}
+use Rattle.vme_memory.specs.declared.command.BoardCmd.{BoardCmd}
+use Rattle.vme_memory.specs.declared.reply.Reply.{Reply}
+use Rattle.vme_arbiter.specs.declared.command.ArbCmd.{ArbCmd}
+use Rattle.vme_arbiter.specs.declared.command.ArbReply.{ArbReply}
+use Rattle.vme_arbiter.specs.Arbitration.{Arbitration, free_bus}
+use Rattle.vme_port.specs.declared.port.Port.{Port}
+use Rattle.vme_port.specs.Passes.{PassView, IsUnused}
+use Rattle.vme_port.specs.Ports.{port_id, opening, passes_of}
+use Rattle.vme_script.specs.declared.board.BoardConfig.{BoardConfig}
+use Rattle.vme_script.specs.declared.script.ScriptLine.{ScriptLine}
+use Rattle.vme_script.specs.Configurations.{Configuration, opening_memory}
+use Rattle.vme_threads.specs.declared.worker.Worker.{Worker}
+use Rattle.vme_threads.specs.declared.ports.BoardPort.{BoardPort}
+use Rattle.vme_threads.specs.declared.ports.Ports.{Ports}
+use Rattle.vme_threads.specs.Rooms.{IsBlank}
+
+-- the script of the processor of a board (this project's own)
+abbrev pub script_of : Configuration → ℕ → List ScriptLine
+script_of config i = slice_index_or config.scripts i []
+
+-- a port of a board, in its slot, which was opened with zero memory for k passes; there is room for k counts
+-- (this project's own)
+pub record IsPortOf (k : ℕ) (own : BoardConfig) (o : BoardPort) : Type 0 where
+  pub slot : o.slot ≡ own.slot
+  pub memory : opening o.port ≡ opening_memory own
+  pub passes : passes_of o.port ≡ k
+  pub made : vec_len o.made ≡ 0
+  pub made_room : k ≤ vec_capacity o.made
+
+-- a worker has the i-th pass of each of these ports of boards and of the arbiter's, none of which has made a call; it has room
+-- for passes of all boards, and for the replies to the i-th script (this project's own)
+pub record IsHired (config : Configuration) (opened : List BoardPort) (arbiter : Port Arbitration ArbCmd ArbReply) (i : ℕ)
+    (w : Worker) : Type 0 where
+  pub who : w.desk.who ≡ i
+  pub boards :
+      AllAt (λ x (o : BoardPort) (p : PassView BoardCmd Reply). IsUnused (port_id o.port) i p) opened w.desk.boards.items
+  pub bus : IsUnused (port_id arbiter) i w.desk.bus
+  pub room : length config.boards ≤ vec_capacity w.desk.boards
+  pub lines : vec_len w.lines ≡ 0
+  pub lines_room : length (script_of config i) ≤ vec_capacity w.lines
+
+-- such a worker for each board (this project's own)
+pub record AreHired (config : Configuration) (opened : List BoardPort) (arbiter : Port Arbitration ArbCmd ArbReply)
+    (workers : List Worker) : Type 0 where
+  pub count : length workers ≡ length config.boards
+  pub each : Each (IsHired config opened arbiter) workers
+
+-- a port of each board, each opened with zero memory for as many passes as there are boards, and so one of the arbiter of a
+-- free bus; and room for what is told of their run (this project's own)
+pub record IsBuilt (config : Configuration) (ports : Ports) : Type 0 where
+  pub boards : AllAt (λ x own o. IsPortOf (length config.boards) own o) config.boards ports.boards.items
+  pub bus : opening ports.bus ≡ free_bus
+  pub passes : passes_of ports.bus ≡ length config.boards
+  pub sheet : IsBlank (length config.boards) ports.sheet
+
+-- the i-th worker of these ports, whose passes have made no call (this project's own)
+abbrev pub IsWorkerOf : Configuration → Ports → ℕ → Worker → Type 0
+IsWorkerOf config ports i worker = IsHired config ports.boards.items ports.bus i worker
+
+-- a worker for each board, in order (this project's own)
+abbrev pub AreWorkers : Configuration → Ports → List Worker → Type 0
+AreWorkers config ports workers = AreHired config ports.boards.items ports.bus workers

@@ -1,0 +1,16 @@
+//! The processors of a backplane (ANSI/IEEE Std 1014-1987, chapters 2 and 3) as threads: a port of
+//! each board and one of the arbiter of their bus, and a worker for each processor, which reaches
+//! all of them through passes of its own.
+#![tactic(auto)]
+
+mod desk;
+mod hire;
+mod open;
+mod ports;
+mod report;
+mod rooms;
+mod worker;
+
+pub use desk::Desk;
+pub use ports::{BoardPort, Ports};
+pub use worker::Worker;

@@ -1,0 +1,68 @@
+ghost use Rattle.std.specs.Prelude.{IfOk};
+ghost use Rattle.vme_threads.specs.Ports.{IsBuilt, AreWorkers};
+
+use crate::hire::hire;
+use crate::open::{open_boards, open_bus};
+use crate::rooms::{Rooms, Sheet};
+use crate::worker::Worker;
+use std::alloc::{AllocError, Global};
+use std::sync::Mutex;
+use std::sync::atomic::AtomicBool;
+use vme_arbiter::Arbiter;
+use vme_memory::ByteMemory;
+use vme_port::Port;
+use vme_script::{Config, OutOfMemory};
+
+/// The port of a board.
+#[derive(Drop)]
+pub struct BoardPort {
+    pub(crate) slot: u16,
+    pub(crate) port: Port<ByteMemory>,
+    pub(crate) made: Vec<u64>,
+}
+
+/// The ports of the boards of one backplane and of the arbiter of their bus, which threads share,
+/// and all room that the end of their run needs.
+#[derive(Drop)]
+pub struct Ports {
+    pub(crate) boards: Vec<BoardPort>,
+    pub(crate) bus: Port<Arbiter>,
+    pub(crate) sheet: Sheet,
+    pub(crate) rooms: Mutex<Rooms>,
+    pub(crate) stop: AtomicBool,
+    pub(crate) alloc: Global,
+}
+
+impl Ports {
+    /// Opens a port of each board that is configured, with its memory all zero, and one of an arbiter
+    /// of a free bus, each with a pass for each processor; and the workers that have these passes. It
+    /// takes all memory that the workers and the end of their run need.
+    pub fn build(alloc: Global, config: &Config) -> Result<(Ports, Vec<Worker>), OutOfMemory>
+        ensures built { IfOk result (λ r. IsBuilt config.now r.0) }
+        ensures workers { IfOk result (λ r. AreWorkers config.now r.0 r.1.items) }
+    {
+        match Ports::open(alloc, config) {
+            Ok(built) => Ok(built),
+            Err(_) => Err(OutOfMemory),
+        }
+    }
+
+    fn open(alloc: Global, config: &Config) -> Result<(Ports, Vec<Worker>), AllocError>
+        ensures built { IfOk result (λ r. IsBuilt config.now r.0) }
+        ensures workers { IfOk result (λ r. AreWorkers config.now r.0 r.1.items) }
+    {
+        let count = config.boards();
+        let (bus, passes) = open_bus(alloc, count)?;
+        let mut workers = hire(alloc, config, &bus, passes)?;
+        let boards = open_boards(alloc, config, &bus, &mut workers)?;
+        let ports = Ports {
+            boards,
+            bus,
+            sheet: Sheet::new(alloc, count)?,
+            rooms: Mutex::new(Rooms::new(alloc)?),
+            stop: AtomicBool::new(false),
+            alloc,
+        };
+        Ok((ports, workers))
+    }
+}
