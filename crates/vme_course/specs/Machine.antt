@@ -7,7 +7,7 @@ use Rattle.vme_master.specs.declared.job.Job.{Job}
 use Rattle.vme_master.specs.declared.outcome.Outcome.TheVariants as outcomes
 use Rattle.vme_master.specs.Tables as tasks
 use Rattle.vme_master.specs.Tables.{Next, Given}
-use Rattle.vme_master.specs.Machine.{fresh_task, advance, to_do}
+use Rattle.vme_master.specs.Machine.{TaskView, fresh_task, advance, to_do}
 use Rattle.vme_master.specs.Laws.{IsBelow}
 use Rattle.vme_shared.specs.declared.reply.LineReply.TheVariants as replies
 use Rattle.vme_lines.specs.declared.line.Line.{Line}
@@ -18,6 +18,11 @@ use Rattle.vme_course.specs.declared.task.LineTask.TheVariants.{Refused, Once, A
 use Rattle.vme_course.specs.declared.task.AwaitTask.{AwaitTask}
 use Rattle.vme_course.specs.Scripts.{line_job}
 use Rattle.vme_course.specs.Tables.{LineNext, Ends, once_next, await_next, given_of}
+
+-- the task of a job before its first call, or the refusal (this project's own)
+abbrev pub fresh_of : Result Job CycleFault → Result TaskView CycleFault
+fresh_of (Ok job) = Ok (fresh_task job)
+fresh_of (Err fault) = Err fault
 
 -- a line before its first call, by what is done for it, or its refusal (this project's own)
 abbrev pub line_fresh : ℕ → Line → Result Job CycleFault → LineTask
