@@ -1,5 +1,5 @@
 //! Configurations from the text of a file.
-ghost use Rattle.std.specs.Prelude.{◌≡◌, ◌≢◌, Err, IsUtf8};
+ghost use Rattle.std.specs.Prelude.{◌≡◌, ◌≢◌, Err, IfOk, IsUtf8};
 ghost use Rattle.toml.specs.Parse.{parse_document};
 ghost use Rattle.vme_script.specs.Readings.{configuration_in};
 
@@ -17,6 +17,7 @@ impl Config {
     pub fn read(alloc: Global, text: &[u8]) -> Result<Config, ConfigFault>
         ensures text { IsUtf8 text.now → result ≢ Err ConfigFault.OutOfMemory →
             result ≡ configuration_in (parse_document text.now) }
+        ensures is_text { IfOk result (λ _. IsUtf8 text.now) }
         ensures bytes { (IsUtf8 text.now → ⊥) → result ≢ Err ConfigFault.OutOfMemory →
             result ≡ Err ConfigFault.NotToml }
     {
