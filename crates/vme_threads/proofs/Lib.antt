@@ -1,3 +1,4 @@
 mod Places
 mod Dealings
 mod Hired
+pub mod Desks

@@ -1,3 +1,4 @@
 pub mod Rooms
 pub mod Ports
 pub mod Dealings
+pub mod Desks

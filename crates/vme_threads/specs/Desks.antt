@@ -1,0 +1,29 @@
+-- What a processor does with its passes.
+use Rattle.std.specs.Prelude.{◌≡◌, List, All}
+use Rattle.vme_object.specs.Each.{AllAt}
+use Rattle.vme_memory.specs.declared.command.BoardCmd.{BoardCmd}
+use Rattle.vme_memory.specs.declared.reply.Reply.{Reply}
+use Rattle.vme_core.specs.Runs.{Move, IsReplyTo, board_part, bus_part}
+use Rattle.vme_port.specs.Passes.{PassView}
+use Rattle.vme_port.specs.Ports.{port_id}
+use Rattle.vme_port.specs.Calls.{Makes}
+use Rattle.vme_threads.specs.declared.desk.Desk.{Desk}
+use Rattle.vme_threads.specs.declared.ports.BoardPort.{BoardPort}
+use Rattle.vme_threads.specs.declared.ports.Ports.{Ports}
+
+-- the passes of a desk are its who's passes of these ports (this project's own)
+pub record Fits (ports : Ports) (d : Desk) : Type 0 where
+  pub boards :
+      AllAt (λ x (o : BoardPort) (p : PassView BoardCmd Reply). (p.port ≡ port_id o.port) × (p.who ≡ d.who)) ports.boards.items
+      d.boards.items
+  pub bus : d.bus.port ≡ port_id ports.bus
+  pub bus_who : d.bus.who ≡ d.who
+
+-- the who of a desk made a run: each reply is of its event's kind, and each pass made the run's part on its object
+-- (this project's own)
+pub record HasMade (run : List Move) (before after : Desk) : Type 0 where
+  pub who : after.who ≡ before.who
+  pub whose : All (λ m. m.who ≡ before.who) run
+  pub fitting : All (λ m. IsReplyTo m.event m.reply) run
+  pub boards : AllAt (λ x p q. Makes (board_part x run) p q) before.boards.items after.boards.items
+  pub bus : Makes (bus_part run) before.bus after.bus
