@@ -12,16 +12,17 @@ use Rattle.vme_port.specs.Passes.{PassView, IsUnused}
 use Rattle.vme_port.specs.Ports.{port_id}
 use Rattle.vme_script.specs.declared.board.BoardConfig.{BoardConfig}
 use Rattle.vme_script.specs.Configurations.{Configuration}
+use Rattle.vme_course.specs.Scripts.{script_at}
 use Rattle.vme_threads.specs.declared.worker.Worker.{Worker}
 use Rattle.vme_threads.specs.declared.ports.BoardPort.{BoardPort}
-use Rattle.vme_threads.specs.Ports.{script_of, IsPortOf, IsHired, AreHired}
+use Rattle.vme_threads.specs.Ports.{IsPortOf, IsHired, AreHired}
 use Rattle.vme_threads.specs.Dealings.{Gets, HaveRoom}
 
 -- a worker with the arbiter's pass alone
 pub hired_first :
     (config : Configuration) (arbiter : Port Arbitration ArbCmd ArbReply) (i : ℕ) (w : Worker) (p : PassView ArbCmd ArbReply)
     → IsUnused (port_id arbiter) i p → w.desk.who ≡ p.who → w.desk.bus ≡ p → w.desk.boards.items ≡ []
-    → length config.boards ≤ vec_capacity w.desk.boards → vec_len w.lines ≡ 0 → length (script_of config i) ≤ vec_capacity w.lines
+    → length config.boards ≤ vec_capacity w.desk.boards → vec_len w.lines ≡ 0 → length (script_at config i) ≤ vec_capacity w.lines
     → IsHired config [] arbiter i w
 hired_first config arbiter i w p unused who bus none room lines lines_room = record {
   who = who ∙ unused.who;
@@ -45,7 +46,7 @@ hired_more config opened o arbiter i w v p hired unused gets =
       bus = subst (IsUnused (port_id arbiter) i) (sym gets.bus) hired.bus;
       room = subst (λ n. length config.boards ≤ n) (sym gets.room) hired.room;
       lines = subst (λ ls. vec_len ls ≡ 0) (sym gets.lines) hired.lines;
-      lines_room = subst (λ ls. length (script_of config i) ≤ vec_capacity ls) (sym gets.lines) hired.lines_room;
+      lines_room = subst (λ ls. length (script_at config i) ≤ vec_capacity ls) (sym gets.lines) hired.lines_room;
     }
 
 -- all workers, each with the pass of one more board

@@ -1,5 +1,5 @@
 -- What is built of a configuration: a port of each board and of the arbiter, and the workers that have their passes.
-use Rattle.std.specs.Prelude.{ℕ, ◌≡◌, ◌≤◌, List, [], length, slice_index_or, vec_len, vec_capacity}
+use Rattle.std.specs.Prelude.{ℕ, ◌≡◌, ◌≤◌, List, length, vec_len, vec_capacity}
 use Rattle.vme_object.specs.Each.{Each, AllAt}
 use Rattle.vme_memory.specs.declared.command.BoardCmd.{BoardCmd}
 use Rattle.vme_memory.specs.declared.reply.Reply.{Reply}
@@ -10,16 +10,12 @@ use Rattle.vme_port.specs.declared.port.Port.{Port}
 use Rattle.vme_port.specs.Passes.{PassView, IsUnused}
 use Rattle.vme_port.specs.Ports.{port_id, opening, passes_of}
 use Rattle.vme_script.specs.declared.board.BoardConfig.{BoardConfig}
-use Rattle.vme_script.specs.declared.script.ScriptLine.{ScriptLine}
 use Rattle.vme_script.specs.Configurations.{Configuration, opening_memory}
+use Rattle.vme_course.specs.Scripts.{script_at}
 use Rattle.vme_threads.specs.declared.worker.Worker.{Worker}
 use Rattle.vme_threads.specs.declared.ports.BoardPort.{BoardPort}
 use Rattle.vme_threads.specs.declared.ports.Ports.{Ports}
 use Rattle.vme_threads.specs.Rooms.{IsBlank}
-
--- the script of the processor of a board (this project's own)
-abbrev pub script_of : Configuration → ℕ → List ScriptLine
-script_of config i = slice_index_or config.scripts i []
 
 -- a port of a board, in its slot, which was opened with zero memory for k passes; there is room for k counts
 -- (this project's own)
@@ -40,7 +36,7 @@ pub record IsHired (config : Configuration) (opened : List BoardPort) (arbiter :
   pub bus : IsUnused (port_id arbiter) i w.desk.bus
   pub room : length config.boards ≤ vec_capacity w.desk.boards
   pub lines : vec_len w.lines ≡ 0
-  pub lines_room : length (script_of config i) ≤ vec_capacity w.lines
+  pub lines_room : length (script_at config i) ≤ vec_capacity w.lines
 
 -- such a worker for each board (this project's own)
 pub record AreHired (config : Configuration) (opened : List BoardPort) (arbiter : Port Arbitration ArbCmd ArbReply)

@@ -7,7 +7,8 @@ use Rattle.vme_arbiter.specs.declared.command.ArbCmd.{ArbCmd}
 use Rattle.vme_arbiter.specs.declared.command.ArbReply.{ArbReply}
 use Rattle.vme_port.specs.Passes.{PassView, IsUnused}
 use Rattle.vme_port.specs.Ports.{port_id}
-use Rattle.vme_threads.specs.Ports.{script_of, IsHired}
+use Rattle.vme_course.specs.Scripts.{script_at}
+use Rattle.vme_threads.specs.Ports.{IsHired}
 use Rattle.vme_threads.proofs.Places.{first_of_each, rest_of_each}
 use Rattle.vme_threads.proofs.Hired.{hired_first}
 use Rattle.vme_threads.proofs.hire.hire.Goals as goal
@@ -24,7 +25,7 @@ loop-pass-preserved c =
     let unused = first_of_each P n _ c.in-Some.pass _ step was.rest in
     let is : n ≡ length workers = c.loop-pass.workers.ok.0 in
     let script = get_or_from_slice_get config.scripts n c.script.result.now [] (subst (λ i. slice_get config.scripts i ≡ Some c.script.result.now) c.len.ensures c.script.ensures) in
-    let lines : length (script_of config n) ≤ vec_capacity c.in_ok-new.field-0.lines = omega (arith, ap length script, c.in_ok-new.ensures.lines_room) in
+    let lines : length (script_at config n) ≤ vec_capacity c.in_ok-new.field-0.lines = omega (arith, ap length script, c.in_ok-new.ensures.lines_room) in
     let first = hired_first config c.args.bus.now n c.in_ok-new.field-0 c.in-Some.pass unused c.in_ok-new.ensures.who c.in_ok-new.ensures.bus c.in_ok-new.ensures.boards
     (omega (arith, c.in_ok-new.ensures.room)) c.in_ok-new.ensures.lines lines
     in
