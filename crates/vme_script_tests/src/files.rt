@@ -1,0 +1,96 @@
+//! A file of two boards: cut off anywhere, with any byte another, and where memory is refused.
+ghost use Rattle.std.specs.Prelude.{◌<◌};
+
+use std::process::Abort;
+use std::test::Fail;
+use vme_script::{Config, ConfigFault};
+
+/// Two boards, the second of which reads what the first writes.
+static TWO_BOARDS: &str = "schedule = [[2, 2], [1, 1], [2, 2]]
+[[board]]
+slot = 1
+base = 0
+size = 16
+script = \"lw 00000004 aabbccdd\"
+[[board]]
+slot = 2
+base = 0x1000
+size = 16
+script = \"br 0b 00000000 4 2\"
+";
+
+/// The number of a fault; 0 stands for none, 13 for want of memory.
+fn number_of(end: &Result<Config, ConfigFault>) -> usize
+    ensures { result < 15 }
+{
+    match end {
+        Ok(_) => 0,
+        Err(ConfigFault::Overlap) => 1,
+        Err(ConfigFault::OutsideSpace) => 2,
+        Err(ConfigFault::Misaligned) => 3,
+        Err(ConfigFault::TooMany) => 4,
+        Err(ConfigFault::BadSize) => 5,
+        Err(ConfigFault::NotToml) => 6,
+        Err(ConfigFault::BadKey) => 7,
+        Err(ConfigFault::BadSlot) => 8,
+        Err(ConfigFault::BadLevel) => 9,
+        Err(ConfigFault::BadWord) => 10,
+        Err(ConfigFault::NoBoard) => 11,
+        Err(ConfigFault::BadSchedule) => 12,
+        Err(ConfigFault::OutOfMemory) => 13,
+        Err(ConfigFault::BadScript { .. }) => 14,
+    }
+}
+
+/// How many fronts of the file are told each number. Another reader of TOML gave these.
+static FRONTS: [u32; 15] = [4, 0, 0, 0, 0, 2, 151, 16, 0, 0, 0, 3, 4, 0, 0];
+
+#[test]
+fn reads_or_refuses_each_front(rt: HostRuntime) {
+    let mut told = [0_u32; 15];
+    for end in 0..=TWO_BOARDS.len() {
+        let number = number_of(&Config::read(rt.alloc(), &TWO_BOARDS.as_bytes()[..end]));
+        told[number] = told[number].wrapping_add(1);
+    }
+    assert_eq!(rt; told, FRONTS);
+}
+
+/// A byte, and how many of the files in which it stands for another are told each number. Another
+/// reader of TOML gave these.
+static CHANGES: [(u8, [u32; 15]); 4] = [
+    (0x00, [0, 0, 0, 0, 0, 0, 179, 0, 0, 0, 0, 0, 0, 0, 0]),
+    (0x0a, [17, 0, 0, 0, 0, 2, 148, 12, 0, 0, 0, 0, 0, 0, 0]),
+    (0x22, [4, 0, 0, 0, 0, 0, 175, 0, 0, 0, 0, 0, 0, 0, 0]),
+    (0xff, [0, 0, 0, 0, 0, 0, 179, 0, 0, 0, 0, 0, 0, 0, 0]),
+];
+
+#[test]
+fn reads_or_refuses_with_each_byte_changed(rt: HostRuntime) -> Result<(), Fail> {
+    let mut file = Vec::from_slice(rt.alloc(), TWO_BOARDS.as_bytes())?;
+    for (byte, numbers) in &CHANGES {
+        let mut told = [0_u32; 15];
+        for at in 0..file.len() {
+            let kept = file[at];
+            file[at] = *byte;
+            let number = number_of(&Config::read(rt.alloc(), &file));
+            told[number] = told[number].wrapping_add(1);
+            file[at] = kept;
+        }
+        assert_eq!(rt; told, *numbers, "{byte}");
+    }
+    Ok(())
+}
+
+/// Where memory is refused, just that is told; else the whole configuration stands.
+#[test]
+fn is_read_or_lacks_memory(rt: HostRuntime) {
+    match Config::read(rt.alloc(), TWO_BOARDS.as_bytes()) {
+        Ok(config) => {
+            assert_eq!(rt; config.boards(), 2);
+            assert_eq!(rt; config.script(0).len(), 1);
+            assert_eq!(rt; config.script(1).len(), 1);
+            assert_eq!(rt; config.schedule(), [(2, 2), (1, 1), (2, 2)].as_slice());
+        }
+        Err(fault) => assert_eq!(rt; fault, ConfigFault::OutOfMemory),
+    }
+}

@@ -1,0 +1,12 @@
+//! Tests of configuration files and of the scripts in them. They stand apart so that `vme_script`
+//! is not proved twice.
+#![tactic(auto)]
+
+#[cfg(test)]
+mod files;
+#[cfg(test)]
+mod readers;
+#[cfg(test)]
+mod rows;
+#[cfg(test)]
+mod scripts;

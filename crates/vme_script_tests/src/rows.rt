@@ -1,0 +1,218 @@
+//! Files with what each is told: the first of its refusals, or that it is lawful. The values are
+//! this project's own.
+use std::alloc::{AllocError, Global};
+use std::process::Abort;
+use std::test::Fail;
+use vme_script::Config;
+
+/// A file, and what it is told.
+static TOLD: [(&str, &str); 45] = [
+    ("", "C11"),
+    ("board = []", "C11"),
+    ("board = [{ slot = 1, base = 0, size = 16 }]", "lawful"),
+    // C6 and C7: the text, its keys and their kinds.
+    (
+        "board = [{ slot = 1, base = 0, size = 16, script = \"lw 0000",
+        "C6",
+    ),
+    (
+        "colour = 1\nboard = [{ slot = 1, base = 0, size = 16 }]",
+        "C7",
+    ),
+    (
+        "board = [{ slot = 1, base = 0, size = 16, colour = 1 }]",
+        "C7",
+    ),
+    ("board = [{ slot = 1, base = 0 }]", "C7"),
+    ("board = [{ base = 0, size = 16 }]", "C7"),
+    ("board = [{ slot = 1, base = 0, size = -4 }]", "C7"),
+    ("board = [{ slot = 1, base = 4294967296, size = 16 }]", "C7"),
+    ("board = [{ slot = \"1\", base = 0, size = 16 }]", "C7"),
+    ("board = [{ slot = 1, base = 0, size = 16, uat = 1 }]", "C7"),
+    (
+        "board = [{ slot = 1, base = 0, size = 16, script = 1 }]",
+        "C7",
+    ),
+    (
+        "schedule = [[1]]\nboard = [{ slot = 1, base = 0, size = 16 }]",
+        "C7",
+    ),
+    (
+        "schedule = [[1, 1, 1]]\nboard = [{ slot = 1, base = 0, size = 16 }]",
+        "C7",
+    ),
+    (
+        "tries = 0.5\nboard = [{ slot = 1, base = 0, size = 16 }]",
+        "C7",
+    ),
+    // C8 to C10: slots, levels and words.
+    ("board = [{ slot = 0, base = 0, size = 16 }]", "C8"),
+    ("board = [{ slot = 22, base = 0, size = 16 }]", "C8"),
+    (
+        "board = [{ slot = 2, base = 0, size = 16 }, { slot = 2, base = 16, size = 16 }]",
+        "C8",
+    ),
+    (
+        "board = [{ slot = 1, base = 0, size = 16, level = 4, space = \"a64\" }]",
+        "C9",
+    ),
+    (
+        "board = [{ slot = 1, base = 0, size = 18, space = \"a64\" }]",
+        "C10",
+    ),
+    (
+        "board = [{ slot = 1, base = 0, size = 16, width = 24 }]",
+        "C10",
+    ),
+    (
+        "board = [{ slot = 1, base = 0, size = 16, width = 16, uat = true }]",
+        "C10",
+    ),
+    (
+        "arbiter = \"first\"\ntries = 0\nboard = [{ slot = 1, base = 0, size = 16 }]",
+        "C10",
+    ),
+    // C5, C3, C2 and C1: ranges.
+    ("board = [{ slot = 1, base = 2, size = 18 }]", "C5"),
+    ("board = [{ slot = 1, base = 0, size = 0 }]", "C5"),
+    ("board = [{ slot = 1, base = 0, size = 1048580 }]", "C5"),
+    ("board = [{ slot = 1, base = 0xfffffffe, size = 16 }]", "C3"),
+    ("board = [{ slot = 1, base = 0xfffffffc, size = 8 }]", "C2"),
+    (
+        "board = [{ slot = 1, base = 0xfffffffc, size = 4 }]",
+        "lawful",
+    ),
+    (
+        "board = [{ slot = 1, base = 0xfffc, size = 8, space = \"a16\" }]",
+        "C2",
+    ),
+    (
+        "board = [{ slot = 1, base = 0xfffffc, size = 8, space = \"a24\" }, { slot = 1, base = 0, size = 16 }]",
+        "C2",
+    ),
+    (
+        "board = [{ slot = 1, base = 0, size = 4096 }, { slot = 2, base = 4092, size = 16 }]",
+        "C1",
+    ),
+    (
+        "board = [{ slot = 1, base = 0, size = 4096 }, { slot = 2, base = 4096, size = 16 }]",
+        "lawful",
+    ),
+    (
+        "board = [{ slot = 1, base = 0, size = 16 }, { slot = 2, base = 0, size = 16, space = \"a24\" }]",
+        "lawful",
+    ),
+    (
+        "tries = 0\nboard = [{ slot = 1, base = 0, size = 16 }, { slot = 2, base = 0, size = 16 }]",
+        "C1",
+    ),
+    // C12: numbers and turns.
+    (
+        "tries = 0\nboard = [{ slot = 1, base = 0, size = 16, script = \"x\" }]",
+        "C12",
+    ),
+    (
+        "tries = 1000001\nboard = [{ slot = 1, base = 0, size = 16 }]",
+        "C12",
+    ),
+    (
+        "rounds = 1000001\nboard = [{ slot = 1, base = 0, size = 16 }]",
+        "C12",
+    ),
+    (
+        "schedule = [[3, 1]]\nboard = [{ slot = 1, base = 0, size = 16 }]",
+        "C12",
+    ),
+    (
+        "schedule = [[1, 1000001]]\nboard = [{ slot = 1, base = 0, size = 16 }]",
+        "C12",
+    ),
+    (
+        "schedule = [[1, 999999], [1, 2]]\nboard = [{ slot = 1, base = 0, size = 16 }]",
+        "C12",
+    ),
+    (
+        "schedule = [[1, 999999], [1, 1]]\nboard = [{ slot = 1, base = 0, size = 16 }]",
+        "lawful",
+    ),
+    // C14: the first script that is refused.
+    (
+        "board = [{ slot = 1, base = 0, size = 16, script = \"r 09 00000000 1\" },
+{ slot = 2, base = 16, size = 16, script = \"# to the first board\\n\\nr 0g 00000000 1\\nx\" },
+{ slot = 3, base = 32, size = 16, script = \"x\" }]",
+        "C14 slot 2 line 3 S4",
+    ),
+    (
+        "board = [{ slot = 21, base = 0, size = 16, script = \"lr 00000000 3\" }]",
+        "C14 slot 21 line 1 S6",
+    ),
+];
+
+/// Reads a file, and compares what it is told.
+fn check(rt: &impl Abort, alloc: Global, file: &[u8], told: &str) -> Result<(), AllocError> {
+    match Config::read(alloc, file) {
+        Ok(_) => assert_eq!(rt; "lawful", told),
+        Err(fault) => assert_eq!(rt; fault.to_string(alloc)?.as_str(), told),
+    }
+    Ok(())
+}
+
+#[test]
+fn tells_the_first_refusal(rt: HostRuntime) -> Result<(), Fail> {
+    for (file, told) in &TOLD {
+        check(&rt, rt.alloc(), file.as_bytes(), told)?;
+    }
+    check(&rt, rt.alloc(), b"# \xff\n", "C6")?;
+    Ok(())
+}
+
+/// So many of a part between a front and an end.
+fn repeated(
+    alloc: Global,
+    front: &str,
+    part: &str,
+    count: usize,
+    end: &str,
+) -> Result<Vec<u8>, AllocError> {
+    let mut file = Vec::from_slice(alloc, front.as_bytes())?;
+    for _ in 0..count {
+        file.extend_from_slice(part.as_bytes())?;
+    }
+    file.extend_from_slice(end.as_bytes())?;
+    Ok(file)
+}
+
+/// The front of a file up to the script of its one board.
+const SCRIPT: &str = "board = [{ slot = 1, base = 0, size = 16, script = \"\"\"
+";
+
+/// Files at the limits: front, part, how often the part stands, and what the file is told.
+static LIMITS: [(&str, &str, usize, &str, &str); 6] = [
+    (
+        "",
+        "[[board]]\nslot = 1\nbase = 0\nsize = 16\n",
+        21,
+        "",
+        "C8",
+    ),
+    (
+        "",
+        "[[board]]\nslot = 1\nbase = 0\nsize = 16\n",
+        22,
+        "",
+        "C4",
+    ),
+    (SCRIPT, "\n", 1000, "\"\"\" }]", "lawful"),
+    (SCRIPT, "\n", 1001, "\"\"\" }]", "C14 slot 1 line 1001 S8"),
+    (SCRIPT, "x", 80, "\"\"\" }]", "C14 slot 1 line 1 S2"),
+    (SCRIPT, "x", 81, "\"\"\" }]", "C14 slot 1 line 1 S1"),
+];
+
+#[test]
+fn tells_what_is_past_a_limit(rt: HostRuntime) -> Result<(), Fail> {
+    for (front, part, count, end, told) in &LIMITS {
+        let file = repeated(rt.alloc(), front, part, *count, end)?;
+        check(&rt, rt.alloc(), file.as_slice(), told)?;
+    }
+    Ok(())
+}
