@@ -2,7 +2,8 @@
 use std::process::Abort;
 use std::test::Fail;
 use vme_am::Am;
-use vme_memory::BoardCmd;
+use vme_cycle::{Modify, Plan, Request};
+use vme_memory::{BoardCmd, ByteMemory, Reply};
 use vme_script::{Config, Line};
 
 /// Each key once, none at its default.
@@ -28,6 +29,47 @@ base = 0x40
 size = 4096
 ";
 
+/// The board that a code and an address select, and the offset from its base.
+fn selected(config: &Config, code: u8, addr: u32) -> Option<(usize, u32)> {
+    config.map().select_at(Am::from_code(code).ok()?, addr)
+}
+
+/// Whether a memory answers a request at its first byte.
+fn answers(memory: &mut ByteMemory, request: &Request) -> bool {
+    let Ok(plan) = Plan::of(request) else {
+        return false;
+    };
+    if plan.len() == 0 {
+        return false;
+    }
+    !matches!(
+        memory.cycle(&plan.signals(0), plan.addr(), plan.modify()),
+        Reply::Berr
+    )
+}
+
+/// A double cycle, a quad, a triple, a block and a read-modify-write, each with whether a board
+/// answers it that has 16 data lines and no switch on.
+fn requests() -> [(Request, bool); 5] {
+    let (am, addr) = (0x0d, 0);
+    let (block, count, f) = (0x0f, 1, Modify::Set);
+    [
+        (Request::Read { am, addr, n: 2 }, true),
+        (Request::Read { am, addr, n: 4 }, false),
+        (Request::Read { am, addr, n: 3 }, false),
+        (
+            Request::BlockRead {
+                am: block,
+                addr,
+                n: 2,
+                count,
+            },
+            false,
+        ),
+        (Request::Modify { am, addr, n: 1, f }, false),
+    ]
+}
+
 #[test]
 fn gives_what_the_file_says(rt: HostRuntime) -> Result<(), Fail> {
     let config = Config::read(rt.alloc(), EACH_KEY.as_bytes())?;
@@ -39,8 +81,6 @@ fn gives_what_the_file_says(rt: HostRuntime) -> Result<(), Fail> {
     assert_eq!(rt; config.level(0), 1);
     assert_eq!(rt; config.slot(1), 21);
     assert_eq!(rt; config.level(1), 3);
-    assert_eq!(rt; config.memory(rt.alloc(), 0)?.size(), 8);
-    assert_eq!(rt; config.memory(rt.alloc(), 1)?.size(), 4096);
     let script = config.script(0);
     assert_eq!(rt; script.len(), 2);
     assert_eq!(rt; script.number(0), 2);
@@ -52,5 +92,23 @@ fn gives_what_the_file_says(rt: HostRuntime) -> Result<(), Fail> {
         )
     );
     assert!(rt; config.script(1).len() == 0);
+    Ok(())
+}
+
+#[test]
+fn gives_ranges_and_memories(rt: HostRuntime) -> Result<(), Fail> {
+    let config = Config::read(rt.alloc(), EACH_KEY.as_bytes())?;
+    assert_eq!(rt; selected(&config, 0x2d, 0x24), Some((0, 4)));
+    assert_eq!(rt; selected(&config, 0x29, 0x24), None);
+    assert_eq!(rt; selected(&config, 0x09, 0x40), Some((1, 0)));
+    assert!(rt; config.boards() == 2);
+    let mut first = config.memory(rt.alloc(), 0)?;
+    let mut second = config.memory(rt.alloc(), 1)?;
+    assert_eq!(rt; first.size(), 8);
+    assert_eq!(rt; second.size(), 4096);
+    for (request, answered) in &requests() {
+        assert_eq!(rt; answers(&mut first, request), *answered);
+        assert!(rt; answers(&mut second, request));
+    }
     Ok(())
 }
