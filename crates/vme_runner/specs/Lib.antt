@@ -1,0 +1,4 @@
+pub mod Turns
+pub mod Schedules
+pub mod Reports
+pub mod Drivers

@@ -1,0 +1,170 @@
+//! The way of one processor through its script.
+ghost use Rattle.std.specs.Prelude.{◌≡◌, ℕ, ◌<◌, ◌≤◌, ◌-◌, ◌^◌, length, map, slice_set, slice_index_or, Some, None, IfOk, IfSome, IsTrue};
+ghost use Rattle.vme_shared.specs.declared.reply.LineReply.TheVariants.{Unfinished};
+ghost use Rattle.vme_core.specs.Runs.{Machine};
+ghost use Rattle.vme_core.specs.Machines.{whos};
+ghost use Rattle.vme_script.specs.Configurations.{Configuration};
+ghost use Rattle.vme_core.specs.Calls.{call_of};
+ghost use Rattle.vme_course.specs.Tables.{Makes, Ends};
+ghost use Rattle.vme_course.specs.Machine.{line_advance, line_to_do, IsLineBelow};
+ghost use Rattle.vme_runner.specs.Drivers.{lane_turn, IsLaneOf, StepsWithin};
+
+use std::alloc::{AllocError, Global};
+use std::marker::Model;
+use vme_core::{Core, Event};
+use vme_course::{LineTask, LineTodo};
+use vme_script::{Config, Script};
+use vme_shared::LineReply;
+
+/// A line at work, and the event that it makes next.
+#[derive(Drop)]
+pub(crate) struct Work {
+    task: LineTask,
+    event: Event,
+}
+
+/// The lines of a script with their answers, of which the first have ended, and the line at work.
+/// All room is taken when it is made.
+#[derive(Drop)]
+pub(crate) struct Lane {
+    lines: Vec<(u16, LineReply)>,
+    ended: usize,
+    at: Option<Work>,
+}
+
+impl Model for Lane {
+    ghost use Rattle.std.specs.Prelude.{◌≡◌, ◌<◌, length, option_map, IfSome};
+    ghost use Rattle.vme_core.specs.Calls.{call_of};
+    ghost use Rattle.vme_course.specs.Tables.{Makes};
+    ghost use Rattle.vme_course.specs.Machine.{line_to_do};
+    ghost use Rattle.vme_runner.specs.Drivers.{LaneView};
+
+    ghost Value = { LaneView };
+
+    ghost view = { λ l. record {
+      lines = l.lines.items;
+      ended = l.ended;
+      at = option_map (λ work. work.task) l.at;
+    } };
+
+    ghost invariant = { λ l. IfSome l.at (λ work.
+        (l.ended < length l.lines.items) × (line_to_do work.task ≡ Makes (call_of work.event))) };
+}
+
+impl Lane {
+    /// A script of which no line has ended.
+    pub(crate) fn new(alloc: Global, script: &Script) -> Result<Lane, AllocError>
+        ensures { IfOk result (λ lane. lane ≡ record {
+          lines = map (λ line. (line.number, Unfinished)) script.now;
+          ended = 0;
+          at = None;
+        }) }
+    {
+        let mut lines = Vec::with_capacity(alloc, script.len())?;
+        for j in 0..script.len() {
+            lines.push((script.number(j), LineReply::Unfinished))?;
+        }
+        Ok(Lane {
+            lines,
+            ended: 0,
+            at: None,
+        })
+    }
+
+    /// The numbers of the lines, with their answers.
+    pub(crate) fn lines(&self) -> &[(u16, LineReply)]
+        ensures { result.now ≡ self.now.lines }
+    {
+        self.lines.as_slice()
+    }
+
+    /// A turn of the processor: it makes one event, if there is a line that needs one.
+    pub(crate) fn turn(&mut self, config: &Config, core: &mut Core, board: usize)
+        requires board { board < length config.now.boards }
+        requires lane { IsLaneOf config.now board self.old }
+        requires whos { whos core.old ≡ length config.now.boards }
+        requires boards { length core.old.boards ≡ length config.now.boards }
+        requires room { StepsWithin (2 ^ 64 - 2) core.old }
+        ensures turn { (core.new, self.new) ≡ lane_turn config.now board core.old self.old }
+        ensures lane { IsLaneOf config.now board self.new }
+        ensures whos { whos core.new ≡ whos core.old }
+        ensures boards { length core.new.boards ≡ length core.old.boards }
+    {
+        if self.is_over() {
+            return;
+        }
+        if self.at.is_none() {
+            self.seek(config, board);
+        }
+        self.make(core, board);
+    }
+
+    /// Whether each line has ended.
+    fn is_over(&self) -> bool
+        ensures { IsTrue result → length self.now.lines ≤ self.now.ended }
+    {
+        self.ended == self.lines.len()
+    }
+
+    /// Answers lines that need no event, up to one that makes one.
+    fn seek(&mut self, config: &Config, board: usize)
+        requires board { board < length config.now.boards }
+        requires lane { IsLaneOf config.now board self.old }
+        requires idle { self.old.at ≡ None }
+        ensures turn { (machine : Machine) → lane_turn config.now board machine self.new
+            ≡ lane_turn config.now board machine self.old }
+        ensures lane { IsLaneOf config.now board self.new }
+        ensures over { self.new.at ≡ None → length self.new.lines ≤ self.new.ended }
+    {
+        while self.ended < self.lines.len() {
+            let mut task = LineTask::start(config, board, self.ended);
+            match task.next(None) {
+                LineTodo::Call(event) => {
+                    self.at = Some(Work { task, event });
+                    return;
+                }
+                LineTodo::Ended(answer) => {
+                    put_answer(&mut self.lines, self.ended, answer);
+                    self.ended += 1;
+                }
+            }
+        }
+    }
+
+    /// The line at work makes its event, if one is.
+    #[tactic(auto, using(crate::proofs::Calls::calls_there, crate::proofs::Calls::is_counted))]
+    fn make(&mut self, core: &mut Core, board: usize)
+        requires who { board < whos core.old }
+        requires below { IfSome self.old.at (IsLineBelow (length core.old.boards)) }
+        requires room { StepsWithin (2 ^ 64 - 2) core.old }
+        ensures turn { (config : Configuration) → IsLaneOf config board self.old →
+            (self.old.at ≡ None → length self.old.lines ≤ self.old.ended) →
+            (core.new, self.new) ≡ lane_turn config board core.old self.old }
+        ensures below { IfSome self.new.at (IsLineBelow (length core.old.boards)) }
+        ensures lines { length self.new.lines ≡ length self.old.lines }
+        ensures whos { whos core.new ≡ whos core.old }
+        ensures boards { length core.new.boards ≡ length core.old.boards }
+    {
+        let Some(work) = self.at.take() else {
+            return;
+        };
+        let mut task = work.task;
+        let reply = core.apply(board, &work.event).unwrap();
+        match task.next(Some(reply)) {
+            LineTodo::Call(event) => self.at = Some(Work { task, event }),
+            LineTodo::Ended(answer) => {
+                put_answer(&mut self.lines, self.ended, answer);
+                self.ended += 1;
+            }
+        }
+    }
+}
+
+/// Puts the answer of the line at a place.
+fn put_answer(lines: &mut [(u16, LineReply)], place: usize, answer: LineReply)
+    requires { place < length lines.old }
+    ensures { lines.new
+        ≡ slice_set lines.old place ((slice_index_or lines.old place (0, answer)).0, answer) }
+{
+    lines[place].1 = answer;
+}
