@@ -1,14 +1,21 @@
-ghost use Rattle.std.specs.Prelude.{◌∷◌, [], length, IfOk};
+ghost use Rattle.std.specs.Prelude.{◌≡◌, ◌<◌, ◌∷◌, [], length, IfOk};
 ghost use Rattle.vme_core.specs.Runs.{move};
 ghost use Rattle.vme_course.specs.Events.{IsEventBelow};
+ghost use Rattle.vme_course.specs.Scripts.{lines_at};
 ghost use Rattle.vme_threads.specs.Desks.{Fits, HasMade};
+ghost use Rattle.vme_threads.specs.Rans.{HasAnswered};
 
 use crate::ports::Ports;
+use crossbeam_utils::Backoff;
 use std::sync::Wait;
-use vme_arbiter::Arbiter;
+use std::sync::atomic::Ordering;
+use vme_arbiter::{ArbReply, Arbiter};
 use vme_core::{Event, EventReply};
+use vme_course::{LineTask, LineTodo};
 use vme_memory::ByteMemory;
 use vme_port::{Pass, Spent};
+use vme_script::Config;
+use vme_shared::LineReply;
 
 /// The passes of one processor: one of the port of each board, by its place, and one of the
 /// arbiter's.
@@ -42,5 +49,43 @@ impl Desk {
             }
             Event::Bus(cmd) => Ok(EventReply::Bus(ports.bus.call(rt, &mut self.bus, cmd)?)),
         }
+    }
+
+    /// Makes the events of a line of the script, by its place among those that ask for something,
+    /// until it is answered. It snoozes before it looks again whether it has the bus.
+    ///
+    /// # Errors
+    /// `Spent` where an object has made as many steps as can be counted, here or for another worker.
+    pub(crate) fn line<R: Wait>(
+        &mut self,
+        rt: &R,
+        config: &Config,
+        ports: &Ports,
+        line: usize,
+    ) -> Result<LineReply, Spent>
+        requires fits { Fits ports.now self.old }
+        requires ports { length ports.now.boards.items ≡ length config.now.boards }
+        requires board { self.old.who < length config.now.boards }
+        requires line { line < length (lines_at config.now self.old.who) }
+        ensures { IfOk result (λ answer. HasAnswered config.now line answer self.old self.new) }
+    {
+        let backoff = Backoff::new();
+        let mut task = LineTask::start(config, self.who, line);
+        let mut todo = task.next(None);
+        for _ in rt.forever() {
+            let event = match todo {
+                LineTodo::Ended(answer) => return Ok(answer),
+                LineTodo::Call(event) => event,
+            };
+            if ports.stop.load(Ordering::SeqCst) {
+                return Err(Spent);
+            }
+            let reply = self.make(rt, ports, &event)?;
+            if matches!(reply, EventReply::Bus(ArbReply::Waiting)) {
+                backoff.snooze();
+            }
+            todo = task.next(Some(reply));
+        }
+        unreachable!()
     }
 }

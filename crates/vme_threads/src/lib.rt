@@ -4,6 +4,7 @@
 #![tactic(auto)]
 
 mod desk;
+mod gate;
 mod hire;
 mod open;
 mod ports;
@@ -12,5 +13,6 @@ mod rooms;
 mod worker;
 
 pub use desk::Desk;
+pub use gate::Gate;
 pub use ports::{BoardPort, Ports};
-pub use worker::Worker;
+pub use worker::{Ran, Worker};

@@ -1,9 +1,16 @@
-ghost use Rattle.std.specs.Prelude.{◌≡◌, ◌≤◌, IfOk, [], vec_len, vec_capacity};
+ghost use Rattle.std.specs.Prelude.{◌≡◌, ◌<◌, ◌≤◌, IfOk, [], length, vec_len, vec_capacity};
 
 use crate::desk::Desk;
+use crate::gate::Gate;
+use crate::ports::Ports;
 use std::alloc::{AllocError, Global};
+use std::sync::Wait;
+use std::sync::atomic::Ordering;
 use vme_arbiter::Arbiter;
+use vme_course::line_count;
 use vme_port::Pass;
+use vme_report::RunFault;
+use vme_script::Config;
 use vme_shared::LineReply;
 
 /// A processor that has not begun its script: its passes, and room for the replies.
@@ -13,7 +20,18 @@ pub struct Worker {
     pub(crate) lines: Vec<(u16, LineReply)>,
 }
 
+/// A processor that went through its script: its passes, and the number of each line that asks for
+/// something with what it was answered.
+#[derive(Drop)]
+pub struct Ran {
+    pub(crate) desk: Desk,
+    pub(crate) lines: Vec<(u16, LineReply)>,
+}
+
 impl Worker {
+    ghost use Rattle.vme_threads.specs.Ports.{IsBuilt, IsWorkerOf};
+    ghost use Rattle.vme_threads.specs.Rans.{HasRun};
+
     /// A worker with the arbiter's pass of its number, and with room for the passes of so many boards
     /// and the replies to so many lines.
     pub(crate) fn new(
@@ -37,5 +55,41 @@ impl Worker {
             bus,
         };
         Ok(Worker { desk, lines })
+    }
+
+    /// Goes through the script of the processor on the caller's own thread, line by line, and calls
+    /// the gate before and after each line.
+    ///
+    /// # Errors
+    /// `Spent` where an object has made as many steps as can be counted, here or for another worker,
+    /// which all workers of these ports then stop for. The passes are given up.
+    pub fn run<R: Wait, G: Gate>(
+        self,
+        rt: &R,
+        config: &Config,
+        ports: &Ports,
+        gate: &G,
+    ) -> Result<Ran, RunFault>
+        requires built { IsBuilt config.now ports.now }
+        requires worker { IsWorkerOf config.now ports.now self.desk.who self }
+        requires board { self.desk.who < length config.now.boards }
+        ensures { IfOk result (HasRun config.now ports.now self.desk.who) }
+    {
+        let Worker {
+            mut desk,
+            mut lines,
+        } = self;
+        let slot = config.slot(desk.who);
+        for line in 0..line_count(config, desk.who) {
+            let number = config.script(desk.who).number(line);
+            gate.before(slot, number);
+            let Ok(answer) = desk.line(rt, config, ports, line) else {
+                ports.stop.store(true, Ordering::SeqCst);
+                return Err(RunFault::Spent);
+            };
+            gate.after(slot, number);
+            lines.push_reserved((number, answer));
+        }
+        Ok(Ran { desk, lines })
     }
 }

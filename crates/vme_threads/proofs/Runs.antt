@@ -1,0 +1,120 @@
+-- A script, line by line.
+use Rattle.std.proofs.Common.{◌≡◌, ℕ, zero, suc, ◌+◌, ◌<◌, ◌≤◌, List, [], ◌∷◌, ◌++◌, length, map, take, Some, refl, ap, sym, subst, ◌∙◌, arith}
+use Rattle.std.specs.List.{slice_get}
+use Rattle.std.proofs.lemmas.List.{map-append}
+use Rattle.std.proofs.lemmas.Option.{none-some, same_Some, get_or_from_slice_get}
+use Rattle.vme_core.specs.Runs.{Move, board_part, bus_part}
+use Rattle.vme_shared.specs.declared.reply.LineReply.{LineReply}
+use Rattle.vme_lines.specs.declared.line.Line.{Line}
+use Rattle.vme_script.specs.declared.script.ScriptLine.{ScriptLine}
+use Rattle.vme_script.specs.Configurations.{Configuration}
+use Rattle.vme_course.specs.Scripts.{script_at, lines_at}
+use Rattle.vme_course.specs.Courses.{LineCourse, IsCourse}
+use Rattle.vme_course.proofs.Courses.{course-snoc}
+use Rattle.vme_threads.specs.declared.desk.Desk.{Desk}
+use Rattle.vme_threads.specs.declared.worker.Worker.{Worker}
+use Rattle.vme_threads.specs.declared.worker.Ran.{Ran}
+use Rattle.vme_threads.specs.declared.ports.Ports.{Ports}
+use Rattle.vme_threads.specs.Ports.{IsWorkerOf}
+use Rattle.vme_threads.specs.Desks.{HasMade}
+use Rattle.vme_threads.specs.Rans.{HasAnswered, numbers_in, answers_in, HasRun}
+use Rattle.vme_threads.proofs.Desks.{made_none, made_more, fits_first, fits_after}
+use Rattle.vme_threads.proofs.Lines.{line_there}
+
+-- the first lines of the script were answered by a run
+pub record IsUnderWay (config : Configuration) (count : ℕ) (before now : Desk) (lines : List (ℕ × LineReply)) : Type 0 where
+  pub run : List Move
+  pub made : HasMade run before now
+  pub course : IsCourse config before.who (take count (lines_at config before.who)) run (answers_in lines)
+  pub numbers : numbers_in lines ≡ take count (map (λ (one : ScriptLine). one.number) (script_at config before.who))
+
+-- the empty list
+pub nil_of : {A : Type 0} (xs : List A) → length xs ≡ 0 → xs ≡ []
+nil_of [] none = refl
+nil_of (x ∷ xs) none = absurd (omega arith)
+
+-- the script of a who
+pub script_is :
+    (config : Configuration) (who other : ℕ) (script : List ScriptLine) → other ≡ who → slice_get config.scripts other ≡ Some script
+    → script_at config who ≡ script
+script_is config who other script same there =
+    get_or_from_slice_get config.scripts who script [] (subst (λ n. slice_get config.scripts n ≡ Some script) same there)
+
+-- no line was answered
+pub way_start : (config : Configuration) (d : Desk) (lines : List (ℕ × LineReply)) → lines ≡ [] → IsUnderWay config 0 d d lines
+way_start config d lines none =
+    subst (IsUnderWay config 0 d d) (sym none) (record { run = []; made = made_none d; course = refl; numbers = refl })
+
+-- one element more
+take_suc : {A : Type 0} (xs : List A) (k : ℕ) (x : A) → slice_get xs k ≡ Some x → take (suc k) xs ≡ take k xs ++ x ∷ []
+take_suc [] k x at = absurd (none-some x at)
+take_suc (y ∷ ys) zero x at = ap (λ z. z ∷ []) (same_Some y x at)
+take_suc (y ∷ ys) (suc k) x at = ap (λ zs. y ∷ zs) (take_suc ys k x at)
+
+take_one : {A : Type 0} (xs : List A) (k : ℕ) (x : A) → slice_get xs k ≡ Some x → take (k + 1) xs ≡ take k xs ++ x ∷ []
+take_one xs k x at = let same : k + 1 ≡ suc k = omega arith in ap (λ n. take n xs) same ∙ take_suc xs k x at
+
+-- one line more
+pub way_more :
+    (config : Configuration) (count : ℕ) (d e f : Desk) (lines : List (ℕ × LineReply)) (number : ℕ) (answer : LineReply)
+    → IsUnderWay config count d e lines → HasAnswered config count answer e f
+    → slice_get (map (λ (one : ScriptLine). one.number) (script_at config d.who)) count ≡ Some number
+    → IsUnderWay config (count + 1) d f (lines ++ (number, answer) ∷ [])
+way_more config count d e f lines number answer way answered numbered =
+    let same = way.made.who in
+    let there = subst (λ who. slice_get (lines_at config who) count ≡ Some answered.line) same answered.there in
+    let course = subst (λ who. LineCourse config who answered.line answered.run answer) same answered.course in
+    record {
+      run = way.run ++ answered.run;
+      made = made_more way.run answered.run d e f way.made answered.made;
+      course =
+          subst (λ (answers : List LineReply). IsCourse config d.who (take (count + 1) (lines_at config d.who)) (way.run ++ answered.run) answers)
+          (sym (map-append (λ (l : ℕ × LineReply). l.1) lines ((number, answer) ∷ [])))
+          (subst (λ (ls : List Line). IsCourse config d.who ls (way.run ++ answered.run) (answers_in lines ++ answer ∷ []))
+          (sym (take_one (lines_at config d.who) count answered.line there))
+          (course-snoc config d.who (take count (lines_at config d.who)) way.run (answers_in lines) answered.line answered.run answer way.course course));
+      numbers =
+          map-append (λ (l : ℕ × LineReply). l.0) lines ((number, answer) ∷ [])
+          ∙ ap (λ (ns : List ℕ). ns ++ number ∷ []) way.numbers
+          ∙ sym (take_one (map (λ (one : ScriptLine). one.number) (script_at config d.who)) count number numbered);
+    }
+
+-- the whole list
+take_whole : {A : Type 0} (xs : List A) (k : ℕ) → length xs ≤ k → take k xs ≡ xs
+take_whole [] zero all = refl
+take_whole [] (suc k) all = refl
+take_whole (x ∷ xs) zero all = absurd (omega arith)
+take_whole (x ∷ xs) (suc k) all = ap (λ ys. x ∷ ys) (take_whole xs k (omega arith))
+
+-- as many lines as the script has
+pub same_count : {A B : Type 0} (f : A → B) (xs : List A) → length (map f xs) ≡ length xs
+same_count f [] = refl
+same_count f (x ∷ xs) = ap suc (same_count f xs)
+
+-- all lines were answered
+pub way_end :
+    (config : Configuration) (ports : Ports) (count : ℕ) (w : Worker) (ran : Ran) → IsWorkerOf config ports w.desk.who w
+    → IsUnderWay config count w.desk ran.desk ran.lines.items → length (lines_at config w.desk.who) ≤ count
+    → HasRun config ports w.desk.who ran
+way_end config ports count w ran is way all =
+    let d = w.desk in
+    let script = script_at config d.who in
+    let numbers = map (λ (one : ScriptLine). one.number) script in
+    let lines = lines_at config d.who in
+    let short : length numbers ≤ count = omega (arith, same_count (λ (one : ScriptLine). one.number) script, same_count (λ (one : ScriptLine). one.line) script, all) in (
+      way.run,
+      record {
+        same = way.made.who;
+        fits = fits_after ports way.run d ran.desk way.made (fits_first config ports d.who w is);
+        whose = way.made.whose;
+        fitting = way.made.fitting;
+        course = subst (λ (ls : List Line). IsCourse config d.who ls way.run (answers_in ran.lines.items)) (take_whole lines count all) way.course;
+        numbers = way.numbers ∙ take_whole numbers count short;
+        boards = λ k p k<.
+            let made = way.made.boards.each k p p (omega (arith, k<, way.made.boards.count)) in
+            let there : k < length ports.boards.items = omega (arith, k<, way.made.boards.count, is.boards.count) in
+            let unused = is.boards.each k (line_there ports.boards.items k there).0 p there in
+            made.mine ∙ ap (λ es. es ++ board_part k way.run) unused.mine;
+        bus = way.made.bus.mine ∙ ap (λ es. es ++ bus_part way.run) is.bus.mine;
+      },
+    )

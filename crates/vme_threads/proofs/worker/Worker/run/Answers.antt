@@ -1,0 +1,55 @@
+use Rattle.std.proofs.Common.{◌≡◌, ◌+◌, List, length, map, Some, ap, sym, subst, rules, arith}
+use Rattle.std.specs.List.{slice_get}
+use Rattle.vme_script.specs.declared.script.ScriptLine.{ScriptLine}
+use Rattle.vme_course.specs.Scripts.{script_at}
+use Rattle.vme_threads.proofs.Desks.{fits_first, fits_after}
+use Rattle.vme_threads.proofs.Runs.{IsUnderWay, nil_of, script_is, same_count, way_start, way_more, way_end}
+use Rattle.vme_threads.proofs.worker.Worker.run.Goals as goal
+
+pub loop-line-init : goal.loop-line-init
+loop-line-init g c =
+    let config = c.args.config.now in
+    let w = c.args.self in
+    record {
+      count = c.requires.worker.lines;
+      room = omega (arith, c.requires.worker.lines_room, same_count (λ (one : ScriptLine). one.line) (script_at config w.desk.who));
+      way = way_start config w.desk w.lines.items (nil_of w.lines.items (omega (arith, c.requires.worker.lines, w.lines.ok.0)));
+    }
+
+pub number-number-requires : goal.number-number-requires
+number-number-requires g c =
+    let config = c.args.config.now in
+    let who = c.args.self.desk.who in
+    let script = script_is config who c.loop-line.desk.who c.script.result.now c.loop-line.invariant.way.made.who c.script.ensures in
+    omega (arith, c.loop-line-test.true, c.line_count-line-end.ensures, same_count (λ (one : ScriptLine). one.line) (script_at config who), ap length script)
+
+pub line-requires-clause-fits : goal.line-requires-clause-fits
+line-requires-clause-fits g c =
+    let w = c.args.self in
+    let ports = c.args.ports.now in
+    fits_after ports _ w.desk _ c.loop-line.invariant.way.made (fits_first c.args.config.now ports w.desk.who w c.requires.worker)
+
+-- one line more was answered
+pub loop-line-preserved : goal.loop-line-preserved
+loop-line-preserved g c =
+    let config = c.args.config.now in
+    let d = c.args.self.desk in
+    let way = c.loop-line.invariant.way in
+    let number = c.number-number.result in
+    let script = script_is config d.who c.loop-line.desk.who c.script.result.now way.made.who c.script.ensures in
+    let numbered =
+    subst (λ (lines : List ScriptLine). slice_get (map (λ (one : ScriptLine). one.number) lines) c.loop-line.line ≡ Some number) (sym script)
+    c.number-number.ensures
+    in
+    record {
+      count = search rules;
+      room = search rules;
+      way =
+          subst (IsUnderWay config (c.loop-line.line + 1) d c.line.new.self) (sym c.push_reserved.ensures.items)
+          (way_more config c.loop-line.line d c.loop-line.desk c.line.new.self c.loop-line.lines.items number c.in-Ok.answer way c.in-Ok.ensures numbered);
+    }
+
+pub returns : goal.returns
+returns g c =
+    way_end c.args.config.now c.args.ports.now c.loop-line.line c.args.self _ c.requires.worker c.loop-line.invariant.way
+    (omega (arith, c.loop-line-test.false, c.line_count-line-end.ensures))

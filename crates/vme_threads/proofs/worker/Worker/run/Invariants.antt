@@ -1,0 +1,12 @@
+use Rattle.std.proofs.Common.{◌≡◌, ◌≤◌, length, vec_len, vec_capacity}
+use Rattle.vme_course.specs.Scripts.{lines_at}
+use Rattle.vme_threads.proofs.Runs.{IsUnderWay}
+use Rattle.vme_threads.proofs.worker.Worker.run.Given as goal
+
+-- the lines so far were answered
+abbrev pub invariant-loop-line : goal.invariant-loop-line
+invariant-loop-line g l = record {
+  count : vec_len l.lines ≡ l.line;
+  room : length (lines_at l.config l.fn.self.desk.who) ≤ vec_capacity l.lines;
+  way : IsUnderWay l.config l.line l.fn.self.desk l.desk l.lines.items;
+}
