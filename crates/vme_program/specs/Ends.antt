@@ -1,12 +1,10 @@
 -- How a run of an engine ends, and the exit status of the program then.
 use Rattle.std.specs.Prelude.{◌≡◌, ℕ, ◌+◌, Bool, true, false, List, length, Option, Result, Ok, Err}
 use Rattle.std.specs.Io.KnownBytes.{Consumes}
-use Rattle.vme_script.specs.declared.fault.ConfigFault.{ConfigFault}
-use Rattle.vme_script.specs.declared.fault.ConfigFault.TheVariants.{OutOfMemory}
 use Rattle.vme_shared.specs.declared.status.Status.{Status}
 use Rattle.vme_shared.specs.declared.status.Status.TheVariants.{Clean, Marked}
 use Rattle.vme_program.specs.declared.fault.ProgramFault.{ProgramFault}
-use Rattle.vme_program.specs.declared.fault.ProgramFault.TheVariants.{Read, TooLong, Write, Memory, Thread, Spent, Config}
+use Rattle.vme_program.specs.declared.fault.ProgramFault.TheVariants.{Read, TooLong, Write, Memory, Config}
 
 -- the faults of reading an input (this project's own)
 abbrev pub IsInputFault : ProgramFault → Type 0
@@ -14,6 +12,20 @@ IsInputFault Read = Unit {0}
 IsInputFault TooLong = Unit {0}
 IsInputFault Memory = Unit {0}
 IsInputFault fault = ⊥
+
+-- the faults of a file whose bytes are there (this project's own)
+abbrev pub IsConfigFault : ProgramFault → Type 0
+IsConfigFault Memory = Unit {0}
+IsConfigFault (Config fault) = Unit {0}
+IsConfigFault fault = ⊥
+
+-- the faults of reading a configuration file (this project's own)
+abbrev pub IsFileFault : ProgramFault → Type 0
+IsFileFault Read = Unit {0}
+IsFileFault TooLong = Unit {0}
+IsFileFault Memory = Unit {0}
+IsFileFault (Config fault) = Unit {0}
+IsFileFault fault = ⊥
 
 -- whether a fault tells that the reader failed (this project's own)
 abbrev pub is_read : ProgramFault → Bool
@@ -45,11 +57,6 @@ IsReadingFault end = ⊥
 -- just one byte more was read than an input may have (this project's own)
 abbrev pub ReadsPastLimit : ℕ → Option (List ℕ) → Option (List ℕ) → Type 0
 ReadsPastLimit limit old new = (bytes : List ℕ) × (length bytes ≡ limit + 1) × Consumes old new bytes
-
--- how the program tells that there is no configuration; want of memory is told as such (this project's own)
-abbrev pub fault_of : ConfigFault → ProgramFault
-fault_of OutOfMemory = Memory
-fault_of fault = Config fault
 
 -- the exit status of the program (this project's own)
 abbrev pub exit_status_of : Result Status ProgramFault → ℕ

@@ -1,6 +1,6 @@
 ghost use Rattle.std.specs.Prelude.{◌≡◌};
 ghost use Rattle.vme_program.specs.declared.fault.ProgramFault.TheVariants.{Memory};
-ghost use Rattle.vme_program.specs.Ends.{exit_status_of, fault_of};
+ghost use Rattle.vme_program.specs.Ends.{exit_status_of};
 
 use std::alloc::AllocError;
 use thiserror::Error;
@@ -38,17 +38,6 @@ impl From<AllocError> for ProgramFault {
 
     fn from(_error: AllocError) -> ProgramFault {
         ProgramFault::Memory
-    }
-}
-
-impl From<ConfigFault> for ProgramFault {
-    ghost from_gives = { λ refused fault. fault ≡ fault_of refused };
-
-    fn from(refused: ConfigFault) -> ProgramFault {
-        match refused {
-            ConfigFault::OutOfMemory => ProgramFault::Memory,
-            fault => ProgramFault::Config(fault),
-        }
     }
 }
 

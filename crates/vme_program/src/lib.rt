@@ -3,8 +3,10 @@
 #![tactic(auto)]
 
 mod fault;
+mod file;
 mod input;
 
 pub use fault::{ProgramFault, exit_status};
+pub use file::{FILE_LIMIT, read_config};
 pub use input::read_input;
 pub use vme_shared::Status;
