@@ -1,13 +1,13 @@
 -- The boards that a line calls are there.
-use Rattle.std.proofs.Common.{◌≡◌, ℕ, ◌<◌, ◌-◌, true, false, Bool, List, [], ◌∷◌, length, map, Option, Some, None, Result, Ok, Err, refl, ap, sym, subst, ◌∙◌, inl, inr}
+use Rattle.std.proofs.Common.{◌≡◌, ℕ, ◌<◌, List, [], ◌∷◌, length, Option, Some, None, Result, Ok, Err, refl, sym, subst, ◌∙◌, inl, inr}
 use Rattle.std.proofs.lemmas.List.{length-map}
-use Rattle.std.specs.Prelude.{nat_le, ◌||◌, slice_get, IfOk}
+use Rattle.std.specs.Prelude.{nat_le, ◌||◌}
 use Rattle.std.specs.Str.{bytes_eq}
 use Rattle.std.proofs.lemmas.Bool.{cases_Bool}
 use Rattle.vme_cycle.specs.declared.fault.CycleFault.{CycleFault}
 use Rattle.vme_cycle.specs.Lawful.{Transfer}
 use Rattle.vme_core.specs.declared.event.EventReply.{EventReply}
-use Rattle.vme_core.specs.Calls.{Call, OnBoard, OnBus}
+use Rattle.vme_core.specs.Calls.{Call, OnBoard}
 use Rattle.vme_master.specs.declared.job.BusJob.{BusJob}
 use Rattle.vme_master.specs.declared.job.Job.{Job}
 use Rattle.vme_master.specs.declared.job.Job.TheVariants.{Bus, Local}
@@ -17,7 +17,7 @@ use Rattle.vme_master.specs.declared.outcome.Outcome.TheVariants as outcomes
 use Rattle.vme_master.specs.Jobs.{bus_job, datum_call}
 use Rattle.vme_master.specs.Tables as tasks
 use Rattle.vme_master.specs.Tables.{Next}
-use Rattle.vme_master.specs.Machine.{TaskView, fresh_task, advance, to_do, job_next}
+use Rattle.vme_master.specs.Machine.{fresh_task, advance, to_do, job_next}
 use Rattle.vme_master.specs.Laws.{IsBelow}
 use Rattle.vme_master.proofs.Stands.{job_stays}
 use Rattle.vme_master.proofs.Locals.{bus_below}
@@ -33,12 +33,11 @@ use Rattle.vme_course.specs.declared.task.LineTask.TheVariants.{Refused, Once, A
 use Rattle.vme_course.specs.declared.task.AwaitTask.{AwaitTask}
 use Rattle.vme_course.specs.declared.todo.LineTodo.{LineTodo}
 use Rattle.vme_course.specs.declared.todo.LineTodo.TheVariants as todos
-use Rattle.vme_core.specs.declared.event.Event.{Event}
 use Rattle.vme_core.specs.declared.event.Event.TheVariants as asked
 use Rattle.vme_course.specs.Scripts.{slot_at, level_at, request_job, line_job}
 use Rattle.vme_course.proofs.Lines.{by_the_given}
-use Rattle.vme_course.specs.Tables.{next_given, LineNext, Rests, Makes, Ends, once_next, await_next}
-use Rattle.vme_course.specs.Machine.{fresh_of, line_fresh, line_started, await_again, await_advance, line_advance, line_to_do, line_given, IsLineBelow}
+use Rattle.vme_course.specs.Tables.{next_given, LineNext, Makes, once_next, await_next}
+use Rattle.vme_course.specs.Machine.{line_fresh, line_started, await_again, line_advance, line_to_do, line_given, IsLineBelow}
 use Rattle.vme_course.specs.Events.{next_in, IsCallBelow, IsTodoBelow}
 
 -- the boards of what is done for a line

@@ -1,5 +1,5 @@
 -- An answer of a line is for good.
-use Rattle.std.proofs.Common.{◌≡◌, ℕ, true, false, Bool, List, [], ◌∷◌, Option, Some, None, Result, Ok, Err, refl, ap, sym, subst, ◌∙◌, inl, inr}
+use Rattle.std.proofs.Common.{◌≡◌, ℕ, true, List, [], ◌∷◌, Option, Result, Ok, Err, refl, ap, sym, subst, ◌∙◌, inl, inr}
 use Rattle.std.specs.Prelude.{nat_le, ◌||◌}
 use Rattle.std.specs.Str.{bytes_eq}
 use Rattle.std.proofs.lemmas.Bool.{cases_Bool}
@@ -15,7 +15,7 @@ use Rattle.vme_lines.specs.declared.line.Line.{Line}
 use Rattle.vme_lines.specs.declared.line.Line.TheVariants as lines
 use Rattle.vme_script.specs.Configurations.{Configuration}
 use Rattle.vme_course.specs.Scripts.{line_job}
-use Rattle.vme_course.specs.Tables.{LineNext, Rests, Makes, Ends, Reads, once_next, await_next, next_read, read_given, reads_of, lawful_next, next_given}
+use Rattle.vme_course.specs.Tables.{Ends, Reads, once_next, await_next, next_read, read_given, reads_of, lawful_next, next_given}
 
 -- a task's end is for good
 task_stays : (job : Job) (given : Given) (last : Option EventReply) (outcome : Outcome) → next_of job given ≡ tasks.Ends outcome

@@ -2,3 +2,4 @@ pub mod Lines
 pub mod Below
 pub mod Ends
 pub mod Courses
+pub mod Tenures

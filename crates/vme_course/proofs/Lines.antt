@@ -1,5 +1,5 @@
 -- A line goes by the table: what its task has to do with what it was given.
-use Rattle.std.proofs.Common.{◌≡◌, ℕ, ◌-◌, true, false, Bool, List, [], ◌∷◌, Option, Some, None, Result, Ok, Err, refl, ap, sym, ◌∙◌, inl, inr}
+use Rattle.std.proofs.Common.{◌≡◌, ℕ, ◌-◌, List, [], ◌∷◌, Option, None, Result, Ok, Err, refl, ap, ◌∙◌, inl, inr}
 use Rattle.std.specs.Prelude.{nat_le, ◌||◌}
 use Rattle.std.specs.Str.{bytes_eq}
 use Rattle.std.proofs.lemmas.Bool.{cases_Bool}
@@ -10,9 +10,8 @@ use Rattle.vme_master.specs.declared.job.Job.{Job}
 use Rattle.vme_master.specs.declared.outcome.Outcome.TheVariants as outcomes
 use Rattle.vme_master.specs.Tables as tasks
 use Rattle.vme_master.specs.Tables.{Next, Given, next_of}
-use Rattle.vme_master.specs.Machine.{fresh_task, advance, task_given, to_do}
+use Rattle.vme_master.specs.Machine.{fresh_task, advance, task_given}
 use Rattle.vme_master.proofs.Stands.{by_the_table, given_job}
-use Rattle.vme_shared.specs.declared.reply.LineReply.TheVariants as replies
 use Rattle.vme_lines.specs.declared.line.Line.{Line}
 use Rattle.vme_lines.specs.declared.line.Line.TheVariants as lines
 use Rattle.vme_script.specs.Configurations.{Configuration}
@@ -20,7 +19,7 @@ use Rattle.vme_course.specs.declared.task.LineTask.{LineTask}
 use Rattle.vme_course.specs.declared.task.LineTask.TheVariants.{Refused, Once, Await}
 use Rattle.vme_course.specs.declared.task.AwaitTask.{AwaitTask}
 use Rattle.vme_course.specs.Scripts.{line_job}
-use Rattle.vme_course.specs.Tables.{Ends, Reads, once_next, await_next, next_read, read_given, reads_of, lawful_next, next_given, line_next, given_of}
+use Rattle.vme_course.specs.Tables.{Reads, once_next, await_next, next_read, read_given, reads_of, lawful_next, next_given, line_next, given_of}
 use Rattle.vme_course.specs.Machine.{line_fresh, line_started, await_again, await_advance, line_advance, line_to_do, line_given, line_after}
 
 -- a refused line stays so

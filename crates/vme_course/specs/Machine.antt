@@ -1,5 +1,5 @@
 -- A line as a machine, which keeps a task in place of the replies: for the drivers' own functions.
-use Rattle.std.specs.Prelude.{ℕ, ◌-◌, ◌<◌, nat_le, ◌||◌, if◌then◌else◌, List, [], ◌∷◌, Option, None, Result, Ok, Err}
+use Rattle.std.specs.Prelude.{ℕ, ◌-◌, nat_le, ◌||◌, if◌then◌else◌, List, [], ◌∷◌, Option, None, Result, Ok, Err}
 use Rattle.std.specs.Str.{bytes_eq}
 use Rattle.vme_cycle.specs.declared.fault.CycleFault.{CycleFault}
 use Rattle.vme_core.specs.declared.event.EventReply.{EventReply}

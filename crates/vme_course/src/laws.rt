@@ -1,16 +1,29 @@
-ghost use Rattle.std.specs.Prelude.{◌≡◌, ◌≢◌, ◌<◌, ◌∷◌, ◌++◌, [], ℕ, List, Option, Some, length, slice_get, IsTrue};
+ghost use Rattle.std.specs.Prelude.{◌≡◌, ◌≢◌, ◌<◌, ◌⊎◌, ◌∷◌, ◌++◌, [], ℕ, List, Option, Some, None, length, slice_get, IsTrue};
+ghost use Rattle.vme_memory.specs.declared.reply.Reply.{Reply};
+ghost use Rattle.vme_memory.specs.Steps.{Command};
+ghost use Rattle.vme_arbiter.specs.declared.command.ArbCmd.{ArbCmd};
+ghost use Rattle.vme_arbiter.specs.declared.command.ArbReply.{ArbReply};
+ghost use Rattle.vme_arbiter.specs.declared.command.ArbReply.TheVariants.{Granted};
+ghost use Rattle.vme_arbiter.specs.Requests.{is_level};
+ghost use Rattle.vme_arbiter.specs.Arbitration.{Arbitration};
+ghost use Rattle.vme_arbiter.specs.Turns.{may_give, StandsAsTold};
 ghost use Rattle.vme_core.specs.declared.event.EventReply.{EventReply};
-ghost use Rattle.vme_core.specs.Calls.{Call, call_of};
+ghost use Rattle.vme_core.specs.declared.event.EventReply.TheVariants as told;
+ghost use Rattle.vme_core.specs.Calls.{Call, OnBoard, OnBus, call_of};
 ghost use Rattle.vme_core.specs.Runs.{Move};
+ghost use Rattle.vme_master.specs.declared.outcome.Outcome.TheVariants.{Denied};
 ghost use Rattle.vme_master.specs.Tables.{Given};
 ghost use Rattle.vme_shared.specs.declared.reply.LineReply.{LineReply};
+ghost use Rattle.vme_shared.specs.declared.reply.LineReply.TheVariants.{Transfer};
 ghost use Rattle.vme_lines.specs.declared.line.Line.{Line};
+ghost use Rattle.vme_lines.specs.Grammar.{IsOwnLine};
 ghost use Rattle.vme_script.specs.Configurations.{Configuration};
-ghost use Rattle.vme_course.specs.Scripts.{lines_at};
+ghost use Rattle.vme_course.specs.Scripts.{slot_at, level_at, lines_at};
 ghost use Rattle.vme_course.specs.Tables.{Makes, Ends, next_given, line_next};
 ghost use Rattle.vme_course.specs.Machine.{line_given, line_after, line_to_do};
 ghost use Rattle.vme_course.specs.Events.{IsCallBelow};
 ghost use Rattle.vme_course.specs.Courses.{Course, Follows};
+ghost use Rattle.vme_course.specs.Tenures.{line_told, IsLocal, IsGood};
 
 /// A line goes by the table: after calls with any replies, fitting or not, it does next what the
 /// table says of them; and an answer is for good.
@@ -48,4 +61,41 @@ pub fn courses_go_line_by_line()
         slice_get (lines_at config board) (length course.ended) ≡ Some line →
         line_next config board line course.replies ≡ Ends answer →
         Follows config board moves (record { ended = course.ended ++ answer ∷ []; replies = [] }) }
+{}
+
+/// A line keeps its tenure of the bus, as its transfers do. Its commands to the arbiter are its
+/// slot's own, and go by what that slot was told last; while the data of a transfer go to a board,
+/// that is `Granted`. After a good reply, one that fits and is no denial, it goes on by what the slot
+/// was told; and where it is answered, it is no denial, and the slot is as one that was told nothing.
+pub fn lines_keep_their_tenure()
+    ensures begin { (config : Configuration) (board : ℕ) (line : Line) →
+        line_told config board line [] ≡ None }
+    ensures turns { (config : Configuration) (board : ℕ) (line : Line) (replies : List EventReply)
+        (cmd : ArbCmd) → IsTrue (is_level (level_at config board)) →
+        line_next config board line replies ≡ Makes (OnBus cmd) →
+        IsTrue (may_give (slot_at config board) (line_told config board line replies) cmd) }
+    ensures holds { (config : Configuration) (board : ℕ) (line : Line) (replies : List EventReply)
+        (b : ℕ) (command : Option Command) → IsOwnLine line →
+        line_next config board line replies ≡ Makes (OnBoard b command) →
+        IsLocal command ⊎ (line_told config board line replies ≡ Some Granted) }
+    ensures turn { (config : Configuration) (board : ℕ) (line : Line) (replies : List EventReply)
+        (cmd : ArbCmd) (reply : ArbReply) (bus : Arbitration) (slot : ℕ) →
+        line_next config board line replies ≡ Makes (OnBus cmd) →
+        IsGood (OnBus cmd) (told.Bus reply) → StandsAsTold bus slot (Some reply) →
+        StandsAsTold bus slot (line_told config board line (told.Bus reply ∷ replies)) }
+    ensures datum { (config : Configuration) (board : ℕ) (line : Line) (replies : List EventReply)
+        (call : Call) (reply : Reply) → line_next config board line replies ≡ Makes call →
+        IsGood call (told.Board reply) →
+        line_told config board line (told.Board reply ∷ replies)
+        ≡ line_told config board line replies }
+    ensures granted { (config : Configuration) (board : ℕ) (line : Line) (replies : List EventReply)
+        (call : Call) (reply : EventReply) → line_next config board line replies ≡ Makes call →
+        IsGood call reply →
+        line_next config board line (reply ∷ replies) ≢ Ends (Transfer Denied) }
+    ensures end { (config : Configuration) (board : ℕ) (line : Line) (replies : List EventReply)
+        (call : Call) (reply : EventReply) (answer : LineReply) (bus : Arbitration) (slot : ℕ) →
+        line_next config board line replies ≡ Makes call → IsGood call reply →
+        line_next config board line (reply ∷ replies) ≡ Ends answer →
+        StandsAsTold bus slot (line_told config board line (reply ∷ replies)) →
+        StandsAsTold bus slot None }
 {}

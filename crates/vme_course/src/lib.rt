@@ -7,6 +7,9 @@ mod laws;
 mod task;
 mod todo;
 
-pub use laws::{courses_go_line_by_line, lines_call_boards_that_are_there, lines_go_by_the_table};
+pub use laws::{
+    courses_go_line_by_line, lines_call_boards_that_are_there, lines_go_by_the_table,
+    lines_keep_their_tenure,
+};
 pub use task::{AwaitTask, LineTask, line_count};
 pub use todo::LineTodo;
