@@ -78,6 +78,56 @@ fn selects_by_space_range_and_privilege(rt: HostRuntime) -> Result<(), Fail> {
     Ok(())
 }
 
+/// Neither by space nor by base, and the last covers nothing.
+static UNSORTED: [Entry; 4] = [
+    Entry {
+        space: Space::A32,
+        base: 0x2000,
+        size: 16,
+        supervisory: false,
+    },
+    Entry {
+        space: Space::A32,
+        base: 0x1000,
+        size: 16,
+        supervisory: false,
+    },
+    Entry {
+        space: Space::A24,
+        base: 0x1000,
+        size: 16,
+        supervisory: false,
+    },
+    Entry {
+        space: Space::A32,
+        base: 0x1008,
+        size: 0,
+        supervisory: false,
+    },
+];
+
+/// One-byte reads on that map, by code and address.
+static PLACES: [(u8, u32, Option<(usize, u32)>); 5] = [
+    (0x09, 0x1008, Some((1, 8))),
+    (0x39, 0x1008, Some((2, 8))),
+    (0x09, 0x200f, Some((0, 15))),
+    (0x09, 0x1010, None),
+    (0x09, 0x0fff, None),
+];
+
+#[test]
+fn tells_places_in_the_order_given(rt: HostRuntime) -> Result<(), Fail> {
+    let map = AddressMap::new(rt.alloc(), &UNSORTED)?;
+    for (am, addr, place) in &PLACES {
+        assert_eq!(rt;
+            selected(&rt, &map, *am, *addr, 1)?,
+            *place,
+            "{am:02x} {addr:x}"
+        );
+    }
+    Ok(())
+}
+
 static SMALL: [Entry; 4] = [
     Entry {
         space: Space::A32,

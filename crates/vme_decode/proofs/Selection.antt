@@ -1,5 +1,5 @@
 -- What is selected is the entry that responds, and in a map without a refusal the only one.
-use Rattle.std.proofs.Common.{◌≡◌, ℕ, ◌+◌, ◌-◌, ◌%◌, ◌<◌, ◌≤◌, true, List, Option, Some, None, length, ap, sym, ◌∙◌, arith}
+use Rattle.std.proofs.Common.{◌≡◌, ℕ, ◌-◌, ◌%◌, ◌<◌, ◌≤◌, true, List, Option, Some, None, length, refl, ap, sym, ◌∙◌, arith}
 use Rattle.std.specs.Prelude.{option_map, option_and_then, slice_get, IfSome}
 use Rattle.std.proofs.lemmas.Bool.{and_parts, and_from}
 use Rattle.std.proofs.lemmas.Option.{option_and_then_some, some_pair_parts, slice_get_within}
@@ -11,7 +11,7 @@ use Rattle.vme_decode.specs.Lawful.{first_refusal}
 use Rattle.vme_cycle.specs.SignalLines.{first_byte}
 use Rattle.vme_decode.specs.Select.{responds, selection_at, selection, FallsTo, IsSelected}
 use Rattle.vme_decode.proofs.Ranges.{Has, has_from_covers, covers_from_has}
-use Rattle.vme_decode.proofs.Aligned.{lawful_base, same_remainder}
+use Rattle.vme_decode.proofs.Aligned.{lawful_entry, same_remainder}
 use Rattle.vme_decode.proofs.Apart.{one_place}
 use Rattle.vme_decode.proofs.Found.{first_from, found_at, only_one}
 
@@ -24,8 +24,13 @@ found_from (Some p) addr place offset chosen =
     let same = some_pair_parts p.0 place (addr - p.1.base) offset chosen in
     (p.1, ap (λ k. Some (k, p.1)) same.0, same.1)
 
+-- a search that gives nothing
+no_pair : (found : Option (ℕ × ℕ)) → ((place offset : ℕ) → found ≡ Some (place, offset) → ⊥) → found ≡ None
+no_pair None none = refl
+no_pair (Some p) none = absurd (none p.0 p.1 refl)
+
 -- an entry that responds has the address in the code's space, and admits the code
-responding : (entry : Entry) (code : CodeRow) (addr : ℕ) → responds entry code addr ≡ true
+pub responding : (entry : Entry) (code : CodeRow) (addr : ℕ) → responds entry code addr ≡ true
     → Has entry code.space addr × (admits entry code ≡ true)
 responding entry code addr responds_is =
     let parts = and_parts (covers entry code.space addr) (admits entry code) responds_is in
@@ -49,8 +54,24 @@ place_falls entries code addr place offset chosen =
       within = omega (arith, tells.0.below, from.2, tells.0.from);
     }
 
+-- what falls to an entry makes it respond
+falls_responds : (entries : List Entry) (code : CodeRow) (addr place offset : ℕ) (facts : FallsTo entries code addr place offset)
+    → responds facts.entry code addr ≡ true
+falls_responds entries code addr place offset facts =
+    let has : Has facts.entry code.space addr =
+    record { space_is = facts.space; from = omega (arith, facts.distance); below = omega (arith, facts.within, facts.distance) } in
+    and_from _ _ (covers_from_has facts.entry code.space addr has) facts.admits
+
+-- where no entry responds, nothing is selected
+pub nothing_selected : (entries : List Entry) (code : CodeRow) (addr : ℕ)
+    → ((place : ℕ) (entry : Entry) → slice_get entries place ≡ Some entry → responds entry code addr ≡ true → ⊥)
+    → selection_at entries code addr ≡ None
+nothing_selected entries code addr none = no_pair (selection_at entries code addr) (λ place offset chosen.
+    let facts = place_falls entries code addr place offset chosen in
+    none place facts.entry facts.there (falls_responds entries code addr place offset facts))
+
 -- in a map without a refusal, an entry that responds is the one that is selected
-selected_by : (entries : List Entry) (code : CodeRow) (addr place : ℕ) (entry : Entry) → first_refusal entries ≡ None
+pub selected_by : (entries : List Entry) (code : CodeRow) (addr place : ℕ) (entry : Entry) → first_refusal entries ≡ None
     → slice_get entries place ≡ Some entry → responds entry code addr ≡ true
     → selection_at entries code addr ≡ Some (place, addr - entry.base)
 unfolding first_from
@@ -66,9 +87,7 @@ selected_by entries code addr place entry lawful there responds_is =
 pub falls_place : (entries : List Entry) (code : CodeRow) (addr place offset : ℕ) → first_refusal entries ≡ None
     → FallsTo entries code addr place offset → selection_at entries code addr ≡ Some (place, offset)
 falls_place entries code addr place offset lawful facts =
-    let has : Has facts.entry code.space addr =
-    record { space_is = facts.space; from = omega (arith, facts.distance); below = omega (arith, facts.within, facts.distance) } in
-    let responds_is = and_from _ _ (covers_from_has facts.entry code.space addr has) facts.admits in
+    let responds_is = falls_responds entries code addr place offset facts in
     let distance : addr - facts.entry.base ≡ offset = omega (arith, facts.distance) in
     selected_by entries code addr place facts.entry lawful facts.there responds_is ∙ ap (λ o. Some (place, o)) distance
 
@@ -77,7 +96,7 @@ pub place_remainder : (entries : List Entry) (code : CodeRow) (addr place offset
     → selection_at entries code addr ≡ Some (place, offset) → offset % 4 ≡ addr % 4
 place_remainder entries code addr place offset lawful chosen =
     let facts = place_falls entries code addr place offset chosen in
-    same_remainder facts.entry.base addr offset (lawful_base entries place facts.entry lawful facts.there) facts.distance
+    same_remainder facts.entry.base addr offset (lawful_entry entries place facts.entry lawful facts.there).aligned facts.distance
 
 -- what is selected is what the cycle selects
 pub selected_facts : (entries : List Entry) (s : SignalLines) (place offset : ℕ)

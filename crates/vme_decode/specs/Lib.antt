@@ -1,3 +1,4 @@
 pub mod Entries
 pub mod Lawful
 pub mod Select
+pub mod Table

@@ -7,6 +7,7 @@ mod entry;
 mod fault;
 mod laws;
 mod map;
+mod table;
 
 pub use entry::Entry;
 pub use fault::MapFault;

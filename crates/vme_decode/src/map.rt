@@ -5,6 +5,7 @@ ghost use Rattle.vme_decode.specs.Select.{selection_at, selection, IsSelected};
 
 use crate::entry::Entry;
 use crate::fault::MapFault;
+use crate::table::Table;
 use std::alloc::Global;
 use std::marker::Model;
 use vme_am::Am;
@@ -16,19 +17,26 @@ const MOST_ENTRIES: usize = 21;
 /// The entries of the boards on one bus, none of which covers an address of another.
 #[derive(Debug, Drop)]
 pub struct AddressMap {
+    /// As the caller gave them: of these the contracts speak, and a search needs none of them.
     entries: Vec<Entry>,
+    table: Table,
 }
 
 impl Model for AddressMap {
     ghost use Rattle.std.specs.Prelude.{◌≡◌, List, None};
     ghost use Rattle.vme_decode.specs.declared.entry.Entry.{Entry};
     ghost use Rattle.vme_decode.specs.Lawful.{first_refusal};
+    ghost use Rattle.vme_decode.specs.Table.{IsTable, HasRanks};
 
     ghost Value = { List Entry };
 
     ghost view = { λ m. m.entries.items };
 
-    ghost invariant = { λ m. first_refusal m.entries.items ≡ None };
+    ghost invariant = { λ m. record {
+      lawful : first_refusal m.entries.items ≡ None;
+      table : IsTable m.entries.items m.table.rows.items;
+      ranks : HasRanks m.table.rows.items m.table.ranks;
+    } };
 }
 
 impl AddressMap {
@@ -45,7 +53,11 @@ impl AddressMap {
         check(entries)?;
         let mut copy = Vec::with_capacity(alloc, entries.len())?;
         copy.extend_from_slice(entries)?;
-        Ok(AddressMap { entries: copy })
+        let table = Table::of(alloc, entries)?;
+        Ok(AddressMap {
+            entries: copy,
+            table,
+        })
     }
 
     /// The entry that a code and the address of a first byte select (section 2.3.5), by its place in
@@ -57,7 +69,7 @@ impl AddressMap {
         ensures offset { IfSome result (λ found. found.1 ≤ addr) }
         ensures remainder { IfSome result (λ found. found.1 % 4 ≡ addr % 4) }
     {
-        find(&self.entries, am, addr)
+        self.table.find(am, addr)
     }
 
     /// The entry that a cycle selects, as `select_at` of its code and of the address of its datum's
@@ -101,19 +113,6 @@ fn some_overlap(entries: &[Entry]) -> bool
         }
     }
     false
-}
-
-/// The place of the entry that a code and an address select, and the address counted from its
-/// base.
-fn find(entries: &[Entry], am: Am, addr: u32) -> Option<(usize, u32)>
-    ensures { result ≡ selection_at entries.now am addr }
-{
-    for (place, entry) in entries.iter().enumerate() {
-        if entry.responds(am, addr) {
-            return Some((place, addr - entry.base));
-        }
-    }
-    None
 }
 
 /// The address of the datum's first byte.
