@@ -1,0 +1,96 @@
+-- What a call does to the bus, and that its reply is a good one.
+use Rattle.std.proofs.Common.{◌≡◌, ◌≢◌, ℕ, true, false, Bool, Option, Some, None, refl, sym, ◌∙◌}
+use Rattle.std.specs.Prelude.{slice_get}
+use Rattle.std.specs.Prelude.{◌&&◌}
+use Rattle.std.proofs.lemmas.Bool.{eqb-true}
+use Rattle.vme_memory.specs.declared.reply.Reply.{Reply}
+use Rattle.vme_memory.specs.declared.reply.Reply.TheVariants.{Berr}
+use Rattle.vme_memory.specs.Boards.{Board}
+use Rattle.vme_memory.specs.Steps.{Command}
+use Rattle.vme_arbiter.specs.declared.command.ArbCmd.{ArbCmd}
+use Rattle.vme_arbiter.specs.declared.command.ArbCmd.TheVariants as turns
+use Rattle.vme_arbiter.specs.declared.command.ArbReply.{ArbReply}
+use Rattle.vme_arbiter.specs.declared.command.ArbReply.TheVariants as turned
+use Rattle.vme_arbiter.specs.Requests.{is_slot}
+use Rattle.vme_arbiter.specs.Arbitration.{Arbitration, turn_step}
+use Rattle.vme_arbiter.specs.Orderly.{IsOrderly}
+use Rattle.vme_arbiter.specs.Turns.{slot_of, may_give, StandsAsTold}
+use Rattle.vme_arbiter.proofs.Turns.{own-turn}
+use Rattle.vme_arbiter.proofs.Orderly.{orderly-step}
+use Rattle.vme_core.specs.declared.event.EventReply.{EventReply}
+use Rattle.vme_core.specs.declared.event.EventReply.TheVariants as told
+use Rattle.vme_core.specs.Tallies.{Tally}
+use Rattle.vme_core.specs.Runs.{Machine}
+use Rattle.vme_core.specs.Calls.{Call, OnBoard, OnBus, command_step, board_after, machine_step}
+use Rattle.vme_master.proofs.Locals.{board_fits, turn_fits}
+use Rattle.vme_course.specs.Tenures.{IsGood}
+
+-- a call on a board leaves the bus, and its reply is a board's
+pub record BoardCalled (machine : Machine) (who x : ℕ) (command : Option Command) (after : Machine × EventReply) : Type 0 where
+  pub bus : after.0.bus ≡ machine.bus
+  pub reply : Reply
+  pub replied : after.1 ≡ told.Board reply
+  pub good : IsGood (OnBoard x command) (told.Board reply)
+
+by_found : (machine : Machine) (who x : ℕ) (command : Option Command) (found : Option (Tally Board))
+    → BoardCalled machine who x command (board_after machine who x command found)
+by_found machine who x command None =
+    record { bus = refl; reply = Berr; replied = refl; good = record { fit = refl; granted = λ same. absurd cc } }
+by_found machine who x command (Some board) = record {
+  bus = refl;
+  reply = (command_step board.object command).1;
+  replied = refl;
+  good = record { fit = board_fits board.object x command; granted = λ same. absurd cc };
+}
+
+pub board_called : (machine : Machine) (who x : ℕ) (command : Option Command)
+    → BoardCalled machine who x command (machine_step machine who (OnBoard x command))
+board_called machine who x command = by_found machine who x command (slice_get machine.boards x)
+
+-- a command of a slot's own to the arbiter, which goes by what the slot was told, is not denied, and the slot stands as it is told
+pub record BusCalled (bus : Arbitration) (slot : ℕ) (cmd : ArbCmd) : Type 0 where
+  pub orderly : IsOrderly (turn_step bus cmd).0
+  pub own : slot_of cmd ≡ slot
+  pub stands : StandsAsTold (turn_step bus cmd).0 slot (Some (turn_step bus cmd).1)
+  pub good : IsGood (OnBus cmd) (told.Bus (turn_step bus cmd).1)
+
+never_denied : (bus : Arbitration) (slot : ℕ) (reply : ArbReply) → StandsAsTold bus slot (Some reply)
+    → told.Bus reply ≢ told.Bus turned.Denied
+never_denied bus slot turned.Denied stands = λ same. stands
+never_denied bus slot turned.Granted stands = λ same. absurd cc
+never_denied bus slot turned.Waiting stands = λ same. absurd cc
+never_denied bus slot turned.Freed stands = λ same. absurd cc
+
+and_left : (a b : Bool) → (a && b) ≡ true → a ≡ true
+and_left true b both = refl
+and_left false b both = absurd cc
+
+-- a command that a slot may give names the slot
+own_slot : (slot : ℕ) (last : Option ArbReply) (cmd : ArbCmd) → may_give slot last cmd ≡ true → slot_of cmd ≡ slot
+own_slot slot None (turns.Ask s level) may = eqb-true s slot (and_left _ _ may)
+own_slot slot (Some turned.Freed) (turns.Ask s level) may = eqb-true s slot (and_left _ _ may)
+own_slot slot (Some turned.Waiting) (turns.Look s) may = eqb-true s slot may
+own_slot slot (Some turned.Granted) (turns.Done s) may = eqb-true s slot may
+own_slot slot last cmd may = absurd cc
+
+pub bus_called : (bus : Arbitration) (slot : ℕ) (last : Option ArbReply) (cmd : ArbCmd) → IsOrderly bus → is_slot slot ≡ true
+    → StandsAsTold bus slot last → may_give slot last cmd ≡ true → BusCalled bus slot cmd
+bus_called bus slot last cmd orderly lawful stands may =
+    let now = own-turn bus slot last cmd orderly lawful stands may in
+    record {
+      orderly = orderly-step bus cmd orderly;
+      own = own_slot slot last cmd may;
+      stands = now;
+      good = record { fit = turn_fits bus cmd; granted = never_denied (turn_step bus cmd).0 slot (turn_step bus cmd).1 now };
+    }
+
+-- so no reply to either is a denial
+pub call_granted : (machine : Machine) (who slot : ℕ) (last : Option ArbReply) (call : Call) → IsOrderly machine.bus.object
+    → is_slot slot ≡ true → StandsAsTold machine.bus.object slot last → ((cmd : ArbCmd) → call ≡ OnBus cmd → may_give slot last cmd ≡ true)
+    → (machine_step machine who call).1 ≢ told.Bus turned.Denied
+call_granted machine who slot last (OnBoard x command) orderly lawful stands may =
+    let called = board_called machine who x command in
+    let board : told.Board called.reply ≢ told.Bus turned.Denied = λ same. absurd cc in
+    λ same. board (sym called.replied ∙ same)
+call_granted machine who slot last (OnBus cmd) orderly lawful stands may =
+    (bus_called machine.bus.object slot last cmd orderly lawful stands (may cmd refl)).good.granted

@@ -1,0 +1,5 @@
+pub mod Places
+pub mod Called
+pub mod Standing
+pub mod Turned
+pub mod Runs

@@ -1,0 +1,110 @@
+-- Where a processor's slot stands to the bus, by how far the processor has come.
+use Rattle.std.proofs.Common.{◌≡◌, ◌≢◌, ℕ, List, [], ◌∷◌, ◌++◌, length, drop, Option, None, Result, Ok, Err, refl, sym, subst, inl, inr, ◌⊎◌}
+use Rattle.std.specs.Prelude.{All}
+use Rattle.std.proofs.lemmas.List.Elements.{All-push}
+use Rattle.vme_cycle.specs.declared.fault.CycleFault.{CycleFault}
+use Rattle.vme_arbiter.specs.declared.command.ArbReply.{ArbReply}
+use Rattle.vme_arbiter.specs.Arbitration.{Arbitration}
+use Rattle.vme_arbiter.specs.Turns.{StandsAsTold}
+use Rattle.vme_core.specs.declared.event.EventReply.{EventReply}
+use Rattle.vme_core.specs.Calls.{Call}
+use Rattle.vme_master.specs.declared.job.Job.{Job}
+use Rattle.vme_master.specs.declared.outcome.Outcome.TheVariants.{Denied}
+use Rattle.vme_shared.specs.declared.reply.LineReply.{LineReply}
+use Rattle.vme_shared.specs.declared.reply.LineReply.TheVariants.{Transfer}
+use Rattle.vme_lines.specs.declared.line.Line.{Line}
+use Rattle.vme_lines.specs.declared.line.Line.TheVariants as lines
+use Rattle.vme_script.specs.Configurations.{Configuration}
+use Rattle.vme_course.specs.Scripts.{slot_at, line_job, lines_at}
+use Rattle.vme_course.specs.Tables.{LineNext, Rests, Makes, Ends, lawful_next, next_given, line_next}
+use Rattle.vme_course.specs.Courses.{Course}
+use Rattle.vme_course.specs.Tenures.{line_told, IsGood}
+use Rattle.vme_course.proofs.Tenures.{line_begins, line_ends}
+use Rattle.vme_runner.specs.Turns.{course, settled, lines_left}
+
+-- what the slot was told last, in the line that comes next
+abbrev pub told_left : Configuration → ℕ → List Line → List EventReply → Option ArbReply
+told_left config board [] replies = None
+told_left config board (line ∷ lines) replies = line_told config board line replies
+
+abbrev pub NotEnded : LineNext → Type 0
+NotEnded (Ends answer) = ⊥
+NotEnded next = Unit {0}
+
+-- that line has not ended, if it has some reply
+abbrev pub IsOpen : Configuration → ℕ → List Line → List EventReply → Type 0
+IsOpen config board [] replies = Unit {0}
+IsOpen config board (line ∷ lines) replies = (replies ≡ []) ⊎ NotEnded (line_next config board line replies)
+
+abbrev pub IsGranted : LineReply → Type 0
+IsGranted answer = answer ≢ Transfer Denied
+
+pub record CourseStands (config : Configuration) (bus : Arbitration) (board : ℕ) (c : Course) : Type 0 where
+  pub stands : StandsAsTold bus (slot_at config board) (told_left config board (lines_left config board c) c.replies)
+  pub opens : IsOpen config board (lines_left config board c) c.replies
+  pub granted : All IsGranted c.ended
+
+-- before a line was replied anything, its slot was told nothing
+pub told_begins : (config : Configuration) (board : ℕ) (lines : List Line) → told_left config board lines [] ≡ None
+told_begins config board [] = refl
+told_begins config board (line ∷ lines) = line_begins config board line
+
+opens_begins : (config : Configuration) (board : ℕ) (lines : List Line) → IsOpen config board lines []
+opens_begins config board [] = tt
+opens_begins config board (line ∷ lines) = inl refl
+
+-- between lines
+pub rests_standing : (config : Configuration) (bus : Arbitration) (board : ℕ) (ended : List LineReply)
+    → StandsAsTold bus (slot_at config board) None → All IsGranted ended → CourseStands config bus board (course ended [])
+rests_standing config bus board ended stands granted =
+    let left = drop (length ended) (lines_at config board) in
+    record {
+      stands = subst (StandsAsTold bus (slot_at config board)) (sym (told_begins config board left)) stands;
+      opens = opens_begins config board left;
+      granted = granted;
+    }
+
+-- a line that ends without a call is refused
+lawful_refused : (tries : ℕ) (line : Line) (job : Result Job CycleFault) (answer : LineReply)
+    → lawful_next tries line job (None ∷ []) ≡ Ends answer → IsGranted answer
+lawful_refused tries line (Err fault) answer ends = λ denied. absurd cc
+lawful_refused tries (lines.Bus request) (Ok job) answer ends = absurd cc
+lawful_refused tries (lines.Local cmd) (Ok job) answer ends = absurd cc
+lawful_refused tries (lines.Await am addr bytes) (Ok job) answer ends = absurd cc
+
+pub line_refused : (config : Configuration) (board : ℕ) (line : Line) (answer : LineReply)
+    → line_next config board line [] ≡ Ends answer → IsGranted answer
+unfolding next_given
+line_refused config board line answer ends = lawful_refused config.tries line (line_job config board line) answer ends
+
+-- a line that has ended had no reply
+pub ended_begins : (config : Configuration) (board : ℕ) (line : Line) (lines : List Line) (replies : List EventReply) (answer : LineReply)
+    → IsOpen config board (line ∷ lines) replies → line_next config board line replies ≡ Ends answer → replies ≡ []
+ended_begins config board line lines replies answer (inl none) ends = none
+ended_begins config board line lines replies answer (inr goes) ends = absurd (subst NotEnded ends goes)
+
+-- a line goes on
+goes_on : (config : Configuration) (bus : Arbitration) (board : ℕ) (ended : List LineReply) (replies : List EventReply) (line : Line)
+    (rest : List Line) (reply : EventReply) (next : LineNext) → drop (length ended) (lines_at config board) ≡ line ∷ rest
+    → StandsAsTold bus (slot_at config board) (line_told config board line (reply ∷ replies)) → All IsGranted ended
+    → line_next config board line (reply ∷ replies) ≡ next → NotEnded next → CourseStands config bus board (course ended (reply ∷ replies))
+goes_on config bus board ended replies line rest reply next left stands granted is open_still = record {
+  stands = subst (λ (ls : List Line). StandsAsTold bus (slot_at config board) (told_left config board ls (reply ∷ replies))) (sym left) stands;
+  opens = subst (λ (ls : List Line). IsOpen config board ls (reply ∷ replies)) (sym left) (inr (subst NotEnded (sym is) open_still));
+  granted = granted;
+}
+
+-- a line goes on by a good reply, or is answered
+pub settled_stands : (config : Configuration) (bus : Arbitration) (board : ℕ) (ended : List LineReply) (replies : List EventReply) (line : Line)
+    (rest : List Line) (call : Call) (reply : EventReply) (next : LineNext) → drop (length ended) (lines_at config board) ≡ line ∷ rest
+    → line_next config board line replies ≡ Makes call → IsGood call reply
+    → StandsAsTold bus (slot_at config board) (line_told config board line (reply ∷ replies)) → All IsGranted ended
+    → line_next config board line (reply ∷ replies) ≡ next → CourseStands config bus board (settled ended (reply ∷ replies) next)
+settled_stands config bus board ended replies line rest call reply (Ends answer) left made good stands granted is =
+    let well = line_ends config board line replies call reply answer made good is in
+    rests_standing config bus board (ended ++ answer ∷ []) (well.free bus (slot_at config board) stands)
+    (All-push IsGranted ended answer granted well.granted)
+settled_stands config bus board ended replies line rest call reply (Makes other) left made good stands granted is =
+    goes_on config bus board ended replies line rest reply (Makes other) left stands granted is tt
+settled_stands config bus board ended replies line rest call reply Rests left made good stands granted is =
+    goes_on config bus board ended replies line rest reply Rests left stands granted is tt
