@@ -4,3 +4,5 @@ mod Hired
 pub mod Desks
 pub mod Lines
 pub mod Runs
+pub mod Collects
+pub mod Gathered

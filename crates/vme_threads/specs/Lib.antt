@@ -1,5 +1,8 @@
+pub mod Columns
 pub mod Rooms
 pub mod Ports
 pub mod Dealings
 pub mod Desks
 pub mod Rans
+pub mod Gathers
+pub mod Reports

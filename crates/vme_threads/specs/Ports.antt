@@ -11,6 +11,7 @@ use Rattle.vme_port.specs.Passes.{PassView, IsUnused}
 use Rattle.vme_port.specs.Ports.{port_id, opening, passes_of}
 use Rattle.vme_script.specs.declared.board.BoardConfig.{BoardConfig}
 use Rattle.vme_script.specs.Configurations.{Configuration, opening_memory}
+use Rattle.vme_script.specs.Lawful.{IsLawful}
 use Rattle.vme_course.specs.Scripts.{script_at}
 use Rattle.vme_threads.specs.declared.worker.Worker.{Worker}
 use Rattle.vme_threads.specs.declared.ports.BoardPort.{BoardPort}
@@ -47,6 +48,7 @@ pub record AreHired (config : Configuration) (opened : List BoardPort) (arbiter 
 -- a port of each board, each opened with zero memory for as many passes as there are boards, and so one of the arbiter of a
 -- free bus; and room for what is told of their run (this project's own)
 pub record IsBuilt (config : Configuration) (ports : Ports) : Type 0 where
+  pub lawful : IsLawful config
   pub boards : AllAt (λ x own o. IsPortOf (length config.boards) own o) config.boards ports.boards.items
   pub bus : opening ports.bus ≡ free_bus
   pub passes : passes_of ports.bus ≡ length config.boards

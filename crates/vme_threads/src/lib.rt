@@ -5,6 +5,7 @@
 
 mod desk;
 mod gate;
+mod gathering;
 mod hire;
 mod open;
 mod ports;
@@ -14,5 +15,7 @@ mod worker;
 
 pub use desk::Desk;
 pub use gate::Gate;
+pub use gathering::gather;
 pub use ports::{BoardPort, Ports};
+pub use report::{BoardEnd, Report};
 pub use worker::{Ran, Worker};

@@ -1,4 +1,5 @@
 use vme_memory::ByteMemory;
+use vme_shared::LineReply;
 
 /// What a board came to in a run.
 #[derive(Drop)]
@@ -11,4 +12,18 @@ pub struct BoardEnd {
     pub steps: u64,
     /// How many of them each processor made, in order of slots.
     pub made: Vec<u64>,
+}
+
+/// What a run of all processors came to.
+#[derive(Drop)]
+pub struct Report {
+    /// For each processor, in order of slots, the number of each line of its script that asks for
+    /// something, with what it was answered.
+    pub lines: Vec<Vec<(u16, LineReply)>>,
+    /// The boards, in order of slots.
+    pub boards: Vec<BoardEnd>,
+    /// How many steps the arbiter took.
+    pub arbiter_steps: u64,
+    /// How many of them each processor made, in order of slots.
+    pub arbiter_made: Vec<u64>,
 }

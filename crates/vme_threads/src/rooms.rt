@@ -1,6 +1,6 @@
 //! Room that is taken before a run and used at its end.
 ghost use Rattle.std.specs.Prelude.{◌≡◌, ◌≤◌, IfOk, vec_len, vec_capacity};
-ghost use Rattle.vme_threads.specs.Rooms.{IsBlank};
+ghost use Rattle.vme_threads.specs.Columns.{AreColumns};
 
 use crate::report::BoardEnd;
 use std::alloc::{AllocError, Global};
@@ -12,20 +12,13 @@ use vme_shared::LineReply;
 /// The greatest number of boards: a backplane has 21 slots.
 const MOST_BOARDS: usize = 21;
 
-/// Room for all passes of one board's port.
-#[derive(Drop)]
-pub struct Column {
-    pub(crate) passes: Vec<Pass<ByteMemory>>,
-    ghost passes_len: { vec_len passes ≡ 0 },
-    ghost passes_room: { 21 ≤ vec_capacity passes },
-}
-
 /// Room for all passes of all ports.
 #[derive(Drop)]
 pub struct Rooms {
-    pub(crate) columns: Vec<Column>,
+    pub(crate) columns: Vec<Vec<Pass<ByteMemory>>>,
     pub(crate) bus: Vec<Pass<Arbiter>>,
     ghost columns_len: { vec_len columns ≡ 21 },
+    ghost columns_room: { AreColumns columns.items },
     ghost bus_len: { vec_len bus ≡ 0 },
     ghost bus_room: { 21 ≤ vec_capacity bus },
 }
@@ -35,8 +28,7 @@ impl Rooms {
         let bus = Vec::with_capacity(alloc, MOST_BOARDS)?;
         let mut columns = Vec::with_capacity(alloc, MOST_BOARDS)?;
         for _ in 0..MOST_BOARDS {
-            let passes = Vec::with_capacity(alloc, MOST_BOARDS)?;
-            columns.push_reserved(Column { passes });
+            columns.push_reserved(Vec::with_capacity(alloc, MOST_BOARDS)?);
         }
         Ok(Rooms { columns, bus })
     }
@@ -51,6 +43,8 @@ pub struct Sheet {
 }
 
 impl Sheet {
+    ghost use Rattle.vme_threads.specs.Rooms.{IsBlank};
+
     /// Room for the report of so many boards.
     pub(crate) fn new(alloc: Global, count: usize) -> Result<Sheet, AllocError>
         ensures { IfOk result (IsBlank count) }

@@ -1,15 +1,14 @@
-use Rattle.std.proofs.Common.{◌≡◌, ◌<◌, List, length, slice_index_or, set, vec_capacity, refl, ap, sym, subst, ◌∙◌, rules, arith}
-use Rattle.std.proofs.lemmas.List.{length-append}
+use Rattle.std.proofs.Common.{◌≡◌, ◌<◌, List, length, slice_index_or, set, vec_capacity, refl, sym, subst, ◌∙◌, rules, arith}
 use Rattle.vme_memory.specs.declared.command.BoardCmd.{BoardCmd}
 use Rattle.vme_memory.specs.declared.reply.Reply.{Reply}
 use Rattle.vme_port.specs.Passes.{PassView}
 use Rattle.vme_threads.specs.declared.worker.Worker.{Worker}
 use Rattle.vme_threads.specs.Dealings.{Gets}
-use Rattle.vme_threads.proofs.Dealings.{Dealing, deals_begin, deals_one, deals_end}
+use Rattle.vme_threads.proofs.Dealings.{Dealing, deals_begin, deals_left, deals_one, deals_end}
 use Rattle.vme_threads.proofs.hire.hand_out.Goals as goal
 
 pub loop-pass-init : goal.loop-pass-init
-loop-pass-init c = deals_begin _ _ (omega (arith, c.requires.count, c.args.passes.ok.0, c.args.workers.now.ok.0))
+loop-pass-init c = deals_begin Gets _ _ (omega (arith, c.requires.count, c.args.passes.ok.0, c.args.workers.now.ok.0))
 
 -- its worker is as it came
 pub push_reserved-requires : goal.push_reserved-requires
@@ -17,9 +16,9 @@ push_reserved-requires c =
     let d = c.index_mut.result.now in
     let k = c.len.result in
     let left : k < length c.loop-pass.passes.items = omega (arith, c.in-Some.ensures.len, c.len.ensures, c.loop-pass.passes.ok.0) in
-    let within = ap length c.loop-pass.invariant.first ∙ length-append c.loop-pass.passes.items c.loop-pass.invariant.rest in
+    let within = deals_left Gets _ _ _ _ c.loop-pass.invariant in
     let same = c.index_mut.ensures.value ∙ c.loop-pass.invariant.sooner k d d left in
-    let room = c.requires.room k d (omega (arith, left, within, c.loop-pass.invariant.within, c.requires.count, c.args.passes.ok.0, c.args.workers.now.ok.0)) in
+    let room = c.requires.room k d (omega (arith, left, within, c.requires.count, c.args.passes.ok.0, c.args.workers.now.ok.0)) in
     let room_here : length d.desk.boards.items < vec_capacity d.desk.boards = subst (λ (w : Worker). length w.desk.boards.items < vec_capacity w.desk.boards) (sym same) room in
     omega (arith, room_here, d.desk.boards.ok.0)
 
@@ -41,11 +40,14 @@ loop-pass-preserved c =
       lines = refl;
     } in
     let is : d ≡ slice_index_or now (length left) d = subst (λ n. d ≡ slice_index_or now n d) at c.index_mut.ensures.value in
-    let deals = subst (λ (ps : List (PassView BoardCmd Reply)). Dealing all ps before now) c.in-Some.ensures.items c.loop-pass.invariant in
-    subst (λ n. Dealing all left before (set now n v)) (sym at)
-    (deals_one all left pass before now d v deals (subst (λ (w : Worker). Gets pass w v) is gets))
+    let deals = subst (λ (ps : List (PassView BoardCmd Reply)). Dealing Gets all ps before now) c.in-Some.ensures.items c.loop-pass.invariant in
+    subst (λ n. Dealing Gets all left before (set now n v)) (sym at)
+    (deals_one Gets all left pass before now d v deals (subst (λ (w : Worker). Gets pass w v) is gets))
 
 pub returns-clause-got : goal.returns-clause-got
 returns-clause-got c =
     let none : length c.loop-pass.passes.items ≡ 0 = search rules in
-    deals_end _ _ _ _ c.loop-pass.invariant none
+    record {
+      count = c.loop-pass.invariant.count;
+      each = λ k w v k< d. deals_end Gets _ _ _ _ c.loop-pass.invariant none k d w v (omega (arith, k<, c.requires.count, c.args.passes.ok.0, c.args.workers.now.ok.0));
+    }

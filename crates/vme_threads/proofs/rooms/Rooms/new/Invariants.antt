@@ -1,6 +1,7 @@
 use Rattle.std.proofs.Common.{◌≡◌, ◌≤◌, vec_len, vec_capacity}
+use Rattle.vme_threads.specs.Columns.{AreColumns}
 use Rattle.vme_threads.proofs.rooms.Rooms.new.Given as goal
 
 -- as many columns as turns
 abbrev pub invariant-loop : goal.invariant-loop
-invariant-loop l = (vec_len l.columns ≡ l.counter) × (21 ≤ vec_capacity l.columns)
+invariant-loop l = (vec_len l.columns ≡ l.counter) × (21 ≤ vec_capacity l.columns) × AreColumns l.columns.items
