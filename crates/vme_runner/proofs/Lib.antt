@@ -4,3 +4,8 @@ pub mod Turning
 pub mod Worlds
 pub mod Steps
 pub mod Calls
+pub mod Places
+pub mod Runs
+pub mod Driving
+pub mod Opening
+pub mod Telling

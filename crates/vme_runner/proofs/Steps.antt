@@ -19,13 +19,13 @@ use Rattle.vme_runner.specs.Drivers.{StepsWithin}
 use Rattle.vme_runner.proofs.Told.{get_map}
 
 -- what holds of each element holds after one of them is another
-set_each : {A : Type 0} (P : A → Type 0) (xs : List A) (i k : ℕ) (new x : A) → ((j : ℕ) (y : A) → slice_get xs j ≡ Some y → P y) → P new
-    → slice_get (slice_set xs i new) k ≡ Some x → P x
+pub set_each : {A : Type 0} (P : ℕ → A → Type 0) (xs : List A) (i k : ℕ) (new x : A) → ((j : ℕ) (y : A) → slice_get xs j ≡ Some y → P j y) → P i new
+    → slice_get (slice_set xs i new) k ≡ Some x → P k x
 set_each P [] i k new x each is found = each k x found
-set_each P (y ∷ ys) zero zero new x each is found = subst P (same_Some _ _ found) is
+set_each P (y ∷ ys) zero zero new x each is found = subst (P 0) (same_Some _ _ found) is
 set_each P (y ∷ ys) zero (suc k) new x each is found = each (suc k) x found
 set_each P (y ∷ ys) (suc i) zero new x each is found = each zero x found
-set_each P (y ∷ ys) (suc i) (suc k) new x each is found = set_each P ys i k new x (λ j z there. each (suc j) z there) is found
+set_each P (y ∷ ys) (suc i) (suc k) new x each is found = set_each (λ j z. P (suc j) z) ys i k new x (λ j z there. each (suc j) z there) is found
 
 -- more is more
 pub steps_weaker : (n m : ℕ) (machine : Machine) → n ≤ m → StepsWithin n machine → StepsWithin m machine
@@ -39,7 +39,7 @@ board_steps : (n : ℕ) (machine : Machine) (who x : ℕ) (command : Option Comm
 board_steps n machine who x command None there steps = steps_weaker n (n + 1) machine (omega arith) steps
 board_steps n machine who x command (Some board) there steps = record {
   boards = λ b tally found.
-      set_each (λ t. t.steps ≤ n + 1) machine.boards x b (counted_step command_step board who command).0 tally
+      set_each (λ j t. t.steps ≤ n + 1) machine.boards x b (counted_step command_step board who command).0 tally
       (λ j t at. let few = steps.boards j t at in omega arith)
       (let few = steps.boards x board there in omega arith) found;
   bus = let few = steps.bus in omega arith;

@@ -1,5 +1,5 @@
 -- The lines of a script as they are told.
-use Rattle.std.proofs.Common.{◌≡◌, ℕ, zero, suc, ◌+◌, ◌<◌, List, [], ◌∷◌, ◌++◌, length, map, take, Some, refl, sym, ap, ◌∙◌, arith, inl, inr, slice_index_or, slice_set}
+use Rattle.std.proofs.Common.{◌≡◌, ℕ, zero, suc, ◌+◌, ◌<◌, List, [], ◌∷◌, ◌++◌, length, map, take, Option, Some, None, refl, sym, ap, ◌∙◌, arith, inl, inr, slice_index_or, slice_set}
 use Rattle.std.specs.Prelude.{slice_get, option_map}
 use Rattle.std.proofs.lemmas.List.{map-append, take_more, length-map}
 use Rattle.std.proofs.lemmas.Option.{same_Some, slice_get_within, slice_get_cases}
@@ -34,6 +34,18 @@ get_map f [] i = refl
 get_map f (x ∷ xs) zero = refl
 get_map f (x ∷ xs) (suc i) = get_map f xs i
 
+-- one element more
+pub map_next : {A B : Type 0} (f : A → B) (xs : List A) (i : ℕ) (y : B) → slice_get (map f xs) i ≡ Some y
+    → map f (take (i + 1) xs) ≡ map f (take i xs) ++ y ∷ []
+map_next f xs i y found =
+    elim (slice_get_cases xs i).1 [
+      | inl at ↦
+          let own : f at.0 ≡ y = same_Some _ _ (sym (rw at.2 at (get_map f xs i)) ∙ found) in
+          let more : take (i + 1) xs ≡ take i xs ++ at.0 ∷ [] = rw (take_more xs i at.0 at.1) (ap (λ x. take i xs ++ x ∷ []) at.3) in
+          ap (map f) more ∙ map-append f (take i xs) (at.0 ∷ []) ∙ ap (λ z. map f (take i xs) ++ z ∷ []) own
+      | inr past ↦ absurd (omega (arith, slice_get_within _ i y found, length-map xs f, past.0))
+    ]
+
 -- a line without an answer
 abbrev pub unfinished : ScriptLine → ℕ × LineReply
 unfinished line = (line.number, Unfinished)
@@ -43,11 +55,9 @@ pub told_next :
     (script : List ScriptLine) (j number : ℕ) → slice_get (map (λ line. line.number) script) j ≡ Some number
     → map unfinished (take (j + 1) script) ≡ map unfinished (take j script) ++ (number, Unfinished) ∷ []
 told_next script j number found =
-    elim (slice_get_cases script j).1 [
-      | inl at ↦
-          let own : at.0.number ≡ number = same_Some _ _ (sym (rw at.2 at (get_map (λ (line : ScriptLine). line.number) script j)) ∙ found) in
-          let more : take (j + 1) script ≡ take j script ++ at.0 ∷ [] = rw (take_more script j at.0 at.1) (ap (λ line. take j script ++ line ∷ []) at.3) in
-          let told : ℕ → List (ℕ × LineReply) = λ n. map unfinished (take j script) ++ (n, Unfinished) ∷ [] in
-          ap (map unfinished) more ∙ map-append unfinished (take j script) (at.0 ∷ []) ∙ ap told own
-      | inr past ↦ absurd (omega (arith, slice_get_within _ j number found, length-map script (λ (line : ScriptLine). line.number), past.0))
-    ]
+    map_next unfinished script j (number, Unfinished)
+    (get_map unfinished script j ∙ numbered (slice_get script j) (sym (get_map (λ (line : ScriptLine). line.number) script j) ∙ found))
+  where
+    numbered : (line : Option ScriptLine) → option_map (λ one. one.number) line ≡ Some number → option_map unfinished line ≡ Some (number, Unfinished)
+    numbered None found = cc
+    numbered (Some one) found = let told : ℕ → Option (ℕ × LineReply) = λ n. Some (n, Unfinished) in ap told (same_Some _ _ found)

@@ -20,7 +20,7 @@ abbrev pub lane_at : LaneView → LineTask → LaneView
 lane_at lane task = record { lines = lane.lines; ended = lane.ended; at = Some task }
 
 -- the next line is the first that is left
-pub next_first : (lines : List Line) (n : ℕ) (line : Line) → slice_get lines n ≡ Some line → drop n lines ≡ line ∷ drop (n + 1) lines
+pub next_first : {A : Type 0} → (lines : List A) (n : ℕ) (line : A) → slice_get lines n ≡ Some line → drop n lines ≡ line ∷ drop (n + 1) lines
 next_first lines n line found =
     drop_more lines n line (slice_get_within lines n line found) ∙ ap (λ one. one ∷ drop (n + 1) lines) (get_or_from_slice_get lines n line line found)
 

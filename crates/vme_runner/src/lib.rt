@@ -3,4 +3,8 @@
 //! to the arbiter of the data transfer bus (ANSI/IEEE Std 1014-1987, chapters 2 and 3).
 #![tactic(auto)]
 
+mod driver;
 mod lane;
+mod run;
+
+pub use run::{run_file, run_steps};
