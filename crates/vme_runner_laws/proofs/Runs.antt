@@ -90,7 +90,7 @@ run_stand config world (slot ∷ slots) lawful stand =
     run_stand config (turn config world slot) slots lawful (turn_stand config world slot lawful stand)
 
 -- before the first turn
-course_begun : (scripts : List (List ScriptLine)) (b : ℕ) (c : Course) → slice_get (map (λ script. course [] []) scripts) b ≡ Some c
+pub course_begun : (scripts : List (List ScriptLine)) (b : ℕ) (c : Course) → slice_get (map (λ script. course [] []) scripts) b ≡ Some c
     → course [] [] ≡ c
 course_begun scripts b c found = by_script (slice_get scripts b) (sym (slice_get-map (λ (script : List ScriptLine). course [] []) scripts b) ∙ found)
   where

@@ -1,1 +1,2 @@
 pub mod TurnCalls
+pub mod Moves

@@ -3,6 +3,7 @@ ghost use Rattle.vme_memory.specs.Steps.{Command};
 ghost use Rattle.vme_arbiter.specs.declared.command.ArbReply.TheVariants as turned;
 ghost use Rattle.vme_arbiter.specs.Orderly.{IsOrderly};
 ghost use Rattle.vme_core.specs.declared.event.EventReply.TheVariants as told;
+ghost use Rattle.vme_core.specs.Runs.{Move};
 ghost use Rattle.vme_core.specs.Calls.{Call, OnBoard, machine_step};
 ghost use Rattle.vme_master.specs.declared.outcome.Outcome.TheVariants.{Denied};
 ghost use Rattle.vme_shared.specs.declared.reply.LineReply.TheVariants.{Transfer};
@@ -12,6 +13,7 @@ ghost use Rattle.vme_course.specs.Courses.{Course};
 ghost use Rattle.vme_course.specs.Tenures.{IsLocal};
 ghost use Rattle.vme_runner.specs.Turns.{World, turn, world_after};
 ghost use Rattle.vme_runner_laws.specs.TurnCalls.{turn_call};
+ghost use Rattle.vme_runner_laws.specs.Moves.{AreRun};
 
 /// A turn does to the boards and the arbiter what its one call does, and without a call nothing.
 pub fn a_turn_makes_its_call_alone()
@@ -39,4 +41,12 @@ pub fn commands_are_the_holders()
     ensures answers { (config : Configuration) (slots : List ℕ) (board : ℕ) (c : Course) →
         IsLawful config → slice_get (world_after config slots).courses board ≡ Some c →
         All (λ answer. answer ≢ Transfer Denied) c.ended }
+{}
+
+/// Turns are a run of moves, one at most a turn. Each board is where its own part of the run leaves
+/// a byte memory, one command after another, and so is the arbiter; each has counted just its part;
+/// and each processor comes through its script by its own moves.
+pub fn turns_are_a_run_of_moves()
+    ensures { (config : Configuration) (slots : List ℕ) → IsLawful config →
+        (run : List Move) × AreRun config slots run }
 {}

@@ -4,4 +4,4 @@
 
 mod laws;
 
-pub use laws::{a_turn_makes_its_call_alone, commands_are_the_holders};
+pub use laws::{a_turn_makes_its_call_alone, commands_are_the_holders, turns_are_a_run_of_moves};
