@@ -34,8 +34,8 @@ call_made config board line machine c call =
     let step = machine_step machine board call in
     (step.0, settled c.ended (step.1 ∷ c.replies) (line_next config board line (step.1 ∷ c.replies)))
 
--- a line with a call to make makes it; one that has ended without one is answered, and what is then done is done by the lines
--- after it (this project's own)
+-- a line with a call to make makes it; one that has ended without one is answered, and the lines after it have the turn; no line
+-- rests once it is called (this project's own)
 abbrev pub turn_by : Configuration → ℕ → Line → Machine → Course → LineNext → (Course → Machine × Course) → Machine × Course
 turn_by config board line machine c (Makes call) after = call_made config board line machine c call
 turn_by config board line machine c (Ends answer) after = after (course (c.ended ++ answer ∷ []) [])
@@ -46,7 +46,7 @@ turn_by config board line machine c next after = (machine, c)
 abbrev pub course_turn : Configuration → ℕ → List Line → Machine → Course → Machine × Course
 course_turn config board [] machine c = (machine, c)
 course_turn config board (line ∷ lines) machine c =
-    turn_by config board line machine c (line_next config board line c.replies) (λ now. course_turn config board lines machine now)
+    turn_by config board line machine c (line_next config board line c.replies) (course_turn config board lines machine)
 
 -- the lines of a processor's script that have no answer yet (this project's own)
 abbrev pub lines_left : Configuration → ℕ → Course → List Line
