@@ -1,10 +1,12 @@
 -- How a run of an engine ends, and the exit status of the program then.
 use Rattle.std.specs.Prelude.{◌≡◌, ℕ, ◌+◌, Bool, true, false, List, length, Option, Result, Ok, Err}
 use Rattle.std.specs.Io.KnownBytes.{Consumes}
+use Rattle.vme_report.specs.declared.fault.RunFault.{RunFault}
+use Rattle.vme_report.specs.declared.fault.RunFault.TheVariants as run
 use Rattle.vme_shared.specs.declared.status.Status.{Status}
 use Rattle.vme_shared.specs.declared.status.Status.TheVariants.{Clean, Marked}
 use Rattle.vme_program.specs.declared.fault.ProgramFault.{ProgramFault}
-use Rattle.vme_program.specs.declared.fault.ProgramFault.TheVariants.{Read, TooLong, Write, Memory, Config}
+use Rattle.vme_program.specs.declared.fault.ProgramFault.TheVariants.{Read, TooLong, Write, Memory, Thread, Spent, Config}
 
 -- the faults of reading an input (this project's own)
 abbrev pub IsInputFault : ProgramFault → Type 0
@@ -57,6 +59,13 @@ IsReadingFault end = ⊥
 -- just one byte more was read than an input may have (this project's own)
 abbrev pub ReadsPastLimit : ℕ → Option (List ℕ) → Option (List ℕ) → Type 0
 ReadsPastLimit limit old new = (bytes : List ℕ) × (length bytes ≡ limit + 1) × Consumes old new bytes
+
+-- how the program tells why a run has no report (this project's own)
+abbrev pub fault_of_run : RunFault → ProgramFault
+fault_of_run run.Thread = Thread
+fault_of_run run.Memory = Memory
+fault_of_run run.Spent = Spent
+fault_of_run run.Write = Write
 
 -- the exit status of the program (this project's own)
 abbrev pub exit_status_of : Result Status ProgramFault → ℕ

@@ -1,9 +1,10 @@
 ghost use Rattle.std.specs.Prelude.{◌≡◌};
 ghost use Rattle.vme_program.specs.declared.fault.ProgramFault.TheVariants.{Memory};
-ghost use Rattle.vme_program.specs.Ends.{exit_status_of};
+ghost use Rattle.vme_program.specs.Ends.{exit_status_of, fault_of_run};
 
 use std::alloc::AllocError;
 use thiserror::Error;
+use vme_report::RunFault;
 use vme_script::ConfigFault;
 use vme_shared::Status;
 
@@ -38,6 +39,19 @@ impl From<AllocError> for ProgramFault {
 
     fn from(_error: AllocError) -> ProgramFault {
         ProgramFault::Memory
+    }
+}
+
+impl From<RunFault> for ProgramFault {
+    ghost from_gives = { λ fault program_fault. program_fault ≡ fault_of_run fault };
+
+    fn from(fault: RunFault) -> ProgramFault {
+        match fault {
+            RunFault::Thread => ProgramFault::Thread,
+            RunFault::Memory => ProgramFault::Memory,
+            RunFault::Spent => ProgramFault::Spent,
+            RunFault::Write => ProgramFault::Write,
+        }
     }
 }
 
