@@ -3,8 +3,8 @@ ghost use Rattle.std.specs.Prelude.{◌≡◌};
 ghost use Rattle.vme.specs.Words.{words_status_of};
 
 use clap::error::{Error, ErrorKind};
-use clap::{ArgMatches, Command};
-use std::alloc::Global;
+use clap::{Arg, ArgMatches, Command};
+use std::alloc::{AllocError, Global};
 use thiserror::Error as Fault;
 
 /// What the program is asked to do.
@@ -12,17 +12,25 @@ use thiserror::Error as Fault;
 pub enum Form {
     /// `vme cycles`
     Cycles,
+    /// `vme step FILE`
+    Step(String),
 }
 
 /// Why the words ask for nothing.
 #[derive(Clone, Copy, Debug, PartialEq, Eq, Fault)]
 pub enum WordsFault {
     /// They are none of the forms.
-    #[error("usage: vme cycles")]
+    #[error("usage: vme cycles | vme step FILE")]
     Usage,
     /// There is no memory to read them.
     #[error("memory")]
     Memory,
+}
+
+impl From<AllocError> for WordsFault {
+    fn from(_error: AllocError) -> WordsFault {
+        WordsFault::Memory
+    }
 }
 
 impl WordsFault {
@@ -40,22 +48,29 @@ impl WordsFault {
 /// Reads the words of a command line, the program's name first.
 pub fn read_words(alloc: Global, words: &[String]) -> Result<Form, WordsFault> {
     match parsed(alloc, words) {
-        Ok(matches) => chosen(&matches),
+        Ok(matches) => chosen(alloc, &matches),
         Err(error) if error.kind() == ErrorKind::OutOfMemory => Err(WordsFault::Memory),
         Err(_) => Err(WordsFault::Usage),
     }
 }
 
 fn parsed<'a>(alloc: Global, words: &'a [String]) -> Result<ArgMatches<'a>, Error> {
+    let file = Arg::new(alloc, "FILE").required(true);
+    let step = Command::new(alloc, "step").arg(file)?;
     Command::new(alloc, "vme")
         .subcommand_required(true)
         .subcommand(Command::new(alloc, "cycles"))?
+        .subcommand(step)?
         .try_get_matches_from(words)
 }
 
-fn chosen(matches: &ArgMatches<'_>) -> Result<Form, WordsFault> {
+fn chosen(alloc: Global, matches: &ArgMatches<'_>) -> Result<Form, WordsFault> {
     match matches.subcommand() {
         Some(("cycles", _)) => Ok(Form::Cycles),
+        Some(("step", step)) => match step.get_str("FILE") {
+            Some(file) => Ok(Form::Step(String::from_str(alloc, file)?)),
+            None => Err(WordsFault::Usage),
+        },
         _ => Err(WordsFault::Usage),
     }
 }
