@@ -1,9 +1,10 @@
 -- One history of each object, from the passes of all rans.
-use Rattle.std.proofs.Common.{◌≡◌, ℕ, zero, suc, ◌+◌, ◌<◌, ◌≤◌, List, [], ◌∷◌, length, map, slice_index_or, vec_capacity, All, refl, ap, sym, subst, ◌∙◌, arith}
+use Rattle.std.proofs.Common.{◌≡◌, ℕ, zero, suc, ◌+◌, ◌<◌, ◌≤◌, List, [], ◌∷◌, ◌++◌, length, map, slice_index_or, vec_capacity, All, refl, ap, sym, subst, ◌∙◌, arith}
 use Rattle.std.specs.Global.{Vec}
 use Rattle.vme_object.specs.declared.history.Entry.{Entry}
 use Rattle.vme_object.specs.History.{own}
 use Rattle.vme_object.specs.Each.{Each, AllAt}
+use Rattle.vme_object.proofs.Eachs.{AllAt-push}
 use Rattle.vme_memory.specs.declared.command.BoardCmd.{BoardCmd}
 use Rattle.vme_memory.specs.declared.reply.Reply.{Reply}
 use Rattle.vme_memory.specs.Boards.{Board}
@@ -28,8 +29,8 @@ use Rattle.vme_threads.specs.declared.report.BoardEnd.{BoardEnd}
 use Rattle.vme_threads.specs.declared.report.Report.{Report}
 use Rattle.vme_threads.specs.Columns.{Column}
 use Rattle.vme_threads.specs.Gathers.{AreSquare, AreDealt, CanClose, CanAllClose, AreClosed}
-use Rattle.vme_threads.specs.Rans.{IsRanOf, numbers_in, answers_in}
-use Rattle.vme_threads.specs.Reports.{HasHistory, IsEndOf, IsReportOf, CanGather}
+use Rattle.vme_threads.specs.Rans.{IsRanOf, HasRun, numbers_in, answers_in}
+use Rattle.vme_threads.specs.Reports.{HasHistory, IsEndOf, IsReportOf, HaveRun, CanGather}
 use Rattle.vme_threads.proofs.Lines.{line_there}
 use Rattle.vme_threads.proofs.Runs.{same_count}
 
@@ -236,3 +237,15 @@ module _ (config : Configuration) (ports : Ports) (rans : List Ran) (can : CanGa
             subst (λ (l : Vec (ℕ × LineReply)). IsCourse config who (lines_at config who) (slice_index_or can.runs.runs who run) (answers_in l.items))
             (sym (map_at (λ (r : Ran). r.lines) rans who ls r there)) is.course;
       }
+
+-- one ran more
+pub have_more : (config : Configuration) (ports : Ports) (rans : List Ran) (r : Ran) → HaveRun config ports rans → HasRun config ports (length rans) r → HaveRun config ports (rans ++ r ∷ [])
+have_more config ports rans r have run = record {
+  runs = have.runs ++ run.0 ∷ [];
+  each =
+      AllAt-push (IsRanOf config ports) have.runs rans run.0 r have.each (subst (λ i. IsRanOf config ports i run.0 r) have.each.count run.1);
+}
+
+-- no ran
+pub have_none : (config : Configuration) (ports : Ports) → HaveRun config ports []
+have_none config ports = record { runs = []; each = record { count = refl; each = λ k run r k<. absurd (omega arith) } }

@@ -1,5 +1,5 @@
 -- Elements by their places.
-use Rattle.std.proofs.Common.{◌≡◌, ℕ, zero, suc, ◌+◌, List, [], ◌∷◌, slice_index_or, map, Some, subst, arith}
+use Rattle.std.proofs.Common.{◌≡◌, ℕ, zero, suc, ◌+◌, ◌<◌, List, [], ◌∷◌, length, slice_index_or, map, Some, sym, subst, arith}
 use Rattle.std.specs.List.{slice_get}
 use Rattle.std.proofs.lemmas.Option.{none-some, same_Some}
 use Rattle.vme_object.specs.Each.{Each}
@@ -26,3 +26,11 @@ rest_of_each P n m xs x rest is more each k d k< =
     let same : n + suc k ≡ m + k = omega arith in
     let was = subst (Each (λ i. P (n + i))) is each in
     subst (λ i. P i (slice_index_or rest k d)) same (was (suc k) d (omega arith))
+
+-- all of them, numbered from another place on
+pub begin_each :
+    {A : Type 0} (P : ℕ → A → Type 0) (n : ℕ) (xs ys : List A) → n ≡ 0 → ys ≡ xs → Each P xs → Each (λ i. P (n + i)) ys
+begin_each P n xs ys none same each k d k< =
+    let at : k ≡ n + k = omega arith in
+    let there : k < length xs = subst (λ zs. k < length zs) same k< in
+    subst (λ i. P i (slice_index_or ys k d)) at (subst (λ zs. P k (slice_index_or zs k d)) (sym same) (each k d there))

@@ -39,7 +39,8 @@ pub record IsClosed (o : BoardPort) (passes : List (PassView BoardCmd Reply)) (e
 -- each board's port can be closed with its column (this project's own)
 abbrev pub CanAllClose : List BoardPort → List Column → Type 0
 CanAllClose boards columns =
-    (x : ℕ) (o : BoardPort) (c : Column) → x < length boards → CanClose (slice_index_or boards x o) (slice_index_or columns x c).items
+    (x : ℕ) (o : BoardPort) (c : Column) → x < length boards
+    → CanClose (slice_index_or boards x o) (slice_index_or columns x c).items
 
 -- each board's port was closed with its column (this project's own)
 abbrev pub AreClosed : List BoardPort → List Column → List BoardEnd → Type 0

@@ -6,3 +6,4 @@ pub mod Desks
 pub mod Rans
 pub mod Gathers
 pub mod Reports
+pub mod Threads

@@ -1,10 +1,12 @@
 -- What a processor has done that went through its script.
-use Rattle.std.specs.Prelude.{ℕ, ◌≡◌, List, map, All, Some, slice_get}
+use Rattle.std.specs.Prelude.{ℕ, ◌≡◌, List, map, All, Some, Result, Ok, Err, slice_get}
 use Rattle.vme_object.specs.Each.{Each}
 use Rattle.vme_memory.specs.declared.command.BoardCmd.{BoardCmd}
 use Rattle.vme_memory.specs.declared.reply.Reply.{Reply}
 use Rattle.vme_core.specs.Runs.{Move, IsReplyTo, board_part, bus_part}
 use Rattle.vme_shared.specs.declared.reply.LineReply.{LineReply}
+use Rattle.vme_report.specs.declared.fault.RunFault.{RunFault}
+use Rattle.vme_report.specs.declared.fault.RunFault.TheVariants.{Spent}
 use Rattle.vme_port.specs.Passes.{PassView}
 use Rattle.vme_lines.specs.declared.line.Line.{Line}
 use Rattle.vme_script.specs.Configurations.{Configuration}
@@ -45,3 +47,8 @@ pub record IsRanOf (config : Configuration) (ports : Ports) (who : ℕ) (run : L
 -- there is such a run (this project's own)
 abbrev pub HasRun : Configuration → Ports → ℕ → Ran → Type 0
 HasRun config ports who ran = (run : List Move) × IsRanOf config ports who run ran
+
+-- how a worker ends: it went through its script, or an object is spent (this project's own)
+abbrev pub IsEndOfRun : Configuration → Ports → ℕ → Result Ran RunFault → Type 0
+IsEndOfRun config ports who (Ok ran) = HasRun config ports who ran
+IsEndOfRun config ports who (Err fault) = fault ≡ Spent

@@ -42,10 +42,14 @@ pub record IsReportOf (config : Configuration) (report : Report) : Type 0 where
   pub workers : length runs ≡ length config.boards
   pub whose : Each (λ who run. All (λ m. m.who ≡ who) run) runs
   pub fitting : All (λ run. All (λ m. IsReplyTo m.event m.reply) run) runs
-  pub course : AllAt (λ who run lines. IsCourse config who (lines_at config who) run (answers_in lines.items)) runs report.lines.items
-  pub numbers : Each (λ who lines. numbers_in lines.items ≡ map (λ one. one.number) (script_at config who)) report.lines.items
+  pub course :
+      AllAt (λ who run lines. IsCourse config who (lines_at config who) run (answers_in lines.items)) runs report.lines.items
+  pub numbers :
+      Each (λ who lines. numbers_in lines.items ≡ map (λ one. one.number) (script_at config who)) report.lines.items
   pub boards : AllAt (IsEndOf runs) config.boards report.boards.items
-  pub bus : (object : Arbitration) × HasHistory turn_step free_bus (map bus_part runs) object report.arbiter_steps report.arbiter_made.items
+  pub bus :
+      (object : Arbitration)
+      × HasHistory turn_step free_bus (map bus_part runs) object report.arbiter_steps report.arbiter_made.items
 
 -- each of these ran is that of the worker of its number, by a run (this project's own)
 pub record HaveRun (config : Configuration) (ports : Ports) (rans : List Ran) : Type 0 where

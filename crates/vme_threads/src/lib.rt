@@ -11,6 +11,7 @@ mod open;
 mod ports;
 mod report;
 mod rooms;
+mod threads;
 mod worker;
 
 pub use desk::Desk;
@@ -18,4 +19,5 @@ pub use gate::Gate;
 pub use gathering::gather;
 pub use ports::{BoardPort, Ports};
 pub use report::{BoardEnd, Report};
+pub use threads::run_threads;
 pub use worker::{Ran, Worker};

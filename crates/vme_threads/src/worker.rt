@@ -30,7 +30,7 @@ pub struct Ran {
 
 impl Worker {
     ghost use Rattle.vme_threads.specs.Ports.{IsBuilt, IsWorkerOf};
-    ghost use Rattle.vme_threads.specs.Rans.{HasRun};
+    ghost use Rattle.vme_threads.specs.Rans.{IsEndOfRun};
 
     /// A worker with the arbiter's pass of its number, and with room for the passes of so many boards
     /// and the replies to so many lines.
@@ -73,7 +73,7 @@ impl Worker {
         requires built { IsBuilt config.now ports.now }
         requires worker { IsWorkerOf config.now ports.now self.desk.who self }
         requires board { self.desk.who < length config.now.boards }
-        ensures { IfOk result (HasRun config.now ports.now self.desk.who) }
+        ensures { IsEndOfRun config.now ports.now self.desk.who result }
     {
         let Worker {
             mut desk,
