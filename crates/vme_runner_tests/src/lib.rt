@@ -1,0 +1,5 @@
+//! Tests of runs by listed turns. They stand apart so that `vme_runner` is not proved twice.
+#![tactic(auto)]
+
+#[cfg(test)]
+mod turns;

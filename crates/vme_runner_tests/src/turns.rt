@@ -1,0 +1,144 @@
+//! Runs by listed turns, with their reports.
+use std::alloc::Global;
+use std::process::Abort;
+use std::test::Fail;
+use vme_io::RoomSink;
+use vme_report::RunFault;
+use vme_runner::{run_file, run_steps};
+use vme_script::Config;
+use vme_shared::Status;
+
+/// A refused line, a transfer and a local write, on a board of 16 bytes; a block on the other board.
+static FILE: &str = "schedule = [[5, 1], [9, 2]]
+rounds = 2
+[[board]]
+slot = 5
+base = 0
+size = 16
+script = '''
+r 10 00000000 1
+# a comment has no line in the report
+
+w 09 00001000 7f
+lw 00000004 aabbccdd
+r 08 00000000 1
+'''
+[[board]]
+slot = 9
+base = 0x1000
+size = 16
+script = 'br 0b 00000000 4 2'
+";
+
+/// No turn.
+static NONE: &str = "5:1 unfinished
+5:4 unfinished
+5:5 unfinished
+5:6 unfinished
+9:1 unfinished
+board 5 steps 0 made 0 0
+board 9 steps 0 made 0 0
+";
+
+/// One turn of the first board: the refused line is answered, and the bus is asked for.
+static FIRST: &str = "5:1 refused K2
+5:4 unfinished
+5:5 unfinished
+5:6 unfinished
+9:1 unfinished
+board 5 steps 0 made 0 0
+board 9 steps 0 made 0 0
+";
+
+/// Both to their ends: the block waits while the other holds the bus.
+static ALL: &str = "5:1 refused K2
+5:4 done
+5:5 done
+5:6 refused K1
+9:1 read 00000000aabbccdd
+board 5 steps 3 made 1 2
+board 9 steps 1 made 1 0
+mem 5 00000000 00000000aabbccdd0000000000000000
+mem 9 00000000 7f000000000000000000000000000000
+";
+
+/// By the file's own turns, the second slot looks for the bus three times before it is free.
+static OWN: &str = "5:1 refused K2
+5:4 done
+5:5 unfinished
+5:6 unfinished
+9:1 unfinished
+board 5 steps 0 made 0 0
+board 9 steps 1 made 1 0
+mem 9 00000000 7f000000000000000000000000000000
+";
+
+/// There is no board in slot 7, and the last line asks for nothing of the bus.
+static ALL_SLOTS: [u16; 11] = [5, 9, 5, 5, 9, 7, 5, 9, 9, 9, 5];
+
+static OWN_SLOTS: [u16; 7] = [5, 9, 9, 5, 9, 5, 9];
+
+fn check(rt: &impl Abort, alloc: Global, slots: &[u16], report: &str) -> Result<(), Fail> {
+    let config = Config::read(alloc, FILE.as_bytes())?;
+    let mut sink = RoomSink::new(alloc, usize::MAX, 1024)?;
+    let end = run_steps(alloc, &config, slots, &mut sink);
+    assert_eq!(rt; end, Ok(Status::Marked));
+    assert_eq!(rt; sink.bytes(), report.as_bytes());
+    Ok(())
+}
+
+#[test]
+fn tells_lines_that_have_not_ended(rt: HostRuntime) -> Result<(), Fail> {
+    check(&rt, rt.alloc(), &[], NONE)?;
+    check(&rt, rt.alloc(), &[5], FIRST)
+}
+
+#[test]
+fn runs_slots_in_the_order_given(rt: HostRuntime) -> Result<(), Fail> {
+    check(&rt, rt.alloc(), &ALL_SLOTS, ALL)?;
+    check(&rt, rt.alloc(), &OWN_SLOTS, OWN)
+}
+
+#[test]
+fn runs_the_turns_of_the_file(rt: HostRuntime) -> Result<(), Fail> {
+    let config = Config::read(rt.alloc(), FILE.as_bytes())?;
+    let mut sink = RoomSink::new(rt.alloc(), usize::MAX, 1024)?;
+    let end = run_file(rt.alloc(), &config, &mut sink);
+    assert_eq!(rt; end, Ok(Status::Marked));
+    assert_eq!(rt; sink.bytes(), OWN.as_bytes());
+    Ok(())
+}
+
+#[test]
+fn writes_a_front_where_the_sink_fails(rt: HostRuntime) -> Result<(), Fail> {
+    let config = Config::read(rt.alloc(), FILE.as_bytes())?;
+    for room in 0..ALL.len() {
+        let mut sink = RoomSink::new(rt.alloc(), 7, room)?;
+        let end = run_steps(rt.alloc(), &config, &ALL_SLOTS, &mut sink);
+        assert_eq!(rt; end, Err(RunFault::Write));
+        assert_eq!(rt; sink.bytes(), &ALL.as_bytes()[..room]);
+    }
+    Ok(())
+}
+
+/// Where memory is refused, just that is told, with nothing written or a front of the report; else
+/// the whole report stands.
+#[test]
+fn reports_or_lacks_memory(rt: HostRuntime) {
+    let Ok(config) = Config::read(rt.alloc(), FILE.as_bytes()) else {
+        return;
+    };
+    let Ok(mut sink) = RoomSink::new(rt.alloc(), usize::MAX, 1024) else {
+        return;
+    };
+    match run_steps(rt.alloc(), &config, &ALL_SLOTS, &mut sink) {
+        Ok(status) => {
+            assert_eq!(rt; status, Status::Marked);
+            assert_eq!(rt; sink.bytes(), ALL.as_bytes());
+        }
+        Err(fault) => {
+            assert_eq!(rt; fault, RunFault::Memory);
+            assert!(rt; ALL.as_bytes().starts_with(sink.bytes()));
+        }
+    }
+}
