@@ -1,4 +1,5 @@
+pub mod Cases
 pub mod Cutting
-pub mod Digits
 pub mod Naming
+pub mod Modifies
 pub mod Spelling

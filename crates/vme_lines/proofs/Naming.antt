@@ -1,6 +1,8 @@
 -- The form that the words of a line name.
-use Rattle.std.proofs.Common.{◌≡◌, ℕ, Bool, true, false, List, [], ◌∷◌, None, Some, Err, refl, inl, inr}
-use Rattle.std.specs.Prelude.{find, slice_get, codes}
+use Rattle.std.proofs.Common.{◌≡◌, ℕ, Bool, true, false, List, [], ◌∷◌, length, None, Some, Err, refl, inl, inr, arith}
+use Rattle.vme_lines.proofs.Cases.{cases_Result, same_count}
+use Rattle.vme_lines.specs.Fields.{Field, Name, with_field}
+use Rattle.std.specs.Prelude.{find, slice_get, drop, codes}
 use Rattle.std.specs.List.{list_any}
 use Rattle.std.specs.Str.{bytes_eq}
 use Rattle.std.proofs.lemmas.Bool.{cases_Bool}
@@ -8,10 +10,10 @@ use Rattle.std.proofs.lemmas.Slice.Eq.{bytes_eq-Decides}
 use Rattle.vme_lines.specs.declared.fault.LineFault.TheVariants.{UnknownWord}
 use Rattle.vme_lines.specs.declared.form.Form.{Form}
 use Rattle.vme_lines.specs.declared.form.Form.TheVariants.{Read, Write, BlockRead, BlockWrite, BlockFill, Modify, LocalRead, LocalWrite, LocalModify, Await}
-use Rattle.vme_lines.specs.declared.form.Function.TheVariants.{Set}
-use Rattle.vme_lines.specs.Forms.{Place, Word, Of, places, forms}
-use Rattle.vme_lines.specs.Grammar.{go_by, form_of}
-use Rattle.vme_lines.specs.Naming.{form_named, function_of, with_function}
+use Rattle.vme_lines.specs.declared.function.Function.TheVariants.{Set}
+use Rattle.vme_lines.specs.Forms.{Place, Word, Of, places, fields_of, forms}
+use Rattle.vme_lines.specs.Grammar.{go_by, form_of, operands_of, line_of_words}
+use Rattle.vme_lines.specs.Naming.{form_named, function_of, with_function, line_by, line_named}
 
 -- where no words are left, none goes against a place
 go_by_none : (more : List Place) → go_by true more [] ≡ true
@@ -156,3 +158,41 @@ unfolding form_named
 named word words form found =
     let passes = find_passes (λ form. go_by true (places form) (word ∷ [])) forms form found in
     rw (first_is (word_of form) (places form) word (own_first form) passes) (own_word form words)
+
+-- of a word that is certain nothing is left to read
+by_more :
+    (more : List Field) (word : List ℕ) (words : List (List ℕ)) → operands_of (Name ∷ more) (word ∷ words) ≡ operands_of more words
+unfolding operands_of with_field
+by_more more word words =
+    rw (same_count (length words) (length more) 1 (length (word ∷ words)) (length (Name ∷ more)) (omega arith) (omega arith)) refl
+
+-- what the words of a form give, without its first word
+by_first :
+    (form : Form) (word : List ℕ) (words : List (List ℕ))
+    → operands_of (fields_of form) (word ∷ words) ≡ operands_of (drop 1 (fields_of form)) words
+by_first Read word words = by_more _ word words
+by_first Write word words = by_more _ word words
+by_first BlockRead word words = by_more _ word words
+by_first BlockWrite word words = by_more _ word words
+by_first BlockFill word words = by_more _ word words
+by_first (Modify function) word words = by_more _ word words
+by_first LocalRead word words = by_more _ word words
+by_first LocalWrite word words = by_more _ word words
+by_first (LocalModify function) word words = by_more _ word words
+by_first Await word words = by_more _ word words
+
+-- a line whose first word names a form asks for what a line of that form does
+pub line_is_named :
+    (word : List ℕ) (words : List (List ℕ)) (form : Form) → form_named word ≡ Some form
+    → line_of_words (word ∷ words) ≡ line_named form words
+unfolding line_of_words line_named line_by
+line_is_named word words form found =
+    elim (cases_Result (with_function form words)) [
+      | inl (fault, none) ↦ rw (named word words form found, none) refl
+      | inr (own, is) ↦ rw (named word words form found, is, by_first own word words) refl
+    ]
+
+-- a line whose first word names none is refused
+pub line_is_unnamed : (word : List ℕ) (words : List (List ℕ)) → form_named word ≡ None → line_of_words (word ∷ words) ≡ Err UnknownWord
+unfolding line_of_words
+line_is_unnamed word words none = rw (unnamed word words none) refl

@@ -1,15 +1,14 @@
 -- A line is read exactly where its words spell it.
-use Rattle.std.proofs.Common.{◌≡◌, ℕ, suc, ◌≤◌, ◌⊎◌, true, false, nat_lt, ◌==◌, List, [], ◌∷◌, length, map, Option, None, Some, Result, Ok, Err, refl, ap, sym, ◌∙◌, inl, inr, arith}
+use Rattle.std.proofs.Common.{◌≡◌, ℕ, suc, ◌≤◌, true, false, nat_lt, ◌==◌, List, [], ◌∷◌, length, map, Some, Ok, refl, ap, sym, ◌∙◌, inl, inr, arith}
 use Rattle.std.specs.Prelude.{find}
 use Rattle.std.specs.List.{list_any}
 use Rattle.std.specs.Str.{bytes_eq}
 use Rattle.std.proofs.lemmas.Bool.{cases_Bool, eqb-true, eq-eqb, ltb-false, le-ltb}
 use Rattle.std.proofs.lemmas.Slice.Eq.{bytes_eq-Decides}
-use Rattle.vme_lines.specs.declared.fault.LineFault.{LineFault}
 use Rattle.vme_lines.specs.declared.form.Form.{Form}
 use Rattle.vme_lines.specs.declared.form.Form.TheVariants.{Read, Write, BlockRead, BlockWrite, BlockFill, Modify, LocalRead, LocalWrite, LocalModify, Await}
-use Rattle.vme_lines.specs.declared.form.Function.{Function}
-use Rattle.vme_lines.specs.declared.form.Function.TheVariants.{Set, Exchange, Add, Compare}
+use Rattle.vme_lines.specs.declared.function.Function.{Function}
+use Rattle.vme_lines.specs.declared.function.Function.TheVariants.{Set, Exchange, Add, Compare}
 use Rattle.vme_lines.specs.declared.line.Line.{Line}
 use Rattle.vme_lines.specs.Words.{words_of}
 use Rattle.vme_lines.specs.Operands.{Operands, no_operands}
@@ -17,6 +16,7 @@ use Rattle.vme_lines.specs.Fields.{with_field}
 use Rattle.vme_lines.specs.Forms.{Place, Word, Of, places, name_of, field_at, fields_of, forms, line_at}
 use Rattle.vme_lines.specs.Grammar.{go_by, form_of, fields_read, operands_of, line_of_words, line_if_any, line_of, Fill, no_place, word, field, Spell, IsOwnLine}
 use Rattle.vme_lines.specs.Naming.{function_of}
+use Rattle.vme_lines.proofs.Cases.{cases_Option, cases_Result}
 use Rattle.vme_lines.proofs.Naming.{find_passes, own_word}
 
 -- as many words as places
@@ -65,15 +65,6 @@ found (LocalModify Exchange) (word (field a (field b (word rest)))) = own_word (
 found (LocalModify Add) (word (field a (field b (word rest)))) = own_word (LocalModify Add) _ ∙ rw (own_name Add) refl
 found (LocalModify Compare) (word (field a (field b (word rest)))) = own_word (LocalModify Compare) _ ∙ rw (own_name Compare) refl
 found Await (word rest) = own_word Await _
-
--- a value is absent or there
-cases_Option : {A : Type 0} (value : Option A) → (value ≡ None) ⊎ ((x : A) × (value ≡ Some x))
-cases_Option None = inl refl
-cases_Option (Some x) = inr (x, refl)
-
-cases_Result : {A : Type 0} (value : Result A LineFault) → ((fault : LineFault) × (value ≡ Err fault)) ⊎ ((x : A) × (value ≡ Ok x))
-cases_Result (Ok x) = inr (x, refl)
-cases_Result (Err fault) = inl (fault, refl)
 
 -- words that go by the certain words, just as many as the places, and that spell each field, fill the places
 fills :

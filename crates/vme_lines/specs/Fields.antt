@@ -3,10 +3,26 @@ use Rattle.std.specs.Prelude.{ℕ, List, Option, Some}
 use Rattle.std.specs.Option.{option_map}
 use Rattle.vme_lines.specs.declared.fault.LineFault.{LineFault}
 use Rattle.vme_lines.specs.declared.fault.LineFault.TheVariants.{UnknownWord, BadCode, BadAddress, BadNumber, BadBytes}
-use Rattle.vme_lines.specs.declared.field.Field.{Field}
-use Rattle.vme_lines.specs.declared.field.Field.TheVariants.{Name, Code, Address, Offset, Length, LocalLength, Count, Bytes, LocalBytes, BlockBytes, Expected, Datum}
 use Rattle.vme_lines.specs.Operands.{Operands}
-use Rattle.vme_lines.specs.Numbers.{hex_number, hex_bytes, exact_bytes, local_bytes, small_number, local_number, count_number}
+use Rattle.vme_numbers.specs.Numbers.{hex_number, hex_bytes, exact_bytes, local_bytes, small_number, local_number, count_number}
+
+-- what stands in a place of a line after its first word: the name of a function, by which the line's form is known already; the
+-- code of an address modifier; an address; an offset of the local port; the number of bytes of a datum, on the bus and on the
+-- local port; the number of data; the bytes of a datum, on the bus and on the local port; the bytes of a block; and a datum of
+-- the length given before, that is expected or that is written (this project's own)
+pub data Field : Type 0 where
+  Name : Field
+  Code : Field
+  Address : Field
+  Offset : Field
+  Length : Field
+  LocalLength : Field
+  Count : Field
+  Bytes : Field
+  LocalBytes : Field
+  BlockBytes : Field
+  Expected : Field
+  Datum : Field
 
 -- what a line's fields give, with that of one more, if a word spells it: AM, ADDR, OFF, N, COUNT and HEX (this project's own)
 unfoldable pub with_field : Field → List ℕ → Operands → Option Operands

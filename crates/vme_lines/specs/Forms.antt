@@ -6,13 +6,12 @@ use Rattle.vme_cycle.specs.declared.request.Request.TheVariants as requests
 use Rattle.vme_memory.specs.declared.command.BoardCmd.TheVariants as commands
 use Rattle.vme_lines.specs.declared.line.Line.{Line}
 use Rattle.vme_lines.specs.declared.line.Line.TheVariants as lines
-use Rattle.vme_lines.specs.declared.field.Field.{Field}
-use Rattle.vme_lines.specs.declared.field.Field.TheVariants.{Name, Code, Address, Offset, Length, LocalLength, Count, Bytes, LocalBytes, BlockBytes, Expected, Datum}
 use Rattle.vme_lines.specs.declared.form.Form.{Form}
 use Rattle.vme_lines.specs.declared.form.Form.TheVariants.{Read, Write, BlockRead, BlockWrite, BlockFill, Modify, LocalRead, LocalWrite, LocalModify, Await}
-use Rattle.vme_lines.specs.declared.form.Function.{Function}
-use Rattle.vme_lines.specs.declared.form.Function.TheVariants.{Set, Exchange, Add, Compare}
+use Rattle.vme_lines.specs.declared.function.Function.{Function}
+use Rattle.vme_lines.specs.declared.function.Function.TheVariants.{Set, Exchange, Add, Compare}
 use Rattle.vme_lines.specs.Operands.{Operands}
+use Rattle.vme_lines.specs.Fields.{Field, Name, Code, Address, Offset, Length, LocalLength, Count, Bytes, LocalBytes, BlockBytes, Expected, Datum}
 
 -- what stands in a place of a line: one certain word, or a field (this project's own)
 pub data Place : Type 0 where

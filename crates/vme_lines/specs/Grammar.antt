@@ -5,14 +5,13 @@ use Rattle.std.specs.Str.{bytes_eq}
 use Rattle.std.specs.Option.{ok_or, option_map_or}
 use Rattle.vme_lines.specs.declared.fault.LineFault.{LineFault}
 use Rattle.vme_lines.specs.declared.fault.LineFault.TheVariants.{LineTooLong, UnknownWord, WordCount}
-use Rattle.vme_lines.specs.declared.field.Field.{Field}
 use Rattle.vme_lines.specs.declared.form.Form.{Form}
 use Rattle.vme_lines.specs.declared.line.Line.{Line}
 use Rattle.vme_lines.specs.declared.line.Line.TheVariants.{Bus, Local, Await}
 use Rattle.vme_memory.specs.declared.command.BoardCmd.TheVariants.{LocalRead, LocalWrite, LocalModify, Cycle}
 use Rattle.vme_lines.specs.Words.{words_of}
 use Rattle.vme_lines.specs.Operands.{Operands, no_operands}
-use Rattle.vme_lines.specs.Fields.{with_field, fault_of}
+use Rattle.vme_lines.specs.Fields.{Field, with_field, fault_of}
 use Rattle.vme_lines.specs.Forms.{Place, Word, Of, places, fields_of, forms, line_at}
 
 infixl 10 ◌>>=◌

@@ -1,14 +1,15 @@
--- How the form of a line is found, word by word.
-use Rattle.std.specs.Prelude.{ℕ, true, List, [], ◌∷◌, find, slice_get, Option, Some, None, Result, Ok, Err}
+-- How a line is read: its form is found word by word, and then what the words after the first ask for.
+use Rattle.std.specs.Prelude.{ℕ, true, List, [], ◌∷◌, drop, find, slice_get, Option, Some, None, Result, Ok, Err}
 use Rattle.std.specs.Option.{ok_or}
 use Rattle.std.specs.Str.{bytes_eq}
+use Rattle.vme_lines.specs.declared.line.Line.{Line}
 use Rattle.vme_lines.specs.declared.fault.LineFault.{LineFault}
 use Rattle.vme_lines.specs.declared.fault.LineFault.TheVariants.{UnknownWord, WordCount}
 use Rattle.vme_lines.specs.declared.form.Form.{Form}
 use Rattle.vme_lines.specs.declared.form.Form.TheVariants.{Read, Write, BlockRead, BlockWrite, BlockFill, Modify, LocalRead, LocalWrite, LocalModify, Await}
-use Rattle.vme_lines.specs.declared.form.Function.{Function}
-use Rattle.vme_lines.specs.Forms.{name_of, functions, places, forms}
-use Rattle.vme_lines.specs.Grammar.{◌>>=◌, go_by}
+use Rattle.vme_lines.specs.declared.function.Function.{Function}
+use Rattle.vme_lines.specs.Forms.{name_of, functions, places, fields_of, forms, line_at}
+use Rattle.vme_lines.specs.Grammar.{◌>>=◌, go_by, operands_of}
 
 -- the first form whose first word this is (this project's own)
 unfoldable pub form_named : List ℕ → Option Form
@@ -35,3 +36,15 @@ with_function BlockFill words = Ok BlockFill
 with_function LocalRead words = Ok LocalRead
 with_function LocalWrite words = Ok LocalWrite
 with_function Await words = Ok Await
+
+-- what a line of a form asks for, by the words after its first (this project's own)
+unfoldable pub line_by : Form → List (List ℕ) → Result Line LineFault
+line_by form words = do
+  operands ← operands_of (drop 1 (fields_of form)) words
+  Ok (line_at form operands)
+
+-- what a line of a form asks for, whose function its words name (this project's own)
+unfoldable pub line_named : Form → List (List ℕ) → Result Line LineFault
+line_named first words = do
+  form ← with_function first words
+  line_by form words

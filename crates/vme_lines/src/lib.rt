@@ -3,16 +3,17 @@
 //! no board and no device.
 #![tactic(auto)]
 
+mod commands;
+mod counted;
 mod fault;
-mod field;
 mod form;
+mod function;
 mod laws;
 mod line;
 mod lines;
-mod numbers;
-mod operands;
 mod parts;
 mod print;
+mod requests;
 mod words;
 
 pub use fault::LineFault;
@@ -20,6 +21,7 @@ pub use laws::lines_are_spelled;
 pub use line::{LINE_LIMIT, Line, parse_line};
 pub use lines::Lines;
 pub use print::{
-    print_berr, print_done, print_line_refusal, print_old, print_read, print_refusal, print_signals,
+    print_berr, print_done, print_hex, print_line_refusal, print_old, print_read, print_refusal,
+    print_signals,
 };
 pub use words::first_word;

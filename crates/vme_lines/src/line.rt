@@ -3,8 +3,7 @@ ghost use Rattle.std.specs.Prelude.{◌≡◌};
 ghost use Rattle.vme_lines.specs.Grammar.{line_of};
 
 use crate::fault::LineFault;
-use crate::form::Form;
-use crate::operands::Operands;
+use crate::form::line_of_words;
 use crate::words::words_of;
 use vme_cycle::Request;
 use vme_lanes::Datum;
@@ -25,19 +24,16 @@ pub enum Line {
 }
 
 /// Reads a line, without its end. An empty line, a line of spaces and a comment ask for nothing.
-#[tactic(auto, unfolding(crate::specs::Grammar::line_of, crate::specs::Grammar::line_of_words))]
+#[tactic(auto, unfolding(crate::specs::Grammar::line_of))]
 pub fn parse_line(line: &[u8]) -> Result<Option<Line>, LineFault>
     ensures line { result ≡ line_of line.now }
 {
     if LINE_LIMIT < line.len() {
         return Err(LineFault::LineTooLong);
     }
-    let words = words_of(line);
-    let mut rest = words;
-    let Some(word) = rest.next() else {
-        return Ok(None);
-    };
-    let form = Form::of(word, rest)?;
-    let operands = Operands::of(form.fields(), words)?;
-    Ok(Some(form.line(operands)))
+    let mut words = words_of(line);
+    match words.next() {
+        Some(word) => Ok(Some(line_of_words(word, words)?)),
+        None => Ok(None),
+    }
 }

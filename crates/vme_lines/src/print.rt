@@ -51,6 +51,16 @@ fn push_hex_bytes(text: &mut Vec<u8>, bytes: &[u8])
     }
 }
 
+/// Appends bytes as two digits each.
+pub fn print_hex(text: &mut Vec<u8>, bytes: &[u8]) -> Result<(), AllocError>
+    ensures text { OnOk result (text.new.items ≡ text.old.items ++ hex_text bytes.now) }
+    ensures kept { OnErr result (text.new.items ≡ text.old.items) }
+{
+    take_room(text, 0, bytes)?;
+    push_hex_bytes(text, bytes);
+    Ok(())
+}
+
 fn hex_digits(byte: u8) -> [u8; 2]
     ensures { result ≡ hex_byte byte }
 {

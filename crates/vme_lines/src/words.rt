@@ -41,13 +41,6 @@ impl<'a> Words<'a> {
     {
         Words { rest: line }
     }
-
-    /// The word at a place.
-    pub(crate) fn at(mut self, place: usize) -> Option<&'a [u8]>
-        ensures { option_map (λ word. word.now) result ≡ slice_get (words self.entry.rest.now) place }
-    {
-        self.nth(place)
-    }
 }
 
 impl<'a> Iterator for Words<'a> {

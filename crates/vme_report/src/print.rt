@@ -1,11 +1,11 @@
 //! The lines of a report, appended to a buffer.
 ghost use Rattle.std.specs.Prelude.{◌≡◌, ◌<◌, ◌++◌, length, take, flat_map, OnOk, OnErr};
 ghost use Rattle.std.specs.Fmt.{decimal};
-ghost use Rattle.vme_lines.specs.Texts.{digit, hex_byte, hex_text, output_line};
+ghost use Rattle.vme_lines.specs.Texts.{output_line};
 ghost use Rattle.vme_report.specs.Texts.{place_text, transfer_text, reply_text, line_text, count_text, counts_text, is_blank, row_text};
 
 use std::alloc::AllocError;
-use vme_lines::{print_berr, print_done, print_old, print_read, print_refusal};
+use vme_lines::{print_berr, print_done, print_hex, print_old, print_read, print_refusal};
 use vme_master::Outcome;
 use vme_shared::LineReply;
 
@@ -129,9 +129,9 @@ pub(crate) fn print_row(
     text.extend_from_slice(b"mem ")?;
     print_number(u64::from(slot), text)?;
     text.extend_from_slice(b" ")?;
-    print_hex(&offset.to_be_bytes(), text)?;
+    print_hex(text, &offset.to_be_bytes())?;
     text.extend_from_slice(b" ")?;
-    print_hex(row, text)?;
+    print_hex(text, row)?;
     text.extend_from_slice(b"\n")
 }
 
@@ -140,22 +140,4 @@ fn is_blank(row: &[u8]) -> bool
     ensures { result ≡ is_blank row.now }
 {
     row.iter().all(|byte| *byte == 0)
-}
-
-fn print_hex(bytes: &[u8], text: &mut Vec<u8>) -> Result<(), AllocError>
-    ensures { OnOk result (text.new.items ≡ text.old.items ++ hex_text bytes.now) }
-{
-    for byte in bytes {
-        text.extend_from_slice(&[digit(*byte / 16), digit(*byte % 16)])?;
-    }
-    Ok(())
-}
-
-const DIGITS: [u8; 16] = *b"0123456789abcdef";
-
-fn digit(n: u8) -> u8
-    requires { n < 16 }
-    ensures { result ≡ digit n }
-{
-    DIGITS[usize::from(n)]
 }

@@ -1,7 +1,7 @@
 use Rattle.std.proofs.Common.{◌≡◌, ◌+◌, ◌*◌, ◌≤◌, length}
-use Rattle.vme_lines.specs.Numbers.{hex_pairs}
-use Rattle.vme_lines.proofs.Digits.{with_front}
-use Rattle.vme_lines.proofs.numbers.hex_bytes.Given as goal
+use Rattle.vme_numbers.specs.Numbers.{hex_pairs}
+use Rattle.vme_numbers.proofs.Digits.{with_front}
+use Rattle.vme_numbers.proofs.numbers.hex_bytes.Given as goal
 
 -- the bytes so far, with those that the rest spells, are those of the word
 abbrev pub invariant-loop-rest : goal.invariant-loop-rest

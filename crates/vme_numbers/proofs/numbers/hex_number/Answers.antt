@@ -1,7 +1,7 @@
 -- The number has room for a digit more.
 use Rattle.std.proofs.Common.{◌<◌, arith}
 use Rattle.vme_cycle.proofs.Numbers.{below_power}
-use Rattle.vme_lines.proofs.numbers.hex_number.Goals as goal
+use Rattle.vme_numbers.proofs.numbers.hex_number.Goals as goal
 
 pub overflow_mul-number : goal.overflow_mul-number
 overflow_mul-number c =

@@ -1,7 +1,7 @@
 //! Numbers and bytes as words of a line.
 ghost use Rattle.std.specs.Prelude.{◌≡◌, ◌<◌, ◌≤◌, ◌^◌, IfSome};
 ghost use Rattle.std.specs.Option.{option_map};
-ghost use Rattle.vme_lines.specs.Numbers.{hex_digit, hex_number, hex_bytes, exact_bytes, small_number, local_number, local_bytes, decimal_digit, count_number};
+ghost use Rattle.vme_numbers.specs.Numbers.{hex_digit, hex_number, hex_bytes, exact_bytes, small_number, local_number, local_bytes, decimal_digit, count_number};
 
 use arrayvec::ArrayVec;
 use vme_lanes::Datum;
@@ -20,7 +20,7 @@ fn hex_digit(c: u8) -> Option<u8>
 
 /// The number that a word of `len` hexadecimal digits spells.
 #[tactic(auto, unfolding(crate::specs::Numbers::hex_number))]
-pub(crate) fn hex_number(len: usize, word: &[u8]) -> Option<u32>
+pub fn hex_number(len: usize, word: &[u8]) -> Option<u32>
     requires { len ≤ 8 }
     ensures value { result ≡ hex_number len word.now }
     ensures small { IfSome result (λ n. n < 16 ^ len) }
@@ -37,7 +37,7 @@ pub(crate) fn hex_number(len: usize, word: &[u8]) -> Option<u32>
 
 /// The one to `MOST` bytes that a word spells.
 #[tactic(auto, unfolding(crate::specs::Numbers::hex_bytes))]
-pub(crate) fn hex_bytes<const MOST: usize>(word: &[u8]) -> Option<ArrayVec<u8, MOST>>
+pub fn hex_bytes<const MOST: usize>(word: &[u8]) -> Option<ArrayVec<u8, MOST>>
     requires { MOST ≤ 256 }
     ensures { option_map (λ bytes. bytes.items) result ≡ hex_bytes MOST word.now }
 {
@@ -55,7 +55,7 @@ pub(crate) fn hex_bytes<const MOST: usize>(word: &[u8]) -> Option<ArrayVec<u8, M
 
 /// The `len` bytes that a word spells, at most eight.
 #[tactic(auto, unfolding(crate::specs::Numbers::exact_bytes))]
-pub(crate) fn exact_bytes(len: u8, word: &[u8]) -> Option<Datum>
+pub fn exact_bytes(len: u8, word: &[u8]) -> Option<Datum>
     ensures { option_map (λ bytes. bytes.items) result ≡ exact_bytes len word.now }
 {
     if word.len() != 2 * usize::from(len) {
@@ -66,7 +66,7 @@ pub(crate) fn exact_bytes(len: u8, word: &[u8]) -> Option<Datum>
 
 /// The number that one digit from 1 to 8 spells.
 #[tactic(auto, unfolding(crate::specs::Numbers::small_number))]
-pub(crate) fn small_number(word: &[u8]) -> Option<u8>
+pub fn small_number(word: &[u8]) -> Option<u8>
     ensures { result ≡ small_number word.now }
 {
     match word {
@@ -77,7 +77,7 @@ pub(crate) fn small_number(word: &[u8]) -> Option<u8>
 
 /// The number that a digit 1, 2 or 4 spells.
 #[tactic(auto, unfolding(crate::specs::Numbers::local_number))]
-pub(crate) fn local_number(word: &[u8]) -> Option<u8>
+pub fn local_number(word: &[u8]) -> Option<u8>
     ensures { result ≡ local_number word.now }
 {
     match word {
@@ -90,7 +90,7 @@ pub(crate) fn local_number(word: &[u8]) -> Option<u8>
 
 /// The one, two or four bytes that a word spells.
 #[tactic(auto, unfolding(crate::specs::Numbers::local_bytes))]
-pub(crate) fn local_bytes(word: &[u8]) -> Option<Datum>
+pub fn local_bytes(word: &[u8]) -> Option<Datum>
     ensures { option_map (λ bytes. bytes.items) result ≡ local_bytes word.now }
 {
     let bytes: Datum = hex_bytes(word)?;
@@ -112,7 +112,7 @@ fn decimal_digit(c: u8) -> Option<u8>
 
 /// The number that one to four decimal digits spell.
 #[tactic(auto, unfolding(crate::specs::Numbers::count_number))]
-pub(crate) fn count_number(word: &[u8]) -> Option<u16>
+pub fn count_number(word: &[u8]) -> Option<u16>
     ensures { result ≡ count_number word.now }
 {
     if word.is_empty() || 4 < word.len() {

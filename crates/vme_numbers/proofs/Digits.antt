@@ -1,6 +1,6 @@
 -- Digits read one after another.
 use Rattle.std.proofs.Common.{◌≡◌, ℕ, ◌+◌, ◌*◌, ◌≤◌, List, [], ◌∷◌, ◌++◌, length, get_or, drop, Option, None, Some, option_map, refl, ap, ◌∙◌, append_assoc, arith}
-use Rattle.vme_lines.specs.Numbers.{hex_digit, hex_pairs}
+use Rattle.vme_numbers.specs.Numbers.{hex_digit, hex_pairs}
 
 -- some bytes, and then those that were read
 abbrev pub with_front : List ℕ → Option (List ℕ) → Option (List ℕ)

@@ -1,8 +1,8 @@
 -- A pair of digits more.
 use Rattle.std.proofs.Common.{sym, ap, ◌∙◌, arith, length, length-drop}
 use Rattle.std.proofs.lemmas.List.{take_rest}
-use Rattle.vme_lines.proofs.Digits.{hex_pairs-more}
-use Rattle.vme_lines.proofs.numbers.hex_bytes.Goals as goal
+use Rattle.vme_numbers.proofs.Digits.{hex_pairs-more}
+use Rattle.vme_numbers.proofs.numbers.hex_bytes.Goals as goal
 
 pub loop-rest-preserved : goal.loop-rest-preserved
 loop-rest-preserved g c =
