@@ -53,7 +53,8 @@ refusals request =
     code_refusal (read_code (code_of request))
     ∷ where_true (row_passes (λ row. not (beq (is_block row.kind) (is_block_request request))) (read_code (code_of request)))
     WrongKindOfCode
-    ∷ where_true (row_passes (λ row. is_some (function_of request) && is_program row.kind) (read_code (code_of request))) ProgramModify
+    ∷ where_true (row_passes (λ row. is_some (function_of request) && is_program row.kind) (read_code (code_of request)))
+    ProgramModify
     ∷ where_true (not (is_counted request)) BadCount
     ∷ where_true
     (row_passes (λ row. nat_lt (addresses_of row.space) (addr_of request + span_of request)) (read_code (code_of request)))

@@ -102,7 +102,8 @@ task_at t phase = record t { phase = phase }
 -- a task whose call i on a board was replied (this project's own)
 abbrev pub task_replied : TaskView → ℕ → Reply → TaskView
 task_replied t i reply =
-    if has_form (aim_len (job_aim t.job)) reply then record t { phase = phase_replied t.job i reply; read = t.read ++ bytes_of reply }
+    if has_form (aim_len (job_aim t.job)) reply
+    then record t { phase = phase_replied t.job i reply; read = t.read ++ bytes_of reply }
     else task_at t Denied
 
 -- a task in a phase, after it was given something (this project's own)
