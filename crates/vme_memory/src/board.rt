@@ -1,4 +1,4 @@
-ghost use Rattle.std.specs.Prelude.{ℕ, ◌≡◌, ◌↔◌, ◌+◌, ◌%◌, ◌≤◌, length, slice_get, true, false, Some, IsTrue, ◌&&◌, IfOk, OnOk, IsErrOf};
+ghost use Rattle.std.specs.Prelude.{ℕ, ◌≡◌, ◌↔◌, ◌+◌, ◌%◌, ◌≤◌, length, take, drop, slice_get, true, false, Some, IsTrue, ◌&&◌, IfOk, OnOk, IsErrOf};
 ghost use Rattle.vme_lanes.specs.Rows.{row_of};
 ghost use Rattle.vme_cycle.specs.SignalLines.{len_at};
 ghost use Rattle.vme_memory.specs.Classes.{is_block_place, is_modify_place, is_local_len};
@@ -7,11 +7,12 @@ ghost use Rattle.vme_memory.specs.Boards.{is_board_size, zeros};
 use crate::class::Class;
 use crate::command::BoardCmd;
 use crate::reply::Reply;
-use crate::storage::Storage;
+use crate::storage::{Row, Storage};
+use crate::word::{driven_word, placed_word};
 use std::alloc::Global;
 use std::marker::Model;
 use vme_cycle::{Modify, Signals};
-use vme_lanes::{DataLines, Datum, Location, pick};
+use vme_lanes::{DataLines, Datum, Location};
 
 /// Why there is no memory of a size.
 #[derive(Clone, Copy, Debug, PartialEq, Eq)]
@@ -75,11 +76,13 @@ impl ByteMemory {
         self.storage.byte(offset)
     }
 
-    /// The bytes, each at its offset.
-    pub fn bytes(&self) -> &[u8]
-        ensures { result.now ≡ self.now.bytes }
+    /// The sixteen bytes from an offset on, or those that are left.
+    pub fn row(&self, offset: u32) -> Row
+        requires aligned { offset % 4 ≡ 0 }
+        requires within { offset ≤ length self.now.bytes }
+        ensures { result.items ≡ take 16 (drop offset self.now.bytes) }
     {
-        self.storage.as_slice()
+        self.storage.row(offset)
     }
 
     /// Answers the cycle that the signals show, with its first byte at offset `at`, and with the
@@ -157,7 +160,7 @@ impl ByteMemory {
         if block && !self.has_block(location, at) {
             return Reply::Berr;
         }
-        Reply::Bytes(self.datum_at(at, location.len()))
+        Reply::Bytes(self.storage.read(location, at))
     }
 
     fn has_block(&self, location: Location, at: u32) -> bool
@@ -175,14 +178,14 @@ impl ByteMemory {
         if !lines.carries(location) {
             return Reply::Berr;
         }
-        let bytes = pick(location, lines);
+        let word = driven_word(location, lines);
         if !self.reaches(location, at) {
             return Reply::Berr;
         }
         if block && !self.has_block(location, at) {
             return Reply::Berr;
         }
-        self.storage.overwrite(at, bytes.as_slice());
+        self.storage.write(location, at, word);
         Reply::Done
     }
 
@@ -198,7 +201,11 @@ impl ByteMemory {
         if !self.has_modify(location, at, f) {
             return Reply::Berr;
         }
-        self.modify_at(at, location.len(), f)
+        let old = self.storage.read(location, at);
+        let new = f.value(&old);
+        self.storage
+            .write(location, at, placed_word(location, new.as_slice()));
+        Reply::Bytes(old)
     }
 
     fn has_modify(&self, location: Location, at: u32, f: &Modify) -> bool
@@ -215,7 +222,7 @@ impl ByteMemory {
         if !self.is_local_place(at, n) {
             return Reply::Berr;
         }
-        Reply::Bytes(self.datum_at(at, n))
+        Reply::Bytes(self.storage.datum(at, n))
     }
 
     fn local_write(&mut self, at: u32, bytes: &Datum) -> Reply
@@ -239,7 +246,10 @@ impl ByteMemory {
         if !f.has_len(n) {
             return Reply::Berr;
         }
-        self.modify_at(at, n, f)
+        let old = self.storage.datum(at, n);
+        let new = f.value(&old);
+        self.storage.overwrite(at, new.as_slice());
+        Reply::Bytes(old)
     }
 
     /// Whether the local port reaches `n` bytes from `at` on.
@@ -247,31 +257,6 @@ impl ByteMemory {
         ensures { result ≡ (fits self.now at n && is_local_len n) }
     {
         self.fits(at, n) && is_local_len(n)
-    }
-
-    /// Writes the function's value in the place of the old bytes, which are the reply.
-    fn modify_at(&mut self, at: u32, len: u8, f: &Modify) -> Reply
-        requires fits { IsTrue (fits self.old at len) }
-        requires len { IsTrue (has_len f.now len) }
-        requires short { len ≤ 8 }
-        ensures reply { result ≡ (modify_at self.old at len f.now).0 }
-        ensures memory { self.new ≡ (modify_at self.old at len f.now).1 }
-        ensures len { HasLen result len }
-    {
-        let old = self.datum_at(at, len);
-        let new = f.value(&old);
-        self.storage.overwrite(at, new.as_slice());
-        Reply::Bytes(old)
-    }
-
-    /// The `len` bytes from `at` on.
-    fn datum_at(&self, at: u32, len: u8) -> Datum
-        requires fits { IsTrue (fits self.now at len) }
-        requires short { len ≤ 8 }
-        ensures value { result.items ≡ bytes_at self.now at len }
-        ensures len { length result.items ≡ len }
-    {
-        self.storage.datum(at, len)
     }
 }
 

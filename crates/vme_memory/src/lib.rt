@@ -9,6 +9,7 @@ mod command;
 mod laws;
 mod reply;
 mod storage;
+mod word;
 
 pub use board::{ByteMemory, MemoryFault};
 pub use class::{Class, Width8To32};
@@ -17,3 +18,4 @@ pub use laws::{
     bytes_are_overwritten, cycles_are_the_requests_own, replies_have_their_form, written_is_read,
 };
 pub use reply::Reply;
+pub use storage::Row;

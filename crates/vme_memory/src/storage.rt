@@ -1,77 +1,163 @@
-ghost use Rattle.std.specs.Prelude.{◌≡◌, ◌+◌, ◌≤◌, true, IfOk, length, slice_get, slice_range};
+ghost use Rattle.std.specs.Prelude.{◌≡◌, ◌+◌, ◌%◌, ◌≤◌, ◌<◌, true, IfOk, length, take, drop, slice_get, slice_range};
+ghost use Rattle.vme_lanes.specs.Rows.{row_of};
 ghost use Rattle.vme_memory.specs.Boards.{is_board_size, zeros, bytes_after_write};
+ghost use Rattle.vme_memory.specs.Words.{part_of};
 
+use crate::word::{byte_in, bytes_at, bytes_of, merge, placed_word};
+use arrayvec::ArrayVec;
 use std::alloc::{AllocError, Global};
+use std::cmp::min;
 use std::marker::Model;
-use vme_lanes::Datum;
+use vme_lanes::{Datum, Location};
 
-/// The bytes of a board, each at its offset.
+/// Sixteen bytes of a memory, or those that are left.
+pub type Row = ArrayVec<u8, 16>;
+
+/// The bytes of a board in words: word `i` has those at offsets 4 `i` to 4 `i` + 3, the lowest
+/// address most significant.
 #[derive(Drop)]
 pub(crate) struct Storage {
-    bytes: Vec<u8>,
+    words: Vec<u32>,
 }
 
 impl Model for Storage {
-    ghost use Rattle.std.specs.Prelude.{ℕ, List, ◌≡◌, true, length};
+    ghost use Rattle.std.specs.Prelude.{ℕ, List, ◌≡◌, ◌*◌, true, length};
     ghost use Rattle.vme_memory.specs.Boards.{is_board_size};
+    ghost use Rattle.vme_memory.specs.Words.{bytes_of_words};
 
     ghost Value = { List ℕ };
 
-    ghost view = { λ s. s.bytes.items };
+    ghost view = { λ s. bytes_of_words s.words.items };
 
-    ghost invariant = { λ s. is_board_size (length s.bytes.items) ≡ true };
+    ghost invariant = { λ s. is_board_size (4 * length s.words.items) ≡ true };
 }
 
 impl Storage {
     /// `size` bytes, all zero.
-    #[tactic(auto, unfolding(crate::specs::Boards::zeros))]
+    #[tactic(auto, using(crate::proofs::Words::zero_words), unfolding(crate::specs::Boards::zeros))]
     pub(crate) fn new(alloc: Global, size: u32) -> Result<Storage, AllocError>
         requires { is_board_size size ≡ true }
         ensures { IfOk result (λ storage. storage ≡ zeros size) }
     {
-        let bytes = vec![in alloc; 0; size as usize]?;
-        Ok(Storage { bytes })
+        let words = vec![in alloc; 0; (size / 4) as usize]?;
+        Ok(Storage { words })
     }
 
     /// The number of bytes.
+    #[tactic(auto, using(crate::proofs::Words::words_len))]
     pub(crate) fn len(&self) -> u32
         ensures value { result ≡ length self.now }
         ensures size { is_board_size result ≡ true }
     {
-        self.bytes.len() as u32
+        4 * self.words.len() as u32
     }
 
     /// The byte at an offset, or `None` past the end.
+    #[tactic(auto, using(crate::proofs::Words::byte_at, crate::proofs::Words::no_byte))]
     pub(crate) fn byte(&self, offset: u32) -> Option<u8>
         ensures { result ≡ slice_get self.now offset }
     {
-        self.bytes.get(offset as usize).copied()
+        let word = self.words.get((offset / 4) as usize)?;
+        Some(byte_in(*word, (offset % 4) as u8))
     }
 
-    /// All bytes.
-    pub(crate) fn as_slice(&self) -> &[u8]
-        ensures { result.now ≡ self.now }
+    /// The bytes of a row, from its offset on.
+    #[tactic(auto, using(crate::proofs::Words::row_more, crate::proofs::Words::row_whole, crate::proofs::Words::word_len, crate::proofs::Words::words_len))]
+    pub(crate) fn row(&self, offset: u32) -> Row
+        requires aligned { offset % 4 ≡ 0 }
+        requires within { offset ≤ length self.now }
+        ensures { result.items ≡ take 16 (drop offset self.now) }
     {
-        self.bytes.as_slice()
+        let first = (offset / 4) as usize;
+        let mut row = Row::new();
+        for i in first..min(first + 4, self.words.len()) {
+            row.try_extend_from_slice(&bytes_of(self.words[i])).unwrap();
+        }
+        row
     }
 
-    /// The `len` bytes from `at` on.
+    /// Reads the bytes of a location from one word. `at` is the offset of the first.
+    #[tactic(auto, using(crate::proofs::Words::words_len, crate::proofs::Words::word_there, crate::proofs::Enables::part_at))]
+    pub(crate) fn read(&self, location: Location, at: u32) -> Datum
+        requires place { (row_of location).first ≡ at % 4 }
+        requires within { at + (row_of location).len ≤ length self.now }
+        ensures value { result.items ≡ slice_range self.now at (at + (row_of location).len) }
+        ensures len { length result.items ≡ (row_of location).len }
+        ensures small { length self.now ≤ 1048576 }
+    {
+        bytes_at(location, self.words[(at / 4) as usize])
+    }
+
+    /// Changes the bytes of a location in one word to those of another word. `at` is the offset of
+    /// the first.
+    #[tactic(auto, using(crate::proofs::Words::words_len, crate::proofs::Words::word_there, crate::proofs::Enables::merged_at))]
+    pub(crate) fn write(&mut self, location: Location, at: u32, new: u32)
+        requires place { (row_of location).first ≡ at % 4 }
+        requires within { at + (row_of location).len ≤ length self.old }
+        ensures bytes { self.new ≡ bytes_after_write self.old at (part_of location new) }
+        ensures small { length self.old ≤ 1048576 }
+    {
+        let i = (at / 4) as usize;
+        self.words[i] = merge(self.words[i], location, new);
+    }
+
+    /// Reads `len` bytes from any offset on: from one word or two.
+    #[tactic(auto, using(crate::proofs::Words::read_on))]
     pub(crate) fn datum(&self, at: u32, len: u8) -> Datum
         requires within { at + len ≤ length self.now }
-        requires short { len ≤ 8 }
+        requires some { 0 < len }
+        requires short { len ≤ 4 }
         ensures value { result.items ≡ slice_range self.now at (at + len) }
         ensures len { length result.items ≡ len }
     {
-        let start = at as usize;
-        Datum::try_from(&self.bytes[start..start + usize::from(len)]).unwrap()
+        let here = min(len, 4 - (at % 4) as u8);
+        let mut datum = self.read(location_of(at, here), at);
+        if here < len {
+            let next = at + u32::from(here);
+            let rest = self.read(location_of(next, len - here), next);
+            datum.try_extend_from_slice(rest.as_slice()).unwrap();
+        }
+        datum
     }
 
-    /// Puts bytes in the place of those from `at` on; all others stay.
+    /// Puts bytes in the place of those from any offset on: in one word or two. All others stay.
+    #[tactic(auto, using(crate::proofs::Words::written_on))]
     pub(crate) fn overwrite(&mut self, at: u32, new: &[u8])
-        requires { at + length new.now ≤ length self.old }
+        requires within { at + length new.now ≤ length self.old }
+        requires some { 0 < length new.now }
+        requires short { length new.now ≤ 4 }
         ensures { self.new ≡ bytes_after_write self.old at new.now }
     {
-        let start = at as usize;
-        self.bytes[start..start + new.len()].copy_from_slice(new);
+        let (here, rest) = new.split_at(min(new.len(), 4 - (at % 4) as usize));
+        self.put(at, here);
+        if !rest.is_empty() {
+            self.put(at + here.len() as u32, rest);
+        }
+    }
+
+    /// The same within one word.
+    fn put(&mut self, at: u32, new: &[u8])
+        requires within { at + length new.now ≤ length self.old }
+        requires one_word { at % 4 + length new.now ≤ 4 }
+        requires some { 0 < length new.now }
+        ensures bytes { self.new ≡ bytes_after_write self.old at new.now }
+        ensures small { length self.old ≤ 1048576 }
+    {
+        let location = location_of(at, new.len() as u8);
+        self.write(location, at, placed_word(location, new));
+    }
+}
+
+/// The location of some bytes within one word.
+#[tactic(auto, using(crate::proofs::Enables::within_word))]
+fn location_of(at: u32, len: u8) -> Location
+    requires some { 0 < len }
+    requires one_word { at % 4 + len ≤ 4 }
+    ensures first { (row_of result).first ≡ at % 4 }
+    ensures len { (row_of result).len ≡ len }
+{
+    match Location::of(at, len) {
+        Some(location) => location,
+        None => unreachable!(),
     }
 }

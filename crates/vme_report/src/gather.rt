@@ -134,30 +134,11 @@ fn gather_memory<W: Sink>(
         (text.old.items ++ memory_text slot memory.now.bytes)) }
     ensures write { W.is_marked writer.new ≡ is_write_failure result }
 {
-    let bytes = memory.bytes();
     for i in 0..memory.size().div_ceil(ROW_SIZE) {
-        gather_row(
-            slot,
-            ROW_SIZE * i,
-            row_at(bytes, (ROW_SIZE * i) as usize),
-            text,
-            writer,
-        )?;
+        let row = memory.row(ROW_SIZE * i);
+        gather_row(slot, ROW_SIZE * i, row.as_slice(), text, writer)?;
     }
     Ok(())
-}
-
-/// The bytes of a row, from its first on: sixteen, or those that are left.
-fn row_at(bytes: &[u8], start: usize) -> &[u8]
-    requires { start ≤ length bytes.now }
-    ensures { result.now ≡ take 16 (drop start bytes.now) }
-{
-    let rest = bytes.split_at(start).1;
-    if rest.len() < ROW_SIZE as usize {
-        rest
-    } else {
-        rest.split_at(ROW_SIZE as usize).0
-    }
 }
 
 #[tactic(auto, using(crate::proofs::Gatherings::printed_gathers, crate::proofs::Gatherings::printed_front, crate::proofs::Gatherings::nothing_front))]

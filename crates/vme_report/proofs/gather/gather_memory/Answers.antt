@@ -10,11 +10,11 @@ pub returns-in_err-gather_row-clause-front : goal.returns-in_err-gather_row-clau
 returns-in_err-gather_row-clause-front g c =
     let bytes = c.args.memory.now.bytes in
     let within : c.loop-i.i < row_count bytes = omega (arith, c.loop-i-test.true, c.div_ceil-i-end.ensures, c.size.ensures.value) in
-    let own : c.row_at.result.now ≡ row bytes c.loop-i.i = c.row_at.ensures ∙ ap (λ bs. take 16 (drop (16 * c.loop-i.i) bs)) c.bytes-bytes.ensures in
-    let first = row_first c.args.slot c.loop-i.i bytes c.row_at.result.now within own in
+    let own : c.as_slice.result.now ≡ row bytes c.loop-i.i = c.as_slice.ensures.value ∙ c.row-row.ensures in
+    let first = row_first c.args.slot c.loop-i.i bytes c.as_slice.result.now within own in
     let front : AppendsFront (g.W.Sink.contents c.args.writer.now) (g.W.Sink.contents c.gather_row.new.writer)
     (c.args.text.now.items ++ memory_text c.args.slot bytes)
-    = so_far_fails _ _ _ _ (row_text c.args.slot (16 * c.loop-i.i) c.row_at.result.now) _
+    = so_far_fails _ _ _ _ (row_text c.args.slot (16 * c.loop-i.i) c.as_slice.result.now) _
     (flat_map (λ k. row_text c.args.slot (16 * k) (row bytes k)) (range_with_len (c.loop-i.i + 1) (row_count bytes - (c.loop-i.i + 1)))) _
     c.loop-i.invariant.told first c.in_err-gather_row.ensures.front in
     search rules
@@ -23,10 +23,10 @@ pub loop-i-preserved : goal.loop-i-preserved
 loop-i-preserved g c =
     let bytes = c.args.memory.now.bytes in
     let within : c.loop-i.i < row_count bytes = omega (arith, c.loop-i-test.true, c.div_ceil-i-end.ensures, c.size.ensures.value) in
-    let own : c.row_at.result.now ≡ row bytes c.loop-i.i = c.row_at.ensures ∙ ap (λ bs. take 16 (drop (16 * c.loop-i.i) bs)) c.bytes-bytes.ensures in
-    let first = row_first c.args.slot c.loop-i.i bytes c.row_at.result.now within own in
+    let own : c.as_slice.result.now ≡ row bytes c.loop-i.i = c.as_slice.ensures.value ∙ c.row-row.ensures in
+    let first = row_first c.args.slot c.loop-i.i bytes c.as_slice.result.now within own in
     record {
-      told = so_far_more _ _ _ _ _ (row_text c.args.slot (16 * c.loop-i.i) c.row_at.result.now) _
+      told = so_far_more _ _ _ _ _ (row_text c.args.slot (16 * c.loop-i.i) c.as_slice.result.now) _
           (flat_map (λ k. row_text c.args.slot (16 * k) (row bytes k)) (range_with_len (c.loop-i.i + 1) (row_count bytes - (c.loop-i.i + 1)))) _
           c.loop-i.invariant.told first c.in_ok-gather_row.ensures.gathers;
       mark = c.in_ok-gather_row.ensures.write;

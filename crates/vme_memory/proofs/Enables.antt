@@ -1,0 +1,168 @@
+-- A word that takes the bytes of a location from another one, under its byte enables; and the word that data lines carry.
+use Rattle.std.proofs.Common.{◌≡◌, ℕ, zero, suc, ◌+◌, ◌/◌, ◌%◌, ◌^◌, ◌<◌, ◌≤◌, List, [], ◌∷◌, length, get_or, set, slice_range, refl, ap, sym, ◌∙◌, arith}
+use Rattle.std.specs.Prelude.{bit_or, bit_and, ◌==◌, ◌&&◌, ◌≢◌, find, None}
+use Rattle.std.specs.Int.{w32, bit_not}
+use Rattle.std.specs.Int.Bits.{and_zero_r, or_zero_r, or_zero_l}
+use Rattle.std.proofs.lemmas.Nat.{or_shr, and_shr, or_mod, and_mod, and_mask}
+use Rattle.vme_lanes.specs.declared.location.Location.{Location}
+use Rattle.vme_lanes.specs.declared.location.Location.TheVariants.{Byte0, Byte1, Byte2, Byte3, Bytes01, Bytes23, Bytes03, Bytes02, Bytes13, Bytes12}
+use Rattle.vme_lanes.specs.Rows.{row_of, locations, location_at}
+use Rattle.vme_memory.specs.Boards.{bytes_after_write}
+use Rattle.vme_memory.specs.Words.{word_bytes, bytes_of_words, part_of, enables_of}
+use Rattle.vme_memory.proofs.Words.{read_at, written_at}
+
+-- the bytes of a number that has some bits of another
+byte_or : (a b k : ℕ) → bit_or a b / 2 ^ k % 2 ^ 8 ≡ bit_or (a / 2 ^ k % 2 ^ 8) (b / 2 ^ k % 2 ^ 8)
+byte_or a b k = ap (λ n. n % 2 ^ 8) (or_shr a b k) ∙ or_mod (a / 2 ^ k) (b / 2 ^ k) 8
+
+byte_and : (a b k : ℕ) → bit_and a b / 2 ^ k % 2 ^ 8 ≡ bit_and (a / 2 ^ k % 2 ^ 8) (b / 2 ^ k % 2 ^ 8)
+byte_and a b k = ap (λ n. n % 2 ^ 8) (and_shr a b k) ∙ and_mod (a / 2 ^ k) (b / 2 ^ k) 8
+
+whole_byte : (n : ℕ) → bit_and (n % 2 ^ 8) 255 ≡ n % 2 ^ 8
+whole_byte n = and_mask (n % 2 ^ 8) 8 ∙ omega arith
+
+-- the word with the bits of a mask from another one
+abbrev pub merged : ℕ → ℕ → ℕ → ℕ
+merged word new mask = bit_or (bit_and word (bit_not w32 mask)) (bit_and new mask)
+
+kept_byte :
+    (word new mask k : ℕ) → bit_not w32 mask / 2 ^ k % 2 ^ 8 ≡ 255 → mask / 2 ^ k % 2 ^ 8 ≡ 0
+    → merged word new mask / 2 ^ k % 2 ^ 8 ≡ word / 2 ^ k % 2 ^ 8
+kept_byte word new mask k ones zeros =
+    byte_or (bit_and word (bit_not w32 mask)) (bit_and new mask) k
+    ∙ ap (λ x. bit_or x (bit_and new mask / 2 ^ k % 2 ^ 8)) (byte_and word (bit_not w32 mask) k ∙ ap (bit_and (word / 2 ^ k % 2 ^ 8)) ones ∙ whole_byte (word / 2 ^ k))
+    ∙ ap (bit_or (word / 2 ^ k % 2 ^ 8)) (byte_and new mask k ∙ ap (bit_and (new / 2 ^ k % 2 ^ 8)) zeros ∙ and_zero_r (new / 2 ^ k % 2 ^ 8))
+    ∙ or_zero_r (word / 2 ^ k % 2 ^ 8)
+
+put_byte :
+    (word new mask k : ℕ) → bit_not w32 mask / 2 ^ k % 2 ^ 8 ≡ 0 → mask / 2 ^ k % 2 ^ 8 ≡ 255
+    → merged word new mask / 2 ^ k % 2 ^ 8 ≡ new / 2 ^ k % 2 ^ 8
+put_byte word new mask k zeros ones =
+    byte_or (bit_and word (bit_not w32 mask)) (bit_and new mask) k
+    ∙ ap (λ x. bit_or x (bit_and new mask / 2 ^ k % 2 ^ 8)) (byte_and word (bit_not w32 mask) k ∙ ap (bit_and (word / 2 ^ k % 2 ^ 8)) zeros ∙ and_zero_r (word / 2 ^ k % 2 ^ 8))
+    ∙ ap (bit_or 0) (byte_and new mask k ∙ ap (bit_and (new / 2 ^ k % 2 ^ 8)) ones ∙ whole_byte (new / 2 ^ k))
+    ∙ or_zero_l (new / 2 ^ k % 2 ^ 8)
+
+-- the lowest byte
+low_byte : (n : ℕ) → n / 2 ^ 0 % 2 ^ 8 ≡ n % 256
+low_byte n = omega arith
+
+kept_low :
+    (word new mask : ℕ) → bit_not w32 mask / 2 ^ 0 % 2 ^ 8 ≡ 255 → mask / 2 ^ 0 % 2 ^ 8 ≡ 0 → merged word new mask % 256 ≡ word % 256
+kept_low word new mask ones zeros = sym (low_byte (merged word new mask)) ∙ kept_byte word new mask 0 ones zeros ∙ low_byte word
+
+put_low :
+    (word new mask : ℕ) → bit_not w32 mask / 2 ^ 0 % 2 ^ 8 ≡ 0 → mask / 2 ^ 0 % 2 ^ 8 ≡ 255 → merged word new mask % 256 ≡ new % 256
+put_low word new mask zeros ones = sym (low_byte (merged word new mask)) ∙ put_byte word new mask 0 zeros ones ∙ low_byte new
+
+four :
+    (a b c d e f g h : ℕ) → a ≡ e → b ≡ f → c ≡ g → d ≡ h → (a ∷ b ∷ c ∷ d ∷ []) ≡ (e ∷ f ∷ g ∷ h ∷ [])
+four a b c d e f g h p q r s = cc
+
+-- under the byte enables of a location it takes the bytes of the location, and keeps all others
+pub merged_bytes :
+    (l : Location) (word new : ℕ)
+    → word_bytes (merged word new (enables_of l))
+    ≡ bytes_after_write (word_bytes word) (row_of l).first (part_of l new)
+unfolding word_bytes
+merged_bytes Byte0 word new =
+    four _ _ _ _ _ _ _ _ (put_byte word new (enables_of Byte0) 24 refl refl) (kept_byte word new (enables_of Byte0) 16 refl refl)
+    (kept_byte word new (enables_of Byte0) 8 refl refl) (kept_low word new (enables_of Byte0) refl refl)
+merged_bytes Byte1 word new =
+    four _ _ _ _ _ _ _ _ (kept_byte word new (enables_of Byte1) 24 refl refl) (put_byte word new (enables_of Byte1) 16 refl refl)
+    (kept_byte word new (enables_of Byte1) 8 refl refl) (kept_low word new (enables_of Byte1) refl refl)
+merged_bytes Byte2 word new =
+    four _ _ _ _ _ _ _ _ (kept_byte word new (enables_of Byte2) 24 refl refl) (kept_byte word new (enables_of Byte2) 16 refl refl)
+    (put_byte word new (enables_of Byte2) 8 refl refl) (kept_low word new (enables_of Byte2) refl refl)
+merged_bytes Byte3 word new =
+    four _ _ _ _ _ _ _ _ (kept_byte word new (enables_of Byte3) 24 refl refl) (kept_byte word new (enables_of Byte3) 16 refl refl)
+    (kept_byte word new (enables_of Byte3) 8 refl refl) (put_low word new (enables_of Byte3) refl refl)
+merged_bytes Bytes01 word new =
+    four _ _ _ _ _ _ _ _ (put_byte word new (enables_of Bytes01) 24 refl refl) (put_byte word new (enables_of Bytes01) 16 refl refl)
+    (kept_byte word new (enables_of Bytes01) 8 refl refl) (kept_low word new (enables_of Bytes01) refl refl)
+merged_bytes Bytes23 word new =
+    four _ _ _ _ _ _ _ _ (kept_byte word new (enables_of Bytes23) 24 refl refl) (kept_byte word new (enables_of Bytes23) 16 refl refl)
+    (put_byte word new (enables_of Bytes23) 8 refl refl) (put_low word new (enables_of Bytes23) refl refl)
+merged_bytes Bytes03 word new =
+    four _ _ _ _ _ _ _ _ (put_byte word new (enables_of Bytes03) 24 refl refl) (put_byte word new (enables_of Bytes03) 16 refl refl)
+    (put_byte word new (enables_of Bytes03) 8 refl refl) (put_low word new (enables_of Bytes03) refl refl)
+merged_bytes Bytes02 word new =
+    four _ _ _ _ _ _ _ _ (put_byte word new (enables_of Bytes02) 24 refl refl) (put_byte word new (enables_of Bytes02) 16 refl refl)
+    (put_byte word new (enables_of Bytes02) 8 refl refl) (kept_low word new (enables_of Bytes02) refl refl)
+merged_bytes Bytes13 word new =
+    four _ _ _ _ _ _ _ _ (kept_byte word new (enables_of Bytes13) 24 refl refl) (put_byte word new (enables_of Bytes13) 16 refl refl)
+    (put_byte word new (enables_of Bytes13) 8 refl refl) (put_low word new (enables_of Bytes13) refl refl)
+merged_bytes Bytes12 word new =
+    four _ _ _ _ _ _ _ _ (kept_byte word new (enables_of Bytes12) 24 refl refl) (put_byte word new (enables_of Bytes12) 16 refl refl)
+    (put_byte word new (enables_of Bytes12) 8 refl refl) (kept_low word new (enables_of Bytes12) refl refl)
+
+-- a location has some bytes of a word, and no more than are there
+row_within : (l : Location) → (0 < (row_of l).len) × ((row_of l).first + (row_of l).len ≤ 4)
+row_within Byte0 = (omega arith, omega arith)
+row_within Byte1 = (omega arith, omega arith)
+row_within Byte2 = (omega arith, omega arith)
+row_within Byte3 = (omega arith, omega arith)
+row_within Bytes01 = (omega arith, omega arith)
+row_within Bytes23 = (omega arith, omega arith)
+row_within Bytes03 = (omega arith, omega arith)
+row_within Bytes02 = (omega arith, omega arith)
+row_within Bytes13 = (omega arith, omega arith)
+row_within Bytes12 = (omega arith, omega arith)
+
+-- its part of a word is as long as it is
+pub part_len : (l : Location) (word : ℕ) → length (part_of l word) ≡ (row_of l).len
+unfolding word_bytes
+part_len Byte0 word = refl
+part_len Byte1 word = refl
+part_len Byte2 word = refl
+part_len Byte3 word = refl
+part_len Bytes01 word = refl
+part_len Bytes23 word = refl
+part_len Bytes03 word = refl
+part_len Bytes02 word = refl
+part_len Bytes13 word = refl
+part_len Bytes12 word = refl
+
+-- a word that is merged, among its words
+pub merged_at :
+    (words : List ℕ) (l : Location) (at old word new : ℕ) → old ≡ get_or words (at / 4) old
+    → (row_of l).first ≡ at % 4 → at + (row_of l).len ≤ length (bytes_of_words words)
+    → word_bytes word
+    ≡ bytes_after_write (word_bytes old) (row_of l).first (part_of l new)
+    → bytes_of_words (set words (at / 4) word)
+    ≡ bytes_after_write (bytes_of_words words) at (part_of l new)
+merged_at words l at old word new own place within changed =
+    let part = part_of l new in
+    let few : at % 4 + length part ≤ 4 = omega (arith, part_len l new, (row_within l).1, place) in
+    let there : at < length (bytes_of_words words) = omega (arith, (row_within l).0, within) in
+    written_at words part at old word own there few (changed ∙ ap (λ p. bytes_after_write (word_bytes old) p part) place)
+
+-- the part of a location in its word, among its words
+pub part_at :
+    (words : List ℕ) (l : Location) (at word : ℕ) → word ≡ get_or words (at / 4) word
+    → (row_of l).first ≡ at % 4 → at + (row_of l).len ≤ length (bytes_of_words words)
+    → slice_range (bytes_of_words words) at (at + (row_of l).len)
+    ≡ part_of l word
+part_at words l at word own place within =
+    let few : at % 4 + (row_of l).len ≤ 4 = omega (arith, (row_within l).1, place) in
+    let there : at < length (bytes_of_words words) = omega (arith, (row_within l).0, within) in
+    read_at words at (row_of l).len word own there few
+    ∙ ap (λ p. slice_range (word_bytes word) p (p + (row_of l).len)) (sym place)
+
+-- some bytes within one word are those of a location
+row_there : (first len : ℕ) → 0 < len → first + len ≤ 4 → find (λ l. (row_of l).first == first && (row_of l).len == len) locations ≢ None
+row_there zero (suc zero) some few found = cc
+row_there zero (suc (suc zero)) some few found = cc
+row_there zero (suc (suc (suc zero))) some few found = cc
+row_there zero (suc (suc (suc (suc zero)))) some few found = cc
+row_there (suc zero) (suc zero) some few found = cc
+row_there (suc zero) (suc (suc zero)) some few found = cc
+row_there (suc zero) (suc (suc (suc zero))) some few found = cc
+row_there (suc (suc zero)) (suc zero) some few found = cc
+row_there (suc (suc zero)) (suc (suc zero)) some few found = cc
+row_there (suc (suc (suc zero))) (suc zero) some few found = cc
+row_there first len some few found = absurd (omega arith)
+
+pub within_word : (at len : ℕ) → 0 < len → at % 4 + len ≤ 4 → location_at at len ≢ None
+unfolding location_at
+within_word at len some few found = row_there (at % 4) len some few found

@@ -1,0 +1,119 @@
+ghost use Rattle.std.specs.Prelude.{◌≡◌, ◌+◌, ◌≤◌, ◌<◌, Some, IsTrue, length, slice_get};
+ghost use Rattle.vme_lanes.specs.Rows.{row_of};
+ghost use Rattle.vme_lanes.specs.Lanes.{carries, bytes_on};
+ghost use Rattle.vme_memory.specs.Boards.{bytes_after_write};
+ghost use Rattle.vme_memory.specs.Words.{word_bytes, part_of, enables_of};
+
+use vme_lanes::{DataLines, Datum, Location, Strobes};
+
+/// The byte enables of a location, as a mask of the word: all bits of each byte that it has.
+fn enables(location: Location) -> u32
+    ensures { result ≡ enables_of location }
+{
+    match location {
+        Location::Byte0 => 0xff00_0000,
+        Location::Byte1 => 0x00ff_0000,
+        Location::Byte2 => 0x0000_ff00,
+        Location::Byte3 => 0x0000_00ff,
+        Location::Bytes01 => 0xffff_0000,
+        Location::Bytes23 => 0x0000_ffff,
+        Location::Bytes03 => 0xffff_ffff,
+        Location::Bytes02 => 0xffff_ff00,
+        Location::Bytes13 => 0x00ff_ffff,
+        Location::Bytes12 => 0x00ff_ff00,
+    }
+}
+
+/// The word with the bytes of a location from another one; its other bytes stay.
+pub(crate) fn merge(word: u32, location: Location, new: u32) -> u32
+    ensures { word_bytes result ≡ bytes_after_write (word_bytes word) (row_of location).first (part_of location new) }
+{
+    let mask = enables(location);
+    word & !mask | new & mask
+}
+
+/// The four bytes of a word.
+#[tactic(auto, unfolding(crate::specs::Words::word_bytes))]
+pub(crate) fn bytes_of(word: u32) -> [u8; 4]
+    ensures { result ≡ word_bytes word }
+{
+    word.to_be_bytes()
+}
+
+/// The word of four bytes.
+fn word_of(bytes: [u8; 4]) -> u32
+    ensures { word_bytes result ≡ bytes }
+{
+    u32::from_be_bytes(bytes)
+}
+
+/// The word that the data lines carry for a location: where LWORD* is low each lane is the byte of
+/// its own place, else both halves of the word are on D15-D00.
+pub(crate) fn driven_word(location: Location, lines: DataLines) -> u32
+    requires { IsTrue (carries location lines.lanes) }
+    ensures bytes { part_of location result ≡ bytes_on location lines.lanes }
+    ensures len { length (bytes_on location lines.lanes) ≡ (row_of location).len }
+{
+    let [d31, d23, d15, d07] = lines.lanes.map(|lane| lane.unwrap_or(0));
+    if Strobes::of(location).lword {
+        word_of([d15, d07, d15, d07])
+    } else {
+        word_of([d31, d23, d15, d07])
+    }
+}
+
+/// A word with these bytes at the place of a location, and zeros elsewhere.
+pub(crate) fn placed_word(location: Location, bytes: &[u8]) -> u32
+    requires { length bytes.now ≡ (row_of location).len }
+    ensures { part_of location result ≡ bytes.now }
+{
+    match (location, bytes) {
+        (Location::Byte0, [a]) => word_of([*a, 0, 0, 0]),
+        (Location::Byte1, [b]) => word_of([0, *b, 0, 0]),
+        (Location::Byte2, [c]) => word_of([0, 0, *c, 0]),
+        (Location::Byte3, [d]) => word_of([0, 0, 0, *d]),
+        (Location::Bytes01, [a, b]) => word_of([*a, *b, 0, 0]),
+        (Location::Bytes23, [c, d]) => word_of([0, 0, *c, *d]),
+        (Location::Bytes03, [a, b, c, d]) => word_of([*a, *b, *c, *d]),
+        (Location::Bytes02, [a, b, c]) => word_of([*a, *b, *c, 0]),
+        (Location::Bytes13, [b, c, d]) => word_of([0, *b, *c, *d]),
+        (Location::Bytes12, [b, c]) => word_of([0, *b, *c, 0]),
+        _ => unreachable!(),
+    }
+}
+
+/// The bytes of a location in a word, in order of address.
+#[tactic(auto, unfolding(crate::specs::Words::word_bytes))]
+pub(crate) fn bytes_at(location: Location, word: u32) -> Datum
+    ensures value { result.items ≡ part_of location word }
+    ensures len { length result.items ≡ (row_of location).len }
+{
+    let [a, b, c, d] = bytes_of(word);
+    match location {
+        Location::Byte0 => datum(&[a]),
+        Location::Byte1 => datum(&[b]),
+        Location::Byte2 => datum(&[c]),
+        Location::Byte3 => datum(&[d]),
+        Location::Bytes01 => datum(&[a, b]),
+        Location::Bytes23 => datum(&[c, d]),
+        Location::Bytes03 => datum(&[a, b, c, d]),
+        Location::Bytes02 => datum(&[a, b, c]),
+        Location::Bytes13 => datum(&[b, c, d]),
+        Location::Bytes12 => datum(&[b, c]),
+    }
+}
+
+fn datum<const N: usize>(bytes: &[u8; N]) -> Datum
+    requires { N ≤ 8 }
+    ensures { result.items ≡ bytes.now }
+{
+    Datum::try_from(bytes.as_slice()).unwrap()
+}
+
+/// The byte of a word at a place.
+pub(crate) fn byte_in(word: u32, place: u8) -> u8
+    requires { place < 4 }
+    ensures { Some result ≡ slice_get (word_bytes word) place }
+{
+    bytes_of(word)[usize::from(place)]
+}
