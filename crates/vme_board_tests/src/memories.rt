@@ -165,7 +165,7 @@ fn command(offset: u32, local: &Local) -> BoardCmd {
         },
         Local::Add(bytes) => BoardCmd::LocalModify {
             offset,
-            n: 2,
+            n: bytes.len() as u8,
             f: Modify::Add(datum(bytes)),
         },
         Local::Exchange(n, bytes) => BoardCmd::LocalModify {
@@ -198,6 +198,48 @@ fn the_local_port_takes_any_offset(rt: HostRuntime) -> Result<(), Fail> {
             assert_eq!(&rt; bytes.as_slice(), *wanted);
         }
         assert_eq!(&rt; memory.byte(*offset), Some(*byte));
+    }
+    Ok(())
+}
+
+/// A read of four bytes by the bus.
+fn read_quad(rt: &impl Abort, addr: u32) -> BoardCmd {
+    let Ok(plan) = Plan::of(&read(addr, 4)) else {
+        panic!(rt; "refused")
+    };
+    assert_eq!(rt; plan.len(), 1);
+    BoardCmd::Cycle {
+        signals: plan.signals(0),
+        at: addr,
+        f: None,
+    }
+}
+
+/// Bytes that the local port writes across two words, as the bus reads each of them, and a local
+/// function across both.
+#[test]
+fn bytes_lie_across_words(rt: HostRuntime) -> Result<(), Fail> {
+    let Ok(mut memory) = ByteMemory::new(rt.alloc(), 16, WHOLE) else {
+        panic!(&rt; "no memory")
+    };
+    let steps = [
+        (
+            command(3, &Local::Write(&[0xa1, 0xa2, 0xa3, 0xa4])),
+            [].as_slice(),
+        ),
+        (read_quad(&rt, 0), &[0, 0, 0, 0xa1]),
+        (read_quad(&rt, 4), &[0xa2, 0xa3, 0xa4, 0]),
+        (
+            command(2, &Local::Add(&[0, 0, 0, 1])),
+            &[0, 0xa1, 0xa2, 0xa3],
+        ),
+        (command(2, &Local::Read(4)), &[0, 0xa1, 0xa2, 0xa4]),
+    ];
+    for (command, wanted) in &steps {
+        let Some(bytes) = answer(&mut memory, command) else {
+            panic!(&rt; "a bus error")
+        };
+        assert_eq!(&rt; bytes.as_slice(), *wanted);
     }
     Ok(())
 }
