@@ -115,6 +115,14 @@ impl From<ScriptRefusal> for ScriptFault {
     }
 }
 
+impl From<AllocError> for ScriptFault {
+    ghost from_gives = { λ _ fault. fault ≡ script.OutOfMemory };
+
+    fn from(_error: AllocError) -> ScriptFault {
+        ScriptFault::OutOfMemory
+    }
+}
+
 impl<T: Drop> From<AllocFailed<T>> for ScriptFault {
     ghost from_gives = { λ _ fault. fault ≡ script.OutOfMemory };
 

@@ -1,8 +1,7 @@
 //! Scripts: what the lines of a text ask for.
-ghost use Rattle.std.specs.Prelude.{◌≡◌, ◌<◌, ◌≤◌, nat_lt, length, slice_get, Some, Ok, IfOk, IfErr, map};
+ghost use Rattle.std.specs.Prelude.{◌≡◌, ◌<◌, ◌≤◌, nat_lt, length, slice_get, Some, Ok, Err, IfOk, IfErr, map};
 ghost use Rattle.std.specs.Str.Lines.{lines};
-ghost use Rattle.vme_lines.specs.Grammar.{line_of};
-ghost use Rattle.vme_script.specs.Scripts.{script_of, IsRefusalOf, asked_at};
+ghost use Rattle.vme_script.specs.Scripts.{script_of, lines_from, IsRefusalOf};
 
 use crate::fault::{ScriptFault, ScriptRefusal};
 use std::alloc::Global;
@@ -11,6 +10,10 @@ use vme_lines::{Line, Lines, parse_line};
 
 /// The greatest number of lines of a script.
 const MOST_LINES: u16 = 1000;
+
+/// The least number of bytes of a line that asks for something, its end included. By it a script's
+/// room is taken once.
+const LEAST_LINE: usize = 14;
 
 /// A line that asks for something.
 #[derive(Debug, Drop)]
@@ -44,15 +47,20 @@ impl Script {
         ensures script { IfOk result (λ script. script_of text.now ≡ Ok script) }
         ensures refused { IfErr result (IsRefusalOf (script_of text.now)) }
     {
-        if has_too_many_lines(text) {
-            return Err(ScriptFault::Refused(ScriptRefusal::TooManyLines));
-        }
-        let mut lines = Vec::new(alloc);
+        let room = usize::from(MOST_LINES).min(text.len() / LEAST_LINE + 1);
+        let mut lines = Vec::with_capacity(alloc, room)?;
         let mut number = 0;
         for line in Lines::new(text) {
+            if number == MOST_LINES {
+                return Err(ScriptFault::Refused(ScriptRefusal::TooManyLines));
+            }
             number += 1;
-            if let Some(line) = asked_at(number, line)? {
-                lines.push(ScriptLine { number, line })?;
+            match parse_line(line) {
+                Ok(Some(line)) => lines.push(ScriptLine { number, line })?,
+                Ok(None) => {}
+                Err(fault) => {
+                    return Err(fault_of(text, ScriptRefusal::BadLine { number, fault }));
+                }
             }
         }
         Ok(Script { lines })
@@ -82,13 +90,16 @@ impl Script {
     }
 }
 
-/// What a line asks for, if for anything.
-fn asked_at(number: u16, line: &[u8]) -> Result<Option<Line>, ScriptRefusal>
-    ensures { result ≡ asked_at number (line_of line.now) }
+/// What a text is told of which a line is refused: that it has too many lines, or else that line.
+#[tactic(auto, unfolding(crate::specs::Scripts::script_of))]
+fn fault_of(text: &[u8], refusal: ScriptRefusal) -> ScriptFault
+    requires { lines_from 1 (lines text.now) ≡ Err refusal }
+    ensures { IsRefusalOf (script_of text.now) result }
 {
-    match parse_line(line) {
-        Ok(line) => Ok(line),
-        Err(fault) => Err(ScriptRefusal::BadLine { number, fault }),
+    if has_too_many_lines(text) {
+        ScriptFault::Refused(ScriptRefusal::TooManyLines)
+    } else {
+        ScriptFault::Refused(refusal)
     }
 }
 

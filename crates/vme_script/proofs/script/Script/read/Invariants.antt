@@ -3,9 +3,10 @@ use Rattle.std.specs.Str.Lines.{lines}
 use Rattle.vme_script.specs.Scripts.{with_line, lines_from}
 use Rattle.vme_script.proofs.script.Script.read.Given as goal
 
--- the lines so far, with those that are left, are the script; and the numbers stay within 1,000
+-- the lines so far, with those that are left, are the script; the lines passed over have been counted, to 1,000 at most
 abbrev pub invariant-loop-line : goal.invariant-loop-line
 invariant-loop-line l = record {
   script : with_line l.lines.items (lines_from (l.number + 1) (lines l.line-iterator.rest.now)) ≡ lines_from 1 (lines l.fn.text);
-  few : l.number + length (lines l.line-iterator.rest.now) ≤ 1000;
+  count : l.number + length (lines l.line-iterator.rest.now) ≡ length (lines l.fn.text);
+  few : l.number ≤ 1000;
 }
