@@ -1,0 +1,8 @@
+//! Tests of scripts on threads: two processors that wait for each other, and four that add to one
+//! word. They stand apart so that `vme_threads` is not proved twice.
+#![tactic(auto)]
+
+#[cfg(test)]
+mod meetings;
+#[cfg(test)]
+mod sums;
