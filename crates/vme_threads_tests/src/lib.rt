@@ -3,6 +3,10 @@
 #![tactic(auto)]
 
 #[cfg(test)]
+mod holds;
+#[cfg(test)]
 mod meetings;
 #[cfg(test)]
 mod sums;
+#[cfg(test)]
+mod workers;

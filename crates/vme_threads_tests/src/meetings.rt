@@ -8,7 +8,7 @@ use vme_script::Config;
 use vme_threads::{Gate, Report, run_threads};
 
 /// Each writes a byte that the other waits for.
-static TWO_BOARDS: &str = "tries = 1000000
+pub(crate) static TWO_BOARDS: &str = "tries = 1000000
 [[board]]
 slot = 1
 base = 0
@@ -27,7 +27,8 @@ w 09 00000001 01
 \"\"\"
 ";
 
-static REPLIES: &str = "1:1 done
+/// What both are answered.
+pub(crate) static REPLIES: &str = "1:1 done
 1:2 met
 2:1 met
 2:2 done
@@ -38,14 +39,14 @@ const LOOKS: u32 = 10_000_000;
 
 /// A gate at which each processor waits before its first line until the other is there too.
 #[derive(Drop)]
-struct Meeting {
+pub(crate) struct Meeting {
     first: AtomicBool,
     second: AtomicBool,
-    missed: AtomicBool,
+    pub(crate) missed: AtomicBool,
 }
 
 impl Meeting {
-    fn new() -> Meeting {
+    pub(crate) fn new() -> Meeting {
         Meeting {
             first: AtomicBool::new(false),
             second: AtomicBool::new(false),
@@ -79,7 +80,7 @@ impl Gate for Meeting {
 }
 
 /// The replies of a report, line by line.
-fn replies_of(alloc: Global, report: &Report) -> Result<Vec<u8>, AllocError> {
+pub(crate) fn replies_of(alloc: Global, report: &Report) -> Result<Vec<u8>, AllocError> {
     let mut text = Vec::new(alloc);
     for (board, lines) in report.boards.iter().zip(report.lines.iter()) {
         for (number, reply) in lines {
