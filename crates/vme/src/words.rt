@@ -14,13 +14,15 @@ pub enum Form {
     Cycles,
     /// `vme step FILE`
     Step(String),
+    /// `vme run FILE`
+    Run(String),
 }
 
 /// Why the words ask for nothing.
 #[derive(Clone, Copy, Debug, PartialEq, Eq, Fault)]
 pub enum WordsFault {
     /// They are none of the forms.
-    #[error("usage: vme cycles | vme step FILE")]
+    #[error("usage: vme cycles | vme step FILE | vme run FILE")]
     Usage,
     /// There is no memory to read them.
     #[error("memory")]
@@ -55,22 +57,33 @@ pub fn read_words(alloc: Global, words: &[String]) -> Result<Form, WordsFault> {
 }
 
 fn parsed<'a>(alloc: Global, words: &'a [String]) -> Result<ArgMatches<'a>, Error> {
-    let file = Arg::new(alloc, "FILE").required(true);
-    let step = Command::new(alloc, "step").arg(file)?;
     Command::new(alloc, "vme")
         .subcommand_required(true)
         .subcommand(Command::new(alloc, "cycles"))?
-        .subcommand(step)?
+        .subcommand(of_a_file(alloc, "step")?)?
+        .subcommand(of_a_file(alloc, "run")?)?
         .try_get_matches_from(words)
+}
+
+/// A command that wants the path of a file.
+fn of_a_file(alloc: Global, name: &str) -> Result<Command<'_>, AllocError> {
+    let file = Arg::new(alloc, "FILE").required(true);
+    Command::new(alloc, name).arg(file)
 }
 
 fn chosen(alloc: Global, matches: &ArgMatches<'_>) -> Result<Form, WordsFault> {
     match matches.subcommand() {
         Some(("cycles", _)) => Ok(Form::Cycles),
-        Some(("step", step)) => match step.get_str("FILE") {
-            Some(file) => Ok(Form::Step(String::from_str(alloc, file)?)),
-            None => Err(WordsFault::Usage),
-        },
+        Some(("step", step)) => Ok(Form::Step(path_in(alloc, step)?)),
+        Some(("run", run)) => Ok(Form::Run(path_in(alloc, run)?)),
         _ => Err(WordsFault::Usage),
+    }
+}
+
+/// The path of the file that a command is given.
+fn path_in(alloc: Global, command: &ArgMatches<'_>) -> Result<String, WordsFault> {
+    match command.get_str("FILE") {
+        Some(path) => Ok(String::from_str(alloc, path)?),
+        None => Err(WordsFault::Usage),
     }
 }
