@@ -56,3 +56,16 @@ fn tells_each_reply(rt: HostRuntime) -> Result<(), Fail> {
     assert_eq!(rt; text.as_slice(), REPLIES.as_bytes());
     Ok(())
 }
+
+/// Where memory is refused the text is as it was, and the line can be told once more.
+#[test]
+fn tells_each_reply_once_more_where_memory_lacks(rt: HostRuntime) -> Result<(), Fail> {
+    let mut text = Vec::new(rt.alloc());
+    for reply in &replies() {
+        if reply_line(21, 1000, reply, &mut text).is_err() {
+            reply_line(21, 1000, reply, &mut text)?;
+        }
+    }
+    assert_eq!(rt; text.as_slice(), REPLIES.as_bytes());
+    Ok(())
+}

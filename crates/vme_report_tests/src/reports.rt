@@ -107,3 +107,23 @@ fn stops_where_the_sink_fails(rt: HostRuntime) -> Result<(), Fail> {
     }
     Ok(())
 }
+
+/// Where memory is refused, just that is told and a front is written; else the whole report stands.
+#[test]
+fn is_written_or_lacks_memory(rt: HostRuntime) {
+    let Ok(mut sink) = RoomSink::new(rt.alloc(), usize::MAX, 4096) else {
+        return;
+    };
+    let done = LineReply::Transfer(Outcome::Done);
+    match report(rt.alloc(), done, &mut sink) {
+        Ok(Ok(status)) => {
+            assert_eq!(rt; status, Status::Clean);
+            assert_eq!(rt; sink.bytes(), TEXT.as_bytes());
+        }
+        Ok(Err(fault)) => {
+            assert_eq!(rt; fault, ReportFault::Memory);
+            assert!(rt; TEXT.as_bytes().starts_with(sink.bytes()));
+        }
+        Err(AllocError) => {}
+    }
+}
