@@ -152,7 +152,7 @@ fn datum(bytes: &[u8]) -> Datum {
 enum Local {
     Read(u8),
     Write(&'static [u8]),
-    Add(&'static [u8]),
+    Add(u8, &'static [u8]),
     Exchange(u8, &'static [u8]),
 }
 
@@ -163,9 +163,9 @@ fn command(offset: u32, local: &Local) -> BoardCmd {
             offset,
             bytes: datum(bytes),
         },
-        Local::Add(bytes) => BoardCmd::LocalModify {
+        Local::Add(n, bytes) => BoardCmd::LocalModify {
             offset,
-            n: bytes.len() as u8,
+            n: *n,
             f: Modify::Add(datum(bytes)),
         },
         Local::Exchange(n, bytes) => BoardCmd::LocalModify {
@@ -182,7 +182,7 @@ static LOCALS: [(u32, Local, Option<&[u8]>, u8); 5] = [
     (15, Local::Write(&[0xaa, 0xbb]), None, 0),
     (13, Local::Write(&[0xaa, 0xbb]), Some(&[]), 0xaa),
     (13, Local::Read(3), None, 0xaa),
-    (13, Local::Add(&[0x55, 0x46]), Some(&[0xaa, 0xbb]), 0),
+    (13, Local::Add(2, &[0x55, 0x46]), Some(&[0xaa, 0xbb]), 0),
     (12, Local::Exchange(4, &[1, 2]), None, 0),
 ];
 
@@ -204,7 +204,8 @@ fn the_local_port_takes_any_offset(rt: HostRuntime) -> Result<(), Fail> {
 
 /// A read of four bytes by the bus.
 fn read_quad(rt: &impl Abort, addr: u32) -> BoardCmd {
-    let Ok(plan) = Plan::of(&read(addr, 4)) else {
+    let request = read(addr, 4);
+    let Ok(plan) = Plan::of(&request) else {
         panic!(rt; "refused")
     };
     assert_eq!(rt; plan.len(), 1);
@@ -215,28 +216,31 @@ fn read_quad(rt: &impl Abort, addr: u32) -> BoardCmd {
     }
 }
 
-/// Bytes that the local port writes across two words, as the bus reads each of them, and a local
-/// function across both.
+/// Commands of the local port in order, on one board of 16 bytes, or reads of four bytes by the
+/// bus: each with the bytes that it is answered, none after a write. They reach over two words.
+static ACROSS: [(u32, Option<Local>, &[u8]); 5] = [
+    (3, Some(Local::Write(&[0xa1, 0xa2, 0xa3, 0xa4])), &[]),
+    (0, None, &[0, 0, 0, 0xa1]),
+    (4, None, &[0xa2, 0xa3, 0xa4, 0]),
+    (
+        2,
+        Some(Local::Add(4, &[0, 0, 0, 1])),
+        &[0, 0xa1, 0xa2, 0xa3],
+    ),
+    (2, Some(Local::Read(4)), &[0, 0xa1, 0xa2, 0xa4]),
+];
+
 #[test]
 fn bytes_lie_across_words(rt: HostRuntime) -> Result<(), Fail> {
     let Ok(mut memory) = ByteMemory::new(rt.alloc(), 16, WHOLE) else {
         panic!(&rt; "no memory")
     };
-    let steps = [
-        (
-            command(3, &Local::Write(&[0xa1, 0xa2, 0xa3, 0xa4])),
-            [].as_slice(),
-        ),
-        (read_quad(&rt, 0), &[0, 0, 0, 0xa1]),
-        (read_quad(&rt, 4), &[0xa2, 0xa3, 0xa4, 0]),
-        (
-            command(2, &Local::Add(&[0, 0, 0, 1])),
-            &[0, 0xa1, 0xa2, 0xa3],
-        ),
-        (command(2, &Local::Read(4)), &[0, 0xa1, 0xa2, 0xa4]),
-    ];
-    for (command, wanted) in &steps {
-        let Some(bytes) = answer(&mut memory, command) else {
+    for (offset, local, wanted) in &ACROSS {
+        let command = match local {
+            Some(local) => command(*offset, local),
+            None => read_quad(&rt, *offset),
+        };
+        let Some(bytes) = answer(&mut memory, &command) else {
             panic!(&rt; "a bus error")
         };
         assert_eq!(&rt; bytes.as_slice(), *wanted);
