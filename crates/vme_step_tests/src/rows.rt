@@ -24,7 +24,7 @@ fn check(rt: &impl Abort, alloc: Global, row: &Row) -> Result<(), Fail> {
 }
 
 /// A block that reads past the end of its board: the board's own bus error is a step of it.
-static PAST_THE_END: Row = Row {
+const PAST_THE_END: Row = Row {
     file: "rounds = 4
 [[board]]
 slot = 1
@@ -44,7 +44,7 @@ board 2 steps 0 made 0 0
 };
 
 /// A write by the local port between two data of a block.
-pub static TORN_BLOCK: &str = "schedule = [[2, 2], [1, 1], [2, 2]]
+pub const TORN_BLOCK: &str = "schedule = [[2, 2], [1, 1], [2, 2]]
 [[board]]
 slot = 1
 base = 0
@@ -58,21 +58,21 @@ script = 'br 0b 00000000 4 2'
 ";
 
 /// The report of that write.
-pub static TORN_BLOCK_REPORT: &str = "1:1 done
+pub const TORN_BLOCK_REPORT: &str = "1:1 done
 2:1 read 00000000aabbccdd
 board 1 steps 3 made 1 2
 board 2 steps 0 made 0 0
 mem 1 00000000 00000000aabbccdd0000000000000000
 ";
 
-static TORN: Row = Row {
+const TORN: Row = Row {
     file: TORN_BLOCK,
     report: TORN_BLOCK_REPORT,
     status: Status::Clean,
 };
 
 /// A read-modify-write over the bus and one by the local port, on one byte.
-static BUS_FIRST: Row = Row {
+const BUS_FIRST: Row = Row {
     file: "schedule = [[2, 3], [1, 1]]
 [[board]]
 slot = 1
@@ -95,7 +95,7 @@ mem 1 00000000 00000000000000008000000000000000
 };
 
 /// The same in the other order.
-static LOCAL_FIRST: Row = Row {
+const LOCAL_FIRST: Row = Row {
     file: "schedule = [[1, 1], [2, 3]]
 [[board]]
 slot = 1
@@ -118,7 +118,7 @@ mem 1 00000000 00000000000000008000000000000000
 };
 
 /// A board that admits supervisory codes alone, and an address of nobody.
-static SUPERVISORY: Row = Row {
+const SUPERVISORY: Row = Row {
     file: "rounds = 7
 [[board]]
 slot = 1
@@ -145,7 +145,7 @@ board 2 steps 0 made 0 0
 };
 
 /// A local write past the end, and a line that has no turn.
-static UNFINISHED: Row = Row {
+const UNFINISHED: Row = Row {
     file: "rounds = 1
 [[board]]
 slot = 1
@@ -164,7 +164,7 @@ board 1 steps 1 made 1
 };
 
 /// The same with a turn more.
-static FINISHED: Row = Row {
+const FINISHED: Row = Row {
     file: "rounds = 2
 [[board]]
 slot = 1
@@ -183,7 +183,7 @@ board 1 steps 2 made 2
 };
 
 /// A byte that is awaited, and written after the first read.
-static MET: Row = Row {
+const MET: Row = Row {
     file: "tries = 2
 schedule = [[2, 3], [1, 1], [2, 3]]
 [[board]]
@@ -207,7 +207,7 @@ mem 1 00000000 01000000000000000000000000000000
 };
 
 /// The same with one read.
-static TIMED_OUT: Row = Row {
+const TIMED_OUT: Row = Row {
     file: "tries = 1
 schedule = [[2, 3], [1, 1], [2, 3]]
 [[board]]
@@ -231,7 +231,7 @@ mem 1 00000000 01000000000000000000000000000000
 };
 
 /// Refused requests take no turn of their own, but wait for one; line numbers count every line.
-static REFUSED: Row = Row {
+const REFUSED: Row = Row {
     file: "schedule = [[1, 1], [7, 1]]
 [[board]]
 slot = 1
@@ -259,7 +259,7 @@ mem 1 00000000 ff000000000000000000000000000000
     status: Status::Marked,
 };
 
-static ROWS: [&Row; 10] = [
+const ROWS: [&Row; 10] = [
     &PAST_THE_END,
     &TORN,
     &BUS_FIRST,
