@@ -25,10 +25,11 @@ pub record HasAnswered (config : Configuration) (place : ℕ) (answer : LineRepl
   pub made : HasMade run before after
   pub course : LineCourse config before.who line run answer
 
--- the numbers of lines, and what they were answered (this project's own)
+-- the numbers of lines that were answered (this project's own)
 abbrev pub numbers_in : List (ℕ × LineReply) → List ℕ
 numbers_in lines = map (λ line. line.0) lines
 
+-- what they were answered (this project's own)
 abbrev pub answers_in : List (ℕ × LineReply) → List LineReply
 answers_in lines = map (λ line. line.1) lines
 
