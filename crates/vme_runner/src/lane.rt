@@ -13,23 +13,19 @@ use std::alloc::{AllocError, Global};
 use std::marker::Model;
 use vme_core::{Core, Event};
 use vme_course::{LineTask, LineTodo};
+use vme_cycle::CycleFault;
 use vme_script::{Config, Script};
 use vme_shared::LineReply;
 
-/// A line at work, and the event that it makes next.
-#[derive(Drop)]
-pub(crate) struct Work {
-    task: LineTask,
-    event: Event,
-}
-
-/// The lines of a script with their answers, of which the first have ended, and the line at work.
-/// All room is taken when it is made.
+/// The lines of a script with their answers, of which the first have ended, and the line at work
+/// with the event that it makes next. Where no event is there no line is at work, and the task is
+/// that of no line. All room is taken when it is made, and a task stays in its place.
 #[derive(Drop)]
 pub(crate) struct Lane {
     lines: Vec<(u16, LineReply)>,
     ended: usize,
-    at: Option<Work>,
+    task: LineTask,
+    event: Option<Event>,
 }
 
 impl Model for Lane {
@@ -44,11 +40,11 @@ impl Model for Lane {
     ghost view = { λ l. record {
       lines = l.lines.items;
       ended = l.ended;
-      at = option_map (λ work. work.task) l.at;
+      at = option_map (λ event. l.task) l.event;
     } };
 
-    ghost invariant = { λ l. IfSome l.at (λ work.
-        (l.ended < length l.lines.items) × (line_to_do work.task ≡ Makes (call_of work.event))) };
+    ghost invariant = { λ l. IfSome l.event (λ event.
+        (l.ended < length l.lines.items) × (line_to_do l.task ≡ Makes (call_of event))) };
 }
 
 impl Lane {
@@ -67,7 +63,8 @@ impl Lane {
         Ok(Lane {
             lines,
             ended: 0,
-            at: None,
+            task: LineTask::Refused(CycleFault::BadCount),
+            event: None,
         })
     }
 
@@ -93,7 +90,7 @@ impl Lane {
         if self.is_over() {
             return;
         }
-        if self.at.is_none() {
+        if self.event.is_none() {
             self.seek(config, board);
         }
         self.make(core, board);
@@ -117,10 +114,10 @@ impl Lane {
         ensures over { self.new.at ≡ None → length self.new.lines ≤ self.new.ended }
     {
         while self.ended < self.lines.len() {
-            let mut task = LineTask::start(config, board, self.ended);
-            match task.next(None) {
+            self.task = LineTask::start(config, board, self.ended);
+            match self.task.next(None) {
                 LineTodo::Call(event) => {
-                    self.at = Some(Work { task, event });
+                    self.event = Some(event);
                     return;
                 }
                 LineTodo::Ended(answer) => {
@@ -145,13 +142,12 @@ impl Lane {
         ensures whos { whos core.new ≡ whos core.old }
         ensures boards { length core.new.boards ≡ length core.old.boards }
     {
-        let Some(work) = self.at.take() else {
+        let Some(event) = self.event.take() else {
             return;
         };
-        let mut task = work.task;
-        let reply = core.apply(board, &work.event).unwrap();
-        match task.next(Some(reply)) {
-            LineTodo::Call(event) => self.at = Some(Work { task, event }),
+        let reply = core.apply(board, &event).unwrap();
+        match self.task.next(Some(reply)) {
+            LineTodo::Call(event) => self.event = Some(event),
             LineTodo::Ended(answer) => {
                 put_answer(&mut self.lines, self.ended, answer);
                 self.ended += 1;

@@ -10,14 +10,14 @@ returns-in-Call-clause-turn c =
     let within : c.loop-self.self-inside.ended < length (lines_at c.args.config.now c.args.board)
     = omega (arith, c.loop-self-test.true, c.len.ensures, c.loop-self.invariant.lines, c.loop-self.self-inside.lines.ok.0) in
     λ machine.
-    turn_begins c.args.config.now c.args.board machine c.loop-self.self-inside.lines.items c.loop-self.self-inside.ended c.start-task.result c.next.new.self _
-    within c.start-task.ensures.line c.next.ensures.task c.in-Call.ensures.todo
+    turn_begins c.args.config.now c.args.board machine c.loop-self.self-inside.lines.items c.loop-self.self-inside.ended c.start-self-inside.result c.next.new.self _
+    within c.start-self-inside.ensures.line c.next.ensures.task c.in-Call.ensures.todo
     ∙ c.loop-self.invariant.turn machine
 
 pub returns-in-Call-clause-lane : goal.returns-in-Call-clause-lane
 returns-in-Call-clause-lane c = record {
   lines = c.loop-self.invariant.lines;
-  below = c.next.ensures.below (length c.args.config.now.boards) c.start-task.ensures.there;
+  below = c.next.ensures.below (length c.args.config.now.boards) c.start-self-inside.ensures.there;
 }
 
 pub loop-self-preserved : goal.loop-self-preserved
@@ -34,7 +34,7 @@ loop-self-preserved c =
       lines = ap length (lines ∙ put) ∙ length-set _ _ _ ∙ c.loop-self.invariant.lines;
       turn = λ machine.
           rw (lines, put)
-          (turn_passes c.args.config.now c.args.board machine c.loop-self.self-inside.lines.items c.loop-self.self-inside.ended c.start-task.result
-          c.next.new.self c.in-Ended.answer within c.start-task.ensures.line c.next.ensures.task c.in-Ended.ensures.todo
+          (turn_passes c.args.config.now c.args.board machine c.loop-self.self-inside.lines.items c.loop-self.self-inside.ended c.start-self-inside.result
+          c.next.new.self c.in-Ended.answer within c.start-self-inside.ensures.line c.next.ensures.task c.in-Ended.ensures.todo
           ∙ c.loop-self.invariant.turn machine);
     }
