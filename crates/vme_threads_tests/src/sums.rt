@@ -1,5 +1,6 @@
-//! Four processors add to one word.
+//! Processors that add to one word: four of them, and as many as there are slots.
 use std::alloc::{AllocError, Global};
+use std::process::Abort;
 use std::test::Fail;
 use vme_master::Outcome;
 use vme_script::Config;
@@ -9,14 +10,32 @@ use vme_threads::{Gate, Report, run_threads};
 /// How often each adds one.
 const LINES: usize = 100;
 
-/// How often all of them do.
-const SUM: usize = 400;
+/// Where the word is in its board.
+const OFFSET: u32 = 16;
 
-static BOARDS: [&str; 4] = [
-    "[[board]]\nslot = 1\nbase = 0\nsize = 32\nscript = \"\"\"\n",
-    "[[board]]\nslot = 2\nbase = 0x1000\nsize = 32\nscript = \"\"\"\n",
-    "[[board]]\nslot = 3\nbase = 0x2000\nsize = 32\nscript = \"\"\"\n",
-    "[[board]]\nslot = 4\nbase = 0x3000\nsize = 32\nscript = \"\"\"\n",
+/// The slot and the base of each board.
+static PLACES: [&str; 21] = [
+    "slot = 1\nbase = 0x0000",
+    "slot = 2\nbase = 0x1000",
+    "slot = 3\nbase = 0x2000",
+    "slot = 4\nbase = 0x3000",
+    "slot = 5\nbase = 0x4000",
+    "slot = 6\nbase = 0x5000",
+    "slot = 7\nbase = 0x6000",
+    "slot = 8\nbase = 0x7000",
+    "slot = 9\nbase = 0x8000",
+    "slot = 10\nbase = 0x9000",
+    "slot = 11\nbase = 0xa000",
+    "slot = 12\nbase = 0xb000",
+    "slot = 13\nbase = 0xc000",
+    "slot = 14\nbase = 0xd000",
+    "slot = 15\nbase = 0xe000",
+    "slot = 16\nbase = 0xf000",
+    "slot = 17\nbase = 0x10000",
+    "slot = 18\nbase = 0x11000",
+    "slot = 19\nbase = 0x12000",
+    "slot = 20\nbase = 0x13000",
+    "slot = 21\nbase = 0x14000",
 ];
 
 /// A gate that is always open.
@@ -28,10 +47,16 @@ impl Gate for Open {
     fn after(&self, _slot: u16, _line: u16) {}
 }
 
-fn four_boards(alloc: Global) -> Result<String, AllocError> {
+/// A file of the first `count` boards.
+fn boards(alloc: Global, count: usize) -> Result<String, AllocError> {
     let mut text = String::new(alloc);
-    for board in BOARDS {
-        text.push_str(board)?;
+    for (number, place) in PLACES.iter().enumerate() {
+        if count <= number {
+            break;
+        }
+        text.push_str("[[board]]\n")?;
+        text.push_str(place)?;
+        text.push_str("\nsize = 32\nscript = \"\"\"\n")?;
         for _ in 0..LINES {
             text.push_str("m 09 00000010 4 add 00000001\n")?;
         }
@@ -63,29 +88,76 @@ fn found(alloc: Global, report: &Report) -> Result<Vec<u32>, AllocError> {
     Ok(numbers)
 }
 
+/// The word's board made a step for each line, as many for each processor; the arbiter at least two.
+fn expect_steps(rt: &impl Abort, report: &Report, sum: u32) {
+    let Some(board) = report.boards.first() else {
+        panic!(rt; "no board")
+    };
+    assert_eq!(rt; board.steps, u64::from(sum));
+    for made in &board.made {
+        assert_eq!(rt; *made, LINES as u64);
+    }
+    let mut arbiter_steps = 0_u64;
+    for made in &report.arbiter_made {
+        assert!(rt; 2 * LINES as u64 <= *made);
+        arbiter_steps = arbiter_steps.wrapping_add(*made);
+    }
+    assert_eq!(rt; report.arbiter_steps, arbiter_steps);
+}
+
+/// The word that the board has in the end.
+fn expect_word(rt: &impl Abort, report: &Report, word: [u8; 4]) {
+    let Some(board) = report.boards.first() else {
+        panic!(rt; "no board")
+    };
+    for (offset, byte) in (OFFSET..).zip(word.iter()) {
+        assert_eq!(rt; board.memory.byte(offset), Some(*byte));
+    }
+}
+
+/// So many boards that add.
+fn adding(rt: &impl Abort, alloc: Global, count: usize) -> Result<Config, AllocError> {
+    let text = boards(alloc, count)?;
+    let Ok(config) = Config::read(alloc, text.as_bytes()) else {
+        panic!(rt; "refused")
+    };
+    Ok(config)
+}
+
+/// Each number below that of the word is found once, and the word is what the board has in the end.
+fn expect_sum(
+    rt: &impl Abort,
+    alloc: Global,
+    report: &Report,
+    word: [u8; 4],
+) -> Result<(), AllocError> {
+    let sum = number_of(word.as_slice());
+    let numbers = found(alloc, report)?;
+    assert_eq!(rt; numbers.len(), sum as usize);
+    for (i, number) in numbers.iter().enumerate() {
+        assert_eq!(rt; *number as usize, i);
+    }
+    expect_steps(rt, report, sum);
+    expect_word(rt, report, word);
+    Ok(())
+}
+
 #[test]
 fn four_boards_add(rt: HostRuntime) -> Result<(), Fail> {
-    let text = four_boards(rt.alloc())?;
-    let Ok(config) = Config::read(rt.alloc(), text.as_bytes()) else {
-        panic!(&rt; "refused")
-    };
+    let config = adding(&rt, rt.alloc(), 4)?;
     let Ok(report) = run_threads(&rt, rt.alloc(), &config, &Open) else {
         panic!(&rt; "no report")
     };
-    let numbers = found(rt.alloc(), &report)?;
-    assert_eq!(&rt; numbers.len(), SUM);
-    for (i, number) in numbers.iter().enumerate() {
-        assert_eq!(&rt; *number as usize, i);
-    }
-    let Some(board) = report.boards.first() else {
-        panic!(&rt; "no board")
+    expect_sum(&rt, rt.alloc(), &report, [0, 0, 0x01, 0x90])?;
+    Ok(())
+}
+
+#[test]
+fn a_board_in_each_slot_adds(rt: HostRuntime) -> Result<(), Fail> {
+    let config = adding(&rt, rt.alloc(), 21)?;
+    let Ok(report) = run_threads(&rt, rt.alloc(), &config, &Open) else {
+        panic!(&rt; "no report")
     };
-    assert_eq!(&rt; board.steps, SUM as u64);
-    for made in &board.made {
-        assert_eq!(&rt; *made, LINES as u64);
-    }
-    for made in &report.arbiter_made {
-        assert!(&rt; 2 * LINES as u64 <= *made);
-    }
+    expect_sum(&rt, rt.alloc(), &report, [0, 0, 0x08, 0x34])?;
     Ok(())
 }
