@@ -7,28 +7,17 @@ mixed, the default: 1 MiB, nine in ten served, the rest of every other kind.
 blocks: long block reads and fills, all served, of much more output than input.
 """
 
-import random
 import sys
+
+from draws import FUNCTIONS, LENGTHS, LOCATIONS, UNIT, below, function, hex_bytes, pick
 
 SIZE = 1_048_576
 BLOCKS_SIZE = 48 * 1024
-SEED = 20240229
 LINE_LIMIT = 80
 BOARD_SIZE = 4096
-# No block crosses from one unit to the next.
-UNIT = 256
-# the lengths of a datum in a block or a modify
-LENGTHS = [1, 2, 4]
 # so many that the line stays within its limit
 WRITE_BYTES = 31
 
-# (address mod 4, length) of the byte locations
-LOCATIONS = [
-    (0, 1), (1, 1), (2, 1), (3, 1),
-    (0, 2), (2, 2),
-    (0, 4),
-    (0, 3), (1, 3), (1, 2),
-]
 NO_LOCATIONS = [
     (offset, length)
     for offset in range(4)
@@ -50,24 +39,6 @@ TOO_LARGE = list(range(0x40, 0x100))
 RESERVED = [
     code for code in range(0x40) if code not in A16 + A24 + A32 + BLOCK + USER
 ]
-
-# the number of words after the name of a function
-FUNCTIONS = {"set": 0, "xchg": 1, "add": 1, "cas": 2}
-
-rng = random.Random(SEED)
-
-
-# Of all its methods only random() promises the same sequence in every Python.
-def below(limit):
-    return int(rng.random() * limit)
-
-
-def pick(items):
-    return items[below(len(items))]
-
-
-def hex_bytes(length):
-    return "".join(f"{below(256):02x}" for _ in range(length))
 
 
 def decimal(number):
@@ -99,9 +70,7 @@ def block(code, address, length, count):
 
 
 def modify(code, address, length):
-    name = pick(list(FUNCTIONS))
-    words = [name] + [hex_bytes(length) for _ in range(FUNCTIONS[name])]
-    return f"m {code:02x} {address:08x} {length} {' '.join(words)}"
+    return f"m {code:02x} {address:08x} {length} {function(length)}"
 
 
 def on_board(locations):

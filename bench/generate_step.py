@@ -10,10 +10,10 @@ idle: 21 boards with a line each, and 1,000,000 rounds.
 ROUNDS takes the place of the file's own number of rounds, which is enough for every line to end.
 """
 
-import random
 import sys
 
-SEED = 20240229
+from draws import LENGTHS, LOCATIONS, UNIT, below, function, hex_bytes, pick
+
 BOARDS = 21
 LINES = 1_000
 IDLE_ROUNDS = 1_000_000
@@ -26,26 +26,6 @@ CODES = {"a16": (0x29, 0x29, 0x0B), "a24": (0x39, 0x3A, 0x3B), "a32": (0x09, 0x0
 SPACES = ["a32", "a24", "a16"]
 WIDTHS = [32, 32, 16, 8]
 SIZE = 4_096
-UNIT = 256
-# (address modulo 4, length) of the byte locations
-LOCATIONS = [(0, 1), (1, 1), (2, 1), (3, 1), (0, 2), (2, 2), (0, 4), (0, 3), (1, 3), (1, 2)]
-LENGTHS = [1, 2, 4]
-FUNCTIONS = {"set": 0, "xchg": 1, "add": 1, "cas": 2}
-
-rng = random.Random(SEED)
-
-
-def below(limit):
-    """Of all its methods only random() promises the same sequence in every Python."""
-    return int(rng.random() * limit)
-
-
-def pick(items):
-    return items[below(len(items))]
-
-
-def hex_bytes(length):
-    return "".join(f"{below(256):02x}" for _ in range(length))
 
 
 def transfer(data):
@@ -56,11 +36,6 @@ def transfer(data):
 def place(board):
     """The space and the base of a board: seven in each space, side by side."""
     return SPACES[board % 3], SIZE * (board // 3)
-
-
-def function(length):
-    name = pick(list(FUNCTIONS))
-    return " ".join([name] + [hex_bytes(length) for _ in range(FUNCTIONS[name])])
 
 
 def single():
