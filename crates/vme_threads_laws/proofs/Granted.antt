@@ -14,6 +14,7 @@ use Rattle.vme_memory.specs.Boards.{Board}
 use Rattle.vme_memory.specs.Locals.{command_given, answer_given, board_step}
 use Rattle.vme_arbiter.specs.declared.command.ArbCmd.{ArbCmd}
 use Rattle.vme_arbiter.specs.declared.command.ArbReply.{ArbReply}
+use Rattle.vme_arbiter.specs.declared.command.ArbReply.TheVariants as turned
 use Rattle.vme_arbiter.specs.Arbitration.{turn_step, free_bus}
 use Rattle.vme_arbiter.specs.Turns.{StandsAsTold}
 use Rattle.vme_core.specs.declared.event.Event.{Event}
@@ -298,7 +299,19 @@ all_turns config lawful report is =
     (by_course config lawful who below (lines_at config who) (slice_index_or is.runs who []) (answers_in (slice_index_or report.lines.items who some).items)
     (is.course.each who [] some within) (run_well config report is who within) None (λ bus stands. stands)))
 
--- so no line is denied
+none_denied : (h : List (Entry ArbCmd ArbReply)) → All GoodTurn h → All (λ e. e.reply ≢ turned.Denied) h
+none_denied [] good = All-nil (λ (e : Entry ArbCmd ArbReply). e.reply ≢ turned.Denied)
+none_denied (e ∷ h) good =
+    All-cons (λ (e : Entry ArbCmd ArbReply). e.reply ≢ turned.Denied) e h
+    (λ denied. (All-head GoodTurn e h good).granted (ap (λ (r : ArbReply). told.Bus r) denied))
+    (none_denied h (All-tail GoodTurn e h good))
+
+-- so the arbiter denied nobody
+pub report_turns : (config : Configuration) (report : Report) → IsLawful config → (is : IsReportOf config report)
+    → All (λ e. e.reply ≢ turned.Denied) is.bus.1.history
+report_turns config report lawful is = none_denied is.bus.1.history (all_turns config lawful report is)
+
+-- and no line is denied
 pub report_granted : (config : Configuration) (report : Report) → IsLawful config → IsReportOf config report
     → Each (λ who lines. AreGranted lines.items) report.lines.items
 report_granted config report lawful is who d below =

@@ -1,5 +1,12 @@
-ghost use Rattle.std.specs.Prelude.{ℕ};
+ghost use Rattle.std.specs.Prelude.{◌≢◌, ℕ, List, All};
+ghost use Rattle.vme_object.specs.declared.history.Entry.{Entry};
+ghost use Rattle.vme_object.specs.History.{IsLegal};
 ghost use Rattle.vme_object.specs.Each.{Each};
+ghost use Rattle.vme_arbiter.specs.declared.command.ArbCmd.{ArbCmd};
+ghost use Rattle.vme_arbiter.specs.declared.command.ArbReply.{ArbReply};
+ghost use Rattle.vme_arbiter.specs.declared.command.ArbReply.TheVariants.{Denied};
+ghost use Rattle.vme_arbiter.specs.Arbitration.{free_bus, turn_step};
+ghost use Rattle.vme_arbiter.specs.Turns.{TakeTurns};
 ghost use Rattle.vme_script.specs.Configurations.{Configuration};
 ghost use Rattle.vme_script.specs.Lawful.{IsLawful};
 ghost use Rattle.vme_threads.specs.declared.report.Report.{Report};
@@ -18,4 +25,14 @@ pub fn each_line_comes_to_its_end()
 pub fn no_line_is_denied()
     ensures { (config : Configuration) (report : Report) → IsLawful config → IsReportOf config report →
         Each (λ who lines. AreGranted lines.items) report.lines.items }
+{}
+
+/// The arbiter denies nobody. In a legal history of it from a free bus, where each processor's
+/// commands name one slot, its own, and its asks a level, both in range, and where each goes by its
+/// last reply, no reply is `Denied`. Nor is one in the history that a report's processors share.
+pub fn the_arbiter_denies_nobody()
+    ensures law { (k : ℕ) (slots : ℕ → ℕ) (h : List (Entry ArbCmd ArbReply)) →
+        IsLegal turn_step free_bus h → TakeTurns k slots h → All (λ e. e.reply ≢ Denied) h }
+    ensures report { (config : Configuration) (report : Report) → IsLawful config →
+        (is : IsReportOf config report) → All (λ e. e.reply ≢ Denied) is.bus.1.history }
 {}

@@ -4,4 +4,4 @@
 
 mod laws;
 
-pub use laws::{each_line_comes_to_its_end, no_line_is_denied};
+pub use laws::{each_line_comes_to_its_end, no_line_is_denied, the_arbiter_denies_nobody};
