@@ -2,12 +2,13 @@
 ghost use Rattle.std.specs.Prelude.{◌≡◌, ◌<◌, ◌++◌, length, take, flat_map, OnOk, OnErr};
 ghost use Rattle.std.specs.Fmt.{decimal};
 ghost use Rattle.vme_lines.specs.Texts.{output_line};
-ghost use Rattle.vme_report.specs.Texts.{place_text, transfer_text, reply_text, line_text, count_text, counts_text, is_blank, row_text};
+ghost use Rattle.vme_report.specs.Texts.{place_text, transfer_text, shared_text, reply_text, line_text, count_text, counts_text, is_blank, row_text};
+ghost use Rattle.vme_shared.specs.declared.outcome.SharedOutcome.TheVariants.{Took};
 
 use std::alloc::AllocError;
 use vme_lines::{print_berr, print_done, print_hex, print_old, print_read, print_refusal};
 use vme_master::Outcome;
-use vme_shared::LineReply;
+use vme_shared::{LineReply, SharedOutcome};
 
 /// Appends the whole line that tells what a line of a slot's script was answered, or nothing where
 /// there is no memory for it.
@@ -51,13 +52,14 @@ fn print_place(slot: u16, line: u16, text: &mut Vec<u8>) -> Result<(), AllocErro
 
 fn print_reply(reply: &LineReply, text: &mut Vec<u8>) -> Result<(), AllocError>
     ensures text { OnOk result (text.new.items ≡ text.old.items ++ output_line (reply_text reply.now)) }
-    ensures kept { OnErr result (text.new.items ≡ text.old.items) }
+    ensures before { OnErr result (take (length text.old.items) text.new.items ≡ text.old.items) }
 {
     match reply {
         LineReply::Transfer(outcome) => print_outcome(outcome, text),
         LineReply::Refused(fault) => print_refusal(text, *fault),
         LineReply::Met => text.extend_from_slice(b"met\n"),
         LineReply::Timeout => text.extend_from_slice(b"timeout\n"),
+        LineReply::Shared(outcome) => print_shared(*outcome, text),
         LineReply::Unfinished => text.extend_from_slice(b"unfinished\n"),
     }
 }
@@ -74,6 +76,34 @@ fn print_outcome(outcome: &Outcome, text: &mut Vec<u8>) -> Result<(), AllocError
         Outcome::Berr { count, bytes } => print_berr(text, *count, bytes.as_slice()),
         Outcome::Denied => text.extend_from_slice(b"denied\n"),
     }
+}
+
+fn print_shared(outcome: SharedOutcome, text: &mut Vec<u8>) -> Result<(), AllocError>
+    ensures text { OnOk result (text.new.items ≡ text.old.items ++ output_line (shared_text outcome)) }
+    ensures before { OnErr result (take (length text.old.items) text.new.items ≡ text.old.items) }
+{
+    match outcome {
+        SharedOutcome::Taken => text.extend_from_slice(b"taken\n"),
+        SharedOutcome::Unlocked => text.extend_from_slice(b"done\n"),
+        SharedOutcome::Busy => text.extend_from_slice(b"busy\n"),
+        SharedOutcome::Put => text.extend_from_slice(b"put\n"),
+        SharedOutcome::Took(word) => print_took(word, text),
+        SharedOutcome::Full => text.extend_from_slice(b"full\n"),
+        SharedOutcome::Empty => text.extend_from_slice(b"empty\n"),
+        SharedOutcome::Spent => text.extend_from_slice(b"spent\n"),
+        SharedOutcome::Berr => text.extend_from_slice(b"berr 0\n"),
+        SharedOutcome::Denied => text.extend_from_slice(b"denied\n"),
+    }
+}
+
+fn print_took(word: u32, text: &mut Vec<u8>) -> Result<(), AllocError>
+    ensures text { OnOk result
+        (text.new.items ≡ text.old.items ++ output_line (shared_text (Took word))) }
+    ensures before { OnErr result (take (length text.old.items) text.new.items ≡ text.old.items) }
+{
+    text.extend_from_slice(b"took ")?;
+    print_hex(text, &word.to_be_bytes())?;
+    text.extend_from_slice(b"\n")
 }
 
 fn print_number(number: u64, text: &mut Vec<u8>) -> Result<(), AllocError>

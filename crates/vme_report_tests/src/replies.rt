@@ -5,7 +5,7 @@ use vme_cycle::{Block, CycleFault};
 use vme_lanes::Datum;
 use vme_master::Outcome;
 use vme_report::reply_line;
-use vme_shared::LineReply;
+use vme_shared::{LineReply, SharedOutcome};
 
 static REPLIES: &str = "21:1000 read 00ff
 21:1000 done
@@ -16,6 +16,17 @@ static REPLIES: &str = "21:1000 read 00ff
 21:1000 refused K3
 21:1000 met
 21:1000 timeout
+21:1000 taken
+21:1000 done
+21:1000 busy
+21:1000 put
+21:1000 took 00000001
+21:1000 took fedcba98
+21:1000 full
+21:1000 empty
+21:1000 spent
+21:1000 berr 0
+21:1000 denied
 21:1000 unfinished
 ";
 
@@ -31,7 +42,7 @@ fn berr(count: u16, bytes: &[u8]) -> LineReply {
 }
 
 /// Each form of reply.
-fn replies() -> [LineReply; 10] {
+fn replies() -> [LineReply; 21] {
     let old = Datum::try_from(&[0x80][..]).unwrap_or_default();
     [
         LineReply::Transfer(Outcome::Read(block(&[0, 0xff]))),
@@ -43,6 +54,17 @@ fn replies() -> [LineReply; 10] {
         LineReply::Refused(CycleFault::NoCycle),
         LineReply::Met,
         LineReply::Timeout,
+        LineReply::Shared(SharedOutcome::Taken),
+        LineReply::Shared(SharedOutcome::Unlocked),
+        LineReply::Shared(SharedOutcome::Busy),
+        LineReply::Shared(SharedOutcome::Put),
+        LineReply::Shared(SharedOutcome::Took(1)),
+        LineReply::Shared(SharedOutcome::Took(0xfedc_ba98)),
+        LineReply::Shared(SharedOutcome::Full),
+        LineReply::Shared(SharedOutcome::Empty),
+        LineReply::Shared(SharedOutcome::Spent),
+        LineReply::Shared(SharedOutcome::Berr),
+        LineReply::Shared(SharedOutcome::Denied),
         LineReply::Unfinished,
     ]
 }

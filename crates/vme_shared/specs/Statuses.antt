@@ -2,8 +2,10 @@
 use Rattle.std.specs.Prelude.{List, [], ◌∷◌}
 use Rattle.vme_master.specs.declared.outcome.Outcome.{Outcome}
 use Rattle.vme_master.specs.declared.outcome.Outcome.TheVariants.{Read, Done, Old, Berr, Denied}
+use Rattle.vme_shared.specs.declared.outcome.SharedOutcome.{SharedOutcome}
+use Rattle.vme_shared.specs.declared.outcome.SharedOutcome.TheVariants as shared
 use Rattle.vme_shared.specs.declared.reply.LineReply.{LineReply}
-use Rattle.vme_shared.specs.declared.reply.LineReply.TheVariants.{Transfer, Refused, Met, Timeout, Unfinished}
+use Rattle.vme_shared.specs.declared.reply.LineReply.TheVariants.{Transfer, Refused, Met, Timeout, Shared, Unfinished}
 use Rattle.vme_shared.specs.declared.status.Status.{Status}
 use Rattle.vme_shared.specs.declared.status.Status.TheVariants.{Clean, Marked}
 
@@ -15,12 +17,26 @@ outcome_status (Old bytes) = Clean
 outcome_status (Berr count bytes) = Marked
 outcome_status Denied = Marked
 
--- clean where a line came to a good end: done, read, old or met (this project's own)
+-- clean where the lock is taken or given back, or the word was put or taken (this project's own)
+abbrev pub shared_status : SharedOutcome → Status
+shared_status shared.Taken = Clean
+shared_status shared.Unlocked = Clean
+shared_status shared.Busy = Marked
+shared_status shared.Put = Clean
+shared_status (shared.Took word) = Clean
+shared_status shared.Full = Marked
+shared_status shared.Empty = Marked
+shared_status shared.Spent = Marked
+shared_status shared.Berr = Marked
+shared_status shared.Denied = Marked
+
+-- clean where a line came to a good end: done, read, old, met, taken, put or took (this project's own)
 abbrev pub reply_status : LineReply → Status
 reply_status (Transfer outcome) = outcome_status outcome
 reply_status (Refused fault) = Marked
 reply_status Met = Clean
 reply_status Timeout = Marked
+reply_status (Shared outcome) = shared_status outcome
 reply_status Unfinished = Marked
 
 -- marked where one of the two is (this project's own)

@@ -3,8 +3,10 @@
 //! good end.
 #![tactic(auto)]
 
+mod outcome;
 mod reply;
 mod status;
 
+pub use outcome::SharedOutcome;
 pub use reply::LineReply;
 pub use status::Status;

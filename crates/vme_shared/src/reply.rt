@@ -1,6 +1,7 @@
 ghost use Rattle.std.specs.Prelude.{◌≡◌};
-ghost use Rattle.vme_shared.specs.Statuses.{outcome_status, reply_status};
+ghost use Rattle.vme_shared.specs.Statuses.{outcome_status, shared_status, reply_status};
 
+use crate::outcome::SharedOutcome;
 use crate::status::Status;
 use vme_cycle::CycleFault;
 use vme_master::Outcome;
@@ -16,17 +17,21 @@ pub enum LineReply {
     Met,
     /// A line that waits has made all the reads that it may make.
     Timeout,
+    /// What came of its lock or its mailbox.
+    Shared(SharedOutcome),
     /// The run was over before the line was at its end.
     Unfinished,
 }
 
 impl LineReply {
-    /// Whether it is a good one: done, bytes that were read or found, or met.
+    /// Whether it is a good one: done, bytes that were read or found, met, a lock that was taken, or a
+    /// word that was put or taken.
     pub fn status(&self) -> Status
         ensures { result ≡ reply_status self.now }
     {
         match self {
             LineReply::Transfer(outcome) => outcome_status(outcome),
+            LineReply::Shared(outcome) => shared_status(*outcome),
             LineReply::Met => Status::Clean,
             LineReply::Refused(_) | LineReply::Timeout | LineReply::Unfinished => Status::Marked,
         }
@@ -39,5 +44,22 @@ fn outcome_status(outcome: &Outcome) -> Status
     match outcome {
         Outcome::Read(_) | Outcome::Done | Outcome::Old(_) => Status::Clean,
         Outcome::Berr { .. } | Outcome::Denied => Status::Marked,
+    }
+}
+
+fn shared_status(outcome: SharedOutcome) -> Status
+    ensures { result ≡ shared_status outcome }
+{
+    match outcome {
+        SharedOutcome::Taken
+        | SharedOutcome::Unlocked
+        | SharedOutcome::Put
+        | SharedOutcome::Took(_) => Status::Clean,
+        SharedOutcome::Busy
+        | SharedOutcome::Full
+        | SharedOutcome::Empty
+        | SharedOutcome::Spent
+        | SharedOutcome::Berr
+        | SharedOutcome::Denied => Status::Marked,
     }
 }
