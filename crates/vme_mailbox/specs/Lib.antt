@@ -1,0 +1,4 @@
+pub mod Mailboxes
+pub mod Phases
+pub mod Words
+pub mod Example

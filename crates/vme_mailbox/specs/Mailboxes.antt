@@ -1,0 +1,76 @@
+-- Where a mailbox lies in a board's memory, and what a new one holds.
+use Rattle.std.specs.Prelude.{ℕ, ◌≡◌, ◌+◌, ◌*◌, ◌%◌, ◌≤◌, nat_lt, Bool, true, ◌&&◌, length}
+use Rattle.vme_memory.specs.declared.class.Width8To32.TheVariants.{D32}
+use Rattle.vme_memory.specs.Boards.{Board, zeros}
+use Rattle.vme_memory.specs.Steps.{Command, LocalRead, LocalWrite, LocalModify, Read, Write, Modify, BlockRead, BlockWrite, bytes_at}
+
+-- a mailbox in a board's memory: the offset of its first byte, and how many words it has room for (this project's own)
+pub record BoardMailbox : Type 0 where
+  pub offset : ℕ
+  pub slots : ℕ
+
+-- its lock is its first byte (this project's own)
+abbrev pub lock_at : BoardMailbox → ℕ
+lock_at m = m.offset
+
+-- how many words were put, a number of four bytes (this project's own)
+abbrev pub put_count_at : BoardMailbox → ℕ
+put_count_at m = m.offset + 4
+
+-- how many words were taken, a number of four bytes (this project's own)
+abbrev pub take_count_at : BoardMailbox → ℕ
+take_count_at m = m.offset + 8
+
+-- the place of the word with each number, four bytes: the words go round the slots (this project's own)
+abbrev pub word_at : BoardMailbox → ℕ → ℕ
+word_at m n = m.offset + 16 + 4 * (n % m.slots)
+
+-- how many bytes a mailbox with so many slots has (this project's own)
+abbrev pub mailbox_len : ℕ → ℕ
+mailbox_len slots = 16 + 4 * slots
+
+-- the offset behind its last byte (this project's own)
+abbrev pub end_of : BoardMailbox → ℕ
+end_of m = m.offset + mailbox_len m.slots
+
+-- a mailbox lies wholly in a board that answers quad bytes and read-modify-writes, at a multiple of four, with 1 to 64 slots
+-- (this project's own)
+pub record LiesIn (board : Board) (m : BoardMailbox) : Type 0 where
+  pub width : board.class.width ≡ D32
+  pub rmw : board.class.rmw ≡ true
+  pub place : m.offset % 4 ≡ 0
+  pub some_slot : 1 ≤ m.slots
+  pub few_slots : m.slots ≤ 64
+  pub within : end_of m ≤ length board.bytes
+
+-- and all its bytes are zero, as before its first use (this project's own)
+pub record IsNewMailbox (board : Board) (m : BoardMailbox) : Type 0 where
+  pub lies : LiesIn board m
+  pub zero : bytes_at board m.offset (mailbox_len m.slots) ≡ zeros (mailbox_len m.slots)
+
+-- the offset of a command's first byte (this project's own)
+abbrev pub offset_of : Command → ℕ
+offset_of (LocalRead at len) = at
+offset_of (LocalWrite at new) = at
+offset_of (LocalModify at len f) = at
+offset_of (Read at len) = at
+offset_of (Write at new) = at
+offset_of (Modify at len f) = at
+offset_of (BlockRead at len) = at
+offset_of (BlockWrite at new) = at
+
+-- how many bytes it reads or writes (this project's own)
+abbrev pub len_of : Command → ℕ
+len_of (LocalRead at len) = len
+len_of (LocalWrite at new) = length new
+len_of (LocalModify at len f) = len
+len_of (Read at len) = len
+len_of (Write at new) = length new
+len_of (Modify at len f) = len
+len_of (BlockRead at len) = len
+len_of (BlockWrite at new) = length new
+
+-- whether a command, by either port, reads or writes a byte of a mailbox (this project's own)
+abbrev pub touches : BoardMailbox → Command → Bool
+touches m command =
+    nat_lt 0 (len_of command) && nat_lt (offset_of command) (end_of m) && nat_lt m.offset (offset_of command + len_of command)

@@ -1,0 +1,7 @@
+//! Mailboxes in the memory of a board: which accesses of its masters are those of puts and takes,
+//! which words go through, and the law that a mailbox is a queue.
+#![tactic(auto)]
+
+mod laws;
+
+pub use laws::a_word_goes_through;
