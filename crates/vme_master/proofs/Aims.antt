@@ -1,16 +1,15 @@
 -- What requests and commands are for.
-use Rattle.std.proofs.Common.{◌≡◌, ℕ, List, Option, Some, None, refl, ap}
-use Rattle.std.specs.Prelude.{if◌then◌else◌, is_some, Bool, true, false}
+use Rattle.std.proofs.Common.{◌≡◌, ℕ, Option, Some, None, refl, ap}
+use Rattle.std.specs.Prelude.{if◌then◌else◌, is_some}
 use Rattle.std.specs.Option.{option_and_then}
 use Rattle.vme_cycle.specs.declared.request.Request.{Request}
 use Rattle.vme_cycle.specs.declared.request.Request.TheVariants as requests
-use Rattle.vme_cycle.specs.Requests.{datum_len, count_of, function_of, reads}
+use Rattle.vme_cycle.specs.Requests.{datum_len, function_of, reads}
 use Rattle.vme_memory.specs.declared.reply.Reply.{Reply}
 use Rattle.vme_memory.specs.Steps.{Command, LocalRead, LocalWrite, LocalModify, Read, Write, Modify, BlockRead, BlockWrite}
 use Rattle.vme_memory.specs.Locals.{command_given}
 use Rattle.vme_memory.specs.Data.{datum_command, reply_len, has_form}
 use Rattle.vme_core.specs.declared.event.EventReply.TheVariants as told
-use Rattle.vme_master.specs.declared.aim.Aim.{Aim}
 use Rattle.vme_master.specs.declared.aim.Aim.TheVariants as aims
 use Rattle.vme_master.specs.declared.job.LocalJob.{LocalJob}
 use Rattle.vme_master.specs.declared.job.Job.TheVariants.{Local}

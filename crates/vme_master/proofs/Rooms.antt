@@ -1,25 +1,23 @@
 -- There is room for what is read, and each datum is where its address is.
-use Rattle.std.proofs.Common.{◌≡◌, ℕ, zero, suc, ◌+◌, ◌*◌, ◌%◌, ◌^◌, ◌<◌, ◌≤◌, true, false, Bool, List, [], ◌++◌, length, Option, Some, None, refl, ap, sym, subst, ◌∙◌, arith, inl, inr, length-append}
-use Rattle.std.specs.Prelude.{nat_lt, IfSome}
+use Rattle.std.proofs.Common.{◌≡◌, ℕ, zero, suc, ◌+◌, ◌*◌, ◌%◌, ◌<◌, ◌≤◌, true, List, ◌++◌, length, Option, Some, None, ap, ◌∙◌, arith, inl, inr, length-append}
+use Rattle.std.specs.Prelude.{nat_lt}
 use Rattle.std.proofs.Math.Nat.{mul-le-mul_left}
 use Rattle.std.proofs.lemmas.Bool.{cases_Bool, ltb-true, eqb-true}
 use Rattle.vme_cycle.specs.declared.request.Request.{Request}
 use Rattle.vme_cycle.specs.declared.request.Request.TheVariants as requests
 use Rattle.vme_cycle.specs.declared.modify.Modify.{Modify}
 use Rattle.vme_cycle.specs.Requests.{addr_of, datum_len, count_of, function_of, address_of}
-use Rattle.vme_cycle.specs.Lawful.{Transfer, IsLawfulTransfer}
+use Rattle.vme_cycle.specs.Lawful.{IsLawfulTransfer}
 use Rattle.vme_cycle.specs.SignalLines.{SignalLines}
 use Rattle.vme_cycle.specs.Plans.{signals_of}
 use Rattle.vme_memory.specs.declared.command.BoardCmd.TheVariants as given
 use Rattle.vme_memory.specs.declared.reply.Reply.{Reply}
 use Rattle.vme_memory.specs.declared.reply.Reply.TheVariants.{Bytes, Done, Berr}
-use Rattle.vme_memory.specs.Steps.{command_of}
 use Rattle.vme_memory.specs.Locals.{command_given}
 use Rattle.vme_memory.specs.Data.{datum_command, has_form}
 use Rattle.vme_memory.proofs.Data.{own_command}
 use Rattle.vme_core.specs.Calls.{OnBoard}
 use Rattle.vme_master.specs.declared.job.BusJob.{BusJob}
-use Rattle.vme_master.specs.declared.job.LocalJob.{LocalJob}
 use Rattle.vme_master.specs.declared.job.Job.{Job}
 use Rattle.vme_master.specs.declared.job.Job.TheVariants.{Bus, Local}
 use Rattle.vme_master.specs.declared.phase.Phase.TheVariants.{Moves}

@@ -130,13 +130,13 @@ abbrev pub is_called : Phase → Bool
 is_called Fresh = false
 is_called phase = true
 
--- whether it was called and has not ended (this project's own)
-abbrev pub is_at_work : Phase → Bool
-is_at_work Asks = true
-is_at_work Looks = true
-is_at_work (Moves i) = true
-is_at_work (Frees berr) = true
-is_at_work phase = false
+-- whether a job makes a call in a phase (this project's own)
+abbrev pub makes : Job → Phase → Bool
+makes job (Moves i) = true
+makes (Bus job) Asks = true
+makes (Bus job) Looks = true
+makes (Bus job) (Frees berr) = true
+makes job phase = false
 
 -- what a transfer does next, by its phase (this project's own)
 abbrev pub bus_next : BusJob → Phase → List ℕ → Next

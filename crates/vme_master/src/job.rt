@@ -2,14 +2,12 @@ ghost use Rattle.std.specs.Prelude.{◌≡◌, ◌<◌, ◌≤◌, ◌*◌, ℕ,
 ghost use Rattle.vme_cycle.specs.Requests.{count_of};
 ghost use Rattle.vme_core.specs.Calls.{call_of};
 ghost use Rattle.vme_master.specs.Jobs.{ask_call, look_call, done_call, datum_call, local_call};
-ghost use Rattle.vme_master.specs.Machine.{job_aim, datum_phase, phase_at, phase_broken, first_phase, phase_told, phase_replied, is_at_work, bus_next, local_next, job_next, IsPlaced, IsShort, call_count, most_bytes};
+ghost use Rattle.vme_master.specs.Machine.{job_aim, datum_phase, phase_at, phase_broken, first_phase, phase_told, phase_replied, makes, bus_next, local_next, job_next, IsPlaced, IsShort, call_count, most_bytes};
 ghost use Rattle.vme_master.specs.declared.phase.Phase.TheVariants.{Moves};
-ghost use Rattle.vme_master.specs.Events.{next_in};
+ghost use Rattle.vme_master.specs.Events.{call_in};
 
 use crate::aim::Aim;
-use crate::outcome::Outcome;
 use crate::phase::Phase;
-use crate::todo::Todo;
 use vme_arbiter::{ArbCmd, ArbReply};
 use vme_core::Event;
 use vme_cycle::{Modify, Transfer};
@@ -68,18 +66,18 @@ impl BusJob {
         Event::Board { board, cmd }
     }
 
-    /// What it does next while it has not ended.
-    fn todo(&self, phase: Phase) -> Todo
+    /// The event that it makes in a phase, if any.
+    fn event(&self, phase: Phase) -> Option<Event>
         requires in_count { (i : ℕ) → phase ≡ Moves i → i < count_of self.now.transfer.request }
         requires placed { IsPlaced (Job.Bus self.now) }
-        ensures { (read : List ℕ) → IsTrue (is_at_work phase) → next_in result ≡ bus_next self.now phase read }
+        ensures { (read : List ℕ) → option_map call_of result ≡ call_in (bus_next self.now phase read) }
     {
         match phase {
-            Phase::Asks => Todo::Call(self.ask()),
-            Phase::Looks => Todo::Call(self.look()),
-            Phase::Moves { i } => Todo::Call(self.datum(i)),
-            Phase::Frees { .. } => Todo::Call(self.done()),
-            _ => Todo::Finished(Outcome::Denied),
+            Phase::Asks => Some(self.ask()),
+            Phase::Looks => Some(self.look()),
+            Phase::Moves { i } => Some(self.datum(i)),
+            Phase::Frees { .. } => Some(self.done()),
+            Phase::Fresh | Phase::Ended { .. } | Phase::Denied => None,
         }
     }
 
@@ -115,22 +113,16 @@ pub struct LocalJob {
 }
 
 impl LocalJob {
-    pub(crate) fn event(&self) -> Event
-        ensures { call_of result ≡ local_call self.now }
-    {
-        Event::Board {
-            board: self.board,
-            cmd: self.cmd.copy(),
-        }
-    }
-
-    /// What it does next while it has not ended.
-    fn todo(&self, phase: Phase) -> Todo
-        ensures { (read : List ℕ) → IsTrue (is_at_work phase) → next_in result ≡ local_next self.now phase read }
+    /// The event that it makes in a phase, if any.
+    fn event(&self, phase: Phase) -> Option<Event>
+        ensures { (read : List ℕ) → option_map call_of result ≡ call_in (local_next self.now phase read) }
     {
         match phase {
-            Phase::Moves { .. } => Todo::Call(self.event()),
-            _ => Todo::Finished(Outcome::Denied),
+            Phase::Moves { .. } => Some(Event::Board {
+                board: self.board,
+                cmd: self.cmd.copy(),
+            }),
+            _ => None,
         }
     }
 }
@@ -155,15 +147,26 @@ impl Job {
         }
     }
 
-    /// What it does next while it has not ended.
-    pub(crate) fn todo(&self, phase: Phase) -> Todo
+    /// The event that it makes in a phase, if any.
+    pub(crate) fn event(&self, phase: Phase) -> Option<Event>
         requires in_count { (i : ℕ) → phase ≡ Moves i → i < call_count self.now }
         requires placed { IsPlaced self.now }
-        ensures { (read : List ℕ) → IsTrue (is_at_work phase) → next_in result ≡ job_next self.now phase read }
+        ensures { (read : List ℕ) → option_map call_of result ≡ call_in (job_next self.now phase read) }
     {
         match self {
-            Job::Bus(job) => job.todo(phase),
-            Job::Local(job) => job.todo(phase),
+            Job::Bus(job) => job.event(phase),
+            Job::Local(job) => job.event(phase),
+        }
+    }
+
+    /// Whether it makes an event in a phase.
+    pub(crate) fn is_at_work(&self, phase: Phase) -> bool
+        ensures { result ≡ makes self.now phase }
+    {
+        match (self, phase) {
+            (_, Phase::Moves { .. }) => true,
+            (Job::Bus(_), Phase::Asks | Phase::Looks | Phase::Frees { .. }) => true,
+            _ => false,
         }
     }
 

@@ -1,11 +1,12 @@
-ghost use Rattle.std.specs.Prelude.{◌≡◌, ◌≤◌, ◌+◌, ◌∷◌, ◌++◌, length, Some, None, IsTrue};
+ghost use Rattle.std.specs.Prelude.{◌≡◌, ◌≢◌, ◌≤◌, ◌+◌, ◌∷◌, ◌++◌, length, Some, None, IsTrue, option_map};
 ghost use Rattle.vme_cycle.specs.Lawful.{transfer_of};
 ghost use Rattle.vme_core.specs.declared.event.EventReply.TheVariants as told;
 ghost use Rattle.vme_master.specs.declared.job.Job.{Job as AnyJob};
 ghost use Rattle.vme_master.specs.Jobs.{local_job};
-ghost use Rattle.vme_master.specs.Tables.{Given, next_of};
+ghost use Rattle.vme_core.specs.Calls.{call_of};
+ghost use Rattle.vme_master.specs.Tables.{Given, Rests, next_of};
 ghost use Rattle.vme_master.specs.Machine.{job_aim, end_outcome, bytes_of, fresh_task, bus_task, advance, task_given, to_do, is_called, IsPlaced};
-ghost use Rattle.vme_master.specs.Events.{next_in};
+ghost use Rattle.vme_master.specs.Events.{next_in, call_in, outcome_in};
 
 use crate::aim::Aim;
 use crate::job::{BusJob, Job, LocalJob};
@@ -14,7 +15,7 @@ use crate::phase::Phase;
 use crate::todo::Todo;
 use std::marker::Model;
 use vme_arbiter::ArbReply;
-use vme_core::EventReply;
+use vme_core::{Event, EventReply};
 use vme_cycle::{Block, CycleFault, Request, Transfer};
 use vme_decode::AddressMap;
 use vme_lanes::Datum;
@@ -90,12 +91,40 @@ impl Task {
         ensures table { (job : AnyJob) (before : Given) → self.old ≡ task_given job before →
             next_in result ≡ next_of job (reply ∷ before) }
     {
+        self.give(reply);
+        self.todo()
+    }
+
+    /// The first half of `next`, for a driver that asks for the event or the outcome apart: the task
+    /// is given nothing at first, and then each time the reply to its event.
+    pub fn give(&mut self, reply: Option<EventReply>)
+        ensures task { self.new ≡ advance self.old reply }
+        ensures begun { to_do self.new ≢ Rests }
+    {
         match reply {
             None => self.call(),
             Some(EventReply::Bus(reply)) => self.turn(reply),
             Some(EventReply::Board(reply)) => self.answer(&reply),
         }
-        self.todo()
+    }
+
+    /// The event that it makes next, where it has begun and has not ended.
+    pub fn event(&self) -> Option<Event>
+        ensures { option_map call_of result ≡ call_in (to_do self.now) }
+    {
+        self.job.event(self.phase)
+    }
+
+    /// What came of it, where it has ended.
+    pub fn outcome(&self) -> Option<Outcome>
+        ensures { result ≡ outcome_in (to_do self.now) }
+    {
+        match self.phase {
+            Phase::Fresh => None,
+            Phase::Ended { berr } => Some(self.end(berr)),
+            phase if self.job.is_at_work(phase) => None,
+            _ => Some(Outcome::Denied),
+        }
     }
 
     /// The same task before its first call, to be done once more.
@@ -148,18 +177,17 @@ impl Task {
     }
 
     fn todo(&self) -> Todo
-        requires { IsTrue (is_called self.now.phase) }
+        requires { to_do self.now ≢ Rests }
         ensures { next_in result ≡ to_do self.now }
     {
-        match self.phase {
-            Phase::Ended { berr } => Todo::Finished(self.outcome(berr)),
-            Phase::Denied => Todo::Finished(Outcome::Denied),
-            phase => self.job.todo(phase),
+        match self.event() {
+            Some(event) => Todo::Call(event),
+            None => Todo::Finished(self.outcome().unwrap()),
         }
     }
 
     /// What comes of it, with perhaps a bus error that came after so many data.
-    fn outcome(&self, berr: Option<u16>) -> Outcome
+    fn end(&self, berr: Option<u16>) -> Outcome
         requires { self.now.phase ≡ Phase.Ended berr }
         ensures { result ≡ end_outcome (job_aim self.now.job) berr self.now.read }
     {

@@ -1,6 +1,6 @@
-use Rattle.std.proofs.Common.{◌≡◌, ℕ, ◌+◌, ◌*◌, Some, ap, ◌∙◌, rules}
+use Rattle.std.proofs.Common.{◌≡◌, ◌+◌, ◌*◌, Some, ap, ◌∙◌, rules}
 use Rattle.vme_cycle.specs.Requests.{datum_len, function_of}
-use Rattle.vme_cycle.specs.Lawful.{Transfer, IsLawfulTransfer}
+use Rattle.vme_cycle.specs.Lawful.{Transfer}
 use Rattle.vme_cycle.specs.Plans.{signals_of}
 use Rattle.vme_master.proofs.Rooms.{datum_is}
 use Rattle.vme_master.proofs.job.BusJob.datum.Goals as goal
