@@ -1,8 +1,9 @@
 //! Lines read, and texts printed, with values from this project's profile.
 use std::test::Fail;
 use vme_cycle::{Modify, Request};
-use vme_lines::{Line, LineFault, Lines, parse_line, print_berr};
+use vme_lines::{Line, LineFault, parse_line, print_berr};
 use vme_memory::BoardCmd;
+use vme_words::Lines;
 
 #[test]
 fn cuts_lines(rt: HostRuntime) -> Result<(), Fail> {
@@ -89,7 +90,37 @@ fn reads_lines_of_scripts(rt: HostRuntime) {
     }
 }
 
-static REFUSED_LINES: [(&str, LineFault); 14] = [
+#[test]
+fn reads_locks_and_mailboxes(rt: HostRuntime) {
+    assert!(rt;
+        matches!(
+            &parse_line(b"lock 09 0000100F"),
+            Ok(Some(Line::Lock {
+                am: 9,
+                addr: 0x100f
+            }))
+        )
+    );
+    assert!(rt;
+        matches!(
+            &parse_line(b"unlock 2d 00000003"),
+            Ok(Some(Line::Unlock { am: 0x2d, addr: 3 }))
+        )
+    );
+    assert!(rt;
+        matches!(
+            &parse_line(b"put 16 0102fffE"),
+            Ok(Some(Line::Put {
+                mailbox: 16,
+                word: 0x0102_fffe
+            }))
+        )
+    );
+    assert!(rt; matches!(&parse_line(b"take 07"), Ok(Some(Line::Take { mailbox: 7 }))));
+    assert!(rt; matches!(&parse_line(b"take 0"), Ok(Some(Line::Take { mailbox: 0 }))));
+}
+
+static REFUSED_LINES: [(&str, LineFault); 30] = [
     ("lr", LineFault::WordCount),
     ("lm 00000008 1", LineFault::WordCount),
     ("lm 00000008 3 swap", LineFault::UnknownWord),
@@ -104,6 +135,22 @@ static REFUSED_LINES: [(&str, LineFault); 14] = [
     ("lm 00000000 2 add 01", LineFault::BadBytes),
     ("await 9 0 0", LineFault::BadCode),
     ("await 09 00000000 010203040506070809", LineFault::BadBytes),
+    ("lock 09", LineFault::WordCount),
+    ("lock 09 00000000 1", LineFault::WordCount),
+    ("lock 9 00000000", LineFault::BadCode),
+    ("unlock 09 000000000", LineFault::BadAddress),
+    ("Unlock 09 00000000", LineFault::UnknownWord),
+    ("unlocks 09 00000000", LineFault::UnknownWord),
+    ("put 1", LineFault::WordCount),
+    ("put 1 00000000 1", LineFault::WordCount),
+    ("put x 0", LineFault::BadNumber),
+    ("put 001 00000000", LineFault::BadNumber),
+    ("put 1 000000", LineFault::BadBytes),
+    ("put 1 0000000000", LineFault::BadBytes),
+    ("put 1 0000000g", LineFault::BadBytes),
+    ("take", LineFault::WordCount),
+    ("take 1 1", LineFault::WordCount),
+    ("take -1", LineFault::BadNumber),
 ];
 
 #[test]

@@ -213,7 +213,7 @@ read 00
 ];
 
 /// Lines that are refused, as requests or as lines.
-static REFUSED: [(&str, &str); 65] = [
+static REFUSED: [(&str, &str); 71] = [
     ("r 08 00000000 1", "refused K1\n"),
     ("r 0c 00000000 1", "refused K1\n"),
     ("r 10 00000000 1", "refused K2\n"),
@@ -236,6 +236,12 @@ static REFUSED: [(&str, &str); 65] = [
     ("lr 00000000 1", "line refused S2\n"),
     ("lr", "line refused S2\n"),
     ("await 0g", "line refused S2\n"),
+    ("lock 09 00000003", "line refused S2\n"),
+    ("lock", "line refused S2\n"),
+    ("unlock 09 00000003", "line refused S2\n"),
+    ("put 1 00000001", "line refused S2\n"),
+    ("put 1 0", "line refused S2\n"),
+    ("take 1", "line refused S2\n"),
     ("bf 0b 00000000 1 257 5a", "refused K8\n"),
     ("br 0b 00000001 1 256", "refused K6\n"),
     ("br 0b 000000fc 4 2", "refused K6\n"),

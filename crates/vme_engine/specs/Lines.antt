@@ -6,8 +6,8 @@ use Rattle.vme_cycle.specs.declared.request.Request.{Request}
 use Rattle.vme_lines.specs.declared.fault.LineFault.{LineFault}
 use Rattle.vme_lines.specs.declared.fault.LineFault.TheVariants.{LineTooLong, UnknownWord}
 use Rattle.vme_lines.specs.declared.line.Line.{Line}
-use Rattle.vme_lines.specs.declared.line.Line.TheVariants.{Bus, Local, Await}
-use Rattle.vme_lines.specs.Words.{words_of}
+use Rattle.vme_lines.specs.declared.line.Line.TheVariants.{Bus, Local, Await, Lock, Unlock, Put, Take}
+use Rattle.vme_words.specs.Words.{words_of}
 use Rattle.vme_lines.specs.Grammar.{line_of}
 
 -- whether a request begins with this word (this project's own)
@@ -25,6 +25,10 @@ request_alone (Ok None) = Ok None
 request_alone (Ok (Some (Bus request))) = Ok (Some request)
 request_alone (Ok (Some (Local command))) = Err UnknownWord
 request_alone (Ok (Some (Await am addr bytes))) = Err UnknownWord
+request_alone (Ok (Some (Lock am addr))) = Err UnknownWord
+request_alone (Ok (Some (Unlock am addr))) = Err UnknownWord
+request_alone (Ok (Some (Put mailbox number))) = Err UnknownWord
+request_alone (Ok (Some (Take mailbox))) = Err UnknownWord
 request_alone (Err fault) = Err fault
 
 -- what a line asks for, if for anything: a word that only scripts know is unknown here, whatever follows it

@@ -10,9 +10,9 @@ use crate::answer::answer_line;
 use crate::bus::Bus;
 use std::alloc::Global;
 use vme_io::{Sink, Source, write_all};
-use vme_lines::Lines;
 use vme_program::{ProgramFault, read_input};
 use vme_shared::Status;
+use vme_words::Lines;
 
 /// The greatest number of bytes of an input.
 pub const INPUT_LIMIT: usize = 1_048_576;

@@ -1,10 +1,11 @@
 //! Which lines `vme cycles` knows: requests to the bus, and no others.
 ghost use Rattle.std.specs.Prelude.{◌≡◌, slice_get};
-ghost use Rattle.vme_lines.specs.Words.{words_of};
+ghost use Rattle.vme_words.specs.Words.{words_of};
 ghost use Rattle.vme_engine.specs.Lines.{is_request_word, is_other_word, request_of};
 
 use vme_cycle::Request;
-use vme_lines::{LINE_LIMIT, Line, LineFault, first_word, parse_line};
+use vme_lines::{LINE_LIMIT, Line, LineFault, parse_line};
+use vme_words::first_word;
 
 /// The request that a line asks for. A word that only scripts know is unknown, whatever follows it.
 #[tactic(auto, unfolding(crate::specs::Lines::request_of))]
@@ -20,7 +21,7 @@ pub(crate) fn request_of(line: &[u8]) -> Result<Option<Request>, LineFault>
     match parse_line(line)? {
         None => Ok(None),
         Some(Line::Bus(request)) => Ok(Some(request)),
-        Some(Line::Local(_) | Line::Await { .. }) => Err(LineFault::UnknownWord),
+        Some(_) => Err(LineFault::UnknownWord),
     }
 }
 

@@ -1,5 +1,5 @@
 -- The form that the words of a line name.
-use Rattle.std.proofs.Common.{◌≡◌, ℕ, Bool, true, false, List, [], ◌∷◌, length, None, Some, Err, refl, inl, inr, arith}
+use Rattle.std.proofs.Common.{◌≡◌, ℕ, ◌<◌, ◌≤◌, slice_index_or, Bool, true, false, List, [], ◌∷◌, length, None, Some, Err, refl, inl, inr, arith}
 use Rattle.vme_lines.proofs.Cases.{cases_Result, same_count}
 use Rattle.vme_lines.specs.Fields.{Field, Name, with_field}
 use Rattle.std.specs.Prelude.{find, slice_get, drop, codes}
@@ -9,11 +9,26 @@ use Rattle.std.proofs.lemmas.Bool.{cases_Bool}
 use Rattle.std.proofs.lemmas.Slice.Eq.{bytes_eq-Decides}
 use Rattle.vme_lines.specs.declared.fault.LineFault.TheVariants.{UnknownWord}
 use Rattle.vme_lines.specs.declared.form.Form.{Form}
-use Rattle.vme_lines.specs.declared.form.Form.TheVariants.{Read, Write, BlockRead, BlockWrite, BlockFill, Modify, LocalRead, LocalWrite, LocalModify, Await}
+use Rattle.vme_lines.specs.declared.form.Form.TheVariants.{Read, Write, BlockRead, BlockWrite, BlockFill, Modify, LocalRead, LocalWrite, LocalModify, Await, Lock, Unlock, Put, Take}
 use Rattle.vme_lines.specs.declared.function.Function.TheVariants.{Set}
 use Rattle.vme_lines.specs.Forms.{Place, Word, Of, places, fields_of, forms}
 use Rattle.vme_lines.specs.Grammar.{go_by, form_of, operands_of, line_of_words}
 use Rattle.vme_lines.specs.Naming.{form_named, function_of, with_function, line_by, line_named}
+
+-- six bytes that name a form
+pub unlock_named :
+    (word : List ℕ) → 6 ≤ length word → length word < 7 → slice_index_or word 0 0 ≡ 117 → slice_index_or word 1 0 ≡ 110
+    → slice_index_or word 2 0 ≡ 108 → slice_index_or word 3 0 ≡ 111 → slice_index_or word 4 0 ≡ 99 → slice_index_or word 5 0 ≡ 107
+    → Some Unlock ≡ form_named word
+unfolding form_named
+unlock_named [] long short u n l o c k = absurd (omega arith)
+unlock_named (p ∷ []) long short u n l o c k = absurd (omega (arith, long))
+unlock_named (p ∷ q ∷ []) long short u n l o c k = absurd (omega (arith, long))
+unlock_named (p ∷ q ∷ r ∷ []) long short u n l o c k = absurd (omega (arith, long))
+unlock_named (p ∷ q ∷ r ∷ s ∷ []) long short u n l o c k = absurd (omega (arith, long))
+unlock_named (p ∷ q ∷ r ∷ s ∷ t ∷ []) long short u n l o c k = absurd (omega (arith, long))
+unlock_named (p ∷ q ∷ r ∷ s ∷ t ∷ v ∷ []) long short u n l o c k = rw (u, n, l, o, c, k) refl
+unlock_named (p ∷ q ∷ r ∷ s ∷ t ∷ v ∷ w ∷ more) long short u n l o c k = absurd (omega (arith, short))
 
 -- where no words are left, none goes against a place
 go_by_none : (more : List Place) → go_by true more [] ≡ true
@@ -122,6 +137,10 @@ word_of LocalRead = codes "lr"
 word_of LocalWrite = codes "lw"
 word_of (LocalModify function) = codes "lm"
 word_of Await = codes "await"
+word_of Lock = codes "lock"
+word_of Unlock = codes "unlock"
+word_of Put = codes "put"
+word_of Take = codes "take"
 
 -- its places begin with it
 own_first : (form : Form) → slice_get (places form) 0 ≡ Some (Word (word_of form))
@@ -135,6 +154,10 @@ own_first LocalRead = refl
 own_first LocalWrite = refl
 own_first (LocalModify function) = refl
 own_first Await = refl
+own_first Lock = refl
+own_first Unlock = refl
+own_first Put = refl
+own_first Take = refl
 
 -- a line that begins with it has that form, if it names its function
 pub own_word : (form : Form) (words : List (List ℕ)) → form_of (word_of form ∷ words) ≡ with_function form words
@@ -149,6 +172,10 @@ own_word LocalRead words = refl
 own_word LocalWrite words = refl
 own_word (LocalModify function) words = local_modify_named words
 own_word Await words = refl
+own_word Lock words = refl
+own_word Unlock words = refl
+own_word Put words = refl
+own_word Take words = refl
 
 -- the form that a word names is that of the line, if it names its function
 pub named :
@@ -180,6 +207,10 @@ by_first LocalRead word words = by_more _ word words
 by_first LocalWrite word words = by_more _ word words
 by_first (LocalModify function) word words = by_more _ word words
 by_first Await word words = by_more _ word words
+by_first Lock word words = by_more _ word words
+by_first Unlock word words = by_more _ word words
+by_first Put word words = by_more _ word words
+by_first Take word words = by_more _ word words
 
 -- a line whose first word names a form asks for what a line of that form does
 pub line_is_named :

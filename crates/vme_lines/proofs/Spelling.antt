@@ -6,11 +6,11 @@ use Rattle.std.specs.Str.{bytes_eq}
 use Rattle.std.proofs.lemmas.Bool.{cases_Bool, eqb-true, eq-eqb, ltb-false, le-ltb}
 use Rattle.std.proofs.lemmas.Slice.Eq.{bytes_eq-Decides}
 use Rattle.vme_lines.specs.declared.form.Form.{Form}
-use Rattle.vme_lines.specs.declared.form.Form.TheVariants.{Read, Write, BlockRead, BlockWrite, BlockFill, Modify, LocalRead, LocalWrite, LocalModify, Await}
+use Rattle.vme_lines.specs.declared.form.Form.TheVariants.{Read, Write, BlockRead, BlockWrite, BlockFill, Modify, LocalRead, LocalWrite, LocalModify, Await, Lock, Unlock, Put, Take}
 use Rattle.vme_lines.specs.declared.function.Function.{Function}
 use Rattle.vme_lines.specs.declared.function.Function.TheVariants.{Set, Exchange, Add, Compare}
 use Rattle.vme_lines.specs.declared.line.Line.{Line}
-use Rattle.vme_lines.specs.Words.{words_of}
+use Rattle.vme_words.specs.Words.{words_of}
 use Rattle.vme_lines.specs.Operands.{Operands, no_operands}
 use Rattle.vme_lines.specs.Fields.{with_field}
 use Rattle.vme_lines.specs.Forms.{Place, Word, Of, places, name_of, field_at, fields_of, forms, line_at}
@@ -65,6 +65,10 @@ found (LocalModify Exchange) (word (field a (field b (word rest)))) = own_word (
 found (LocalModify Add) (word (field a (field b (word rest)))) = own_word (LocalModify Add) _ ∙ rw (own_name Add) refl
 found (LocalModify Compare) (word (field a (field b (word rest)))) = own_word (LocalModify Compare) _ ∙ rw (own_name Compare) refl
 found Await (word rest) = own_word Await _
+found Lock (word rest) = own_word Lock _
+found Unlock (word rest) = own_word Unlock _
+found Put (word rest) = own_word Put _
+found Take (word rest) = own_word Take _
 
 -- words that go by the certain words, just as many as the places, and that spell each field, fill the places
 fills :
@@ -182,6 +186,10 @@ own_at LocalRead o = tt
 own_at LocalWrite o = tt
 own_at (LocalModify function) o = tt
 own_at Await o = tt
+own_at Lock o = tt
+own_at Unlock o = tt
+own_at Put o = tt
+own_at Take o = tt
 
 -- no line asks the local port for a cycle of the bus
 pub line_is_own : (text : List ℕ) (line : Line) → line_of text ≡ Ok (Some line) → IsOwnLine line

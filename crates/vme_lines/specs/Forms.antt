@@ -7,11 +7,11 @@ use Rattle.vme_memory.specs.declared.command.BoardCmd.TheVariants as commands
 use Rattle.vme_lines.specs.declared.line.Line.{Line}
 use Rattle.vme_lines.specs.declared.line.Line.TheVariants as lines
 use Rattle.vme_lines.specs.declared.form.Form.{Form}
-use Rattle.vme_lines.specs.declared.form.Form.TheVariants.{Read, Write, BlockRead, BlockWrite, BlockFill, Modify, LocalRead, LocalWrite, LocalModify, Await}
+use Rattle.vme_lines.specs.declared.form.Form.TheVariants.{Read, Write, BlockRead, BlockWrite, BlockFill, Modify, LocalRead, LocalWrite, LocalModify, Await, Lock, Unlock, Put, Take}
 use Rattle.vme_lines.specs.declared.function.Function.{Function}
 use Rattle.vme_lines.specs.declared.function.Function.TheVariants.{Set, Exchange, Add, Compare}
 use Rattle.vme_lines.specs.Operands.{Operands}
-use Rattle.vme_lines.specs.Fields.{Field, Name, Code, Address, Offset, Length, LocalLength, Count, Bytes, LocalBytes, BlockBytes, Expected, Datum}
+use Rattle.vme_lines.specs.Fields.{Field, Name, Code, Address, Offset, Length, LocalLength, Count, Bytes, LocalBytes, BlockBytes, Expected, Datum, Mailbox, FourBytes}
 
 -- what stands in a place of a line: one certain word, or a field (this project's own)
 pub data Place : Type 0 where
@@ -48,6 +48,10 @@ places LocalRead = Word (codes "lr") ∷ fields (Offset ∷ LocalLength ∷ [])
 places LocalWrite = Word (codes "lw") ∷ fields (Offset ∷ LocalBytes ∷ [])
 places (LocalModify function) = Word (codes "lm") ∷ fields (Offset ∷ LocalLength ∷ []) ++ function_places function
 places Await = Word (codes "await") ∷ fields (Code ∷ Address ∷ Bytes ∷ [])
+places Lock = Word (codes "lock") ∷ fields (Code ∷ Address ∷ [])
+places Unlock = Word (codes "unlock") ∷ fields (Code ∷ Address ∷ [])
+places Put = Word (codes "put") ∷ fields (Mailbox ∷ FourBytes ∷ [])
+places Take = Word (codes "take") ∷ fields (Mailbox ∷ [])
 
 -- the field that a place is read as: of a certain word nothing is left to read (this project's own)
 abbrev pub field_at : Place → Field
@@ -65,7 +69,7 @@ functions = Set ∷ Exchange ∷ Add ∷ Compare ∷ []
 -- all forms (this project's own)
 abbrev pub forms : List Form
 forms =
-    Read ∷ Write ∷ BlockRead ∷ BlockWrite ∷ BlockFill ∷ LocalRead ∷ LocalWrite ∷ Await
+    Read ∷ Write ∷ BlockRead ∷ BlockWrite ∷ BlockFill ∷ LocalRead ∷ LocalWrite ∷ Await ∷ Lock ∷ Unlock ∷ Put ∷ Take
     ∷ map Modify functions ++ map LocalModify functions
 
 -- a function with its data (this project's own)
@@ -87,3 +91,7 @@ line_at LocalRead o = lines.Local (commands.LocalRead o.addr o.n)
 line_at LocalWrite o = lines.Local (commands.LocalWrite o.addr (record { items = o.bytes }))
 line_at (LocalModify function) o = lines.Local (commands.LocalModify o.addr o.n (function_at function o))
 line_at Await o = lines.Await o.am o.addr (record { items = o.bytes })
+line_at Lock o = lines.Lock o.am o.addr
+line_at Unlock o = lines.Unlock o.am o.addr
+line_at Put o = lines.Put o.mailbox o.word
+line_at Take o = lines.Take o.mailbox

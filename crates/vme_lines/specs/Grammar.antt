@@ -7,9 +7,9 @@ use Rattle.vme_lines.specs.declared.fault.LineFault.{LineFault}
 use Rattle.vme_lines.specs.declared.fault.LineFault.TheVariants.{LineTooLong, UnknownWord, WordCount}
 use Rattle.vme_lines.specs.declared.form.Form.{Form}
 use Rattle.vme_lines.specs.declared.line.Line.{Line}
-use Rattle.vme_lines.specs.declared.line.Line.TheVariants.{Bus, Local, Await}
+use Rattle.vme_lines.specs.declared.line.Line.TheVariants.{Bus, Local, Await, Lock, Unlock, Put, Take}
 use Rattle.vme_memory.specs.declared.command.BoardCmd.TheVariants.{LocalRead, LocalWrite, LocalModify, Cycle}
-use Rattle.vme_lines.specs.Words.{words_of}
+use Rattle.vme_words.specs.Words.{words_of}
 use Rattle.vme_lines.specs.Operands.{Operands, no_operands}
 use Rattle.vme_lines.specs.Fields.{Field, with_field, fault_of}
 use Rattle.vme_lines.specs.Forms.{Place, Word, Of, places, fields_of, forms, line_at}
@@ -94,3 +94,7 @@ IsOwnLine (Local (LocalWrite offset bytes)) = Unit {0}
 IsOwnLine (Local (LocalModify offset n f)) = Unit {0}
 IsOwnLine (Local (Cycle signals at f)) = ⊥
 IsOwnLine (Await am addr bytes) = Unit {0}
+IsOwnLine (Lock am addr) = Unit {0}
+IsOwnLine (Unlock am addr) = Unit {0}
+IsOwnLine (Put mailbox number) = Unit {0}
+IsOwnLine (Take mailbox) = Unit {0}

@@ -1,4 +1,3 @@
-pub mod Words
 pub mod Operands
 pub mod Fields
 pub mod Forms

@@ -6,7 +6,7 @@ use Rattle.vme_lines.specs.declared.line.Line.{Line}
 use Rattle.vme_lines.specs.declared.fault.LineFault.{LineFault}
 use Rattle.vme_lines.specs.declared.fault.LineFault.TheVariants.{UnknownWord, WordCount}
 use Rattle.vme_lines.specs.declared.form.Form.{Form}
-use Rattle.vme_lines.specs.declared.form.Form.TheVariants.{Read, Write, BlockRead, BlockWrite, BlockFill, Modify, LocalRead, LocalWrite, LocalModify, Await}
+use Rattle.vme_lines.specs.declared.form.Form.TheVariants.{Read, Write, BlockRead, BlockWrite, BlockFill, Modify, LocalRead, LocalWrite, LocalModify, Await, Lock, Unlock, Put, Take}
 use Rattle.vme_lines.specs.declared.function.Function.{Function}
 use Rattle.vme_lines.specs.Forms.{name_of, functions, places, fields_of, forms, line_at}
 use Rattle.vme_lines.specs.Grammar.{◌>>=◌, go_by, operands_of}
@@ -36,6 +36,10 @@ with_function BlockFill words = Ok BlockFill
 with_function LocalRead words = Ok LocalRead
 with_function LocalWrite words = Ok LocalWrite
 with_function Await words = Ok Await
+with_function Lock words = Ok Lock
+with_function Unlock words = Ok Unlock
+with_function Put words = Ok Put
+with_function Take words = Ok Take
 
 -- what a line of a form asks for, by the words after its first (this project's own)
 unfoldable pub line_by : Form → List (List ℕ) → Result Line LineFault

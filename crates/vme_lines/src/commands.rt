@@ -1,7 +1,7 @@
 //! Lines that ask the own board for something by its local port, by the words after their first.
 ghost use Rattle.std.specs.Prelude.{◌≡◌};
 ghost use Rattle.vme_lines.specs.declared.form.Form.TheVariants as form;
-ghost use Rattle.vme_lines.specs.Words.{words};
+ghost use Rattle.vme_words.specs.Words.{words};
 ghost use Rattle.vme_lines.specs.Naming.{line_by};
 ghost use Rattle.vme_lines.specs.Modifies.{local_modify_line};
 
@@ -9,9 +9,9 @@ use crate::counted::{three_and_more, two_words};
 use crate::fault::LineFault;
 use crate::function::Function;
 use crate::line::Line;
-use crate::words::Words;
 use vme_memory::BoardCmd;
 use vme_numbers::{hex_number, local_bytes, local_number};
+use vme_words::Words;
 
 /// `lr`
 #[tactic(auto, unfolding(crate::specs::Naming::line_by, crate::specs::Grammar::operands_of, crate::specs::Fields::with_field))]

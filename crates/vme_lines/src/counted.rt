@@ -1,10 +1,21 @@
 //! Words counted: just so many of them, or so many and those after them.
 ghost use Rattle.std.specs.Prelude.{◌≡◌, ◌==◌, ◌∷◌, [], false, MatchOption, length};
 ghost use Rattle.std.specs.Option.{option_map};
-ghost use Rattle.vme_lines.specs.Words.{words};
+ghost use Rattle.vme_words.specs.Words.{words};
 ghost use Rattle.vme_lines.specs.Modifies.{three_and_more, four_and_more};
 
-use crate::words::Words;
+use vme_words::Words;
+
+pub(crate) fn one_word(mut operands: Words<'_>) -> Option<&[u8]>
+    ensures { MatchOption result ((length (words operands.entry.rest.now) == 1) ≡ false) (λ word.
+        words operands.entry.rest.now ≡ word.now ∷ []) }
+{
+    let word = operands.next()?;
+    if operands.next().is_some() {
+        return None;
+    }
+    Some(word)
+}
 
 pub(crate) fn two_words(mut operands: Words<'_>) -> Option<(&[u8], &[u8])>
     ensures { MatchOption result ((length (words operands.entry.rest.now) == 2) ≡ false) (λ w.

@@ -18,7 +18,7 @@ pub enum LineFault {
     /// S5: the address.
     #[error("S5")]
     BadAddress,
-    /// S6: the number of bytes, or of data.
+    /// S6: the number of bytes or of data, or that of a mailbox.
     #[error("S6")]
     BadNumber,
     /// S7: the bytes.

@@ -1,6 +1,6 @@
 //! The forms of lines.
 ghost use Rattle.std.specs.Prelude.{◌≡◌, ◌∷◌};
-ghost use Rattle.vme_lines.specs.Words.{words};
+ghost use Rattle.vme_words.specs.Words.{words};
 ghost use Rattle.vme_lines.specs.Grammar.{line_of_words};
 ghost use Rattle.vme_lines.specs.Naming.{form_named, line_named};
 
@@ -9,7 +9,8 @@ use crate::fault::LineFault;
 use crate::function::Function;
 use crate::line::Line;
 use crate::requests::{await_bytes, block_fill, block_read, block_write, modify, read, write};
-use crate::words::Words;
+use crate::shared::{lock, put, take, unlock};
+use vme_words::Words;
 
 /// The form of a line: what its first word says and, where it names a function, that.
 #[derive(Clone, Copy)]
@@ -24,11 +25,15 @@ pub(crate) enum Form {
     LocalWrite,
     LocalModify(Function),
     Await,
+    Lock,
+    Unlock,
+    Put,
+    Take,
 }
 
 impl Form {
     /// The first form whose first word this is.
-    #[tactic(auto, unfolding(crate::specs::Naming::form_named))]
+    #[tactic(auto, unfolding(crate::specs::Naming::form_named), using(crate::proofs::Naming::unlock_named))]
     fn named(word: &[u8]) -> Option<Form>
         ensures { result ≡ form_named word.now }
     {
@@ -43,6 +48,10 @@ impl Form {
             b"lw" => Some(Form::LocalWrite),
             b"lm" => Some(Form::LocalModify(Function::Set)),
             b"await" => Some(Form::Await),
+            b"lock" => Some(Form::Lock),
+            b"unlock" => Some(Form::Unlock),
+            b"put" => Some(Form::Put),
+            b"take" => Some(Form::Take),
             _ => None,
         }
     }
@@ -63,6 +72,10 @@ impl Form {
             Form::LocalWrite => local_write(operands),
             Form::LocalModify(_) => local_modify(operands),
             Form::Await => await_bytes(operands),
+            Form::Lock => lock(operands),
+            Form::Unlock => unlock(operands),
+            Form::Put => put(operands),
+            Form::Take => take(operands),
         }
     }
 }

@@ -1,6 +1,5 @@
-//! Lines of requests: a text cut into lines, what each line asks of the data transfer bus
-//! (ANSI/IEEE Std 1014-1987, chapter 2), and the texts of signals, outcomes and refusals. It knows
-//! no board and no device.
+//! Lines of requests: what each line asks of the data transfer bus (ANSI/IEEE Std 1014-1987,
+//! chapter 2), and the texts of signals, outcomes and refusals. It knows no board and no device.
 #![tactic(auto)]
 
 mod commands;
@@ -10,18 +9,14 @@ mod form;
 mod function;
 mod laws;
 mod line;
-mod lines;
-mod parts;
 mod print;
 mod requests;
-mod words;
+mod shared;
 
 pub use fault::LineFault;
 pub use laws::lines_are_spelled;
 pub use line::{LINE_LIMIT, Line, parse_line};
-pub use lines::Lines;
 pub use print::{
     print_berr, print_done, print_hex, print_line_refusal, print_old, print_read, print_refusal,
     print_signals,
 };
-pub use words::first_word;

@@ -4,10 +4,10 @@ ghost use Rattle.vme_lines.specs.Grammar.{line_of};
 
 use crate::fault::LineFault;
 use crate::form::line_of_words;
-use crate::words::words_of;
 use vme_cycle::Request;
 use vme_lanes::Datum;
 use vme_memory::BoardCmd;
+use vme_words::words_of;
 
 /// The greatest number of bytes of a line, without its end.
 pub const LINE_LIMIT: usize = 80;
@@ -21,6 +21,14 @@ pub enum Line {
     Local(BoardCmd),
     /// Reads of the bus, one after another, until these bytes are found.
     Await { am: u8, addr: u32, bytes: Datum },
+    /// A lock's byte is to be taken.
+    Lock { am: u8, addr: u32 },
+    /// A lock's byte is to be freed.
+    Unlock { am: u8, addr: u32 },
+    /// A word is to be put into a mailbox, which is told by its number.
+    Put { mailbox: u8, word: u32 },
+    /// A word is to be taken from a mailbox, which is told by its number.
+    Take { mailbox: u8 },
 }
 
 /// Reads a line, without its end. An empty line, a line of spaces and a comment ask for nothing.

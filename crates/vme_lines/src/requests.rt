@@ -1,7 +1,7 @@
 //! Lines that ask the bus for something, by the words after their first.
 ghost use Rattle.std.specs.Prelude.{◌≡◌};
 ghost use Rattle.vme_lines.specs.declared.form.Form.TheVariants as form;
-ghost use Rattle.vme_lines.specs.Words.{words};
+ghost use Rattle.vme_words.specs.Words.{words};
 ghost use Rattle.vme_lines.specs.Naming.{line_by};
 ghost use Rattle.vme_lines.specs.Modifies.{place_of, modify_line};
 
@@ -9,13 +9,13 @@ use crate::counted::{five_words, four_and_more, four_words, three_words};
 use crate::fault::LineFault;
 use crate::function::Function;
 use crate::line::Line;
-use crate::words::Words;
 use vme_cycle::Request;
-use vme_numbers::{count_number, exact_bytes, hex_bytes, hex_number, small_number};
+use vme_numbers::{decimal_number, exact_bytes, hex_bytes, hex_number, small_number};
+use vme_words::Words;
 
 /// The code and the address that two words spell.
 #[tactic(auto, unfolding(crate::specs::Modifies::place_of))]
-fn place_of(am: &[u8], addr: &[u8]) -> Result<(u8, u32), LineFault>
+pub(crate) fn place_of(am: &[u8], addr: &[u8]) -> Result<(u8, u32), LineFault>
     ensures { result ≡ place_of am.now addr.now }
 {
     let am = hex_number(2, am).ok_or(LineFault::BadCode)? as u8;
@@ -53,7 +53,7 @@ pub(crate) fn block_read(operands: Words<'_>) -> Result<Line, LineFault>
     let (am, addr, n, count) = four_words(operands).ok_or(LineFault::WordCount)?;
     let (am, addr) = place_of(am, addr)?;
     let n = small_number(n).ok_or(LineFault::BadNumber)?;
-    let count = count_number(count).ok_or(LineFault::BadNumber)?;
+    let count = decimal_number(4, count).ok_or(LineFault::BadNumber)?;
     Ok(Line::Bus(Request::BlockRead { am, addr, n, count }))
 }
 
@@ -77,7 +77,7 @@ pub(crate) fn block_fill(operands: Words<'_>) -> Result<Line, LineFault>
     let (am, addr, n, count, bytes) = five_words(operands).ok_or(LineFault::WordCount)?;
     let (am, addr) = place_of(am, addr)?;
     let n = small_number(n).ok_or(LineFault::BadNumber)?;
-    let count = count_number(count).ok_or(LineFault::BadNumber)?;
+    let count = decimal_number(4, count).ok_or(LineFault::BadNumber)?;
     let bytes = exact_bytes(n, bytes).ok_or(LineFault::BadBytes)?;
     Ok(Line::Bus(Request::BlockFill {
         am,

@@ -63,6 +63,6 @@ abbrev pub decimal_from : ℕ → List ℕ → Option ℕ
 decimal_from n [] = Some n
 decimal_from n (c ∷ cs) = option_and_then (λ d. decimal_from (10 * n + d) cs) (decimal_digit c)
 
--- the number that one to four decimal digits spell (this project's own)
-unfoldable pub count_number : List ℕ → Option ℕ
-count_number word = if nat_le 1 (length word) && nat_le (length word) 4 then decimal_from 0 word else None
+-- the number that one to so many decimal digits spell (this project's own)
+unfoldable pub decimal_number : ℕ → List ℕ → Option ℕ
+decimal_number most word = if nat_le 1 (length word) && nat_le (length word) most then decimal_from 0 word else None

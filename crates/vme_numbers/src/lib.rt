@@ -6,5 +6,5 @@
 mod numbers;
 
 pub use numbers::{
-    count_number, exact_bytes, hex_bytes, hex_number, local_bytes, local_number, small_number,
+    decimal_number, exact_bytes, hex_bytes, hex_number, local_bytes, local_number, small_number,
 };

@@ -1,7 +1,7 @@
 //! Numbers and bytes as words of a line.
 ghost use Rattle.std.specs.Prelude.{◌≡◌, ◌<◌, ◌≤◌, ◌^◌, IfSome};
 ghost use Rattle.std.specs.Option.{option_map};
-ghost use Rattle.vme_numbers.specs.Numbers.{hex_digit, hex_number, hex_bytes, exact_bytes, small_number, local_number, local_bytes, decimal_digit, count_number};
+ghost use Rattle.vme_numbers.specs.Numbers.{hex_digit, hex_number, hex_bytes, exact_bytes, small_number, local_number, local_bytes, decimal_digit, decimal_number};
 
 use arrayvec::ArrayVec;
 use vme_lanes::Datum;
@@ -110,12 +110,14 @@ fn decimal_digit(c: u8) -> Option<u8>
     }
 }
 
-/// The number that one to four decimal digits spell.
-#[tactic(auto, unfolding(crate::specs::Numbers::count_number))]
-pub fn count_number(word: &[u8]) -> Option<u16>
-    ensures { result ≡ count_number word.now }
+/// The number that one to `most` decimal digits spell.
+#[tactic(auto, unfolding(crate::specs::Numbers::decimal_number))]
+pub fn decimal_number(most: usize, word: &[u8]) -> Option<u16>
+    requires { most ≤ 4 }
+    ensures value { result ≡ decimal_number most word.now }
+    ensures small { IfSome result (λ n. n < 10 ^ most) }
 {
-    if word.is_empty() || 4 < word.len() {
+    if word.is_empty() || most < word.len() {
         return None;
     }
     let mut number: u16 = 0;

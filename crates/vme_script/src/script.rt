@@ -6,7 +6,8 @@ ghost use Rattle.vme_script.specs.Scripts.{script_of, lines_from, IsRefusalOf};
 use crate::fault::{ScriptFault, ScriptRefusal};
 use std::alloc::Global;
 use std::marker::Model;
-use vme_lines::{Line, Lines, parse_line};
+use vme_lines::{Line, parse_line};
+use vme_words::Lines;
 
 /// The greatest number of lines of a script.
 const MOST_LINES: u16 = 1000;

@@ -1,7 +1,7 @@
 //! Texts cut at a byte.
 ghost use Rattle.std.specs.Prelude.{◌≡◌, ◌==◌, MatchOption};
 ghost use Rattle.std.specs.List.{position};
-ghost use Rattle.vme_lines.specs.Words.{IsCut, IsUncut};
+ghost use Rattle.vme_words.specs.Words.{IsCut, IsUncut};
 
 /// The place of the first such byte.
 fn first_place(text: &[u8], byte: u8) -> Option<usize>

@@ -1,6 +1,6 @@
 use Rattle.std.proofs.Common.{◌≡◌, length}
-use Rattle.vme_lines.specs.Words.{words}
-use Rattle.vme_lines.proofs.words.split_word.Given as goal
+use Rattle.vme_words.specs.Words.{words}
+use Rattle.vme_words.proofs.words.split_word.Given as goal
 
 -- only empty parts were passed over
 abbrev pub invariant-loop-word : goal.invariant-loop-word

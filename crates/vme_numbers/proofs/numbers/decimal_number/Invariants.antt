@@ -1,6 +1,6 @@
 use Rattle.std.proofs.Common.{◌≡◌, ◌<◌, ◌^◌, drop}
 use Rattle.vme_numbers.specs.Numbers.{decimal_from}
-use Rattle.vme_numbers.proofs.numbers.count_number.Given as goal
+use Rattle.vme_numbers.proofs.numbers.decimal_number.Given as goal
 
 -- the digits that are left go on from the number so far
 abbrev pub invariant-loop-digit : goal.invariant-loop-digit

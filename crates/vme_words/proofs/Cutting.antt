@@ -6,7 +6,7 @@ use Rattle.std.specs.Str.Lines.{lines, lines_of_parts, strip_carriage_return}
 use Rattle.std.proofs.lemmas.Bool.{cases_Bool, cases_lt, ltb-true, lt-ltb, ne_eqb}
 use Rattle.std.proofs.lemmas.Option.{cond_some}
 use Rattle.std.proofs.lemmas.List.Splits.{slice_split_first, slice_split-cons_no, length-slice_split}
-use Rattle.vme_lines.specs.Words.{words, is_nonempty, IsCut, IsUncut}
+use Rattle.vme_words.specs.Words.{words, is_nonempty, IsCut, IsUncut}
 
 -- the test of a byte
 abbrev is_byte : ℕ → ℕ → Bool

@@ -2,7 +2,7 @@
 ghost use Rattle.std.specs.Prelude.{◌≡◌, [], ◌∷◌, MatchOption, slice_get};
 ghost use Rattle.std.specs.Option.{option_map};
 ghost use Rattle.std.specs.Iterator.{YieldsFirstRef, item_count};
-ghost use Rattle.vme_lines.specs.Words.{words, words_of};
+ghost use Rattle.vme_words.specs.Words.{words, words_of};
 
 use crate::parts::cut;
 
@@ -29,15 +29,15 @@ fn split_word(line: &[u8]) -> Option<(&[u8], &[u8])>
 
 /// The words of a line: the longest runs of bytes other than space.
 #[derive(Clone, Copy)]
-pub(crate) struct Words<'a> {
+pub struct Words<'a> {
     /// What is left of the line.
-    pub(crate) rest: &'a [u8],
+    pub rest: &'a [u8],
 }
 
 impl<'a> Words<'a> {
     /// The words of a line.
-    pub(crate) fn new(line: &'a [u8]) -> Words<'a>
-        ensures { result.rest.now ≡ line.now }
+    pub fn new(line: &'a [u8]) -> Words<'a>
+        ensures line { result.rest.now ≡ line.now }
     {
         Words { rest: line }
     }
@@ -65,8 +65,8 @@ impl<'a> Iterator for Words<'a> {
 }
 
 /// The words of a line: a comment has none.
-pub(crate) fn words_of(line: &[u8]) -> Words<'_>
-    ensures { words result.rest.now ≡ words_of line.now }
+pub fn words_of(line: &[u8]) -> Words<'_>
+    ensures words { words result.rest.now ≡ words_of line.now }
 {
     if line.first() == Some(&b'#') {
         return Words::new(&[]);
