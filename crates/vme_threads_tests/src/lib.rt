@@ -1,5 +1,5 @@
-//! Tests of scripts on threads: two processors that wait for each other, and four that add to one
-//! word. They stand apart so that `vme_threads` is not proved twice.
+//! Tests of scripts on threads: processors that wait for each other, that are held at a line, and
+//! that add to one word. They stand apart so that `vme_threads` is not proved twice.
 #![tactic(auto)]
 
 #[cfg(test)]

@@ -1,14 +1,19 @@
 //! Processors that add to one word: four of them, and as many as there are slots.
 use std::alloc::{AllocError, Global};
 use std::process::Abort;
+use std::sync::Wait;
 use std::test::Fail;
+use std::thread::Threads;
 use vme_master::Outcome;
 use vme_script::Config;
 use vme_shared::LineReply;
 use vme_threads::{Gate, Report, run_threads};
 
-/// How often each adds one.
-const LINES: usize = 100;
+/// How often each adds one where few lines do.
+const FEW: u16 = 100;
+
+/// How often each adds one where its script is as long as it may be.
+const MOST: u16 = 1000;
 
 /// Where the word is in its board.
 const OFFSET: u32 = 16;
@@ -47,8 +52,8 @@ impl Gate for Open {
     fn after(&self, _slot: u16, _line: u16) {}
 }
 
-/// A file of the first `count` boards.
-fn boards(alloc: Global, count: usize) -> Result<String, AllocError> {
+/// A file of the first `count` boards, each with so many lines.
+fn boards(alloc: Global, count: usize, lines: u16) -> Result<String, AllocError> {
     let mut text = String::new(alloc);
     for (number, place) in PLACES.iter().enumerate() {
         if count <= number {
@@ -57,7 +62,7 @@ fn boards(alloc: Global, count: usize) -> Result<String, AllocError> {
         text.push_str("[[board]]\n")?;
         text.push_str(place)?;
         text.push_str("\nsize = 32\nscript = \"\"\"\n")?;
-        for _ in 0..LINES {
+        for _ in 0..lines {
             text.push_str("m 09 00000010 4 add 00000001\n")?;
         }
         text.push_str("\"\"\"\n")?;
@@ -88,18 +93,22 @@ fn found(alloc: Global, report: &Report) -> Result<Vec<u32>, AllocError> {
     Ok(numbers)
 }
 
-/// The word's board made a step for each line, as many for each processor; the arbiter at least two.
-fn expect_steps(rt: &impl Abort, report: &Report, sum: u32) {
-    let Some(board) = report.boards.first() else {
+/// The word's board made a step for each line, as many for each processor, and the others none; the
+/// arbiter made at least two for each line.
+fn expect_steps(rt: &impl Abort, report: &Report, sum: u32, lines: u16) {
+    let [board, others @ ..] = report.boards.as_slice() else {
         panic!(rt; "no board")
     };
     assert_eq!(rt; board.steps, u64::from(sum));
     for made in &board.made {
-        assert_eq!(rt; *made, LINES as u64);
+        assert_eq!(rt; *made, u64::from(lines));
+    }
+    for other in others {
+        assert_eq!(rt; other.steps, 0);
     }
     let mut arbiter_steps = 0_u64;
     for made in &report.arbiter_made {
-        assert!(rt; 2 * LINES as u64 <= *made);
+        assert!(rt; 2 * u64::from(lines) <= *made);
         arbiter_steps = arbiter_steps.wrapping_add(*made);
     }
     assert_eq!(rt; report.arbiter_steps, arbiter_steps);
@@ -115,9 +124,9 @@ fn expect_word(rt: &impl Abort, report: &Report, word: [u8; 4]) {
     }
 }
 
-/// So many boards that add.
-fn adding(rt: &impl Abort, alloc: Global, count: usize) -> Result<Config, AllocError> {
-    let text = boards(alloc, count)?;
+/// So many boards that add, so often each.
+fn adding(rt: &impl Abort, alloc: Global, count: usize, lines: u16) -> Result<Config, AllocError> {
+    let text = boards(alloc, count, lines)?;
     let Ok(config) = Config::read(alloc, text.as_bytes()) else {
         panic!(rt; "refused")
     };
@@ -130,6 +139,7 @@ fn expect_sum(
     alloc: Global,
     report: &Report,
     word: [u8; 4],
+    lines: u16,
 ) -> Result<(), AllocError> {
     let sum = number_of(word.as_slice());
     let numbers = found(alloc, report)?;
@@ -137,27 +147,40 @@ fn expect_sum(
     for (i, number) in numbers.iter().enumerate() {
         assert_eq!(rt; *number as usize, i);
     }
-    expect_steps(rt, report, sum);
+    expect_steps(rt, report, sum, lines);
     expect_word(rt, report, word);
     Ok(())
 }
 
+/// So many boards add, so often each, and come to this word.
+fn add_up<R: Threads + Wait + Abort + Sync>(
+    rt: &R,
+    alloc: Global,
+    count: usize,
+    lines: u16,
+    word: [u8; 4],
+) -> Result<(), AllocError> {
+    let config = adding(rt, alloc, count, lines)?;
+    let Ok(report) = run_threads(rt, alloc, &config, &Open) else {
+        panic!(rt; "no report")
+    };
+    expect_sum(rt, alloc, &report, word, lines)
+}
+
 #[test]
 fn four_boards_add(rt: HostRuntime) -> Result<(), Fail> {
-    let config = adding(&rt, rt.alloc(), 4)?;
-    let Ok(report) = run_threads(&rt, rt.alloc(), &config, &Open) else {
-        panic!(&rt; "no report")
-    };
-    expect_sum(&rt, rt.alloc(), &report, [0, 0, 0x01, 0x90])?;
+    add_up(&rt, rt.alloc(), 4, FEW, [0, 0, 0x01, 0x90])?;
+    Ok(())
+}
+
+#[test]
+fn four_boards_add_with_the_longest_scripts(rt: HostRuntime) -> Result<(), Fail> {
+    add_up(&rt, rt.alloc(), 4, MOST, [0, 0, 0x0f, 0xa0])?;
     Ok(())
 }
 
 #[test]
 fn a_board_in_each_slot_adds(rt: HostRuntime) -> Result<(), Fail> {
-    let config = adding(&rt, rt.alloc(), 21)?;
-    let Ok(report) = run_threads(&rt, rt.alloc(), &config, &Open) else {
-        panic!(&rt; "no report")
-    };
-    expect_sum(&rt, rt.alloc(), &report, [0, 0, 0x08, 0x34])?;
+    add_up(&rt, rt.alloc(), 21, FEW, [0, 0, 0x08, 0x34])?;
     Ok(())
 }
