@@ -3,10 +3,20 @@
 //! good end.
 #![tactic(auto)]
 
+mod mailbox;
 mod outcome;
 mod reply;
+mod request;
+mod stage;
 mod status;
+mod task;
+mod todo;
+mod work;
 
+pub use mailbox::Mailbox;
 pub use outcome::SharedOutcome;
 pub use reply::LineReply;
+pub use request::SharedRequest;
 pub use status::Status;
+pub use task::SharedTask;
+pub use todo::SharedTodo;

@@ -1,0 +1,78 @@
+-- A lock, a put or a take as a machine, which keeps how far it has come in place of what it was given: for functions.
+use Rattle.std.specs.Prelude.{[], ◌∷◌, Option, Some, None, Result, Ok, Err}
+use Rattle.vme_cycle.specs.declared.fault.CycleFault.{CycleFault}
+use Rattle.vme_core.specs.declared.event.EventReply.{EventReply}
+use Rattle.vme_master.specs.declared.job.Job.{Job}
+use Rattle.vme_master.specs.Tables as tasks
+use Rattle.vme_master.specs.Tables.{Next, Given}
+use Rattle.vme_master.specs.Machine.{TaskView, fresh_task, advance, to_do}
+use Rattle.vme_shared.specs.declared.outcome.SharedOutcome.TheVariants as shared
+use Rattle.vme_shared.specs.declared.stage.Stage.{Stage}
+use Rattle.vme_shared.specs.declared.stage.Step.{Step}
+use Rattle.vme_shared.specs.declared.stage.Step.TheVariants.{Goes, Stops}
+use Rattle.vme_shared.specs.declared.work.Work.{Work}
+use Rattle.vme_shared.specs.declared.work.Work.TheVariants.{Moves, Over}
+use Rattle.vme_shared.specs.Mailboxes.{shared_refusal}
+use Rattle.vme_shared.specs.Steps.{first_stage, step_after}
+use Rattle.vme_shared.specs.Tables.{SharedJob, SharedNext, Ends, stage_job, task_shown}
+
+-- a lock, a put or a take: what is asked, and the transfer at work (this project's own)
+pub record SharedView : Type 0 where
+  pub job : SharedJob
+  pub work : Work
+
+-- the bus task of a stage before its first call (this project's own)
+abbrev pub stage_fresh : Stage → Result Job CycleFault → Work
+stage_fresh stage (Ok job) = Moves stage (fresh_task job)
+stage_fresh stage (Err fault) = Over shared.Berr
+
+-- the same after it (this project's own)
+abbrev pub stage_called : Stage → Result Job CycleFault → Work
+stage_called stage (Ok job) = Moves stage (advance (fresh_task job) None)
+stage_called stage (Err fault) = Over shared.Berr
+
+-- where a step leads (this project's own)
+abbrev pub work_stepped : SharedJob → Step → Work
+work_stepped s (Goes stage) = stage_called stage (stage_job s stage)
+work_stepped s (Stops end) = Over end
+
+-- a stage by what its bus task does next (this project's own)
+abbrev pub work_by : SharedJob → Stage → TaskView → Next → Work
+work_by s stage task (tasks.Ends outcome) = work_stepped s (step_after s.request stage outcome)
+work_by s stage task next = Moves stage task
+
+-- the transfer at work, after a call (this project's own)
+abbrev pub work_after : SharedJob → Work → Option EventReply → Work
+work_after s (Moves stage task) given = work_by s stage (advance task given) (to_do (advance task given))
+work_after s (Over end) given = Over end
+
+-- before the first call (this project's own)
+abbrev pub shared_fresh : SharedJob → SharedView
+shared_fresh s = record { job = s; work = stage_fresh (first_stage s.request) (stage_job s (first_stage s.request)) }
+
+-- what is asked, before the first call, or its refusal (this project's own)
+abbrev pub shared_started : SharedJob → Option CycleFault → Result SharedView CycleFault
+shared_started s None = Ok (shared_fresh s)
+shared_started s (Some fault) = Err fault
+
+-- what is asked of a lock or a mailbox, before the first call, or the first refusal (this project's own)
+abbrev pub shared_task : SharedJob → Result SharedView CycleFault
+shared_task s = shared_started s (shared_refusal s.request)
+
+-- after a call (this project's own)
+abbrev pub shared_advance : SharedView → Option EventReply → SharedView
+shared_advance v given = record { job = v.job; work = work_after v.job v.work given }
+
+-- after calls with what was given (this project's own)
+abbrev pub shared_given : SharedJob → Given → SharedView
+shared_given s [] = shared_fresh s
+shared_given s (last ∷ before) = shared_advance (shared_given s before) last
+
+-- what the transfer at work does next (this project's own)
+abbrev pub work_to_do : Work → SharedNext
+work_to_do (Moves stage task) = task_shown (to_do task)
+work_to_do (Over end) = Ends end
+
+-- what is done next (this project's own)
+abbrev pub shared_to_do : SharedView → SharedNext
+shared_to_do v = work_to_do v.work
