@@ -1,0 +1,168 @@
+//! Files that are damaged at any byte, and files that are no configuration, by the engine of `vme
+//! step`.
+use crate::rows::TORN_BLOCK;
+use std::alloc::{AllocError, Global};
+use std::process::Abort;
+use std::test::Fail;
+use vme_io::{RoomSink, SliceSource};
+use vme_program::{ProgramFault, Status, exit_status};
+use vme_step::step_engine;
+
+/// Runs a damaged file: there is a report, or else it is no configuration and nothing is written.
+fn expect_report_or_refusal(rt: &impl Abort, alloc: Global, file: &[u8]) -> Result<(), AllocError> {
+    let mut source = SliceSource::new(file, usize::MAX, usize::MAX);
+    let mut sink = RoomSink::new(alloc, usize::MAX, 4096)?;
+    let end = step_engine(alloc, &mut source, &mut sink);
+    assert!(rt; matches!(end, Ok(_) | Err(ProgramFault::Config(_))));
+    assert_eq!(rt; sink.bytes().is_empty(), end.is_err());
+    Ok(())
+}
+
+#[test]
+fn each_front_is_run_or_refused(rt: HostRuntime) -> Result<(), Fail> {
+    let file = TORN_BLOCK.input.as_bytes();
+    for end in 0..=file.len() {
+        expect_report_or_refusal(&rt, rt.alloc(), &file[..end])?;
+    }
+    Ok(())
+}
+
+#[test]
+fn with_each_byte_changed_is_run_or_refused(rt: HostRuntime) -> Result<(), Fail> {
+    let mut file = Vec::from_slice(rt.alloc(), TORN_BLOCK.input.as_bytes())?;
+    for byte in [0x00, 0x0a, 0x22, 0xff] {
+        for at in 0..file.len() {
+            let kept = file[at];
+            file[at] = byte;
+            expect_report_or_refusal(&rt, rt.alloc(), file.as_slice())?;
+            file[at] = kept;
+        }
+    }
+    Ok(())
+}
+
+/// Runs a file that is refused: what is told of it, with nothing written.
+fn expect_refusal(
+    rt: &impl Abort,
+    alloc: Global,
+    file: &[u8],
+    told: &str,
+) -> Result<(), AllocError> {
+    let mut source = SliceSource::new(file, usize::MAX, usize::MAX);
+    let mut sink = RoomSink::new(alloc, usize::MAX, 16)?;
+    let end = step_engine(alloc, &mut source, &mut sink);
+    assert_eq!(rt; exit_status(&end), 2, "{told}");
+    assert!(rt; sink.bytes().is_empty());
+    let Err(fault) = end else {
+        panic!(rt; "{told} is run")
+    };
+    assert_eq!(rt; fault.to_string(alloc)?.as_str(), told);
+    Ok(())
+}
+
+/// Files of one board or none, and what is told of them.
+static REFUSED: [(&str, &str); 17] = [
+    ("", "C11"),
+    (
+        "tries = 0\n[[board]]\nslot = 1\nbase = 0\nsize = 16\n",
+        "C12",
+    ),
+    (
+        "schedule = [[3, 1]]\n[[board]]\nslot = 1\nbase = 0\nsize = 16\n",
+        "C12",
+    ),
+    (
+        "schedule = [[1]]\n[[board]]\nslot = 1\nbase = 0\nsize = 16\n",
+        "C7",
+    ),
+    (
+        "schedule = [[1, 1000001]]\n[[board]]\nslot = 1\nbase = 0\nsize = 16\n",
+        "C12",
+    ),
+    ("[[board]]\nslot = 22\nbase = 0\nsize = 16\n", "C8"),
+    (
+        "[[board]]\nslot = 1\nbase = 0\nsize = 16\nlevel = 4\n",
+        "C9",
+    ),
+    (
+        "[[board]]\nslot = 1\nbase = 0\nsize = 16\nwidth = 16\nuat = true\n",
+        "C10",
+    ),
+    ("[[board]]\nslot = 1\nbase = 0\nsize = -4\n", "C7"),
+    ("[[board]]\nslot = 1\nbase = 4294967296\nsize = 16\n", "C7"),
+    ("[[board]]\nslot = 1\nbase = 0xfffffffc\nsize = 8\n", "C2"),
+    ("[[board]]\nslot = 1\nbase = 2\nsize = 16\n", "C3"),
+    ("[[board]]\nslot = 1\nbase = 0\nsize = 18\n", "C5"),
+    (
+        "[[board]]\nslot = 1\nbase = 0\nsize = 16\nscript = 'r 09",
+        "C6",
+    ),
+    (
+        "colour = 1\n[[board]]\nslot = 1\nbase = 0\nsize = 16\n",
+        "C7",
+    ),
+    (
+        "[[board]]\nslot = 1\nbase = 0\nsize = 4096\n[[board]]\nslot = 2\nbase = 4092\nsize = 16\n",
+        "C1",
+    ),
+    (
+        "[[board]]\nslot = 2\nbase = 0\nsize = 16\nscript = '''\n\n# none\nr 0g 00000000 1'''\n",
+        "C14 slot 2 line 3 S4",
+    ),
+];
+
+#[test]
+fn refuses_what_is_no_configuration(rt: HostRuntime) -> Result<(), Fail> {
+    for (file, told) in &REFUSED {
+        expect_refusal(&rt, rt.alloc(), file.as_bytes(), told)?;
+    }
+    expect_refusal(&rt, rt.alloc(), b"# \xff\n", "C6")?;
+    Ok(())
+}
+
+/// A file of one board, with a script of one line so many times.
+fn script_of(alloc: Global, line: &str, times: usize) -> Result<String, AllocError> {
+    let mut text = String::new(alloc);
+    text.push_str("[[board]]\nslot = 1\nbase = 0\nsize = 16\nscript = '''\n")?;
+    for _ in 0..times {
+        text.push_str(line)?;
+    }
+    text.push_str("'''\n")?;
+    Ok(text)
+}
+
+#[test]
+fn limits_scripts(rt: HostRuntime) -> Result<(), Fail> {
+    let whole = script_of(rt.alloc(), "\n", 1000)?;
+    let mut source = SliceSource::new(whole.as_bytes(), usize::MAX, usize::MAX);
+    let mut sink = RoomSink::new(rt.alloc(), usize::MAX, 4096)?;
+    assert_eq!(rt;
+        step_engine(rt.alloc(), &mut source, &mut sink),
+        Ok(Status::Clean)
+    );
+    let long = script_of(rt.alloc(), "\n", 1001)?;
+    expect_refusal(&rt, rt.alloc(), long.as_bytes(), "C14 slot 1 line 1001 S8")?;
+    let mut wide = String::new(rt.alloc());
+    wide.push('\n')?;
+    for _ in 0..81 {
+        wide.push('#')?;
+    }
+    let wide = script_of(rt.alloc(), wide.as_str(), 1)?;
+    expect_refusal(&rt, rt.alloc(), wide.as_bytes(), "C14 slot 1 line 2 S1")?;
+    Ok(())
+}
+
+/// A board whose last byte is the last of the space.
+static AT_THE_END: &str = "[[board]]\nslot = 1\nbase = 0xfffffffc\nsize = 4\n";
+
+#[test]
+fn runs_a_board_at_the_end_of_its_space(rt: HostRuntime) -> Result<(), Fail> {
+    let mut source = SliceSource::new(AT_THE_END.as_bytes(), usize::MAX, usize::MAX);
+    let mut sink = RoomSink::new(rt.alloc(), usize::MAX, 4096)?;
+    assert_eq!(rt;
+        step_engine(rt.alloc(), &mut source, &mut sink),
+        Ok(Status::Clean)
+    );
+    assert_eq!(rt; sink.bytes(), b"board 1 steps 0 made 0\n".as_slice());
+    Ok(())
+}

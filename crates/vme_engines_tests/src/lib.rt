@@ -1,0 +1,13 @@
+//! Tests of the three engines in hostile use: devices that fail at any byte, files that are damaged
+//! at any byte or refused, and refused memory. They stand apart so that the engines are not proved
+//! twice.
+#![tactic(auto)]
+
+#[cfg(test)]
+mod devices;
+#[cfg(test)]
+mod files;
+#[cfg(test)]
+mod memory;
+#[cfg(test)]
+mod rows;

@@ -1,0 +1,41 @@
+//! A run on threads where memory is refused.
+use crate::rows::TWO_WRITERS;
+use std::test::Fail;
+use vme_io::{RoomSink, SliceSource};
+use vme_program::{ProgramFault, Status, exit_status};
+use vme_run::run_engine;
+
+/// Run with memory refused: just that is told, or that a thread has none, with nothing written or a
+/// front of the report; else the whole report stands.
+#[test]
+fn runs_or_lacks_memory(rt: HostRuntime) {
+    let mut source = SliceSource::new(TWO_WRITERS.input.as_bytes(), usize::MAX, usize::MAX);
+    let Ok(mut sink) = RoomSink::new(rt.alloc(), usize::MAX, 4096) else {
+        return;
+    };
+    match run_engine(&rt, rt.alloc(), &mut source, &mut sink) {
+        Ok(status) => {
+            assert_eq!(&rt; status, Status::Clean);
+            assert_eq!(&rt; sink.bytes(), TWO_WRITERS.text.as_bytes());
+        }
+        Err(fault) => {
+            assert!(&rt; fault == ProgramFault::Memory || fault == ProgramFault::Thread);
+            assert!(&rt; TWO_WRITERS.text.as_bytes().starts_with(sink.bytes()));
+        }
+    }
+}
+
+/// The two faults that only a run on threads has.
+static FAULTS: [(ProgramFault, &str); 2] = [
+    (ProgramFault::Thread, "thread"),
+    (ProgramFault::Spent, "spent"),
+];
+
+#[test]
+fn tells_the_faults_of_threads(rt: HostRuntime) -> Result<(), Fail> {
+    for (fault, text) in &FAULTS {
+        assert_eq!(rt; fault.to_string(rt.alloc())?.as_str(), *text);
+        assert_eq!(rt; exit_status(&Err(*fault)), 3);
+    }
+    Ok(())
+}
