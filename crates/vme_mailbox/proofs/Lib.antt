@@ -1,1 +1,9 @@
+pub mod Bytes
+pub mod Places
+pub mod Steps
+pub mod Kept
+pub mod Rows
+pub mod Quiet
+pub mod Ordered
+pub mod Opening
 pub mod Example

@@ -9,6 +9,7 @@ use Rattle.vme_cycle.specs.declared.modify.Modify.TheVariants as functions
 use Rattle.vme_cycle.specs.declared.request.Request.{Request}
 use Rattle.vme_cycle.specs.declared.request.Request.TheVariants.{Read, Write, Modify}
 use Rattle.vme_cycle.specs.Requests.{addr_of, function_of}
+use Rattle.vme_cycle.specs.Lawful.{Transfer}
 use Rattle.vme_cycle.specs.Plans.{signals_of}
 use Rattle.vme_memory.specs.declared.class.Width8To32.TheVariants.{D32}
 use Rattle.vme_memory.specs.declared.command.BoardCmd.{BoardCmd}
@@ -26,12 +27,13 @@ example_board = record { bytes = zeros 24; class = record { width = D32; uat = f
 abbrev pub example_mailbox : BoardMailbox
 example_mailbox = record { offset = 0; slots = 2 }
 
+-- the transfer of a request with the code of data in A32 (this project's own)
+abbrev pub data_transfer : Request → Transfer
+data_transfer request = record { am = row 0x09 A32 DataAccess false; request = request }
+
 -- the entry of a master's cycle on this board (this project's own)
 abbrev pub cycle_by : ℕ → Request → Reply → Entry BoardCmd Reply
-cycle_by who request reply =
-    entry who
-    (Cycle (signals_of (record { am = row 0x09 A32 DataAccess false; request = request }) 0) (addr_of request) (function_of request))
-    reply
+cycle_by who request reply = entry who (Cycle (signals_of (data_transfer request) 0) (addr_of request) (function_of request)) reply
 
 -- a master locks the mailbox, and finds this byte there before (this project's own)
 abbrev pub locks : ℕ → ℕ → Entry BoardCmd Reply
@@ -45,7 +47,7 @@ reads_four who at found = cycle_by who (Read 0x09 at 4) (Bytes (record { items =
 abbrev pub writes : ℕ → ℕ → List ℕ → Entry BoardCmd Reply
 writes who at new = cycle_by who (Write 0x09 at (record { items = new })) Done
 
--- the bytes of the word 7, of the number one, and of zero (this project's own)
+-- the four bytes of a number below 256 (this project's own)
 abbrev pub quad : ℕ → List ℕ
 quad n = 0 ∷ 0 ∷ 0 ∷ n ∷ []
 

@@ -1,9 +1,26 @@
-ghost use Rattle.std.specs.Prelude.{◌≡◌, [], ◌∷◌};
-ghost use Rattle.vme_object.specs.History.{IsLegal};
+ghost use Rattle.std.specs.Prelude.{◌≡◌, ◌+◌, ◌≤◌, List, [], ◌∷◌, length};
+ghost use Rattle.vme_object.specs.declared.history.Entry.{Entry};
+ghost use Rattle.vme_object.specs.History.{IsLegal, Begins};
+ghost use Rattle.vme_memory.specs.declared.command.BoardCmd.{BoardCmd};
+ghost use Rattle.vme_memory.specs.declared.reply.Reply.{Reply};
+ghost use Rattle.vme_memory.specs.Boards.{Board};
 ghost use Rattle.vme_memory.specs.Locals.{board_step};
+ghost use Rattle.vme_mailbox.specs.Mailboxes.{BoardMailbox, IsNewMailbox};
 ghost use Rattle.vme_mailbox.specs.Phases.{IsProper};
 ghost use Rattle.vme_mailbox.specs.Words.{words_put, words_taken};
 ghost use Rattle.vme_mailbox.specs.Example.{example_board, example_mailbox, example_history, early_count_history};
+
+/// A mailbox is a queue: in every legal history of its board in which each master goes by the rows,
+/// from a new mailbox on, the words that are taken are the first of the words that are put, in their
+/// order, and at most as many more are put as it has slots.
+pub fn mailboxes_are_queues()
+    ensures order { (board : Board) (m : BoardMailbox) (h : List (Entry BoardCmd Reply)) →
+        IsNewMailbox board m → IsLegal board_step board h → IsProper m h →
+        Begins (words_taken m h) (words_put m h) }
+    ensures room { (board : Board) (m : BoardMailbox) (h : List (Entry BoardCmd Reply)) →
+        IsNewMailbox board m → IsLegal board_step board h → IsProper m h →
+        length (words_put m h) ≤ length (words_taken m h) + m.slots }
+{}
 
 /// The rows at work: a master puts a word, and another takes it, which found the mailbox held at
 /// first. A put that writes the count before the word does not go by the rows.

@@ -4,4 +4,4 @@
 
 mod laws;
 
-pub use laws::a_word_goes_through;
+pub use laws::{a_word_goes_through, mailboxes_are_queues};
