@@ -1,5 +1,7 @@
 -- What a lock, a put or a take is seen to do next.
-use Rattle.vme_core.specs.Calls.{call_of}
+use Rattle.std.specs.Prelude.{Option, Some, None}
+use Rattle.vme_core.specs.Calls.{Call, call_of}
+use Rattle.vme_shared.specs.declared.outcome.SharedOutcome.{SharedOutcome}
 use Rattle.vme_shared.specs.declared.todo.SharedTodo.{SharedTodo}
 use Rattle.vme_shared.specs.declared.todo.SharedTodo.TheVariants as todos
 use Rattle.vme_shared.specs.Tables.{SharedNext, Makes, Ends}
@@ -8,3 +10,13 @@ use Rattle.vme_shared.specs.Tables.{SharedNext, Makes, Ends}
 abbrev pub next_in : SharedTodo → SharedNext
 next_in (todos.Call event) = Makes (call_of event)
 next_in (todos.Finished outcome) = Ends outcome
+
+-- the call that is made next, if one is (this project's own)
+abbrev pub call_in : SharedNext → Option Call
+call_in (Makes call) = Some call
+call_in next = None
+
+-- the end, if it has come (this project's own)
+abbrev pub outcome_in : SharedNext → Option SharedOutcome
+outcome_in (Ends outcome) = Some outcome
+outcome_in next = None

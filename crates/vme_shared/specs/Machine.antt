@@ -1,8 +1,9 @@
 -- A lock, a put or a take as a machine, which keeps how far it has come in place of what it was given: for functions.
-use Rattle.std.specs.Prelude.{[], ◌∷◌, Option, Some, None, Result, Ok, Err}
+use Rattle.std.specs.Prelude.{◌≢◌, [], ◌∷◌, Option, Some, None, Result, Ok, Err}
 use Rattle.vme_cycle.specs.declared.fault.CycleFault.{CycleFault}
 use Rattle.vme_core.specs.declared.event.EventReply.{EventReply}
 use Rattle.vme_master.specs.declared.job.Job.{Job}
+use Rattle.vme_master.specs.declared.outcome.Outcome.{Outcome}
 use Rattle.vme_master.specs.Tables as tasks
 use Rattle.vme_master.specs.Tables.{Next, Given}
 use Rattle.vme_master.specs.Machine.{TaskView, fresh_task, advance, to_do}
@@ -20,6 +21,11 @@ use Rattle.vme_shared.specs.Tables.{SharedJob, SharedNext, Ends, stage_job, task
 pub record SharedView : Type 0 where
   pub job : SharedJob
   pub work : Work
+
+-- the bus task of a stage, or the refusal of its transfer (this project's own)
+abbrev pub stage_task : Result Job CycleFault → Result TaskView CycleFault
+stage_task (Ok job) = Ok (fresh_task job)
+stage_task (Err fault) = Err fault
 
 -- the bus task of a stage before its first call (this project's own)
 abbrev pub stage_fresh : Stage → Result Job CycleFault → Work
@@ -41,14 +47,23 @@ abbrev pub work_by : SharedJob → Stage → TaskView → Next → Work
 work_by s stage task (tasks.Ends outcome) = work_stepped s (step_after s.request stage outcome)
 work_by s stage task next = Moves stage task
 
+-- the transfer at work, or where a step leads, if one is taken (this project's own)
+abbrev pub work_or : SharedJob → Work → Option Step → Work
+work_or s work None = work
+work_or s work (Some step) = work_stepped s step
+
 -- the transfer at work, after a call (this project's own)
 abbrev pub work_after : SharedJob → Work → Option EventReply → Work
 work_after s (Moves stage task) given = work_by s stage (advance task given) (to_do (advance task given))
 work_after s (Over end) given = Over end
 
+-- the transfer that comes first, before its first call (this project's own)
+abbrev pub first_work : SharedJob → Work
+first_work s = stage_fresh (first_stage s.request) (stage_job s (first_stage s.request))
+
 -- before the first call (this project's own)
 abbrev pub shared_fresh : SharedJob → SharedView
-shared_fresh s = record { job = s; work = stage_fresh (first_stage s.request) (stage_job s (first_stage s.request)) }
+shared_fresh s = record { job = s; work = first_work s }
 
 -- what is asked, before the first call, or its refusal (this project's own)
 abbrev pub shared_started : SharedJob → Option CycleFault → Result SharedView CycleFault
@@ -76,3 +91,8 @@ work_to_do (Over end) = Ends end
 -- what is done next (this project's own)
 abbrev pub shared_to_do : SharedView → SharedNext
 shared_to_do v = work_to_do v.work
+
+-- the transfer at work has not ended (this project's own)
+abbrev pub IsGoing : Work → Type 0
+IsGoing (Moves stage task) = (outcome : Outcome) → to_do task ≢ tasks.Ends outcome
+IsGoing (Over end) = Unit {0}

@@ -6,7 +6,7 @@ use Rattle.vme_cycle.specs.declared.request.Request.{Request}
 use Rattle.vme_cycle.specs.declared.request.Request.TheVariants as cycles
 use Rattle.vme_cycle.specs.Functions.{number_bytes}
 use Rattle.vme_cycle.specs.Refusals.{first_of}
-use Rattle.vme_cycle.specs.Lawful.{Transfer, transfer_of}
+use Rattle.vme_cycle.specs.Lawful.{transfer_of}
 use Rattle.vme_shared.specs.declared.mailbox.Mailbox.{Mailbox}
 use Rattle.vme_shared.specs.declared.request.SharedRequest.{SharedRequest}
 use Rattle.vme_shared.specs.declared.request.SharedRequest.TheVariants.{Lock, Unlock, Put, Take}
@@ -82,15 +82,17 @@ stage_request (Put mailbox word) stage = mailbox_request mailbox stage
 stage_request (Take mailbox) stage = mailbox_request mailbox stage
 
 -- the refusal of a request, if it has one (this project's own)
-abbrev pub refusal_in : Result Transfer CycleFault → Option CycleFault
-refusal_in (Ok t) = None
+abbrev pub refusal_in : {T : Type 0} → Result T CycleFault → Option CycleFault
+refusal_in (Ok x) = None
 refusal_in (Err fault) = Some fault
 
 -- the refusal of a mailbox: that of the lock's transfer, else that of a read of the last word (this project's own)
 abbrev pub mailbox_refusal : Mailbox → Option CycleFault
 mailbox_refusal m =
     first_of
-    (refusal_in (transfer_of (set_lock m.am m.addr)) ∷ refusal_in (transfer_of (read_word m.am (word_at m (m.slots - 1)))) ∷ [])
+    (refusal_in (transfer_of (set_lock m.am m.addr))
+    ∷ refusal_in (transfer_of (read_word m.am (word_at m (m.slots - 1))))
+    ∷ [])
 
 -- the refusal of what is asked of a lock or a mailbox, if there is one (this project's own)
 abbrev pub shared_refusal : SharedRequest → Option CycleFault

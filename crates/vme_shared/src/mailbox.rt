@@ -1,3 +1,12 @@
+ghost use Rattle.std.specs.Prelude.{◌≡◌, ◌-◌};
+ghost use Rattle.vme_shared.specs.Mailboxes.{IsMailbox, put_count_at, take_count_at, word_at, set_lock, clear_lock, read_word, write_word, mailbox_request, refusal_in, mailbox_refusal};
+ghost use Rattle.vme_cycle.specs.Lawful.{transfer_of};
+
+use crate::stage::Stage;
+use crate::word::word_bytes;
+use vme_cycle::{CycleFault, Modify, Request, Transfer};
+use vme_lanes::Datum;
+
 /// A mailbox of words in the memory of a board: the code that its transfers have, the address of its
 /// first byte, and the number of words that it has room for.
 ///
@@ -8,4 +17,101 @@ pub struct Mailbox {
     pub am: u8,
     pub addr: u32,
     pub slots: u8,
+}
+
+impl Mailbox {
+    fn put_count_at(self) -> u32
+        requires { IsMailbox self }
+        ensures { result ≡ put_count_at self }
+    {
+        self.addr + 4
+    }
+
+    fn take_count_at(self) -> u32
+        requires { IsMailbox self }
+        ensures { result ≡ take_count_at self }
+    {
+        self.addr + 8
+    }
+
+    /// Where the word with this number lies.
+    fn word_at(self, number: u32) -> u32
+        requires { IsMailbox self }
+        ensures { result ≡ word_at self number }
+    {
+        self.addr + 16 + 4 * (number % u32::from(self.slots))
+    }
+
+    /// The refusal of the lock's transfer, or else of a read of the word that lies last.
+    pub(crate) fn check(self) -> Result<(), CycleFault>
+        requires { IsMailbox self }
+        ensures { refusal_in result ≡ mailbox_refusal self }
+    {
+        check_request(&set_lock(self.am, self.addr))?;
+        let last = self.word_at(u32::from(self.slots) - 1);
+        check_request(&read_word(self.am, last))
+    }
+
+    /// The transfer of a stage of a put or a take.
+    pub(crate) fn request(self, stage: Stage) -> Request
+        requires { IsMailbox self }
+        ensures { result ≡ mailbox_request self stage }
+    {
+        let am = self.am;
+        match stage {
+            Stage::Locks => set_lock(am, self.addr),
+            Stage::ReadsPutCount => read_word(am, self.put_count_at()),
+            Stage::ReadsTakeCount { .. } => read_word(am, self.take_count_at()),
+            Stage::WritesWord { put_count, word } => write_word(am, self.word_at(put_count), word),
+            Stage::RaisesPutCount { put_count } => {
+                write_word(am, self.put_count_at(), put_count.wrapping_add(1))
+            }
+            Stage::ReadsWord { take_count } => read_word(am, self.word_at(take_count)),
+            Stage::RaisesTakeCount { take_count, .. } => {
+                write_word(am, self.take_count_at(), take_count.wrapping_add(1))
+            }
+            Stage::Unlocks { .. } => clear_lock(am, self.addr),
+        }
+    }
+}
+
+/// The read-modify-write that takes a lock.
+pub(crate) fn set_lock(am: u8, addr: u32) -> Request
+    ensures { result ≡ set_lock am addr }
+{
+    Request::Modify {
+        am,
+        addr,
+        n: 1,
+        f: Modify::Set,
+    }
+}
+
+/// The write that gives a lock back.
+pub(crate) fn clear_lock(am: u8, addr: u32) -> Request
+    ensures { result ≡ clear_lock am addr }
+{
+    let bytes = Datum::try_from(&[0][..]).unwrap();
+    Request::Write { am, addr, bytes }
+}
+
+fn read_word(am: u8, addr: u32) -> Request
+    ensures { result ≡ read_word am addr }
+{
+    Request::Read { am, addr, n: 4 }
+}
+
+fn write_word(am: u8, addr: u32, word: u32) -> Request
+    ensures { result ≡ write_word am addr word }
+{
+    let bytes = word_bytes(word);
+    Request::Write { am, addr, bytes }
+}
+
+/// The refusal of a request.
+pub(crate) fn check_request(request: &Request) -> Result<(), CycleFault>
+    ensures { refusal_in result ≡ refusal_in (transfer_of request.now) }
+{
+    Transfer::of(request)?;
+    Ok(())
 }

@@ -1,4 +1,14 @@
-use crate::mailbox::Mailbox;
+ghost use Rattle.std.specs.Prelude.{◌≡◌, ℕ, List, Some};
+ghost use Rattle.vme_shared.specs.Mailboxes.{IsAsked, stage_request, refusal_in, shared_refusal};
+ghost use Rattle.vme_shared.specs.declared.request.SharedRequest.{SharedRequest as AnyRequest};
+ghost use Rattle.vme_shared.specs.Steps.{first_stage, has_top_bit, words_between, word_in, counted_stage, lock_step, unlock_step, mailbox_step, step_after};
+
+use crate::mailbox::{Mailbox, check_request, clear_lock, set_lock};
+use crate::outcome::SharedOutcome;
+use crate::stage::{Stage, Step};
+use crate::word::word_in;
+use vme_cycle::{CycleFault, Request};
+use vme_master::Outcome;
 
 /// What is asked of a lock or of a mailbox.
 #[derive(Clone, Copy, Debug, PartialEq, Eq)]
@@ -11,4 +21,179 @@ pub enum SharedRequest {
     Put { mailbox: Mailbox, word: u32 },
     /// To take a word from a mailbox.
     Take { mailbox: Mailbox },
+}
+
+impl SharedRequest {
+    /// The refusal of its transfers, if there is one.
+    pub(crate) fn check(self) -> Result<(), CycleFault>
+        requires { IsAsked self }
+        ensures { refusal_in result ≡ shared_refusal self }
+    {
+        match self {
+            SharedRequest::Lock { am, addr } => check_request(&set_lock(am, addr)),
+            SharedRequest::Unlock { am, addr } => check_request(&clear_lock(am, addr)),
+            SharedRequest::Put { mailbox, .. } | SharedRequest::Take { mailbox } => mailbox.check(),
+        }
+    }
+
+    pub(crate) fn first_stage(self) -> Stage
+        ensures { result ≡ first_stage self }
+    {
+        match self {
+            SharedRequest::Unlock { .. } => Stage::Unlocks {
+                end: SharedOutcome::Unlocked,
+            },
+            _ => Stage::Locks,
+        }
+    }
+
+    /// The transfer of a stage.
+    pub(crate) fn transfer(self, stage: Stage) -> Request
+        requires { IsAsked self }
+        ensures { result ≡ stage_request self stage }
+    {
+        match self {
+            SharedRequest::Lock { am, addr } => set_lock(am, addr),
+            SharedRequest::Unlock { am, addr } => clear_lock(am, addr),
+            SharedRequest::Put { mailbox, .. } | SharedRequest::Take { mailbox } => {
+                mailbox.request(stage)
+            }
+        }
+    }
+
+    /// Where the outcome of a stage's transfer leads.
+    pub(crate) fn step_after(self, stage: Stage, outcome: &Outcome) -> Step
+        ensures { result ≡ step_after self stage outcome.now }
+    {
+        match self {
+            SharedRequest::Lock { .. } => lock_step(outcome),
+            SharedRequest::Unlock { .. } => unlock_step(SharedOutcome::Unlocked, outcome),
+            SharedRequest::Put { .. } | SharedRequest::Take { .. } => {
+                self.mailbox_step(stage, outcome)
+            }
+        }
+    }
+
+    /// The same of a put or a take.
+    fn mailbox_step(self, stage: Stage, outcome: &Outcome) -> Step
+        ensures { result ≡ mailbox_step self stage outcome.now }
+    {
+        match (stage, outcome) {
+            (Stage::Locks, Outcome::Old(old)) => {
+                if has_top_bit(old.as_slice()) {
+                    Step::Stops(SharedOutcome::Busy)
+                } else {
+                    Step::Goes(Stage::ReadsPutCount)
+                }
+            }
+            (Stage::Locks, Outcome::Berr { .. }) => Step::Stops(SharedOutcome::Berr),
+            (Stage::Unlocks { end }, outcome) => unlock_step(end, outcome),
+            (_, Outcome::Berr { .. }) => Step::Goes(Stage::Unlocks {
+                end: SharedOutcome::Berr,
+            }),
+            (stage, Outcome::Read(bytes)) => match word_in(bytes.as_slice()) {
+                Some(word) => self.read_step(stage, word),
+                None => Step::Stops(SharedOutcome::Denied),
+            },
+            (stage, Outcome::Done) => write_step(stage),
+            _ => Step::Stops(SharedOutcome::Denied),
+        }
+    }
+
+    /// The same where a stage has read a count or a word.
+    fn read_step(self, stage: Stage, word: u32) -> Step
+        ensures { (bytes : List ℕ) → word_in bytes ≡ Some word →
+            result ≡ mailbox_step self stage (Outcome.Read (record { items = bytes })) }
+    {
+        match stage {
+            Stage::ReadsPutCount => Step::Goes(Stage::ReadsTakeCount { put_count: word }),
+            Stage::ReadsTakeCount { put_count } => Step::Goes(self.counted_stage(put_count, word)),
+            Stage::ReadsWord { take_count } => {
+                Step::Goes(Stage::RaisesTakeCount { take_count, word })
+            }
+            _ => Step::Stops(SharedOutcome::Denied),
+        }
+    }
+
+    /// The stage where both counts are known.
+    fn counted_stage(self, put_count: u32, take_count: u32) -> Stage
+        ensures { result ≡ counted_stage self put_count take_count }
+    {
+        match self {
+            SharedRequest::Put { mailbox, word } => {
+                if put_count == u32::MAX {
+                    Stage::Unlocks {
+                        end: SharedOutcome::Spent,
+                    }
+                } else if u32::from(mailbox.slots) <= words_between(put_count, take_count) {
+                    Stage::Unlocks {
+                        end: SharedOutcome::Full,
+                    }
+                } else {
+                    Stage::WritesWord { put_count, word }
+                }
+            }
+            _ if put_count == take_count => Stage::Unlocks {
+                end: SharedOutcome::Empty,
+            },
+            _ => Stage::ReadsWord { take_count },
+        }
+    }
+}
+
+/// Where a stage leads that has written.
+fn write_step(stage: Stage) -> Step
+    ensures { (request : AnyRequest) → result ≡ mailbox_step request stage Outcome.Done }
+{
+    match stage {
+        Stage::WritesWord { put_count, .. } => Step::Goes(Stage::RaisesPutCount { put_count }),
+        Stage::RaisesPutCount { .. } => Step::Goes(Stage::Unlocks {
+            end: SharedOutcome::Put,
+        }),
+        Stage::RaisesTakeCount { word, .. } => Step::Goes(Stage::Unlocks {
+            end: SharedOutcome::Took(word),
+        }),
+        Stage::Unlocks { end } => Step::Stops(end),
+        _ => Step::Stops(SharedOutcome::Denied),
+    }
+}
+
+/// Where the outcome of a lock's transfer leads.
+fn lock_step(outcome: &Outcome) -> Step
+    ensures { result ≡ lock_step outcome.now }
+{
+    Step::Stops(match outcome {
+        Outcome::Old(old) if has_top_bit(old.as_slice()) => SharedOutcome::Busy,
+        Outcome::Old(_) => SharedOutcome::Taken,
+        Outcome::Berr { .. } => SharedOutcome::Berr,
+        _ => SharedOutcome::Denied,
+    })
+}
+
+/// Where the outcome of an unlock's transfer leads, with what is told then.
+fn unlock_step(end: SharedOutcome, outcome: &Outcome) -> Step
+    ensures { result ≡ unlock_step end outcome.now }
+{
+    Step::Stops(match outcome {
+        Outcome::Done => end,
+        Outcome::Berr { .. } => SharedOutcome::Berr,
+        _ => SharedOutcome::Denied,
+    })
+}
+
+/// Whether bit 7 of the byte at the lowest address is set.
+fn has_top_bit(bytes: &[u8]) -> bool
+    ensures { result ≡ has_top_bit bytes.now }
+{
+    match bytes {
+        [byte, ..] => *byte >= 0x80,
+        [] => false,
+    }
+}
+
+/// How many words a mailbox has by its counts, modulo two to the power of 32.
+fn words_between(put_count: u32, take_count: u32) -> u32
+    ensures { result ≡ words_between put_count take_count }
+{
+    put_count.wrapping_sub(take_count)
 }

@@ -1,47 +1,116 @@
-ghost use Rattle.std.specs.Prelude.{◌≡◌};
-ghost use Rattle.vme_shared.specs.Machine.{shared_to_do};
+ghost use Rattle.std.specs.Prelude.{◌≡◌, ◌≢◌, ◌∷◌};
+ghost use Rattle.std.specs.Option.{option_map};
+ghost use Rattle.vme_core.specs.Calls.{call_of};
+ghost use Rattle.vme_master.specs.Tables.{Given};
+ghost use Rattle.vme_shared.specs.Mailboxes.{IsAsked};
+ghost use Rattle.vme_shared.specs.Tables.{SharedJob, Rests, shared_next};
+ghost use Rattle.vme_shared.specs.Machine.{shared_fresh, shared_task, shared_advance, shared_given, shared_to_do};
+ghost use Rattle.vme_shared.specs.Events.{next_in, call_in, outcome_in};
 
+use crate::asked::Asked;
+use crate::outcome::SharedOutcome;
 use crate::request::SharedRequest;
-use crate::stage::Stage;
+use crate::todo::SharedTodo;
 use crate::work::Work;
 use std::marker::Model;
+use vme_core::{Event, EventReply};
+use vme_cycle::CycleFault;
 use vme_decode::AddressMap;
 
-/// A lock, a put or a take at work.
+/// What a processor asks of a lock or a mailbox, call by call: each of its transfers is a bus task of
+/// its own, which begins at once where the one before has ended. It takes no memory.
 #[derive(Debug, Drop)]
 pub struct SharedTask<'a> {
-    map: &'a AddressMap,
-    slot: u16,
-    level: u8,
-    request: SharedRequest,
+    asked: Asked<'a>,
     work: Work,
 }
 
 impl<'a> Model for SharedTask<'a> {
-    ghost use Rattle.vme_shared.specs.Mailboxes.{IsAsked};
-    ghost use Rattle.vme_shared.specs.Tables.{SharedJob};
-    ghost use Rattle.vme_shared.specs.Machine.{SharedView};
+    ghost use Rattle.vme_shared.specs.Machine.{SharedView, IsGoing};
 
     ghost Value = { SharedView };
 
-    ghost view = { λ t. record {
-      job = record { map = t.map.now; slot = t.slot; level = t.level; request = t.request };
-      work = t.work;
-    } };
+    ghost view = { λ t. record { job = t.asked; work = t.work } };
 
-    ghost invariant = { λ t. IsAsked t.request };
+    ghost invariant = { λ t. IsGoing t.work };
 }
 
 impl<'a> SharedTask<'a> {
-    /// What is asked.
-    pub fn request(&self) -> SharedRequest
-        ensures { result ≡ self.now.job.request }
+    /// The task of what a slot asks of a lock or a mailbox, for which it requests the bus on a level;
+    /// or else the first refusal of its transfers.
+    pub fn start(
+        map: &'a AddressMap,
+        slot: u16,
+        level: u8,
+        request: SharedRequest,
+    ) -> Result<SharedTask<'a>, CycleFault>
+        requires { IsAsked request }
+        ensures { result
+            ≡ shared_task (record { map = map.now; slot = slot; level = level; request = request }) }
     {
-        self.request
+        request.check()?;
+        let asked = Asked::new(map, slot, level, request);
+        let work = asked.first_work();
+        Ok(SharedTask { asked, work })
     }
 
-    /// What is asked.
-    pub fn is_over(&self) -> bool {
-        matches!(self.work, Work::Over(_))
+    /// What it does next. The first call is given nothing, and each later one the reply to the event
+    /// that the call before it gave out.
+    pub fn next(&mut self, reply: Option<EventReply>) -> SharedTodo
+        ensures task { self.new ≡ shared_advance self.old reply }
+        ensures todo { next_in result ≡ shared_to_do self.new }
+        ensures table { (s : SharedJob) (before : Given) → self.old ≡ shared_given s before →
+            next_in result ≡ shared_next s (reply ∷ before) }
+    {
+        self.give(reply);
+        self.todo()
+    }
+
+    /// The first half of `next`, for a driver that asks for the event or the outcome apart: it is
+    /// given nothing at first, and then each time the reply to its event.
+    pub fn give(&mut self, reply: Option<EventReply>)
+        ensures task { self.new ≡ shared_advance self.old reply }
+        ensures begun { shared_to_do self.new ≢ Rests }
+    {
+        if let Some(step) = self.work.give(self.asked.request(), reply) {
+            self.work = self.asked.stepped(step);
+        }
+    }
+
+    /// The event that it makes next, where it has begun and has not ended.
+    pub fn event(&self) -> Option<Event>
+        ensures { option_map call_of result ≡ call_in (shared_to_do self.now) }
+    {
+        match &self.work {
+            Work::Moves { task, .. } => task.event(),
+            Work::Over(_) => None,
+        }
+    }
+
+    /// What came of it, where it has ended.
+    pub fn outcome(&self) -> Option<SharedOutcome>
+        ensures { result ≡ outcome_in (shared_to_do self.now) }
+    {
+        match &self.work {
+            Work::Moves { .. } => None,
+            Work::Over(end) => Some(*end),
+        }
+    }
+
+    /// The same task before its first call, to be done once more.
+    pub fn again(&mut self)
+        ensures { self.new ≡ shared_fresh self.old.job }
+    {
+        self.work = self.asked.first_work();
+    }
+
+    fn todo(&self) -> SharedTodo
+        requires { shared_to_do self.now ≢ Rests }
+        ensures { next_in result ≡ shared_to_do self.now }
+    {
+        match self.event() {
+            Some(event) => SharedTodo::Call(event),
+            None => SharedTodo::Finished(self.outcome().unwrap()),
+        }
     }
 }

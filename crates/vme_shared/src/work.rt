@@ -1,5 +1,11 @@
+ghost use Rattle.std.specs.Prelude.{◌≡◌, ◌≢◌, None};
+ghost use Rattle.vme_shared.specs.Tables.{SharedJob, Rests};
+ghost use Rattle.vme_shared.specs.Machine.{work_after, work_or, work_to_do, IsGoing};
+
 use crate::outcome::SharedOutcome;
-use crate::stage::Stage;
+use crate::request::SharedRequest;
+use crate::stage::{Stage, Step};
+use vme_core::EventReply;
 use vme_master::Task;
 
 /// The transfer at work, or the end.
@@ -9,4 +15,22 @@ pub enum Work {
     Moves { stage: Stage, task: Task },
     /// It has ended so.
     Over(SharedOutcome),
+}
+
+impl Work {
+    /// The transfer at work is given the reply to its event, or nothing. Where it has ended by that,
+    /// this is where its outcome leads.
+    #[tactic(auto, using(crate::proofs::Stands::by_outcome))]
+    pub(crate) fn give(&mut self, request: SharedRequest, reply: Option<EventReply>) -> Option<Step>
+        ensures work { (s : SharedJob) → s.request ≡ request → work_after s self.old reply ≡ work_or s self.new result }
+        ensures going { result ≡ None → IsGoing self.old → IsGoing self.new }
+        ensures begun { result ≡ None → work_to_do self.new ≢ Rests }
+    {
+        let Work::Moves { stage, task } = self else {
+            return None;
+        };
+        task.give(reply);
+        let outcome = task.outcome()?;
+        Some(request.step_after(*stage, &outcome))
+    }
 }

@@ -1,0 +1,111 @@
+ghost use Rattle.std.specs.Prelude.{◌≡◌, ◌≢◌};
+ghost use Rattle.vme_shared.specs.Tables.{Rests, stage_job};
+ghost use Rattle.vme_shared.specs.Machine.{stage_task, stage_called, work_stepped, first_work, work_to_do, IsGoing};
+
+use crate::outcome::SharedOutcome;
+use crate::request::SharedRequest;
+use crate::stage::{Stage, Step};
+use crate::work::Work;
+use std::marker::Model;
+use vme_cycle::CycleFault;
+use vme_decode::AddressMap;
+use vme_master::Task;
+
+/// What a slot asks of a lock or a mailbox, for which it requests the bus on a level.
+#[derive(Debug, Drop)]
+pub(crate) struct Asked<'a> {
+    map: &'a AddressMap,
+    slot: u16,
+    level: u8,
+    request: SharedRequest,
+}
+
+impl<'a> Model for Asked<'a> {
+    ghost use Rattle.vme_shared.specs.Mailboxes.{IsAsked};
+    ghost use Rattle.vme_shared.specs.Tables.{SharedJob};
+
+    ghost Value = { SharedJob };
+
+    ghost view = { λ a. record { map = a.map.now; slot = a.slot; level = a.level; request = a.request } };
+
+    ghost invariant = { λ a. IsAsked a.request };
+}
+
+impl<'a> Asked<'a> {
+    ghost use Rattle.vme_shared.specs.Mailboxes.{IsAsked};
+
+    pub(crate) fn new(
+        map: &'a AddressMap,
+        slot: u16,
+        level: u8,
+        request: SharedRequest,
+    ) -> Asked<'a>
+        requires { IsAsked request }
+        ensures { result ≡ record { map = map.now; slot = slot; level = level; request = request } }
+    {
+        Asked {
+            map,
+            slot,
+            level,
+            request,
+        }
+    }
+
+    pub(crate) fn request(&self) -> SharedRequest
+        ensures value { result ≡ self.now.request }
+        ensures asked { IsAsked result }
+    {
+        self.request
+    }
+
+    /// The transfer that comes first, before its first call.
+    pub(crate) fn first_work(&self) -> Work
+        ensures work { result ≡ first_work self.now }
+        ensures going { IsGoing result }
+    {
+        let stage = self.request.first_stage();
+        match self.task(stage) {
+            Ok(task) => Work::Moves { stage, task },
+            Err(_) => Work::Over(SharedOutcome::Berr),
+        }
+    }
+
+    /// Where a step leads: the next transfer begins at once.
+    pub(crate) fn stepped(&self, step: Step) -> Work
+        ensures work { result ≡ work_stepped self.now step }
+        ensures going { IsGoing result }
+        ensures begun { work_to_do result ≢ Rests }
+    {
+        match step {
+            Step::Goes(stage) => self.called(stage),
+            Step::Stops(end) => Work::Over(end),
+        }
+    }
+
+    /// The transfer of a stage after its first call.
+    fn called(&self, stage: Stage) -> Work
+        ensures work { result ≡ stage_called stage (stage_job self.now stage) }
+        ensures going { IsGoing result }
+        ensures begun { work_to_do result ≢ Rests }
+    {
+        match self.task(stage) {
+            Ok(mut task) => {
+                task.give(None);
+                Work::Moves { stage, task }
+            }
+            Err(_) => Work::Over(SharedOutcome::Berr),
+        }
+    }
+
+    /// The bus task of a stage.
+    fn task(&self, stage: Stage) -> Result<Task, CycleFault>
+        ensures { result ≡ stage_task (stage_job self.now stage) }
+    {
+        Task::start(
+            self.map,
+            self.slot,
+            self.level,
+            &self.request.transfer(stage),
+        )
+    }
+}
