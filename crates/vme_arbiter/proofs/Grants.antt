@@ -4,77 +4,88 @@ use Rattle.std.specs.Prelude.{All, Contains, ◌⊎◌}
 use Rattle.std.specs.List.{list_any}
 use Rattle.std.proofs.lemmas.Bool.{lt-ltb, le-ltb, ltb-true, eqb-true, ne_eqb, eq-eqb, or_left, or_right, or_cases, or_parts, or_from, and_from, and_parts, and_left, and_right, not-true, cases_Bool, cases_order, not_from_true, not_from_false, false≢true}
 use Rattle.std.proofs.lemmas.Option.{same_Some}
-use Rattle.std.proofs.lemmas.List.Elements.{All-nil, All-cons, All-head, All-tail, All-weaker}
+use Rattle.std.proofs.lemmas.List.Elements.{All-nil, All-cons, All-head, All-tail, All-weaker, All-contains}
 use Rattle.std.proofs.lemmas.List.Folds.{list_any_at, list_any_none}
-use Rattle.vme_arbiter.specs.Requests.{BusRequest, goes_before, next_request}
+use Rattle.vme_arbiter.specs.Levels.{level_order, stands_before}
+use Rattle.vme_arbiter.specs.Requests.{BusRequest, goes_before, next_request, is_level}
 use Rattle.vme_arbiter.specs.Grants.{IsBehind, IsNext}
+use Rattle.vme_arbiter.proofs.Orders.{before-irreflexive, before-transitive, before-asymmetric, before-apart, before-total}
 
 -- requests on the same level and of the same slot are the same
-same_request : (a b : BusRequest) → a.level ≡ b.level → a.slot ≡ b.slot → a ≡ b
+pub same_request : (a b : BusRequest) → a.level ≡ b.level → a.slot ≡ b.slot → a ≡ b
 same_request a b level slot = λ i. record { level = level i; slot = slot i }
 
 -- what it is to go before another
-before-cases : (a b : BusRequest) → goes_before a b ≡ true → (b.level < a.level) ⊎ ((a.level ≡ b.level) × (a.slot < b.slot))
-before-cases a b before =
+before-cases : (levels : List ℕ) (a b : BusRequest) → goes_before levels a b ≡ true
+    → (stands_before levels a.level b.level ≡ true) ⊎ ((a.level ≡ b.level) × (a.slot < b.slot))
+before-cases levels a b before =
     elim (or_cases _ _ before) [
-      | inl greater ↦ inl (ltb-true b.level a.level greater)
+      | inl greater ↦ inl greater
       | inr both ↦ let parts = and_parts _ _ both in inr (eqb-true a.level b.level parts.0, ltb-true a.slot b.slot parts.1)
     ]
 
-greater-before : (a b : BusRequest) → b.level < a.level → goes_before a b ≡ true
-greater-before a b greater = or_left _ _ (lt-ltb b.level a.level greater)
+lower-before : (levels : List ℕ) (a b : BusRequest) → a.level ≡ b.level → a.slot < b.slot → goes_before levels a b ≡ true
+lower-before levels a b level slot = or_right _ _ (and_from _ _ (eq-eqb a.level b.level level) (lt-ltb a.slot b.slot slot))
 
-lower-before : (a b : BusRequest) → a.level ≡ b.level → a.slot < b.slot → goes_before a b ≡ true
-lower-before a b level slot = or_right _ _ (and_from _ _ (eq-eqb a.level b.level level) (lt-ltb a.slot b.slot slot))
+-- a level stands before none that is the same
+not_before_same : (levels : List ℕ) (a b : ℕ) → a ≡ b → stands_before levels a b ≡ false
+not_before_same levels a b same = ap (λ l. stands_before levels l b) same ∙ before-irreflexive levels b
 
 -- a request that is behind another does not go before it
-behind-not_before : (next other : BusRequest) → IsBehind next other → goes_before other next ≡ false
-behind-not_before next other (inl same) =
-    ap (λ r. goes_before r next) same
-    ∙ or_from _ _ (le-ltb next.level next.level (omega arith)) (and_right _ _ (le-ltb next.slot next.slot (omega arith)))
-behind-not_before next other (inr (inl lower)) =
-    or_from _ _ (le-ltb next.level other.level (omega arith)) (and_left _ _ (ne_eqb other.level next.level (λ same. absurd (omega arith))))
-behind-not_before next other (inr (inr greater)) =
-    or_from _ _ (le-ltb next.level other.level (omega (arith, greater.0))) (and_right _ _ (le-ltb other.slot next.slot (omega (arith, greater.1))))
+behind-not_before : (levels : List ℕ) (next other : BusRequest) → IsBehind levels next other → goes_before levels other next ≡ false
+behind-not_before levels next other (inl same) =
+    or_from _ _ (not_before_same levels other.level next.level (ap (λ r. r.level) same))
+    (and_right _ _ (let at = ap (λ (r : BusRequest). r.slot) same in le-ltb other.slot next.slot (omega arith)))
+behind-not_before levels next other (inr (inl later)) =
+    or_from _ _ (before-asymmetric levels next.level other.level later)
+    (and_left _ _ (ne_eqb other.level next.level (λ same. before-apart levels next.level other.level later (sym same))))
+behind-not_before levels next other (inr (inr greater)) =
+    or_from _ _ (not_before_same levels other.level next.level greater.0)
+    (and_right _ _ (le-ltb other.slot next.slot (omega (arith, greater.1))))
 
 -- a request that is behind the next one is that one, or the next one goes before it
-behind-before : (next other : BusRequest) → IsBehind next other → (other ≡ next) ⊎ (goes_before next other ≡ true)
-behind-before next other (inl same) = inl same
-behind-before next other (inr (inl lower)) = inr (greater-before next other lower)
-behind-before next other (inr (inr greater)) = inr (lower-before next other (sym greater.0) greater.1)
+behind-before : (levels : List ℕ) (next other : BusRequest) → IsBehind levels next other
+    → (other ≡ next) ⊎ (goes_before levels next other ≡ true)
+behind-before levels next other (inl same) = inl same
+behind-before levels next other (inr (inl later)) = inr (or_left _ _ later)
+behind-before levels next other (inr (inr greater)) = inr (lower-before levels next other (sym greater.0) greater.1)
 
 -- a request that does not go before another is behind it
-not_before-behind : (next other : BusRequest) → goes_before other next ≡ false → IsBehind next other
-not_before-behind next other not_before =
-    elim (cases_order other.level next.level) [
-      | inr (inl lower) ↦ inr (inl lower)
-      | inr (inr greater) ↦ absurd (false≢true (sym not_before ∙ greater-before other next greater))
+not_before-behind : (first : ℕ) (next other : BusRequest) → first < 4 → is_level next.level ≡ true → is_level other.level ≡ true
+    → goes_before (level_order first) other next ≡ false → IsBehind (level_order first) next other
+not_before-behind first next other first< next_ok other_ok not_before =
+    let apart = or_parts _ _ not_before in
+    elim (before-total first other.level next.level first< (ltb-true other.level 4 other_ok) (ltb-true next.level 4 next_ok)) [
+      | inr (inl before) ↦ absurd (false≢true (sym apart.0 ∙ before))
+      | inr (inr later) ↦ inr (inl later)
       | inl level ↦
           elim (cases_order other.slot next.slot) [
             | inl slot ↦ inl (same_request other next level slot)
-            | inr (inl lower) ↦ absurd (false≢true (sym not_before ∙ lower-before other next level lower))
+            | inr (inl lower) ↦ absurd (false≢true (sym not_before ∙ lower-before (level_order first) other next level lower))
             | inr (inr greater) ↦ inr (inr (level, greater))
           ]
     ]
 
 -- what is behind a request is behind one that goes before it
-behind-later : (next other first : BusRequest) → IsBehind next other → goes_before first next ≡ true → IsBehind first other
-behind-later next other first behind before =
+behind-later : (levels : List ℕ) (next other first : BusRequest) → IsBehind levels next other → goes_before levels first next ≡ true
+    → IsBehind levels first other
+behind-later levels next other first behind before =
     elim behind [
       | inl same ↦
-          elim (before-cases first next before) [
-            | inl greater ↦ inr (inl (subst (λ (r : BusRequest). r.level < first.level) (sym same) greater))
+          elim (before-cases levels first next before) [
+            | inl earlier ↦
+                inr (inl (subst (λ (r : BusRequest). stands_before levels first.level r.level ≡ true) (sym same) earlier))
             | inr lower ↦
                 inr (inr (ap (λ r. r.level) same ∙ sym lower.0, subst (λ (r : BusRequest). first.slot < r.slot) (sym same) lower.1))
           ]
-      | inr (inl lower) ↦
-          elim (before-cases first next before) [
-            | inl greater ↦ inr (inl (omega arith))
-            | inr same ↦ inr (inl (omega (arith, same.0)))
+      | inr (inl later) ↦
+          elim (before-cases levels first next before) [
+            | inl earlier ↦ inr (inl (before-transitive levels first.level next.level other.level earlier later))
+            | inr same ↦ inr (inl (ap (λ l. stands_before levels l other.level) same.0 ∙ later))
           ]
       | inr (inr later) ↦
-          elim (before-cases first next before) [
-            | inl greater ↦ inr (inl (omega (arith, later.0)))
+          elim (before-cases levels first next before) [
+            | inl earlier ↦ inr (inl (ap (stands_before levels first.level) later.0 ∙ earlier))
             | inr lower ↦ inr (inr (later.0 ∙ sym lower.0, omega (arith, lower.1, later.1)))
           ]
     ]
@@ -114,63 +125,101 @@ find-found test (x ∷ xs) next found =
           ((suc rest.0.0, omega (arith, rest.0.1), rest.0.2), rest.1)
     ]
 
+-- where none goes before a request, each is behind it
+behind_all : (first : ℕ) (next : BusRequest) (xs : List BusRequest) → first < 4 → is_level next.level ≡ true
+    → All (λ r. is_level r.level ≡ true) xs → All (λ x. goes_before (level_order first) x next ≡ false) xs
+    → All (IsBehind (level_order first) next) xs
+behind_all first next [] first< next_ok levels_ok fails = All-nil (IsBehind (level_order first) next)
+behind_all first next (x ∷ xs) first< next_ok levels_ok fails =
+    let P : BusRequest → Type 0 = λ r. is_level r.level ≡ true in
+    let F : BusRequest → Type 0 = λ r. goes_before (level_order first) r next ≡ false in
+    All-cons (IsBehind (level_order first) next) x xs
+    (not_before-behind first next x first< next_ok (All-head P x xs levels_ok) (All-head F x xs fails))
+    (behind_all first next xs first< next_ok (All-tail P x xs levels_ok) (All-tail F x xs fails))
+
 -- the one that is before all others is granted
-pub next-granted : (pending : List BusRequest) (next : BusRequest) → IsNext pending next → next_request pending ≡ Some next
-next-granted pending next is_next =
-    let test = λ (r : BusRequest). not (list_any (λ other. goes_before other r) pending) in
-    let none = list_any_none (λ other. goes_before other next) pending
-    (All-weaker (IsBehind next) (λ other. goes_before other next ≡ false) (behind-not_before next) pending is_next.first) in
+pub next-granted : (levels : List ℕ) (pending : List BusRequest) (next : BusRequest) → IsNext levels pending next
+    → next_request levels pending ≡ Some next
+next-granted levels pending next is_next =
+    let test = λ (r : BusRequest). not (list_any (λ other. goes_before levels other r) pending) in
+    let none = list_any_none (λ other. goes_before levels other next) pending
+    (All-weaker (IsBehind levels next) (λ other. goes_before levels other next ≡ false) (behind-not_before levels next) pending is_next.first) in
     find-sole test pending next is_next.pends.0 is_next.pends.1 is_next.pends.2 (not_from_false _ none)
-    (All-weaker (IsBehind next) (λ x. test x ≡ true → x ≡ next)
-    (λ x behind passes. elim (behind-before next x behind) [
+    (All-weaker (IsBehind levels next) (λ x. test x ≡ true → x ≡ next)
+    (λ x behind passes. elim (behind-before levels next x behind) [
       | inl same ↦ same
       | inr before ↦
-          let one = list_any_at (λ other. goes_before other x) pending is_next.pends.0 next is_next.pends.1
-          (ap (λ r. goes_before r x) is_next.pends.2 ∙ before) in
+          let one = list_any_at (λ other. goes_before levels other x) pending is_next.pends.0 next is_next.pends.1
+          (ap (λ r. goes_before levels r x) is_next.pends.2 ∙ before) in
           absurd (false≢true (sym (not_from_true _ one) ∙ passes))
     ]) pending is_next.first)
 
--- and what is granted is before all others
-pub granted-next : (pending : List BusRequest) (next : BusRequest) → next_request pending ≡ Some next → IsNext pending next
-granted-next pending next is_granted =
-    let test = λ (r : BusRequest). not (list_any (λ other. goes_before other r) pending) in
+-- what is granted is one of the set
+pub granted-pends : (levels : List ℕ) (pending : List BusRequest) (next : BusRequest) → next_request levels pending ≡ Some next
+    → Contains pending next
+granted-pends levels pending next is_granted =
+    (find-found (λ (r : BusRequest). not (list_any (λ other. goes_before levels other r) pending)) pending next is_granted).0
+
+-- and is before all others
+pub granted-next : (first : ℕ) (pending : List BusRequest) (next : BusRequest) → is_level first ≡ true
+    → All (λ r. is_level r.level ≡ true) pending → next_request (level_order first) pending ≡ Some next
+    → IsNext (level_order first) pending next
+granted-next first pending next first_ok levels_ok is_granted =
+    let levels = level_order first in
+    let test = λ (r : BusRequest). not (list_any (λ other. goes_before levels other r) pending) in
     let found = find-found test pending next is_granted in
-    record {
-      pends = found.0;
-      first =
-          All-weaker (λ other. goes_before other next ≡ false) (IsBehind next) (not_before-behind next) pending
-          (each_fails (λ other. goes_before other next) pending (not-true _ found.1));
-    }
+    let next_ok = All-contains (λ r. is_level r.level ≡ true) pending next levels_ok found.0 in
+    let fails = each_fails (λ other. goes_before levels other next) pending (not-true _ found.1) in
+    record { pends = found.0; first = behind_all first next pending (ltb-true first 4 first_ok) next_ok levels_ok fails }
 
 -- where something pends, one is before all others
-some_next : (r : BusRequest) (pending : List BusRequest) → (next : BusRequest) × IsNext (r ∷ pending) next
-some_next r [] =
-    (r, record { pends = (0, omega arith, refl); first = All-cons (IsBehind r) r [] (inl refl) (All-nil (IsBehind r)) })
-some_next r (s ∷ pending) =
-    let rest = some_next s pending in
-    elim (cases_Bool (goes_before r rest.0)) [
+some_next : (first : ℕ) (r : BusRequest) (pending : List BusRequest) → is_level first ≡ true
+    → All (λ r. is_level r.level ≡ true) (r ∷ pending) → (next : BusRequest) × IsNext (level_order first) (r ∷ pending) next
+some_next first r [] first_ok levels_ok =
+    let levels = level_order first in (
+      r,
+      record {
+        pends = (0, omega arith, refl);
+        first = All-cons (IsBehind levels r) r [] (inl refl) (All-nil (IsBehind levels r));
+      },
+    )
+some_next first r (s ∷ pending) first_ok levels_ok =
+    let levels = level_order first in
+    let P : BusRequest → Type 0 = λ r. is_level r.level ≡ true in
+    let rest = some_next first s pending first_ok (All-tail P r (s ∷ pending) levels_ok) in
+    let rest_ok = All-contains P (s ∷ pending) rest.0 (All-tail P r (s ∷ pending) levels_ok) rest.1.pends in
+    elim (cases_Bool (goes_before levels r rest.0)) [
       | inl before ↦ (
         r,
         record {
           pends = (0, omega arith, refl);
           first =
-              All-cons (IsBehind r) r (s ∷ pending) (inl refl)
-              (All-weaker (IsBehind rest.0) (IsBehind r) (λ x behind. behind-later rest.0 x r behind before) (s ∷ pending) rest.1.first);
+              All-cons (IsBehind levels r) r (s ∷ pending) (inl refl)
+              (All-weaker (IsBehind levels rest.0) (IsBehind levels r) (λ x behind. behind-later levels rest.0 x r behind before) (s ∷ pending)
+              rest.1.first);
         },
       )
       | inr not_before ↦ (
         rest.0,
         record {
           pends = (suc rest.1.pends.0, omega (arith, rest.1.pends.1), rest.1.pends.2);
-          first = All-cons (IsBehind rest.0) r (s ∷ pending) (not_before-behind rest.0 r not_before) rest.1.first;
+          first = All-cons (IsBehind levels rest.0) r (s ∷ pending)
+              (not_before-behind first rest.0 r (ltb-true first 4 first_ok) rest_ok (All-head P r (s ∷ pending) levels_ok) not_before)
+              rest.1.first;
         },
       )
     ]
 
 -- nothing is granted exactly where nothing pends
-pub none-granted : (pending : List BusRequest) → next_request pending ≡ None → pending ≡ []
-none-granted [] none = refl
-none-granted (r ∷ pending) none =
-    let rest = some_next r pending in
-    let one = next-granted (r ∷ pending) rest.0 rest.1 in
+pub none-granted : (first : ℕ) (pending : List BusRequest) → is_level first ≡ true → All (λ r. is_level r.level ≡ true) pending
+    → next_request (level_order first) pending ≡ None → pending ≡ []
+none-granted first [] first_ok levels_ok none = refl
+none-granted first (r ∷ pending) first_ok levels_ok none =
+    let rest = some_next first r pending first_ok levels_ok in
+    let one = next-granted (level_order first) (r ∷ pending) rest.0 rest.1 in
     cc
+
+-- of two that are granted next each is the other
+pub next-sole : (levels : List ℕ) (pending : List BusRequest) (a b : BusRequest) → IsNext levels pending a → IsNext levels pending b → a ≡ b
+next-sole levels pending a b next_a next_b =
+    same_Some a b (sym (next-granted levels pending a next_a) ∙ next-granted levels pending b next_b)

@@ -1,14 +1,15 @@
 -- The requests that an array of levels holds.
-use Rattle.std.proofs.Common.{◌≡◌, ◌≢◌, ℕ, ◌+◌, ◌<◌, ◌≤◌, zero, suc, Bool, true, false, List, [], ◌∷◌, set, Option, Some, None, ap, sym, ◌∙◌, refl, arith, eqb, ltb, subst, inl, inr}
+use Rattle.std.proofs.Common.{◌≡◌, ◌≢◌, ℕ, ◌+◌, ◌<◌, zero, suc, Bool, true, false, List, [], ◌∷◌, set, Option, Some, None, ap, sym, ◌∙◌, refl, arith, eqb, ltb, subst, inl, inr, ◌⊎◌}
 use Rattle.std.specs.Prelude.{slice_get, All, Contains, is_some, option_and_then}
 use Rattle.std.specs.List.{list_any}
 use Rattle.std.proofs.lemmas.Bool.{lt-ltb, le-ltb, ne_eqb, eq-eqb, or_left, or_right, cases_order}
 use Rattle.std.proofs.lemmas.List.Elements.{All-nil, All-cons}
 use Rattle.std.proofs.lemmas.List.Folds.{list_any_none}
+use Rattle.vme_arbiter.specs.Levels.{stands_before}
 use Rattle.vme_arbiter.specs.Requests.{BusRequest, bus_request, next_request, with_request, without_slot, requests_from, requests_of}
 use Rattle.vme_arbiter.specs.Grants.{IsBehind}
-use Rattle.vme_arbiter.specs.Arbitration.{arbitration, pends}
 use Rattle.vme_arbiter.proofs.Grants.{next-granted}
+use Rattle.vme_arbiter.proofs.Pending.{has_slot}
 
 -- an entry of the array is a request
 pub any_at : (test : BusRequest → Bool) (n k slot : ℕ) (levels : List (Option ℕ)) (level : ℕ) → slot ≡ n + k
@@ -84,28 +85,28 @@ requests_from-set_none n (suc k) slot (Some l ∷ levels) place =
 
 -- a slot pends where its place has a level
 pending_at : (slot level : ℕ) (levels : List (Option ℕ)) → slice_get levels slot ≡ Some (Some level)
-    → pends (arbitration None (requests_of levels)) slot ≡ true
+    → has_slot slot (requests_of levels) ≡ true
 pending_at slot level levels there =
     any_at (λ r. eqb r.slot slot) 0 slot slot levels level (omega arith) there (eq-eqb slot slot refl)
 
 -- and not where it has none
 pending_not : (slot : ℕ) (levels : List (Option ℕ)) → ((level : ℕ) → slice_get levels slot ≢ Some (Some level))
-    → pends (arbitration None (requests_of levels)) slot ≡ false
+    → has_slot slot (requests_of levels) ≡ false
 pending_not slot levels none =
     list_any_none (λ r. eqb r.slot slot) (requests_of levels)
     (all_listed (λ r. eqb r.slot slot ≡ false) 0 levels (λ k level there. ne_eqb (0 + k) slot (λ at.
     let same : k ≡ slot = omega arith in none level (ap (slice_get levels) (sym same) ∙ there))))
 
 pending_by : (slot : ℕ) (levels : List (Option ℕ)) (place : Option (Option ℕ)) → slice_get levels slot ≡ place
-    → pends (arbitration None (requests_of levels)) slot ≡ is_some (option_and_then (λ level. level) place)
+    → has_slot slot (requests_of levels) ≡ is_some (option_and_then (λ level. level) place)
 pending_by slot levels None at = pending_not slot levels (λ level there. let not_there = sym at ∙ there in cc)
 pending_by slot levels (Some None) at = pending_not slot levels (λ level there. let not_there = sym at ∙ there in cc)
 pending_by slot levels (Some (Some level)) at = pending_at slot level levels at
 
 -- whether a slot pends is read at its place
-pub pends-listed : (holder : Option ℕ) (slot : ℕ) (levels : List (Option ℕ))
-    → pends (arbitration holder (requests_of levels)) slot ≡ is_some (option_and_then (λ level. level) (slice_get levels slot))
-pends-listed holder slot levels = pending_by slot levels (slice_get levels slot) refl
+pub pends-listed : (slot : ℕ) (levels : List (Option ℕ))
+    → has_slot slot (requests_of levels) ≡ is_some (option_and_then (λ level. level) (slice_get levels slot))
+pends-listed slot levels = pending_by slot levels (slice_get levels slot) refl
 
 -- a request of the array is in the list
 pub contains_listed : (n k slot level : ℕ) (levels : List (Option ℕ)) → slot ≡ n + k → slice_get levels k ≡ Some (Some level)
@@ -121,29 +122,34 @@ contains_listed n (suc k) slot level (Some l ∷ levels) place there =
     let rest = contains_listed (n + 1) k slot level levels (omega arith) there in
     (suc rest.0, omega (arith, rest.1), rest.2)
 
--- the lowest slot on the greatest level is granted next
-pub granted-listed : (slot level : ℕ) (levels : List (Option ℕ)) → slice_get levels slot ≡ Some (Some level)
-    → ((k : ℕ) → k < slot → slice_get levels k ≢ Some (Some level))
-    → ((k l : ℕ) → slice_get levels k ≡ Some (Some l) → l ≤ level)
-    → next_request (requests_of levels) ≡ Some (bus_request level slot)
-granted-listed slot level levels there lowest greatest =
-    next-granted (requests_of levels) (bus_request level slot)
+-- what the array tells of the request that is granted next: it is there, no lower slot is on its level, and each other level stands
+-- behind its own
+pub record IsFirstListed (levels : List ℕ) (places : List (Option ℕ)) (slot level : ℕ) : Type 0 where
+  pub there : slice_get places slot ≡ Some (Some level)
+  pub lowest : (k : ℕ) → k < slot → slice_get places k ≢ Some (Some level)
+  pub earliest : (k l : ℕ) → slice_get places k ≡ Some (Some l) → (l ≡ level) ⊎ (stands_before levels level l ≡ true)
+
+-- the lowest slot on the first level of the order is granted next
+pub granted-listed : (levels : List ℕ) (slot level : ℕ) (places : List (Option ℕ)) → IsFirstListed levels places slot level
+    → next_request levels (requests_of places) ≡ Some (bus_request level slot)
+granted-listed levels slot level places is =
+    let P : BusRequest → Type 0 = IsBehind levels (bus_request level slot) in
+    next-granted levels (requests_of places) (bus_request level slot)
     (record {
-      pends = contains_listed 0 slot slot level levels (omega arith) there;
-      first = all_listed (IsBehind (bus_request level slot)) 0 levels (λ k l at_k.
-          let behind : IsBehind (bus_request level slot) (bus_request l k) =
-          elim (cases_order l level) [
+      pends = contains_listed 0 slot slot level places (omega arith) is.there;
+      first = all_listed P 0 places (λ k l at_k.
+          let behind : P (bus_request l k) =
+          elim (is.earliest k l at_k) [
             | inl same ↦
                 elim (cases_order k slot) [
                   | inl at ↦ inl (ap (λ x. bus_request x k) same ∙ ap (bus_request level) at)
-                  | inr (inl lower) ↦ absurd (lowest k lower (at_k ∙ ap (λ x. Some (Some x)) same))
+                  | inr (inl lower) ↦ absurd (is.lowest k lower (at_k ∙ ap (λ x. Some (Some x)) same))
                   | inr (inr greater) ↦ inr (inr (same, greater))
                 ]
-            | inr (inl lower) ↦ inr (inl lower)
-            | inr (inr greater) ↦ absurd (omega (arith, greatest k l at_k))
+            | inr before ↦ inr (inl before)
           ] in
           let at : k ≡ 0 + k = omega arith in
-          subst (λ (x : ℕ). IsBehind (bus_request level slot) (bus_request l x)) at behind);
+          subst (λ (x : ℕ). P (bus_request l x)) at behind);
     })
 
 -- where the array is empty, nothing pends
@@ -153,6 +159,6 @@ nothing_listed n (None ∷ levels) none = nothing_listed (n + 1) levels (λ k. n
 nothing_listed n (Some l ∷ levels) none = absurd (none 0 l refl)
 
 -- and nothing is granted
-pub none-listed : (levels : List (Option ℕ)) → ((k l : ℕ) → slice_get levels k ≢ Some (Some l))
-    → next_request (requests_of levels) ≡ None
-none-listed levels none = ap next_request (nothing_listed 0 levels none)
+pub none-listed : (levels : List ℕ) (places : List (Option ℕ)) → ((k l : ℕ) → slice_get places k ≢ Some (Some l))
+    → next_request levels (requests_of places) ≡ None
+none-listed levels places none = ap (next_request levels) (nothing_listed 0 places none)

@@ -7,7 +7,7 @@ use Rattle.std.proofs.lemmas.List.Elements.{All-nil, All-cons, All-head, All-tai
 use Rattle.std.proofs.lemmas.List.Folds.{list_any_at}
 use Rattle.vme_arbiter.specs.Requests.{BusRequest, next_request, with_request, without_slot}
 use Rattle.vme_arbiter.specs.Orderly.{IsBySlot}
-use Rattle.vme_arbiter.proofs.Grants.{granted-next}
+use Rattle.vme_arbiter.proofs.Grants.{granted-pends}
 
 -- whether a slot has one of these requests
 abbrev pub has_slot : ℕ → List BusRequest → Bool
@@ -53,9 +53,10 @@ has_slot-without_other slot gone (r ∷ pending) other =
     ]
 
 -- the request that is granted is one of the set
-pub granted-has_slot : (pending : List BusRequest) (next : BusRequest) → next_request pending ≡ Some next → has_slot next.slot pending ≡ true
-granted-has_slot pending next is_granted =
-    let at = (granted-next pending next is_granted).pends in
+pub granted-has_slot : (levels : List ℕ) (pending : List BusRequest) (next : BusRequest) → next_request levels pending ≡ Some next
+    → has_slot next.slot pending ≡ true
+granted-has_slot levels pending next is_granted =
+    let at = granted-pends levels pending next is_granted in
     list_any_at (λ r. eqb r.slot next.slot) pending at.0 next at.1 (eq-eqb _ _ (ap (λ r. r.slot) at.2))
 
 -- what holds of a set and of a request more holds of both

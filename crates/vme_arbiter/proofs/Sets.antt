@@ -13,7 +13,7 @@ contains_first x r xs same = (0, omega arith, same)
 contains_later : (x r : BusRequest) (xs : List BusRequest) → Contains xs r → Contains (x ∷ xs) r
 contains_later x r xs later = (suc later.0, omega (arith, later.1), later.2)
 
-contains_parts : (x r : BusRequest) (xs : List BusRequest) → Contains (x ∷ xs) r → (x ≡ r) ⊎ Contains xs r
+pub contains_parts : (x r : BusRequest) (xs : List BusRequest) → Contains (x ∷ xs) r → (x ≡ r) ⊎ Contains xs r
 contains_parts x r xs (zero, within, at) = inl at
 contains_parts x r xs (suc k, within, at) = inr (k, omega (arith, within), at)
 

@@ -1,6 +1,7 @@
 -- Masters that go by the replies are never denied.
 use Rattle.std.proofs.Common.{◌≡◌, ◌≢◌, ℕ, ◌<◌, Bool, true, false, ◌||◌, List, [], ◌∷◌, Option, Some, None, ap, subst, sym, ◌∙◌, refl, cond, eqb, inl, inr, ◌⊎◌}
 use Rattle.std.specs.Prelude.{IsTrue, All}
+use Rattle.std.specs.Option.{option_map_or}
 use Rattle.std.proofs.lemmas.Bool.{cases_Bool, cases_eq, and_parts, and_from, eqb-true, eqb-false, eq-eqb, ne_eqb, or_left, not_from_false, false≢true}
 use Rattle.std.proofs.lemmas.List.Elements.{All-nil, All-cons, All-head, All-tail}
 use Rattle.vme_object.specs.declared.history.Entry.{Entry}
@@ -9,18 +10,26 @@ use Rattle.vme_arbiter.specs.declared.command.ArbCmd.{ArbCmd}
 use Rattle.vme_arbiter.specs.declared.command.ArbCmd.TheVariants.{Ask, Look, Done}
 use Rattle.vme_arbiter.specs.declared.command.ArbReply.{ArbReply}
 use Rattle.vme_arbiter.specs.declared.command.ArbReply.TheVariants.{Granted, Waiting, Freed, Denied}
-use Rattle.vme_arbiter.specs.Requests.{BusRequest, bus_request, is_slot, is_level, next_request, with_request}
-use Rattle.vme_arbiter.specs.Arbitration.{Arbitration, arbitration, free_bus, holds, pends, can_ask, ask_step, lawful_ask, bus_after_release, turn_step}
+use Rattle.vme_arbiter.specs.declared.kind.ArbiterKind.{ArbiterKind}
+use Rattle.vme_arbiter.specs.Levels.{level_order}
+use Rattle.vme_arbiter.specs.Requests.{BusRequest, bus_request, is_slot, with_request, is_level}
+use Rattle.vme_arbiter.specs.Arbitration.{Arbitration, opening_bus, holds, pends, can_ask, ask_step, lawful_ask, bus_after_release, next_of, turn_step}
 use Rattle.vme_arbiter.specs.Orderly.{IsLawfulHolder, IsOrderly}
 use Rattle.vme_arbiter.specs.Turns.{slot_of, may_give, IsAsTold, StandsAsTold, GoesByReplies, TakeTurns}
 use Rattle.vme_arbiter.proofs.Pending.{has_slot, has_slot-with, has_slot-without_other, granted-has_slot}
-use Rattle.vme_arbiter.proofs.Orderly.{orderly-step, orderly-free}
+use Rattle.vme_arbiter.proofs.Orderly.{orderly-step, orderly-opening}
+
+-- whether a slot is this holder
+abbrev is_held_by : Option ℕ → ℕ → Bool
+is_held_by holder slot = option_map_or (λ h. eqb h slot) holder false
+
+held_by-some : (holder : Option ℕ) (slot : ℕ) → is_held_by holder slot ≡ true → holder ≡ Some slot
+held_by-some None slot held = cc
+held_by-some (Some h) slot held = ap (λ (s : ℕ). Some s) (eqb-true h slot held)
 
 -- one that holds is the holder
-pub holds-holder : (holder : Option ℕ) (pending : List BusRequest) (slot : ℕ) → holds (arbitration holder pending) slot ≡ true
-    → holder ≡ Some slot
-holds-holder None pending slot held = cc
-holds-holder (Some h) pending slot held = ap (λ (s : ℕ). Some s) (eqb-true h slot held)
+pub holds-holder : (bus : Arbitration) (slot : ℕ) → holds bus slot ≡ true → bus.holder ≡ Some slot
+holds-holder bus slot held = held_by-some bus.holder slot held
 
 -- a command that may be given names the slot
 may_give-slot : (slot : ℕ) (last : Option ArbReply) (cmd : ArbCmd) → may_give slot last cmd ≡ true → slot_of cmd ≡ slot
@@ -31,27 +40,27 @@ may_give-slot slot (Some Granted) (Done s) may = eqb-true s slot may
 may_give-slot slot last cmd may = cc
 
 -- a slot that stands nowhere and asks holds or pends after that
-taken-fits : (holder : Option ℕ) (pending : List BusRequest) (slot level : ℕ)
-    → StandsAsTold (lawful_ask holder pending (bus_request level slot)).0 slot (Some (lawful_ask holder pending (bus_request level slot)).1)
-taken-fits None pending slot level = eq-eqb slot slot refl
-taken-fits (Some h) pending slot level =
-    inr (has_slot-with slot (bus_request level slot) pending ∙ or_left _ _ (eq-eqb slot slot refl))
+taken-fits : (holder : Option ℕ) (bus : Arbitration) (slot level : ℕ)
+    → StandsAsTold (lawful_ask holder bus (bus_request level slot)).0 slot (Some (lawful_ask holder bus (bus_request level slot)).1)
+taken-fits None bus slot level = eq-eqb slot slot refl
+taken-fits (Some h) bus slot level =
+    inr (has_slot-with slot (bus_request level slot) bus.pending ∙ or_left _ _ (eq-eqb slot slot refl))
 
 ask-fits : (bus : Arbitration) (slot level : ℕ) → is_slot slot ≡ true → is_level level ≡ true → holds bus slot ≡ false
     → pends bus slot ≡ false → StandsAsTold (ask_step bus slot level).0 slot (Some (ask_step bus slot level).1)
 ask-fits bus slot level slot_ok level_ok not_holds not_pends =
     let can : can_ask bus slot level ≡ true =
     and_from _ _ (and_from _ _ (and_from _ _ slot_ok level_ok) (not_from_false _ not_holds)) (not_from_false _ not_pends) in
-    rw can (taken-fits bus.holder bus.pending slot level)
+    rw can (taken-fits bus.holder bus slot level)
 
 -- a slot that does not pend stands nowhere when the bus is handed on
-handed-nowhere : (pending : List BusRequest) (slot : ℕ) (first : Option BusRequest) → next_request pending ≡ first → has_slot slot pending ≡ false
-    → StandsAsTold (bus_after_release first pending) slot (Some Freed)
-handed-nowhere pending slot None is_first none = (refl, none)
-handed-nowhere pending slot (Some next) is_first none =
+handed-nowhere : (bus : Arbitration) (slot : ℕ) (next : Option BusRequest) → next_of bus ≡ next → has_slot slot bus.pending ≡ false
+    → StandsAsTold (bus_after_release next bus) slot (Some Freed)
+handed-nowhere bus slot None is_next none = (refl, none)
+handed-nowhere bus slot (Some next) is_next none =
     let other : next.slot ≢ slot =
-    λ same. false≢true (sym none ∙ ap (λ s. has_slot s pending) (sym same) ∙ granted-has_slot pending next is_first) in
-    (ne_eqb next.slot slot other, has_slot-without_other slot next.slot pending (λ same. other (sym same)) ∙ none)
+    λ same. false≢true (sym none ∙ ap (λ s. has_slot s bus.pending) (sym same) ∙ granted-has_slot (level_order bus.first) bus.pending next is_next) in
+    (ne_eqb next.slot slot other, has_slot-without_other slot next.slot bus.pending (λ same. other (sym same)) ∙ none)
 
 -- a slot that held nothing, and is granted now, fits what was told it
 promoted : (pending : Bool) (last : Option ArbReply) → pending ≡ true → IsAsTold false pending last → (left : Bool) → IsAsTold true left last
@@ -62,43 +71,45 @@ promoted pending (Some Granted) one fits left = refl
 promoted pending (Some Denied) one fits left = fits
 
 -- another slot than the holder fits what was told it when the bus is handed on
-handed-other : (pending : List BusRequest) (slot : ℕ) (last : Option ArbReply) (first : Option BusRequest) → next_request pending ≡ first
-    → IsAsTold false (has_slot slot pending) last → StandsAsTold (bus_after_release first pending) slot last
-handed-other pending slot last None is_first fits = fits
-handed-other pending slot last (Some next) is_first fits =
+handed-other : (bus : Arbitration) (slot : ℕ) (last : Option ArbReply) (next : Option BusRequest) → next_of bus ≡ next
+    → IsAsTold false (has_slot slot bus.pending) last → StandsAsTold (bus_after_release next bus) slot last
+handed-other bus slot last None is_next fits = fits
+handed-other bus slot last (Some next) is_next fits =
     elim (cases_eq next.slot slot) [
       | inl same ↦
-          let one : has_slot slot pending ≡ true = ap (λ s. has_slot s pending) (sym same) ∙ granted-has_slot pending next is_first in
+          let one : has_slot slot bus.pending ≡ true =
+          ap (λ s. has_slot s bus.pending) (sym same) ∙ granted-has_slot (level_order bus.first) bus.pending next is_next in
           let held : eqb next.slot slot ≡ true = eq-eqb next.slot slot same in
-          rw held (promoted (has_slot slot pending) last one fits _)
+          rw held (promoted (has_slot slot bus.pending) last one fits _)
       | inr other ↦
           let not_held : eqb next.slot slot ≡ false = ne_eqb next.slot slot other in
-          let stays = has_slot-without_other slot next.slot pending (λ same. other (sym same)) in
+          let stays = has_slot-without_other slot next.slot bus.pending (λ same. other (sym same)) in
           rw (not_held, stays) fits
     ]
 
 -- another slot fits what was told it when a request is taken up
-taken-other : (holder : Option ℕ) (pending : List BusRequest) (asks level slot : ℕ) (last : Option ArbReply) → asks ≢ slot
-    → StandsAsTold (arbitration holder pending) slot last → StandsAsTold (lawful_ask holder pending (bus_request level asks)).0 slot last
-taken-other None pending asks level slot last other fits =
+taken-other : (holder : Option ℕ) (bus : Arbitration) (asks level slot : ℕ) (last : Option ArbReply) → bus.holder ≡ holder → asks ≢ slot
+    → StandsAsTold bus slot last → StandsAsTold (lawful_ask holder bus (bus_request level asks)).0 slot last
+taken-other None bus asks level slot last is other fits =
     let not_held : eqb asks slot ≡ false = ne_eqb asks slot other in
-    rw not_held fits
-taken-other (Some h) pending asks level slot last other fits =
+    rw not_held (rw is at fits)
+taken-other (Some h) bus asks level slot last is other fits =
     let not_slot : eqb asks slot ≡ false = ne_eqb asks slot other in
-    let stays : has_slot slot (with_request (bus_request level asks) pending) ≡ has_slot slot pending =
-    has_slot-with slot (bus_request level asks) pending ∙ ap (λ b. b || has_slot slot pending) not_slot in
+    let stays : has_slot slot (with_request (bus_request level asks) bus.pending) ≡ has_slot slot bus.pending =
+    has_slot-with slot (bus_request level asks) bus.pending ∙ ap (λ b. b || has_slot slot bus.pending) not_slot in
     rw stays fits
 
 -- of two slots one at most holds
-other-not_holds : (holder : Option ℕ) (a b : ℕ) → holds (arbitration holder []) a ≡ true → a ≢ b → holds (arbitration holder []) b ≡ false
-other-not_holds None a b held other = refl
-other-not_holds (Some h) a b held other = ne_eqb h b (λ same. other (sym (eqb-true h a held) ∙ same))
+other-not_held : (holder : Option ℕ) (a b : ℕ) → is_held_by holder a ≡ true → a ≢ b → is_held_by holder b ≡ false
+other-not_held None a b held other = refl
+other-not_held (Some h) a b held other = ne_eqb h b (λ same. other (sym (eqb-true h a held) ∙ same))
 
 -- one that holds does not pend
-holder-not_pends : (holder : Option ℕ) (pending : List BusRequest) (slot : ℕ) → IsLawfulHolder (arbitration holder pending)
-    → holds (arbitration holder pending) slot ≡ true → has_slot slot pending ≡ false
-holder-not_pends None pending slot lawful held = cc
-holder-not_pends (Some h) pending slot lawful held = ap (λ s. has_slot s pending) (sym (eqb-true h slot held)) ∙ lawful.1
+holder-not_pends : (holder : Option ℕ) (bus : Arbitration) (slot : ℕ) → bus.holder ≡ holder → IsLawfulHolder bus
+    → is_held_by holder slot ≡ true → has_slot slot bus.pending ≡ false
+holder-not_pends None bus slot is lawful held = cc
+holder-not_pends (Some h) bus slot is lawful held =
+    ap (λ s. has_slot s bus.pending) (sym (eqb-true h slot held)) ∙ (rw is at lawful).1
 
 -- a slot that holds or pends and looks is told so
 look-fits : (bus : Arbitration) (slot : ℕ) → (holds bus slot ≡ true) ⊎ (pends bus slot ≡ true)
@@ -117,8 +128,7 @@ look-fits bus slot fits =
 done-fits : (bus : Arbitration) (slot : ℕ) → IsOrderly bus → holds bus slot ≡ true
     → StandsAsTold (turn_step bus (Done slot)).0 slot (Some (turn_step bus (Done slot)).1)
 done-fits bus slot orderly held =
-    rw held (handed-nowhere bus.pending slot (next_request bus.pending) refl
-    (holder-not_pends bus.holder bus.pending slot orderly.holder held))
+    rw held (handed-nowhere bus slot (next_of bus) refl (holder-not_pends bus.holder bus slot refl orderly.holder held))
 
 -- a command that a slot may give leaves it where the reply says
 pub own-turn : (bus : Arbitration) (slot : ℕ) (last : Option ArbReply) (cmd : ArbCmd) → IsOrderly bus → is_slot slot ≡ true
@@ -138,15 +148,15 @@ pub other-turn : (bus : Arbitration) (slot : ℕ) (last : Option ArbReply) (cmd 
     → StandsAsTold (turn_step bus cmd).0 slot last
 other-turn bus slot last (Ask asks level) other fits =
     elim (cases_Bool (can_ask bus asks level)) [
-      | inl can ↦ rw can (taken-other bus.holder bus.pending asks level slot last other fits)
+      | inl can ↦ rw can (taken-other bus.holder bus asks level slot last refl other fits)
       | inr cannot ↦ rw cannot fits
     ]
 other-turn bus slot last (Look looks) other fits = fits
 other-turn bus slot last (Done done) other fits =
     elim (cases_Bool (holds bus done)) [
       | inl held ↦
-          let not_held : holds bus slot ≡ false = other-not_holds bus.holder done slot held other in
-          rw held (handed-other bus.pending slot last (next_request bus.pending) refl (rw not_held at fits))
+          let not_held : holds bus slot ≡ false = other-not_held bus.holder done slot held other in
+          rw held (handed-other bus slot last (next_of bus) refl (rw not_held at fits))
       | inr not_held ↦ rw not_held fits
     ]
 
@@ -214,9 +224,9 @@ none_denied k slots bus last (e ∷ h) masters orderly known legal fit =
     (All-tail (λ e. e.who < k) e h known) legal.1 after.1)
 
 -- from the opening state too
-pub turns_granted : (k : ℕ) (slots : ℕ → ℕ) (h : List (Entry ArbCmd ArbReply)) → IsLegal turn_step free_bus h
-    → TakeTurns k slots h → All (λ e. e.reply ≢ Denied) h
-turns_granted k slots h legal turns =
-    none_denied k slots free_bus (λ who. None) h
-    (record { in_range = turns.in_range; apart = turns.apart }) orderly-free turns.known legal
+pub turns_granted : (kind : ArbiterKind) (k : ℕ) (slots : ℕ → ℕ) (h : List (Entry ArbCmd ArbReply))
+    → IsLegal turn_step (opening_bus kind) h → TakeTurns k slots h → All (λ e. e.reply ≢ Denied) h
+turns_granted kind k slots h legal turns =
+    none_denied k slots (opening_bus kind) (λ who. None) h
+    (record { in_range = turns.in_range; apart = turns.apart }) (orderly-opening kind) turns.known legal
     (record { fits = λ who below. (refl, refl); goes = turns.each })

@@ -6,20 +6,31 @@ use Rattle.vme_arbiter.specs.declared.command.ArbCmd.{ArbCmd}
 use Rattle.vme_arbiter.specs.declared.command.ArbCmd.TheVariants.{Ask, Look, Done}
 use Rattle.vme_arbiter.specs.declared.command.ArbReply.{ArbReply}
 use Rattle.vme_arbiter.specs.declared.command.ArbReply.TheVariants.{Granted, Waiting, Freed, Denied}
-use Rattle.vme_arbiter.specs.Requests.{BusRequest, bus_request, is_slot, is_level, next_request, with_request, without_slot}
+use Rattle.vme_arbiter.specs.declared.kind.ArbiterKind.{ArbiterKind}
+use Rattle.vme_arbiter.specs.declared.kind.ArbiterKind.TheVariants.{Priority}
+use Rattle.vme_arbiter.specs.Levels.{level_order, first_after}
+use Rattle.vme_arbiter.specs.Requests.{BusRequest, bus_request, is_slot, next_request, with_request, without_slot, is_level}
 
--- at most one slot holds the bus, and a set of requests pends (IEEE 1014, section 3.3)
+-- the kind of the arbiter and the level at which its next grant begins; at most one slot holds the bus, and a set of requests
+-- pends (IEEE 1014, section 3.3)
 pub record Arbitration : Type 0 where
+  pub kind : ArbiterKind
+  pub first : ℕ
   pub holder : Option ℕ
   pub pending : List BusRequest
 
 -- the same, by place (this project's own)
-abbrev pub arbitration : Option ℕ → List BusRequest → Arbitration
-arbitration holder pending = record { holder = holder; pending = pending }
+abbrev pub arbitration : ArbiterKind → ℕ → Option ℕ → List BusRequest → Arbitration
+arbitration kind first holder pending = record { kind = kind; first = first; holder = holder; pending = pending }
 
--- nobody holds the bus and nobody asks for it (this project's own)
+-- the bus of an arbiter of a kind at the start: nobody holds it, nobody asks for it, and a grant begins at the greatest level
+-- (this project's own)
+abbrev pub opening_bus : ArbiterKind → Arbitration
+opening_bus kind = arbitration kind 3 None []
+
+-- and that of a priority arbiter (this project's own)
 abbrev pub free_bus : Arbitration
-free_bus = arbitration None []
+free_bus = opening_bus Priority
 
 -- whether a slot holds the bus (this project's own)
 abbrev pub holds : Arbitration → ℕ → Bool
@@ -33,28 +44,35 @@ pends bus slot = list_any (λ r. r.slot == slot) bus.pending
 abbrev pub can_ask : Arbitration → ℕ → ℕ → Bool
 can_ask bus slot level = is_slot slot && is_level level && not (holds bus slot) && not (pends bus slot)
 
--- a free bus is granted at once, else the request pends (this project's own)
-abbrev pub lawful_ask : Option ℕ → List BusRequest → BusRequest → Arbitration × ArbReply
-lawful_ask None pending new = (arbitration (Some new.slot) pending, Granted)
-lawful_ask (Some holder) pending new = (arbitration (Some holder) (with_request new pending), Waiting)
+-- the bus granted to a request, while these pend (this project's own)
+abbrev pub granted : BusRequest → List BusRequest → Arbitration → Arbitration
+granted r pending bus = arbitration bus.kind (first_after bus.kind r.level) (Some r.slot) pending
+
+-- where nobody holds the bus it is granted at once, else the request pends (this project's own)
+abbrev pub lawful_ask : Option ℕ → Arbitration → BusRequest → Arbitration × ArbReply
+lawful_ask None bus new = (granted new bus.pending bus, Granted)
+lawful_ask (Some holder) bus new = (record bus { pending = with_request new bus.pending }, Waiting)
 
 -- a slot asks on a level (this project's own)
 abbrev pub ask_step : Arbitration → ℕ → ℕ → Arbitration × ArbReply
-ask_step bus slot level =
-    if can_ask bus slot level then lawful_ask bus.holder bus.pending (bus_request level slot) else (bus, Denied)
+ask_step bus slot level = if can_ask bus slot level then lawful_ask bus.holder bus (bus_request level slot) else (bus, Denied)
 
 -- a slot looks (this project's own)
 abbrev pub look_step : Arbitration → ℕ → Arbitration × ArbReply
 look_step bus slot = (bus, if holds bus slot then Granted else if pends bus slot then Waiting else Denied)
 
 -- the bus goes to a request, which pends no more, or to nobody (IEEE 1014, section 3.3)
-abbrev pub bus_after_release : Option BusRequest → List BusRequest → Arbitration
-bus_after_release None pending = arbitration None pending
-bus_after_release (Some next) pending = arbitration (Some next.slot) (without_slot next.slot pending)
+abbrev pub bus_after_release : Option BusRequest → Arbitration → Arbitration
+bus_after_release None bus = record bus { holder = None }
+bus_after_release (Some next) bus = granted next (without_slot next.slot bus.pending) bus
+
+-- the request, if any, that the bus goes to next: a grant goes by the levels in order from the first (this project's own)
+abbrev pub next_of : Arbitration → Option BusRequest
+next_of bus = next_request (level_order bus.first) bus.pending
 
 -- a slot is done: where it holds the bus, the bus goes to the request that is granted next (this project's own)
 abbrev pub done_step : Arbitration → ℕ → Arbitration × ArbReply
-done_step bus slot = if holds bus slot then (bus_after_release (next_request bus.pending) bus.pending, Freed) else (bus, Denied)
+done_step bus slot = if holds bus slot then (bus_after_release (next_of bus) bus, Freed) else (bus, Denied)
 
 -- the step of the arbiter: the state after a command, and the reply (this project's own)
 abbrev pub turn_step : Arbitration → ArbCmd → Arbitration × ArbReply

@@ -1,5 +1,7 @@
+pub mod Levels
 pub mod Requests
 pub mod Grants
 pub mod Arbitration
 pub mod Orderly
 pub mod Turns
+pub mod Shares

@@ -1,5 +1,6 @@
 -- What holds of every state that the arbiter comes to.
 use Rattle.std.specs.Prelude.{◌≡◌, ◌<◌, false, IsTrue, List, [], ◌∷◌, None, IfSome, All}
+use Rattle.vme_arbiter.specs.declared.kind.ArbiterKind.TheVariants.{Priority}
 use Rattle.vme_arbiter.specs.Requests.{BusRequest, is_slot, is_level}
 use Rattle.vme_arbiter.specs.Arbitration.{Arbitration, pends}
 
@@ -16,9 +17,11 @@ IsLawfulHolder bus = IfSome bus.holder (λ slot. IsTrue (is_slot slot) × (pends
 abbrev pub IsLawfulRequest : BusRequest → Type 0
 IsLawfulRequest r = IsTrue (is_slot r.slot) × IsTrue (is_level r.level)
 
--- the holder is in range and does not pend; requests are in range and listed by slot; and where nobody holds the bus,
--- nothing pends (this project's own)
+-- a grant begins at a level in range, by priority always at the greatest; the holder is in range and does not pend; requests are
+-- in range and listed by slot; and where nobody holds the bus, nothing pends (this project's own)
 pub record IsOrderly (bus : Arbitration) : Type 0 where
+  pub first : IsTrue (is_level bus.first)
+  pub priority : bus.kind ≡ Priority → bus.first ≡ 3
   pub holder : IsLawfulHolder bus
   pub requests : All IsLawfulRequest bus.pending
   pub by_slot : IsBySlot bus.pending

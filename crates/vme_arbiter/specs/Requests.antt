@@ -1,6 +1,7 @@
 -- Requests for the bus, and which of them is granted next.
 use Rattle.std.specs.Prelude.{ℕ, ◌+◌, nat_lt, nat_le, Bool, not, ◌==◌, ◌&&◌, ◌||◌, List, [], ◌∷◌, if◌then◌else◌, Option, Some, None, filter, find}
 use Rattle.std.specs.List.{list_any}
+use Rattle.vme_arbiter.specs.Levels.{stands_before}
 
 -- a pair (level, slot): a slot drives the bus request line of a level (IEEE 1014, section 3.2)
 pub record BusRequest : Type 0 where
@@ -19,14 +20,14 @@ is_slot slot = nat_le 1 slot && nat_le slot 21
 abbrev pub is_level : ℕ → Bool
 is_level level = nat_lt level 4
 
--- whether one request goes before another: its level is greater, or its level is the same and its slot comes first on the
--- grant daisy chain, which goes up from slot 1 (IEEE 1014, sections 3.2 and 3.3)
-abbrev pub goes_before : BusRequest → BusRequest → Bool
-goes_before a b = nat_lt b.level a.level || (a.level == b.level && nat_lt a.slot b.slot)
+-- whether one request goes before another: its level stands before the other's in the order of levels, or its level is the same
+-- and its slot comes first on the grant daisy chain, which goes up from slot 1 (IEEE 1014, sections 3.2 and 3.3)
+abbrev pub goes_before : List ℕ → BusRequest → BusRequest → Bool
+goes_before levels a b = stands_before levels a.level b.level || (a.level == b.level && nat_lt a.slot b.slot)
 
 -- the request, if any, that the bus is granted to next: the one which none of them goes before (IEEE 1014, section 3.3)
-abbrev pub next_request : List BusRequest → Option BusRequest
-next_request pending = find (λ next. not (list_any (λ other. goes_before other next) pending)) pending
+abbrev pub next_request : List ℕ → List BusRequest → Option BusRequest
+next_request levels pending = find (λ next. not (list_any (λ other. goes_before levels other next) pending)) pending
 
 -- the set with one request more; a set of requests is listed by slot (this project's own)
 abbrev pub with_request : BusRequest → List BusRequest → List BusRequest

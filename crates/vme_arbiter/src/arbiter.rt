@@ -1,9 +1,11 @@
-ghost use Rattle.std.specs.Prelude.{◌≡◌, ◌≤◌, length};
-ghost use Rattle.vme_arbiter.specs.Requests.{is_slot};
-ghost use Rattle.vme_arbiter.specs.Arbitration.{free_bus, holds, pends, can_ask, ask_step, look_step, done_step};
+ghost use Rattle.std.specs.Prelude.{◌≡◌, ◌<◌, ◌≤◌, length};
+ghost use Rattle.vme_arbiter.specs.Requests.{bus_request, is_slot};
+ghost use Rattle.vme_arbiter.specs.declared.kind.ArbiterKind.TheVariants.{Priority, Rotating};
+ghost use Rattle.vme_arbiter.specs.Arbitration.{opening_bus, granted, holds, pends, can_ask, ask_step, look_step, done_step};
 
 use crate::command::{ArbCmd, ArbReply};
-use crate::levels::{LEVELS, level_of, next_slot};
+use crate::kind::ArbiterKind;
+use crate::levels::{HIGHEST, LEVELS, Request, level_of, next_request};
 use std::marker::Model;
 use vme_object::Object;
 
@@ -13,10 +15,13 @@ const SLOTS: u16 = 21;
 /// A place for each number of a slot; that of 0 stays empty.
 const PLACES: usize = 22;
 
-/// The arbiter (section 3.3), priority option: who holds the data transfer bus, and who asks for it
-/// on which level. Contracts see it as its holder and the set of requests that pend.
+/// The arbiter (section 3.3): who holds the data transfer bus, and who asks for it on which level.
+/// Contracts see it as its kind, the level at which its next grant begins, its holder and the set of
+/// requests that pend.
 #[derive(Debug, Drop)]
 pub struct Arbiter {
+    kind: ArbiterKind,
+    first: u8,
     holder: Option<u16>,
     levels: [Option<u8>; PLACES],
 }
@@ -28,17 +33,34 @@ impl Model for Arbiter {
 
     ghost Value = { Arbitration };
 
-    ghost view = { λ a. arbitration a.holder (requests_of a.levels) };
+    ghost view = { λ a. arbitration a.kind a.first a.holder (requests_of a.levels) };
 
-    ghost invariant = { λ a. (slot level : ℕ) → slice_get a.levels slot ≡ Some (Some level) → level < 4 };
+    ghost invariant = { λ a. (a.first < 4)
+        × ((slot level : ℕ) → slice_get a.levels slot ≡ Some (Some level) → level < 4) };
 }
 
 impl Arbiter {
-    /// An arbiter of a bus that nobody holds and nobody asks for.
+    /// A priority arbiter, of a bus that nobody holds and nobody asks for.
     pub fn new() -> Arbiter
-        ensures { result ≡ free_bus }
+        ensures { result ≡ opening_bus Priority }
+    {
+        Arbiter::of(ArbiterKind::Priority)
+    }
+
+    /// A rotating arbiter, of a bus that nobody holds and nobody asks for.
+    pub fn rotating() -> Arbiter
+        ensures { result ≡ opening_bus Rotating }
+    {
+        Arbiter::of(ArbiterKind::Rotating)
+    }
+
+    /// An arbiter of a kind, of a bus that nobody holds and nobody asks for.
+    pub fn of(kind: ArbiterKind) -> Arbiter
+        ensures { result ≡ opening_bus kind }
     {
         Arbiter {
+            kind,
+            first: HIGHEST,
             holder: None,
             levels: [None; PLACES],
         }
@@ -65,6 +87,15 @@ impl Arbiter {
         is_slot(slot) && level < LEVELS && !self.holds(slot) && !self.pends(slot)
     }
 
+    /// The bus is granted to a request.
+    fn grant(&mut self, request: Request)
+        requires { request.level < 4 }
+        ensures { self.new ≡ granted (bus_request request.level request.slot) self.old.pending self.old }
+    {
+        self.holder = Some(request.slot);
+        self.first = self.kind.first_after(request.level);
+    }
+
     /// A slot asks for the bus on a level.
     fn ask(&mut self, slot: u16, level: u8) -> ArbReply
         ensures state { self.new ≡ (ask_step self.old slot level).0 }
@@ -74,7 +105,7 @@ impl Arbiter {
             return ArbReply::Denied;
         }
         if self.holder.is_none() {
-            self.holder = Some(slot);
+            self.grant(Request { level, slot });
             return ArbReply::Granted;
         }
         self.levels[usize::from(slot)] = Some(level);
@@ -102,9 +133,12 @@ impl Arbiter {
         if !self.holds(slot) {
             return ArbReply::Denied;
         }
-        self.holder = next_slot(&self.levels);
-        if let Some(next) = self.holder {
-            self.levels[usize::from(next)] = None;
+        match next_request(&self.levels, self.first) {
+            Some(next) => {
+                self.levels[usize::from(next.slot)] = None;
+                self.grant(next);
+            }
+            None => self.holder = None,
         }
         ArbReply::Freed
     }

@@ -1,24 +1,32 @@
-ghost use Rattle.std.specs.Prelude.{◌≡◌, ◌≢◌, ◌↔◌, ◌⊎◌, ◌++◌, ◌∷◌, [], ℕ, List, Option, Some, None, IsTrue, All, Contains};
+ghost use Rattle.std.specs.Prelude.{◌≡◌, ◌≢◌, ◌≤◌, ◌↔◌, ◌⊎◌, ◌++◌, ◌∷◌, [], ℕ, length, List, Option, Some, None, IsTrue, All, Contains};
 ghost use Rattle.vme_object.specs.declared.history.Entry.{Entry};
 ghost use Rattle.vme_object.specs.History.{replay, IsLegal};
 ghost use Rattle.vme_arbiter.specs.declared.command.ArbCmd.{ArbCmd};
 ghost use Rattle.vme_arbiter.specs.declared.command.ArbCmd.TheVariants.{Look};
 ghost use Rattle.vme_arbiter.specs.declared.command.ArbReply.{ArbReply};
 ghost use Rattle.vme_arbiter.specs.declared.command.ArbReply.TheVariants.{Granted, Freed, Denied};
-ghost use Rattle.vme_arbiter.specs.Requests.{BusRequest, is_slot, next_request, with_request, without_slot};
+ghost use Rattle.vme_arbiter.specs.declared.kind.ArbiterKind.{ArbiterKind};
+ghost use Rattle.vme_arbiter.specs.declared.kind.ArbiterKind.TheVariants.{Rotating};
+ghost use Rattle.vme_arbiter.specs.Levels.{level_order, levels_before};
+ghost use Rattle.vme_arbiter.specs.Requests.{BusRequest, is_slot, next_request, with_request, without_slot, is_level};
 ghost use Rattle.vme_arbiter.specs.Grants.{IsNext};
-ghost use Rattle.vme_arbiter.specs.Arbitration.{Arbitration, free_bus, turn_step};
+ghost use Rattle.vme_arbiter.specs.Arbitration.{Arbitration, opening_bus, turn_step};
 ghost use Rattle.vme_arbiter.specs.Orderly.{IsBySlot, IsOrderly};
+ghost use Rattle.vme_arbiter.specs.Shares.{grant_of, grants_in, Waits};
 ghost use Rattle.vme_arbiter.specs.Turns.{slot_of, HasTheBus, may_give, StandsAsTold, TakeTurns};
 
-/// The bus is granted to the request on the greatest level and, among these, of the lowest slot:
-/// there is one such request in every set of requests that is not empty.
-pub fn greatest_level_then_lowest_slot()
-    ensures next { (pending : List BusRequest) (next : BusRequest) →
-        (next_request pending ≡ Some next) ↔ IsNext pending next }
-    ensures nobody { (pending : List BusRequest) → (next_request pending ≡ None) ↔ (pending ≡ []) }
-    ensures alone { (pending : List BusRequest) (a b : BusRequest) →
-        IsNext pending a → IsNext pending b → a ≡ b }
+/// The bus is granted to the request on the level that stands first, in the order that begins at the
+/// first level, and among these to that of the lowest slot: there is one such request in every set
+/// of requests, on levels in range, that is not empty.
+pub fn first_level_then_lowest_slot()
+    ensures next { (first : ℕ) (pending : List BusRequest) (next : BusRequest) →
+        IsTrue (is_level first) → All (λ r. IsTrue (is_level r.level)) pending →
+        (next_request (level_order first) pending ≡ Some next) ↔ IsNext (level_order first) pending next }
+    ensures nobody { (first : ℕ) (pending : List BusRequest) →
+        IsTrue (is_level first) → All (λ r. IsTrue (is_level r.level)) pending →
+        (next_request (level_order first) pending ≡ None) ↔ (pending ≡ []) }
+    ensures alone { (first : ℕ) (pending : List BusRequest) (a b : BusRequest) →
+        IsNext (level_order first) pending a → IsNext (level_order first) pending b → a ≡ b }
 {}
 
 /// The list of the requests that pend is a set: added to it, a request is in it beside all others;
@@ -33,11 +41,14 @@ pub fn pending_requests_are_a_set()
         ((r : BusRequest) → Contains a r ↔ Contains b r) → a ≡ b }
 {}
 
-/// In every state that the arbiter comes to, holder and requests are in range, the holder does not
-/// pend, no slot pends twice, and nothing pends where nobody holds the bus; and each turn keeps that.
+/// In every state that an arbiter of either kind comes to, a grant begins at a level in range, by
+/// priority always at the greatest; holder and requests are in range, the holder does not pend, no
+/// slot pends twice, and nothing pends where nobody holds the bus. Each turn keeps that.
 pub fn states_are_orderly()
-    ensures all { (h : List (Entry ArbCmd ArbReply)) → IsOrderly (replay turn_step free_bus h) }
+    ensures all { (kind : ArbiterKind) (h : List (Entry ArbCmd ArbReply)) →
+        IsOrderly (replay turn_step (opening_bus kind) h) }
     ensures step { (bus : Arbitration) (cmd : ArbCmd) → IsOrderly bus → IsOrderly (turn_step bus cmd).0 }
+    ensures kind { (bus : Arbitration) (cmd : ArbCmd) → (turn_step bus cmd).0.kind ≡ bus.kind }
 {}
 
 /// A reply tells who holds the bus: `Granted` is told to the holder alone, a look by the holder is
@@ -57,16 +68,16 @@ pub fn replies_tell_the_holder()
 /// `Freed` is the holder; so there is one such slot at most, and no other one is told `Granted` or
 /// `Freed` next.
 pub fn one_slot_has_the_bus()
-    ensures holder { (h : List (Entry ArbCmd ArbReply)) (slot : ℕ) →
-        IsLegal turn_step free_bus h → HasTheBus slot h →
-        (replay turn_step free_bus h).holder ≡ Some slot }
-    ensures alone { (h : List (Entry ArbCmd ArbReply)) (a b : ℕ) →
-        IsLegal turn_step free_bus h → HasTheBus a h → HasTheBus b h → a ≡ b }
-    ensures granted { (h : List (Entry ArbCmd ArbReply)) (next : Entry ArbCmd ArbReply) (slot : ℕ) →
-        IsLegal turn_step free_bus (h ++ next ∷ []) → HasTheBus slot h →
+    ensures holder { (kind : ArbiterKind) (h : List (Entry ArbCmd ArbReply)) (slot : ℕ) →
+        IsLegal turn_step (opening_bus kind) h → HasTheBus slot h →
+        (replay turn_step (opening_bus kind) h).holder ≡ Some slot }
+    ensures alone { (kind : ArbiterKind) (h : List (Entry ArbCmd ArbReply)) (a b : ℕ) →
+        IsLegal turn_step (opening_bus kind) h → HasTheBus a h → HasTheBus b h → a ≡ b }
+    ensures granted { (kind : ArbiterKind) (h : List (Entry ArbCmd ArbReply)) (next : Entry ArbCmd ArbReply) (slot : ℕ) →
+        IsLegal turn_step (opening_bus kind) (h ++ next ∷ []) → HasTheBus slot h →
         next.reply ≡ Granted → slot_of next.cmd ≡ slot }
-    ensures freed { (h : List (Entry ArbCmd ArbReply)) (next : Entry ArbCmd ArbReply) (slot : ℕ) →
-        IsLegal turn_step free_bus (h ++ next ∷ []) → HasTheBus slot h →
+    ensures freed { (kind : ArbiterKind) (h : List (Entry ArbCmd ArbReply)) (next : Entry ArbCmd ArbReply) (slot : ℕ) →
+        IsLegal turn_step (opening_bus kind) (h ++ next ∷ []) → HasTheBus slot h →
         next.reply ≡ Freed → slot_of next.cmd ≡ slot }
 {}
 
@@ -74,7 +85,7 @@ pub fn one_slot_has_the_bus()
 /// may give after that reply, and one of any other slot. So by the last reply a master knows whether
 /// its slot holds the bus, and what it may say next is never denied.
 pub fn a_turn_leaves_each_where_it_was_told()
-    ensures opening { (slot : ℕ) → StandsAsTold free_bus slot None }
+    ensures opening { (kind : ArbiterKind) (slot : ℕ) → StandsAsTold (opening_bus kind) slot None }
     ensures own { (bus : Arbitration) (slot : ℕ) (last : Option ArbReply) (cmd : ArbCmd) →
         IsOrderly bus → IsTrue (is_slot slot) → StandsAsTold bus slot last →
         IsTrue (may_give slot last cmd) →
@@ -88,6 +99,22 @@ pub fn a_turn_leaves_each_where_it_was_told()
 
 /// Where each master has a slot of its own and goes by the replies, no reply is `Denied`.
 pub fn no_turn_is_denied()
-    ensures { (k : ℕ) (slots : ℕ → ℕ) (h : List (Entry ArbCmd ArbReply)) →
-        IsLegal turn_step free_bus h → TakeTurns k slots h → All (λ e. e.reply ≢ Denied) h }
+    ensures { (kind : ArbiterKind) (k : ℕ) (slots : ℕ → ℕ) (h : List (Entry ArbCmd ArbReply)) →
+        IsLegal turn_step (opening_bus kind) h → TakeTurns k slots h → All (λ e. e.reply ≢ Denied) h }
+{}
+
+/// While a request of the lowest slot on its level waits at a rotating arbiter, the bus is granted
+/// on other levels alone, and at most once for each level that stands before its own in the order of
+/// the next grant, so at most three times.
+pub fn at_most_three_go_before()
+    ensures granted { (bus : Arbitration) (cmd : ArbCmd) (r : BusRequest) → grant_of bus cmd ≡ Some r →
+        (turn_step bus cmd).0.holder ≡ Some r.slot }
+    ensures elsewhere { (bus : Arbitration) (r : BusRequest) (h : List (Entry ArbCmd ArbReply)) →
+        IsOrderly bus → bus.kind ≡ Rotating → Waits bus r h →
+        All (λ grant. grant.level ≢ r.level) (grants_in bus h) }
+    ensures by_order { (bus : Arbitration) (r : BusRequest) (h : List (Entry ArbCmd ArbReply)) →
+        IsOrderly bus → bus.kind ≡ Rotating → Waits bus r h →
+        length (grants_in bus h) ≤ levels_before (level_order bus.first) r.level }
+    ensures three { (bus : Arbitration) (r : BusRequest) (h : List (Entry ArbCmd ArbReply)) →
+        IsOrderly bus → bus.kind ≡ Rotating → Waits bus r h → length (grants_in bus h) ≤ 3 }
 {}

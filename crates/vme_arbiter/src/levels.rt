@@ -1,9 +1,21 @@
 ghost use Rattle.std.specs.Prelude.{◌≡◌, ◌≢◌, ◌<◌, ◌≤◌, ℕ, length, Some, IfSome, MatchOption, slice_get};
 ghost use Rattle.std.specs.Option.{option_map, option_and_then};
-ghost use Rattle.vme_arbiter.specs.Requests.{next_request, requests_of};
+ghost use Rattle.vme_arbiter.specs.Levels.{level_order};
+ghost use Rattle.vme_arbiter.specs.Grants.{HasNone, IsGreatest};
+ghost use Rattle.vme_arbiter.specs.Requests.{bus_request, next_request, requests_of};
 
 /// The number of bus request lines, BR0* to BR3*.
 pub(crate) const LEVELS: u8 = 4;
+
+/// The greatest level.
+pub(crate) const HIGHEST: u8 = 3;
+
+/// A request for the bus: a slot drives the bus request line of a level.
+#[derive(Clone, Copy, Debug)]
+pub(crate) struct Request {
+    pub(crate) level: u8,
+    pub(crate) slot: u16,
+}
 
 /// The level that an array holds for a slot, if any.
 pub(crate) fn level_of(levels: &[Option<u8>], slot: u16) -> Option<u8>
@@ -15,17 +27,34 @@ pub(crate) fn level_of(levels: &[Option<u8>], slot: u16) -> Option<u8>
     }
 }
 
-/// The slot that the bus goes to next, where an array holds the level of each slot's request: on
-/// the greatest level that has one, the lowest slot.
-pub(crate) fn next_slot(levels: &[Option<u8>]) -> Option<u16>
+/// The request that the bus goes to next, where an array holds the level of each slot's request and
+/// a grant begins at a first level: on the first level in order that has one, the lowest slot.
+pub(crate) fn next_request(levels: &[Option<u8>], first: u8) -> Option<Request>
     requires few { length levels.now ≤ 65536 }
     requires in_range { (slot level : ℕ) → slice_get levels.now slot ≡ Some (Some level) → level < 4 }
-    ensures next { result ≡ option_map (λ next. next.slot) (next_request (requests_of levels.now)) }
-    ensures within { IfSome result (λ next. next < length levels.now) }
+    requires first { first < 4 }
+    ensures next { option_map (λ next. bus_request next.level next.slot) result
+        ≡ next_request (level_order first) (requests_of levels.now) }
+    ensures within { IfSome result (λ next. next.slot < length levels.now) }
+    ensures level { IfSome result (λ next. next.level < 4) }
 {
-    for level in (0..LEVELS).rev() {
+    if let Some(next) = greatest_request(levels, 0, first + 1) {
+        return Some(next);
+    }
+    greatest_request(levels, first + 1, LEVELS)
+}
+
+/// On the greatest of the levels from one to below another that has a request, that of the lowest
+/// slot.
+fn greatest_request(levels: &[Option<u8>], from: u8, end: u8) -> Option<Request>
+    requires few { length levels.now ≤ 65536 }
+    ensures { MatchOption result
+        (HasNone levels.now from end)
+        (λ next. IsGreatest levels.now from end next.slot next.level) }
+{
+    for level in (from..end).rev() {
         if let Some(slot) = lowest_slot(levels, level) {
-            return Some(slot);
+            return Some(Request { level, slot });
         }
     }
     None

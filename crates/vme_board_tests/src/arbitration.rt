@@ -1,7 +1,7 @@
 //! The arbiter's calls in a worked order.
 use crate::counters::reply;
 use std::process::Abort;
-use vme_arbiter::{ArbCmd, ArbReply, Arbiter};
+use vme_arbiter::{ArbCmd, ArbReply, Arbiter, ArbiterKind};
 
 /// Commands in order, on one arbiter, each with its reply.
 static CALLS: [(ArbCmd, ArbReply); 15] = [
@@ -28,6 +28,52 @@ fn grants_by_level_and_then_by_slot(rt: HostRuntime) {
     for (cmd, wanted) in &CALLS {
         assert_eq!(&rt; reply(&mut arbiter, cmd), *wanted, "{cmd:?}");
     }
+}
+
+/// Four slots ask, one of them at once; then each holder is done, and each that waits looks.
+static ROTATING_CALLS: [(ArbCmd, ArbReply); 16] = [
+    (ArbCmd::Ask { slot: 9, level: 3 }, ArbReply::Granted),
+    (ArbCmd::Ask { slot: 1, level: 3 }, ArbReply::Waiting),
+    (ArbCmd::Ask { slot: 2, level: 1 }, ArbReply::Waiting),
+    (ArbCmd::Ask { slot: 3, level: 2 }, ArbReply::Waiting),
+    (ArbCmd::Done { slot: 9 }, ArbReply::Freed),
+    (ArbCmd::Look { slot: 1 }, ArbReply::Waiting),
+    (ArbCmd::Look { slot: 2 }, ArbReply::Waiting),
+    (ArbCmd::Look { slot: 3 }, ArbReply::Granted),
+    (ArbCmd::Done { slot: 3 }, ArbReply::Freed),
+    (ArbCmd::Look { slot: 1 }, ArbReply::Waiting),
+    (ArbCmd::Look { slot: 2 }, ArbReply::Granted),
+    (ArbCmd::Done { slot: 2 }, ArbReply::Freed),
+    (ArbCmd::Look { slot: 1 }, ArbReply::Granted),
+    (ArbCmd::Done { slot: 1 }, ArbReply::Freed),
+    (ArbCmd::Ask { slot: 4, level: 0 }, ArbReply::Granted),
+    (ArbCmd::Done { slot: 4 }, ArbReply::Freed),
+];
+
+#[test]
+fn grants_in_rotation(rt: HostRuntime) {
+    let mut arbiter = Arbiter::rotating();
+    for (cmd, wanted) in &ROTATING_CALLS {
+        assert_eq!(&rt; reply(&mut arbiter, cmd), *wanted, "{cmd:?}");
+    }
+}
+
+/// The holder that the bus goes to when the first of four, on level 3, is done: the others ask on
+/// the levels 3, 1 and 2.
+fn second_holder(kind: ArbiterKind) -> [ArbReply; 3] {
+    let mut arbiter = Arbiter::of(kind);
+    for (cmd, _) in &ROTATING_CALLS[..5] {
+        reply(&mut arbiter, cmd);
+    }
+    [1, 2, 3].map(|slot| reply(&mut arbiter, &ArbCmd::Look { slot }))
+}
+
+#[test]
+fn the_kind_says_where_a_grant_begins(rt: HostRuntime) {
+    let granted_to_one = [ArbReply::Granted, ArbReply::Waiting, ArbReply::Waiting];
+    let granted_to_three = [ArbReply::Waiting, ArbReply::Waiting, ArbReply::Granted];
+    assert_eq!(&rt; second_holder(ArbiterKind::Priority), granted_to_one);
+    assert_eq!(&rt; second_holder(ArbiterKind::Rotating), granted_to_three);
 }
 
 /// Commands at the ends of the ranges of slots and levels.
@@ -59,8 +105,9 @@ static ENDS: [(ArbCmd, ArbReply); 11] = [
 
 #[test]
 fn slots_and_levels_end_where_they_end(rt: HostRuntime) {
-    let mut arbiter = Arbiter::new();
-    for (cmd, wanted) in &ENDS {
-        assert_eq!(&rt; reply(&mut arbiter, cmd), *wanted, "{cmd:?}");
+    for mut arbiter in [Arbiter::new(), Arbiter::rotating()] {
+        for (cmd, wanted) in &ENDS {
+            assert_eq!(&rt; reply(&mut arbiter, cmd), *wanted, "{cmd:?}");
+        }
     }
 }

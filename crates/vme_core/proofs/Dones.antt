@@ -8,7 +8,7 @@ use Rattle.vme_object.specs.Each.{AllAt}
 use Rattle.vme_object.proofs.Eachs.{AllAt-same, AllAt-trans}
 use Rattle.vme_memory.specs.Boards.{Board}
 use Rattle.vme_memory.specs.Locals.{board_step}
-use Rattle.vme_arbiter.specs.Arbitration.{turn_step}
+use Rattle.vme_arbiter.specs.Arbitration.{Arbitration, turn_step}
 use Rattle.vme_core.specs.declared.event.Event.{Event}
 use Rattle.vme_core.specs.declared.event.EventReply.{EventReply}
 use Rattle.vme_core.specs.Tallies.{Went, Tells, fresh_tally}
@@ -80,9 +80,9 @@ run_none events m old new same = record { done = 0; has = rw same (done_nothing 
 
 -- each board's part of a run from the opening
 pub opened_boards :
-    (memories : List Board) (k : ℕ) (run : List Move) (after : Machine) → Did run (opening memories k) after
+    (memories : List Board) (bus : Arbitration) (k : ℕ) (run : List Move) (after : Machine) → Did run (opening memories bus k) after
     → AllAt (λ x memory b. Tells board_step memory (board_part x run) k b) memories after.boards
-opened_boards memories k run after did = record {
+opened_boards memories bus k run after did = record {
   count = did.boards.count ∙ length-map memories (fresh_tally k);
   each = λ x memory b x<.
       went_tells board_step (slice_index_or memories x memory) (board_part x run) k (slice_index_or after.boards x b)

@@ -2,7 +2,7 @@
 use Rattle.std.specs.Prelude.{ℕ, ◌≡◌, ◌<◌, ◌-◌, ◌^◌, List, ◌++◌, length, map, take, slice_get, Option, Some, MatchOption, Result, Ok, Err}
 use Rattle.std.specs.Option.{option_and_then}
 use Rattle.vme_memory.specs.Boards.{Board}
-use Rattle.vme_arbiter.specs.Arbitration.{free_bus}
+use Rattle.vme_arbiter.specs.Arbitration.{Arbitration}
 use Rattle.vme_core.specs.declared.event.Event.{Event}
 use Rattle.vme_core.specs.declared.event.EventReply.{EventReply}
 use Rattle.vme_core.specs.declared.event.Target.{Target}
@@ -12,9 +12,9 @@ use Rattle.vme_core.specs.declared.fault.RunStop.TheVariants as stops
 use Rattle.vme_core.specs.Tallies.{fresh_tally}
 use Rattle.vme_core.specs.Runs.{Machine, Move, Did, target_of, events_in, replies_in}
 
--- boards with these memories and a free bus, before the first step (this project's own)
-abbrev pub opening : List Board → ℕ → Machine
-opening memories k = record { boards = map (fresh_tally k) memories; bus = fresh_tally k free_bus }
+-- boards with these memories and the arbiter of this bus, before the first step (this project's own)
+abbrev pub opening : List Board → Arbitration → ℕ → Machine
+opening memories bus k = record { boards = map (fresh_tally k) memories; bus = fresh_tally k bus }
 
 -- how many whos there are (this project's own)
 abbrev pub whos : Machine → ℕ

@@ -2,7 +2,7 @@ ghost use Rattle.std.specs.Prelude.{◌++◌, ◌∷◌, ℕ, List, []};
 ghost use Rattle.vme_object.specs.Each.{AllAt};
 ghost use Rattle.vme_memory.specs.Boards.{Board};
 ghost use Rattle.vme_memory.specs.Locals.{board_step};
-ghost use Rattle.vme_arbiter.specs.Arbitration.{free_bus, turn_step};
+ghost use Rattle.vme_arbiter.specs.Arbitration.{Arbitration, turn_step};
 ghost use Rattle.vme_core.specs.Tallies.{Tells};
 ghost use Rattle.vme_core.specs.Runs.{Machine, Move, Did, move, target_of, board_part, bus_part};
 ghost use Rattle.vme_core.specs.Calls.{call_of, machine_step};
@@ -16,15 +16,15 @@ pub fn runs_compose()
         Did first a b → Did then b c → Did (first ++ then) a c }
 {}
 
-/// After a run from the opening each board's memory, and the arbiter, is the replay of its own part
+/// After a run from an opening each board's memory, and the arbiter, is the replay of its own part
 /// of the run; its steps are that part's entries, and what each who made are the who's own.
 #[tactic(auto, using(crate::proofs::Tallies::went_tells))]
 pub fn opening_is_replayed()
-    ensures boards { (memories : List Board) (k : ℕ) (run : List Move) (after : Machine) →
-        Did run (opening memories k) after →
+    ensures boards { (memories : List Board) (bus : Arbitration) (k : ℕ) (run : List Move) (after : Machine) →
+        Did run (opening memories bus k) after →
         AllAt (λ x memory b. Tells board_step memory (board_part x run) k b) memories after.boards }
-    ensures bus { (memories : List Board) (k : ℕ) (run : List Move) (after : Machine) →
-        Did run (opening memories k) after → Tells turn_step free_bus (bus_part run) k after.bus }
+    ensures bus { (memories : List Board) (bus : Arbitration) (k : ℕ) (run : List Move) (after : Machine) →
+        Did run (opening memories bus k) after → Tells turn_step bus (bus_part run) k after.bus }
 {}
 
 /// The call that an event makes is a run of one move, with the reply of that call.

@@ -1,4 +1,6 @@
 ghost use Rattle.std.specs.Prelude.{◌≡◌, ◌<◌, ◌-◌, ◌^◌, ◌↔◌, ◌∷◌, [], length, map, slice_get, Some, All, IsErr, IfOk, IfErr};
+ghost use Rattle.vme_arbiter.specs.declared.kind.ArbiterKind.TheVariants.{Priority};
+ghost use Rattle.vme_arbiter.specs.Arbitration.{opening_bus};
 ghost use Rattle.vme_core.specs.Tallies.{fresh_tally};
 ghost use Rattle.vme_core.specs.Runs.{Did, move, target_of};
 ghost use Rattle.vme_core.specs.Calls.{call_of, machine_step};
@@ -32,13 +34,26 @@ impl Model for Core {
 }
 
 impl Core {
-    /// Boards with these memories and an arbiter of a free bus, for the whos below `k`, before any
-    /// step. Where memory is refused the boards' memories are dropped.
+    /// Boards with these memories and a priority arbiter of a free bus, for the whos below `k`,
+    /// before any step. Where memory is refused the boards' memories are dropped.
     pub fn new(alloc: Global, memories: Vec<ByteMemory>, k: usize) -> Result<Core, OutOfMemory>
-        ensures { IfOk result (λ core. core ≡ opening memories.items k) }
+        ensures { IfOk result (λ core. core ≡ opening memories.items (opening_bus Priority) k) }
+    {
+        Core::with_arbiter(alloc, memories, Arbiter::new(), k)
+    }
+
+    /// Boards with these memories and this arbiter of their bus, for the whos below `k`, before any
+    /// step. Where memory is refused the boards' memories are dropped.
+    pub fn with_arbiter(
+        alloc: Global,
+        memories: Vec<ByteMemory>,
+        arbiter: Arbiter,
+        k: usize,
+    ) -> Result<Core, OutOfMemory>
+        ensures { IfOk result (λ core. core ≡ opening memories.items arbiter k) }
     {
         let boards = fresh_boards(alloc, memories, k)?;
-        let bus = Counted::new(alloc, Arbiter::new(), k)?;
+        let bus = Counted::new(alloc, arbiter, k)?;
         Ok(Core { boards, bus })
     }
 

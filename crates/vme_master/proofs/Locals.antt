@@ -68,15 +68,15 @@ pub board_fits : (m : Board) (board : ℕ) (command : Option Command) → fits (
 board_fits m board None = refl
 board_fits m board (Some command) = reply_form m command
 
-ask_fits : (holder : Option ℕ) (pending : List BusRequest) (slot level : ℕ)
-    → answers_turn (turns.Ask slot level) (lawful_ask holder pending (bus_request level slot)).1 ≡ true
-ask_fits None pending slot level = refl
-ask_fits (Some h) pending slot level = refl
+ask_fits : (holder : Option ℕ) (bus : Arbitration) (slot level : ℕ)
+    → answers_turn (turns.Ask slot level) (lawful_ask holder bus (bus_request level slot)).1 ≡ true
+ask_fits None bus slot level = refl
+ask_fits (Some h) bus slot level = refl
 
 -- and so does the arbiter's
 pub turn_fits : (bus : Arbitration) (cmd : ArbCmd) → fits (OnBus cmd) (told.Bus (turn_step bus cmd).1) ≡ true
 turn_fits bus (turns.Ask slot level) =
-    elim (cases_Bool (can_ask bus slot level)) [ inl can ↦ rw can (ask_fits bus.holder bus.pending slot level) | inr cannot ↦ rw cannot refl ]
+    elim (cases_Bool (can_ask bus slot level)) [ inl can ↦ rw can (ask_fits bus.holder bus slot level) | inr cannot ↦ rw cannot refl ]
 turn_fits bus (turns.Look slot) =
     elim (cases_Bool (holds bus slot)) [
       | inl held ↦ rw held refl

@@ -4,6 +4,7 @@ use Rattle.std.specs.List.{position}
 use Rattle.vme_core.specs.declared.event.EventReply.{EventReply}
 use Rattle.vme_core.specs.Runs.{Machine}
 use Rattle.vme_core.specs.Calls.{Call, machine_step}
+use Rattle.vme_arbiter.specs.Arbitration.{free_bus}
 use Rattle.vme_core.specs.Machines.{opening}
 use Rattle.vme_shared.specs.declared.reply.LineReply.{LineReply}
 use Rattle.vme_lines.specs.declared.line.Line.{Line}
@@ -80,7 +81,7 @@ run config world (slot ∷ slots) = run config (turn config world slot) slots
 -- before the first turn: memories of zeros, a free bus, nothing counted, and no line answered (this project's own)
 abbrev pub opening_world : Configuration → World
 opening_world config = record {
-  machine = opening (map opening_memory config.boards) (length config.boards);
+  machine = opening (map opening_memory config.boards) free_bus (length config.boards);
   courses = map (λ script. course [] []) config.scripts;
 }
 

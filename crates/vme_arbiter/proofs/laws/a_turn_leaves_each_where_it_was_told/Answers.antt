@@ -8,4 +8,4 @@ pub returns-clause-other : goal.returns-clause-other
 returns-clause-other c = other-turn
 
 pub returns-clause-holder : goal.returns-clause-holder
-returns-clause-holder c = λ bus slot held. holds-holder bus.holder bus.pending slot held
+returns-clause-holder c = holds-holder

@@ -1,6 +1,0 @@
-use Rattle.std.proofs.Common.{◌≡◌, ◌<◌, ℕ, Some, slice_get}
-use Rattle.vme_arbiter.proofs.levels.next_slot.Given as goal
-
--- no request is on this level or a greater one
-abbrev pub invariant-loop-level : goal.invariant-loop-level
-invariant-loop-level l = (slot level : ℕ) → slice_get l.levels slot ≡ Some (Some level) → level < l.level
