@@ -128,7 +128,7 @@ are_run config slots lawful =
       all.more,
       record {
         calls = all.same;
-        boards = opened_boards memories (length config.boards) all.more after.machine all.did;
+        boards = opened_boards memories free_bus (length config.boards) all.more after.machine all.did;
         bus = went_tells turn_step free_bus (bus_part all.more) (length config.boards) after.machine.bus all.did.bus;
         courses = all.follow;
       },

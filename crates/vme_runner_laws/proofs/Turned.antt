@@ -170,7 +170,7 @@ module _ (config : Configuration) (lawful : IsLawful config) (board : ℕ) (ther
   call_holds bus line replies (OnBoard x command) own stands made =
       elim (line_holds config board line replies x command own made) [
         | inl local ↦ inl local
-        | inr held ↦ inr (holds-holder bus.holder bus.pending (slot_at config board)
+        | inr held ↦ inr (holds-holder bus (slot_at config board)
             (subst (StandsAsTold bus (slot_at config board)) held stands))
       ]
 
