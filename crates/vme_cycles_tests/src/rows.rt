@@ -5,7 +5,7 @@ use std::test::Fail;
 use vme_engine::Status;
 
 /// A write of four bytes, and each of them read.
-pub static QUAD: &str = "w 0d 00000004 01020304
+static QUAD: &str = "w 0d 00000004 01020304
 r 0d 00000004 1
 r 0d 00000005 1
 r 0d 00000006 1
@@ -13,7 +13,7 @@ r 0d 00000007 1
 ";
 
 /// What it writes.
-pub static QUAD_TEXT: &str = "am=0d a=00000004 ds1=0 ds0=0 a01=0 lword=0 write=0 data=01020304
+static QUAD_TEXT: &str = "am=0d a=00000004 ds1=0 ds0=0 a01=0 lword=0 write=0 data=01020304
 done
 am=0d a=00000004 ds1=0 ds0=1 a01=0 lword=1 write=1 data=----01--
 read 01

@@ -1,5 +1,4 @@
-//! The engine of `vme step` over devices that fail, at the limit of its input, and where memory is
-//! refused.
+//! The engine of `vme step` at the limit of its input, and where memory is refused.
 use crate::rows::{TORN_BLOCK, TORN_BLOCK_REPORT};
 use std::test::Fail;
 use vme_io::{RoomSink, SliceSource};
@@ -24,25 +23,6 @@ fn limits_its_input(rt: HostRuntime) -> Result<(), Fail> {
         assert_eq!(rt; ended, Err(end));
         assert!(rt; sink.bytes().is_empty());
         input.push(b'\n')?;
-    }
-    Ok(())
-}
-
-#[test]
-fn stops_where_a_device_fails(rt: HostRuntime) -> Result<(), Fail> {
-    for bytes in 0..=TORN_BLOCK.len() {
-        let mut source = SliceSource::new(TORN_BLOCK.as_bytes(), 1, bytes);
-        let mut sink = RoomSink::new(rt.alloc(), 1, 4096)?;
-        let end = step_engine(rt.alloc(), &mut source, &mut sink);
-        assert_eq!(rt; end, Err(ProgramFault::Read));
-        assert!(rt; sink.bytes().is_empty());
-    }
-    for room in 0..TORN_BLOCK_REPORT.len() {
-        let mut source = SliceSource::new(TORN_BLOCK.as_bytes(), 1, usize::MAX);
-        let mut sink = RoomSink::new(rt.alloc(), 1, room)?;
-        let end = step_engine(rt.alloc(), &mut source, &mut sink);
-        assert_eq!(rt; end, Err(ProgramFault::Write));
-        assert_eq!(rt; sink.bytes(), &TORN_BLOCK_REPORT.as_bytes()[..room]);
     }
     Ok(())
 }
