@@ -138,7 +138,7 @@ pub all_lawful : (s : SharedJob) (stage : Stage) → IsAsked s.request → share
 all_lawful s stage is none = let one = stage_lawful s.request stage is none in (_, ap (transfer_job s) one.1)
 
 -- the first transfer is lawful, wherever a mailbox lies
-first_lawful : (request : SharedRequest) → shared_refusal request ≡ None → IsLawfulRequest (stage_request request (first_stage request))
+pub first_lawful : (request : SharedRequest) → shared_refusal request ≡ None → IsLawfulRequest (stage_request request (first_stage request))
 first_lawful (Lock am addr) none = no_refusal (set_lock am addr) _ refl none
 first_lawful (Unlock am addr) none = no_refusal (clear_lock am addr) _ refl none
 first_lawful (Put mailbox word) none = (looked mailbox none).lock

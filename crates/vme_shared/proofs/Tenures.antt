@@ -133,7 +133,7 @@ single (Put mailbox word) stage = mailbox_single mailbox stage
 single (Take mailbox) stage = mailbox_single mailbox stage
 
 -- a call is that of the bus task at work
-shown_makes : (next : Next) (call : Call) → task_shown next ≡ Makes call → next ≡ tasks.Makes call
+pub shown_makes : (next : Next) (call : Call) → task_shown next ≡ Makes call → next ≡ tasks.Makes call
 shown_makes tasks.Rests call made = absurd cc
 shown_makes (tasks.Makes other) call made = cc
 shown_makes (tasks.Ends outcome) call made = absurd cc

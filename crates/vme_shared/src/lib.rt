@@ -5,21 +5,33 @@
 #![tactic(auto)]
 
 mod asked;
+mod laws;
+mod lock;
 mod mailbox;
 mod outcome;
+mod put;
 mod reply;
 mod request;
 mod stage;
 mod status;
+mod take;
 mod task;
 mod todo;
 mod word;
 mod work;
 
+pub use laws::{
+    shared_tasks_are_refused_at_the_start, shared_tasks_call_boards_of_the_map,
+    shared_tasks_go_by_the_table, shared_tasks_keep_their_tenure,
+};
+pub use lock::LockTask;
 pub use mailbox::Mailbox;
 pub use outcome::SharedOutcome;
+pub use put::PutTask;
 pub use reply::LineReply;
 pub use request::SharedRequest;
 pub use status::Status;
+pub use take::TakeTask;
 pub use task::SharedTask;
 pub use todo::SharedTodo;
+pub use vme_mailbox::mailboxes_are_queues;

@@ -1,0 +1,25 @@
+use Rattle.std.proofs.Common.{refl}
+use Rattle.vme_shared.proofs.Tenures.{begin_told, turns_go_by, holds_for_data, turn_told, datum_told, ends_well}
+use Rattle.vme_shared.proofs.laws.shared_tasks_keep_their_tenure.Goals as goal
+
+pub returns-clause-begin : goal.returns-clause-begin
+returns-clause-begin c = begin_told
+
+pub returns-clause-turns : goal.returns-clause-turns
+returns-clause-turns c = turns_go_by
+
+pub returns-clause-holds : goal.returns-clause-holds
+returns-clause-holds c = holds_for_data
+
+pub returns-clause-turn : goal.returns-clause-turn
+returns-clause-turn c = turn_told
+
+pub returns-clause-datum : goal.returns-clause-datum
+returns-clause-datum c = datum_told
+
+pub returns-clause-granted : goal.returns-clause-granted
+returns-clause-granted c = λ s given call reply made fit good denied. (ends_well s given call reply _ made fit good denied).granted refl
+
+pub returns-clause-freed : goal.returns-clause-freed
+returns-clause-freed c = λ s given call reply end made fit good ends.
+    let well = ends_well s given call reply end made fit good ends in (well.freed, well.nothing)
