@@ -33,7 +33,8 @@ data_transfer request = record { am = row 0x09 A32 DataAccess false; request = r
 
 -- the entry of a master's cycle on this board (this project's own)
 abbrev pub cycle_by : ℕ → Request → Reply → Entry BoardCmd Reply
-cycle_by who request reply = entry who (Cycle (signals_of (data_transfer request) 0) (addr_of request) (function_of request)) reply
+cycle_by who request reply =
+    entry who (Cycle (signals_of (data_transfer request) 0) (addr_of request) (function_of request)) reply
 
 -- a master locks the mailbox, and finds this byte there before (this project's own)
 abbrev pub locks : ℕ → ℕ → Entry BoardCmd Reply
