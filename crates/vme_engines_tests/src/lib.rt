@@ -11,3 +11,5 @@ mod files;
 mod memory;
 #[cfg(test)]
 mod rows;
+#[cfg(test)]
+mod runs;

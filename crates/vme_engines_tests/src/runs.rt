@@ -1,0 +1,87 @@
+//! Runs on threads, of whose reports some lines vary: what they begin with, and what they end with.
+use std::alloc::{AllocError, Global};
+use std::test::Fail;
+use vme_io::{RoomSink, SliceSource};
+use vme_program::Status;
+use vme_run::run_engine;
+
+/// Two processors that wait for each other's byte.
+static WAITING: &str = "tries = 1000000
+[[board]]
+slot = 1
+base = 0
+size = 16
+script = '''
+w 09 00000000 01
+await 09 00000001 01'''
+[[board]]
+slot = 2
+base = 0x1000
+size = 16
+script = '''
+await 09 00000000 01
+w 09 00000001 01'''
+";
+
+/// What both are answered.
+static MET: &str = "1:1 done
+1:2 met
+2:1 met
+2:2 done
+";
+
+#[test]
+fn two_wait_for_each_other(rt: HostRuntime) -> Result<(), Fail> {
+    let mut source = SliceSource::new(WAITING.as_bytes(), usize::MAX, usize::MAX);
+    let mut sink = RoomSink::new(rt.alloc(), usize::MAX, 4096)?;
+    let end = run_engine(&rt, rt.alloc(), &mut source, &mut sink);
+    assert_eq!(&rt; end, Ok(Status::Clean));
+    assert!(&rt; sink.bytes().starts_with(MET.as_bytes()));
+    Ok(())
+}
+
+/// Four boards, the first of which has the word that all add to.
+static BOARDS: [&str; 4] = [
+    "slot = 1\nbase = 0x0000\n",
+    "slot = 2\nbase = 0x1000\n",
+    "slot = 3\nbase = 0x2000\n",
+    "slot = 4\nbase = 0x3000\n",
+];
+
+/// How often each adds one: as often as a script has lines at most.
+const LINES: usize = 1000;
+
+/// What the report ends with.
+static SUM: &str = "
+board 1 steps 4000 made 1000 1000 1000 1000
+board 2 steps 0 made 0 0 0 0
+board 3 steps 0 made 0 0 0 0
+board 4 steps 0 made 0 0 0 0
+mem 1 00000010 00000fa0000000000000000000000000
+";
+
+/// A file of these boards.
+fn adding(alloc: Global) -> Result<String, AllocError> {
+    let mut text = String::new(alloc);
+    for board in &BOARDS {
+        text.push_str("[[board]]\n")?;
+        text.push_str(board)?;
+        text.push_str("size = 32\nscript = '''\n")?;
+        for _ in 0..LINES {
+            text.push_str("m 09 00000010 4 add 00000001\n")?;
+        }
+        text.push_str("'''\n")?;
+    }
+    Ok(text)
+}
+
+#[test]
+fn four_add_to_one_word(rt: HostRuntime) -> Result<(), Fail> {
+    let text = adding(rt.alloc())?;
+    let mut source = SliceSource::new(text.as_bytes(), usize::MAX, usize::MAX);
+    let mut sink = RoomSink::new(rt.alloc(), usize::MAX, 131_072)?;
+    let end = run_engine(&rt, rt.alloc(), &mut source, &mut sink);
+    assert_eq!(&rt; end, Ok(Status::Clean));
+    assert!(&rt; sink.bytes().ends_with(SUM.as_bytes()));
+    Ok(())
+}
