@@ -1,6 +1,7 @@
 -- What a configuration file says, as plain values.
 use Rattle.std.specs.Prelude.{ℕ, Bool, List}
 use Rattle.vme_document.specs.declared.file.ClassTable.{ClassTable}
+use Rattle.vme_document.specs.declared.file.MailboxTable.{MailboxTable}
 
 -- what a table says of the range of a board (this project's own)
 pub record RangeValues : Type 0 where
@@ -24,3 +25,4 @@ pub record FileValues : Type 0 where
   pub schedule : List (ℕ × ℕ)
   pub rounds : ℕ
   pub boards : List BoardValues
+  pub mailboxes : List MailboxTable

@@ -4,6 +4,7 @@ use Rattle.std.specs.Prelude.{ℕ, Bool, true, false, ◌==◌, List, [], ◌∷
 use Rattle.std.specs.Option.{option_and_then}
 use Rattle.toml.specs.Data.{Data, Members, as_str, as_bool, as_table}
 use Rattle.vme_document.specs.declared.file.ClassTable.{ClassTable}
+use Rattle.vme_document.specs.declared.file.MailboxTable.{MailboxTable}
 use Rattle.vme_document.specs.Files.{RangeValues, BoardValues, FileValues}
 use Rattle.vme_document.specs.Values.{whole, pair, list_of, required, optional, is_among, has_only}
 
@@ -58,11 +59,29 @@ board_values keys = do
 abbrev pub board : Data → Option BoardValues
 board value = option_and_then board_values (as_table value)
 
+-- whether a mailbox has a key of this name (this project's own)
+unfoldable pub is_mailbox_key : List ℕ → Bool
+is_mailbox_key name = is_among name (codes "am" ∷ codes "addr" ∷ codes "slots" ∷ [])
+
+-- the keys of a mailbox, each of which has to be there (this project's own)
+unfoldable pub mailbox_values : Members → Option MailboxTable
+mailbox_values keys = do
+  _ ← when (has_only is_mailbox_key keys)
+  am ← required whole (codes "am") keys
+  addr ← required whole (codes "addr") keys
+  slots ← required whole (codes "slots") keys
+  Some (record { am = am; addr = addr; slots = slots })
+
+-- a mailbox as an element of an array (this project's own)
+abbrev pub mailbox : Data → Option MailboxTable
+mailbox value = option_and_then mailbox_values (as_table value)
+
 -- whether a file has a key of this name at the top (this project's own)
 unfoldable pub is_file_key : List ℕ → Bool
-is_file_key name = is_among name (codes "arbiter" ∷ codes "tries" ∷ codes "schedule" ∷ codes "rounds" ∷ codes "board" ∷ [])
+is_file_key name = is_among name (
+    codes "arbiter" ∷ codes "tries" ∷ codes "schedule" ∷ codes "rounds" ∷ codes "board" ∷ codes "mailbox" ∷ [])
 
--- the keys at the top with their kinds and defaults: the priority arbiter, 1,000 tries, no turn, no round, no board
+-- the keys at the top with their kinds and defaults: the priority arbiter, 1,000 tries, no turn, no round, no board, no mailbox
 -- (this project's own)
 unfoldable pub file_values : Members → Option FileValues
 file_values keys = do
@@ -72,4 +91,12 @@ file_values keys = do
   schedule ← optional (list_of pair) (codes "schedule") [] keys
   rounds ← optional whole (codes "rounds") 0 keys
   boards ← optional (list_of board) (codes "board") [] keys
-  Some (record { arbiter = arbiter; tries = tries; schedule = schedule; rounds = rounds; boards = boards })
+  mailboxes ← optional (list_of mailbox) (codes "mailbox") [] keys
+  Some (record {
+    arbiter = arbiter;
+    tries = tries;
+    schedule = schedule;
+    rounds = rounds;
+    boards = boards;
+    mailboxes = mailboxes;
+  })

@@ -57,6 +57,14 @@ impl<'a> Model for BoardTable<'a> {
     } };
 }
 
+/// What a table of `mailbox` says.
+#[derive(Clone, Copy)]
+pub struct MailboxTable {
+    pub am: u32,
+    pub addr: u32,
+    pub slots: u32,
+}
+
 /// What a file says.
 #[derive(Drop)]
 pub struct FileTable<'a> {
@@ -65,6 +73,7 @@ pub struct FileTable<'a> {
     pub schedule: Vec<(u32, u32)>,
     pub rounds: u32,
     pub boards: Vec<BoardTable<'a>>,
+    pub mailboxes: Vec<MailboxTable>,
 }
 
 impl<'a> Model for FileTable<'a> {
@@ -78,5 +87,6 @@ impl<'a> Model for FileTable<'a> {
       schedule = f.schedule.items;
       rounds = f.rounds;
       boards = f.boards.items;
+      mailboxes = f.mailboxes.items;
     } };
 }

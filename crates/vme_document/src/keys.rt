@@ -3,10 +3,10 @@ ghost use Rattle.std.specs.Prelude.{◌≡◌, [], codes};
 ghost use Rattle.toml.specs.View.{view, table_view, items_view};
 ghost use Rattle.vme_document.specs.Answers.{Reads};
 ghost use Rattle.vme_document.specs.Values.{pair, items_of, list_of, optional, has_only};
-ghost use Rattle.vme_document.specs.Keys.{is_board_key, range_values, class_values, board_values, board, is_file_key, file_values};
+ghost use Rattle.vme_document.specs.Keys.{is_board_key, range_values, class_values, board_values, board, is_mailbox_key, mailbox_values, mailbox, is_file_key, file_values};
 
 use crate::fault::DocumentFault;
-use crate::file::{BoardTable, ClassTable, FileTable, RangeTable};
+use crate::file::{BoardTable, ClassTable, FileTable, MailboxTable, RangeTable};
 use crate::values::{required_whole, text_or, truth_or, value_at, whole, whole_or};
 use std::alloc::Global;
 use toml::{Table, Value};
@@ -44,7 +44,10 @@ fn has_board_keys(table: &Table) -> bool
 fn is_file_key(name: &str) -> bool
     ensures { result ≡ is_file_key name.now }
 {
-    matches!(name, "arbiter" | "tries" | "schedule" | "rounds" | "board")
+    matches!(
+        name,
+        "arbiter" | "tries" | "schedule" | "rounds" | "board" | "mailbox"
+    )
 }
 
 /// Whether a table has no keys but those at the top of a file.
@@ -140,6 +143,65 @@ fn boards_of(alloc: Global, table: &Table) -> Result<Vec<BoardTable<'_>>, Docume
     }
 }
 
+/// Whether a mailbox has a key of this name.
+#[tactic(auto, unfolding(crate::specs::Keys::is_mailbox_key))]
+fn is_mailbox_key(name: &str) -> bool
+    ensures { result ≡ is_mailbox_key name.now }
+{
+    matches!(name, "am" | "addr" | "slots")
+}
+
+/// Whether a table has no keys but those of a mailbox.
+fn has_mailbox_keys(table: &Table) -> bool
+    ensures { result ≡ has_only is_mailbox_key (table_view table.now) }
+{
+    table.keys().all(|name| is_mailbox_key(name.as_str()))
+}
+
+/// What a table says of a mailbox, if its keys and their values are a mailbox's.
+#[tactic(auto, unfolding(crate::specs::Keys::mailbox_values))]
+fn mailbox_values(table: &Table) -> Option<MailboxTable>
+    ensures { result ≡ mailbox_values (table_view table.now) }
+{
+    if !has_mailbox_keys(table) {
+        return None;
+    }
+    let am = required_whole(table, "am")?;
+    let addr = required_whole(table, "addr")?;
+    let slots = required_whole(table, "slots")?;
+    Some(MailboxTable { am, addr, slots })
+}
+
+/// A mailbox as an element of an array.
+fn mailbox(value: &Value) -> Option<MailboxTable>
+    ensures { result ≡ mailbox (view value.now) }
+{
+    mailbox_values(value.as_table()?)
+}
+
+/// The mailboxes of an array.
+fn mailboxes_in(alloc: Global, items: &Vec<Value>) -> Result<Vec<MailboxTable>, DocumentFault>
+    ensures { Reads (λ mailboxes. mailboxes.items) result (items_of mailbox (items_view items.now.items)) }
+{
+    let mut mailboxes = Vec::new(alloc);
+    for item in items {
+        mailboxes.push(mailbox(item).ok_or(DocumentFault::BadKey)?)?;
+    }
+    Ok(mailboxes)
+}
+
+/// The mailboxes of a file; a file without the key has none.
+#[tactic(auto, unfolding(crate::specs::Values::optional))]
+fn mailboxes_of(alloc: Global, table: &Table) -> Result<Vec<MailboxTable>, DocumentFault>
+    ensures { Reads (λ mailboxes. mailboxes.items) result
+        (optional (list_of mailbox) (codes "mailbox") [] (table_view table.now)) }
+{
+    match value_at(table, "mailbox") {
+        Some(value) => mailboxes_in(alloc, value.as_array().ok_or(DocumentFault::BadKey)?),
+        None => Ok(Vec::new(alloc)),
+    }
+}
+
 /// Two whole numbers.
 #[tactic(auto, using(crate::proofs::Lists::pair_in_others), unfolding(crate::specs::Values::pair))]
 fn pair(value: &Value) -> Option<(u32, u32)>
@@ -187,11 +249,13 @@ pub fn file_values(alloc: Global, table: &Table) -> Result<FileTable<'_>, Docume
     let schedule = schedule_of(alloc, table)?;
     let rounds = whole_or(table, "rounds", 0).ok_or(DocumentFault::BadKey)?;
     let boards = boards_of(alloc, table)?;
+    let mailboxes = mailboxes_of(alloc, table)?;
     Ok(FileTable {
         arbiter,
         tries,
         schedule,
         rounds,
         boards,
+        mailboxes,
     })
 }

@@ -10,6 +10,6 @@ mod read;
 mod values;
 
 pub use fault::DocumentFault;
-pub use file::{BoardTable, ClassTable, FileTable, RangeTable};
+pub use file::{BoardTable, ClassTable, FileTable, MailboxTable, RangeTable};
 pub use keys::file_values;
 pub use read::table_of;

@@ -27,7 +27,7 @@ pub data Field : Type 0 where
   Mailbox : Field
   FourBytes : Field
 
--- what a line's fields give, with that of one more, if a word spells it: AM, ADDR, OFF, N, COUNT, HEX and BOX (this project's own)
+-- what fields give, with that of one more, if a word spells it: AM, ADDR, OFF, N, COUNT, HEX and BOX (this project's own)
 unfoldable pub with_field : Field → List ℕ → Operands → Option Operands
 with_field Name word o = Some o
 with_field Code word o = option_map (λ am. record o { am = am }) (hex_number 2 word)

@@ -1,41 +1,60 @@
 -- What holds of every configuration, by the refusals that do not hold of its file.
 use Rattle.std.proofs.Common.{◌≡◌, ℕ, zero, suc, ◌<◌, ◌≤◌, Bool, true, false, List, [], ◌∷◌, length, Some, Result, Ok, Err, refl, ap, subst, sym, ◌∙◌, arith}
-use Rattle.std.specs.Prelude.{nat_lt, nat_le, not, ◌&&◌, ◌==◌, is_ok, slice_get, codes}
-use Rattle.std.specs.Str.{bytes_eq}
+use Rattle.std.specs.Prelude.{nat_lt, nat_le, not, ◌&&◌, ◌==◌, is_ok, slice_get}
 use Rattle.std.specs.List.{list_all}
 use Rattle.std.proofs.lemmas.Bool.{and_parts, ltb-true, ltb-false, leb-true}
 use Rattle.std.proofs.lemmas.Bool.Decides.{nat_tests}
 use Rattle.vme_decode.specs.declared.entry.Entry.{Entry}
 use Rattle.vme_decode.specs.Lawful.{some_overlap}
+use Rattle.vme_arbiter.specs.declared.kind.ArbiterKind.{ArbiterKind}
+use Rattle.vme_shared.specs.declared.mailbox.Mailbox.{Mailbox}
+use Rattle.vme_boxes.specs.declared.boxes.Boxes.TheVariants.{Declared}
 use Rattle.vme_script.specs.declared.board.BoardConfig.{BoardConfig}
+use Rattle.vme_script.specs.declared.script.ScriptLine.{ScriptLine}
 use Rattle.vme_script.specs.declared.fault.ConfigFault.{ConfigFault}
-use Rattle.vme_script.specs.declared.fault.ConfigFault.TheVariants.{NoBoard, TooMany, BadWord, BadSchedule, Overlap}
+use Rattle.vme_script.specs.declared.fault.ConfigFault.TheVariants.{NoBoard, TooMany, BadSchedule, Overlap}
 use Rattle.vme_script.specs.Answers.{◌>>=◌, refuse}
 use Rattle.vme_document.specs.Files.{FileValues}
 use Rattle.vme_script.specs.Boards.{range_refused, boards_after, entries_of, map_of}
+use Rattle.vme_script.specs.Arbiters.{kind_named}
+use Rattle.vme_script.specs.Mailboxes.{mailboxes_of}
 use Rattle.vme_script.specs.Schedules.{has_boards, turns_of, lawful_schedule, schedule_of}
 use Rattle.vme_script.specs.Scripts.{scripts_of}
 use Rattle.vme_script.specs.Configurations.{Configuration, configuration_of}
 use Rattle.vme_script.specs.Lawful.{IsLawfulBoard, IsLawful}
 use Rattle.vme_script.proofs.Maps.{refusal_of_lawful, size_of_range}
-use Rattle.vme_script.proofs.Scripts.{scripts_known, own_scripts}
+use Rattle.vme_script.proofs.Sites.{mailboxes_known}
+use Rattle.vme_script.proofs.Scripts.{scripts_known, own_scripts, named_scripts}
 use Rattle.vme_script.proofs.Facts.{ascend, is_lawful, boards_known, ranges_known, true_from_not}
 
 -- ---- the parts of a configuration
 
 ended :
-    {A B : Type 0} (first : Result A ConfigFault) (second : Result B ConfigFault) (make : A → B → Configuration) (c : Configuration)
-    → (first >>= (λ x. second >>= (λ y. Ok (make x y)))) ≡ Ok c → (x : A) × (y : B) × (first ≡ Ok x) × (second ≡ Ok y) × (c ≡ make x y)
+    {A B : Type 0} (first : Result A ConfigFault) (second : A → Result B ConfigFault) (make : A → B → Configuration) (c : Configuration)
+    → (first >>= (λ x. second x >>= (λ y. Ok (make x y)))) ≡ Ok c → (x : A) × (y : B) × (first ≡ Ok x) × (second x ≡ Ok y) × (c ≡ make x y)
 ended (Err fault) second make c e = cc
-ended (Ok x) (Err fault) make c e = cc
-ended (Ok x) (Ok y) make c e = (x, y, refl, refl, cc)
+ended (Ok x) second make c e =
+    let last = told (second x) (make x) c e in
+    (x, last.0, refl, last.1, last.2)
+  where
+    told :
+        {B : Type 0} (answer : Result B ConfigFault) (make : B → Configuration) (c : Configuration) → (answer >>= (λ y. Ok (make y))) ≡ Ok c
+        → (y : B) × (answer ≡ Ok y) × (c ≡ make y)
+    told (Err fault) make c e = cc
+    told (Ok y) make c e = (y, refl, cc)
 
 passed :
-    {A B : Type 0} (map : Result A ConfigFault) (wrong : Bool) (rest : Result B ConfigFault) (c : B)
-    → (map >>= (λ _. refuse wrong BadWord >>= (λ _. rest))) ≡ Ok c → (m : A) × (map ≡ Ok m) × (rest ≡ Ok c)
-passed (Err fault) wrong rest c e = cc
-passed (Ok m) true rest c e = cc
-passed (Ok m) false rest c e = (m, refl, e)
+    {A B C : Type 0} (first : Result A ConfigFault) (second : Result B ConfigFault) (rest : B → Result C ConfigFault) (c : C)
+    → (first >>= (λ _. second >>= rest)) ≡ Ok c → (x : A) × (y : B) × (first ≡ Ok x) × (second ≡ Ok y) × (rest y ≡ Ok c)
+passed (Err fault) second rest c e = cc
+passed (Ok x) (Err fault) rest c e = cc
+passed (Ok x) (Ok y) rest c e = (x, y, refl, refl, e)
+
+opened :
+    {A C : Type 0} (first : Result A ConfigFault) (rest : A → Result C ConfigFault) (c : C) → (first >>= rest) ≡ Ok c
+    → (x : A) × (first ≡ Ok x) × (rest x ≡ Ok c)
+opened (Err fault) rest c e = cc
+opened (Ok x) rest c e = (x, refl, e)
 
 counted :
     {A B : Type 0} (none many : Bool) (boards : Result A ConfigFault) (rest : A → Result B ConfigFault) (c : B)
@@ -54,34 +73,56 @@ pub record Made (file : FileValues) (c : Configuration) : Type 0 where
   pub map : List Entry
   pub mapped : map_of (entries_of c.boards) ≡ Ok map
   pub schedule : schedule_of c.boards file ≡ Ok c.schedule
-  pub scripts : scripts_of file.boards ≡ Ok c.scripts
+  pub mailboxes : mailboxes_of c.boards file.mailboxes ≡ Ok c.mailboxes
+  pub scripts : scripts_of (Declared (length c.mailboxes)) file.boards ≡ Ok c.scripts
+  pub arbiter : kind_named file.arbiter ≡ Ok c.arbiter
   pub tries : c.tries ≡ file.tries
   pub rounds : c.rounds ≡ file.rounds
 
--- the rest of a configuration, where its boards are known
+-- a configuration of a file, of these parts
+abbrev of_parts : FileValues → List BoardConfig → ArbiterKind → List (ℕ × ℕ) → List Mailbox → List (List ScriptLine) → Configuration
+of_parts file boards arbiter schedule mailboxes scripts = record {
+  boards = boards;
+  scripts = scripts;
+  arbiter = arbiter;
+  tries = file.tries;
+  schedule = schedule;
+  rounds = file.rounds;
+  mailboxes = mailboxes;
+}
+
+-- the rest of a configuration, where its schedule is known
+abbrev mailboxes_and_scripts : FileValues → List BoardConfig → ArbiterKind → List (ℕ × ℕ) → Result Configuration ConfigFault
+mailboxes_and_scripts file boards arbiter schedule =
+    mailboxes_of boards file.mailboxes
+    >>= (λ mailboxes. scripts_of (Declared (length mailboxes)) file.boards >>= (λ scripts. Ok (of_parts file boards arbiter schedule mailboxes scripts)))
+
+-- where its boards are known
 rest_of : FileValues → List BoardConfig → Result Configuration ConfigFault
 unfolding configuration_of
 rest_of file boards =
-    map_of (entries_of boards) >>= (λ _. refuse (not (bytes_eq file.arbiter (codes "priority"))) BadWord >>= (λ _.
-    schedule_of boards file >>= (λ schedule. scripts_of file.boards >>= (λ scripts.
-    Ok (record { boards = boards; scripts = scripts; tries = file.tries; schedule = schedule; rounds = file.rounds })))))
+    map_of (entries_of boards) >>= (λ _. kind_named file.arbiter >>= (λ arbiter.
+    schedule_of boards file >>= (λ schedule. mailboxes_and_scripts file boards arbiter schedule)))
 
 pub made : (file : FileValues) (c : Configuration) → configuration_of file ≡ Ok c → Made file c
 unfolding configuration_of rest_of
 made file c e =
     let first = counted (length file.boards == 0) (nat_lt 21 (length file.boards)) (boards_after 0 file.boards) (rest_of file) c e in
-    let second = passed (map_of (entries_of first.2.0)) (not (bytes_eq file.arbiter (codes "priority")))
-    (schedule_of first.2.0 file >>= (λ schedule. scripts_of file.boards >>= (λ scripts.
-    Ok (record { boards = first.2.0; scripts = scripts; tries = file.tries; schedule = schedule; rounds = file.rounds })))) c first.2.2 in
-    let last = ended (schedule_of first.2.0 file) (scripts_of file.boards)
-    (λ schedule scripts. record { boards = first.2.0; scripts = scripts; tries = file.tries; schedule = schedule; rounds = file.rounds }) c second.2 in
+    let boards = first.2.0 in
+    let second = passed (map_of (entries_of boards)) (kind_named file.arbiter)
+    (λ arbiter. schedule_of boards file >>= (λ schedule. mailboxes_and_scripts file boards arbiter schedule)) c first.2.2 in
+    let third = opened (schedule_of boards file) (mailboxes_and_scripts file boards second.1) c second.4 in
+    let last = ended (mailboxes_of boards file.mailboxes) (λ mailboxes. scripts_of (Declared (length mailboxes)) file.boards)
+    (of_parts file boards second.1 third.0) c third.2 in
     subst (Made file) (sym last.4) (record {
       some = first.0;
       most = first.1;
       boards = first.2.1;
       map = second.0;
-      mapped = second.1;
-      schedule = last.2;
+      mapped = second.2;
+      arbiter = second.3;
+      schedule = third.1;
+      mailboxes = last.2;
       scripts = last.3;
       tries = refl;
       rounds = refl;
@@ -192,7 +233,9 @@ configuration_known file c e =
     let known = boards_known 0 file.boards c.boards m.boards in
     let few : length file.boards ≤ 21 = ltb-false 21 (length file.boards) m.most in
     let some : 0 < length file.boards = grind (arith, nat_tests, m.some) in
-    let scripts = scripts_known file.boards c.scripts m.scripts in
+    let boxes = Declared (length c.mailboxes) in
+    let scripts = scripts_known boxes file.boards c.scripts m.scripts in
+    let sites = mailboxes_known c.boards file.mailboxes c.mailboxes known.lawful m.mailboxes in
     let times = timed c.boards file c.schedule m.schedule in
     record {
       some = omega (arith, some, known.count);
@@ -202,9 +245,13 @@ configuration_known file c e =
       map = refusal_of_lawful c.boards (omega (arith, few, known.count)) (ranges_known c.boards known.lawful) ∙ rw (clear_map _ m.map m.mapped) refl;
       scripts = scripts.0 ∙ sym known.count;
       lines = scripts.1;
-      own = λ i j script line here there. own_scripts file.boards c.scripts m.scripts i script here j line there;
+      own = λ i j script line here there. own_scripts boxes file.boards c.scripts m.scripts i script here j line there;
       tries = (omega (arith, m.tries, times.tries_some), omega (arith, m.tries, times.tries_most));
       rounds = omega (arith, m.rounds, times.rounds);
       slots = times.slots;
       turns = times.turns;
+      few_mailboxes = sites.few;
+      mailboxes = sites.lawful;
+      own_bytes = sites.apart;
+      named = λ i j script line here there. named_scripts boxes file.boards c.scripts m.scripts i script here j line there;
     }

@@ -2,7 +2,7 @@
 use Rattle.std.proofs.Common.{◌≡◌, ◌≤◌, Bool, true, false, List, [], ◌∷◌, ◌++◌, length, Option, None, Some, is_ok, refl, ◌∙◌, arith}
 use Rattle.std.proofs.lemmas.List.{length-map}
 use Rattle.std.specs.Prelude.{nat_lt, flat_map, ◌%◌, not, ◌==◌}
-use Rattle.std.proofs.lemmas.Bool.{and_parts, false≢true, le-ltb}
+use Rattle.std.proofs.lemmas.Bool.{and_parts, false≢true, le-ltb, ltb-false}
 use Rattle.vme_am.specs.Spaces.{addresses_of}
 use Rattle.vme_cycle.specs.Refusals.{where_true, first_of}
 use Rattle.vme_decode.specs.declared.entry.Entry.{Entry}
@@ -63,3 +63,10 @@ size_of_range entry ok =
     first_one : (a b c : Bool) (e f g : ConfigFault) → is_ok (refuse (not a) e >>= (λ _. refuse b f >>= (λ _. refuse c g))) ≡ true → a ≡ true
     first_one true b c e f g ok = refl
     first_one false b c e f g ok = absurd (false≢true ok)
+
+-- and ends within its space
+pub end_of_range : (entry : Entry) → is_ok (range_refused entry) ≡ true → end_of entry ≤ addresses_of entry.space
+unfolding range_refused
+end_of_range entry ok =
+    ltb-false (addresses_of entry.space) (end_of entry)
+    (last_two (not (is_board_size entry.size)) (not (entry.base % 4 == 0)) (nat_lt (addresses_of entry.space) (end_of entry)) _ _ _ ok).1

@@ -1,24 +1,31 @@
 -- Configurations: what a file configures, or the first refusal of it.
-use Rattle.std.specs.Prelude.{ℕ, nat_lt, not, ◌==◌, List, length, Result, Ok, codes}
-use Rattle.std.specs.Str.{bytes_eq}
+use Rattle.std.specs.Prelude.{ℕ, nat_lt, ◌==◌, List, length, Result, Ok}
+use Rattle.vme_arbiter.specs.declared.kind.ArbiterKind.{ArbiterKind}
 use Rattle.vme_memory.specs.Boards.{Board, zeros}
 use Rattle.vme_script.specs.declared.board.BoardConfig.{BoardConfig}
 use Rattle.vme_script.specs.declared.fault.ConfigFault.{ConfigFault}
-use Rattle.vme_script.specs.declared.fault.ConfigFault.TheVariants.{NoBoard, TooMany, BadWord}
+use Rattle.vme_script.specs.declared.fault.ConfigFault.TheVariants.{NoBoard, TooMany}
 use Rattle.vme_script.specs.declared.script.ScriptLine.{ScriptLine}
 use Rattle.vme_script.specs.Answers.{◌>>=◌, refuse}
 use Rattle.vme_document.specs.Files.{FileValues}
 use Rattle.vme_script.specs.Boards.{boards_after, entries_of, map_of}
+use Rattle.vme_script.specs.Arbiters.{kind_named}
 use Rattle.vme_script.specs.Schedules.{schedule_of}
+use Rattle.vme_boxes.specs.declared.boxes.Boxes.TheVariants.{Declared}
+use Rattle.vme_shared.specs.declared.mailbox.Mailbox.{Mailbox}
+use Rattle.vme_script.specs.Mailboxes.{mailboxes_of}
 use Rattle.vme_script.specs.Scripts.{scripts_of}
 
--- boards in order of slots, the scripts of their processors beside them, and how these are driven (this project's own)
+-- boards in order of slots, the scripts of their processors beside them, how these are driven, and the mailboxes that scripts
+-- name by the numbers from 1 on (this project's own)
 pub record Configuration : Type 0 where
   pub boards : List BoardConfig
   pub scripts : List (List ScriptLine)
+  pub arbiter : ArbiterKind
   pub tries : ℕ
   pub schedule : List (ℕ × ℕ)
   pub rounds : ℕ
+  pub mailboxes : List Mailbox
 
 -- what a file configures: the refusals are looked for in this order (this project's own)
 unfoldable pub configuration_of : FileValues → Result Configuration ConfigFault
@@ -27,10 +34,19 @@ configuration_of file = do
   _ ← refuse (nat_lt 21 (length file.boards)) TooMany
   boards ← boards_after 0 file.boards
   _ ← map_of (entries_of boards)
-  _ ← refuse (not (bytes_eq file.arbiter (codes "priority"))) BadWord
+  arbiter ← kind_named file.arbiter
   schedule ← schedule_of boards file
-  scripts ← scripts_of file.boards
-  Ok (record { boards = boards; scripts = scripts; tries = file.tries; schedule = schedule; rounds = file.rounds })
+  mailboxes ← mailboxes_of boards file.mailboxes
+  scripts ← scripts_of (Declared (length mailboxes)) file.boards
+  Ok (record {
+    boards = boards;
+    scripts = scripts;
+    arbiter = arbiter;
+    tries = file.tries;
+    schedule = schedule;
+    rounds = file.rounds;
+    mailboxes = mailboxes;
+  })
 
 -- the memory of a board before anything is written: all its bytes are zero (this project's own)
 abbrev pub opening_memory : BoardConfig → Board

@@ -1,9 +1,16 @@
 -- What holds of every configuration.
-use Rattle.std.specs.Prelude.{◌≡◌, ℕ, ◌<◌, ◌≤◌, nat_le, true, List, length, Some, None, slice_get}
+use Rattle.std.specs.Prelude.{◌≡◌, ℕ, ◌+◌, ◌<◌, ◌≤◌, nat_le, true, List, length, Some, None, slice_get}
 use Rattle.std.specs.List.{list_all}
 use Rattle.vme_decode.specs.Lawful.{first_refusal}
 use Rattle.vme_lines.specs.Grammar.{IsOwnLine}
 use Rattle.vme_memory.specs.Boards.{is_board_size}
+use Rattle.vme_shared.specs.declared.mailbox.Mailbox.{Mailbox}
+use Rattle.vme_shared.specs.Mailboxes.{IsMailbox}
+use Rattle.vme_boxes.specs.declared.boxes.Boxes.TheVariants.{Declared}
+use Rattle.vme_boxes.specs.declared.place.Place.{Place}
+use Rattle.vme_boxes.specs.Mailboxes.{is_mailbox_code, holds_mailboxes}
+use Rattle.vme_boxes.specs.Names.{may_ask}
+use Rattle.vme_boxes.specs.Places.{place_of, share}
 use Rattle.vme_script.specs.declared.board.BoardConfig.{BoardConfig}
 use Rattle.vme_script.specs.declared.script.ScriptLine.{ScriptLine}
 use Rattle.vme_script.specs.Boards.{entries_of}
@@ -18,9 +25,22 @@ pub record IsLawfulBoard (board : BoardConfig) : Type 0 where
   pub level : board.level ≤ 3
   pub size : is_board_size board.entry.size ≡ true
 
+-- a mailbox among boards: it is reached by data or short access and has the numbers of one, and its bytes lie wholly within one
+-- board that its code selects, which answers quad bytes and read-modify-writes (this project's own)
+pub record IsLawfulMailbox (boards : List BoardConfig) (mailbox : Mailbox) : Type 0 where
+  pub code : is_mailbox_code mailbox.am ≡ true
+  pub numbers : IsMailbox mailbox
+  pub place : Place
+  pub placed : place_of (entries_of boards) mailbox ≡ Some place
+  pub board : BoardConfig
+  pub there : slice_get boards place.board ≡ Some board
+  pub inside : place.offset + place.len ≤ board.entry.size
+  pub able : holds_mailboxes board.class ≡ true
+
 -- one to 21 lawful boards, each in a slot of its own; ranges that share no address; a script for each board, of at most 1,000
--- lines, none of which asks the local port for a cycle of the bus; tries and rounds within their limits; and a schedule of such
--- boards' turns, within its limit (this project's own)
+-- lines, none of which asks the local port for a cycle of the bus or names a mailbox that is not there; tries and rounds within
+-- their limits; a schedule of such boards' turns, within its limit; and at most sixteen lawful mailboxes, which share no byte
+-- (this project's own)
 pub record IsLawful (config : Configuration) : Type 0 where
   pub some : 0 < length config.boards
   pub most : length config.boards ≤ 21
@@ -38,3 +58,13 @@ pub record IsLawful (config : Configuration) : Type 0 where
   pub rounds : config.rounds ≤ 1000000
   pub slots : has_boards config.boards config.schedule ≡ true
   pub turns : turns_of config.schedule ≤ 1000000
+  pub few_mailboxes : length config.mailboxes ≤ 16
+  pub mailboxes :
+      (k : ℕ) (mailbox : Mailbox) → slice_get config.mailboxes k ≡ Some mailbox → IsLawfulMailbox config.boards mailbox
+  pub own_bytes :
+      (j k : ℕ) (a b : Mailbox) (p q : Place) → slice_get config.mailboxes j ≡ Some a → slice_get config.mailboxes k ≡ Some b
+      → place_of (entries_of config.boards) a ≡ Some p → place_of (entries_of config.boards) b ≡ Some q
+      → share p q ≡ true → j ≡ k
+  pub named :
+      (i j : ℕ) (script : List ScriptLine) (line : ScriptLine) → slice_get config.scripts i ≡ Some script
+      → slice_get script j ≡ Some line → may_ask (Declared (length config.mailboxes)) line.line ≡ true

@@ -1,6 +1,8 @@
 pub mod Answers
 pub mod Boards
+pub mod Arbiters
 pub mod Schedules
+pub mod Mailboxes
 pub mod Scripts
 pub mod Configurations
 pub mod Readings

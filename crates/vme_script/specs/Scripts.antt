@@ -4,7 +4,9 @@ use Rattle.std.specs.List.{list_all}
 use Rattle.std.specs.Str.Lines.{lines}
 use Rattle.vme_lines.specs.declared.line.Line.{Line}
 use Rattle.vme_lines.specs.declared.fault.LineFault.{LineFault}
-use Rattle.vme_lines.specs.Grammar.{line_of}
+use Rattle.vme_boxes.specs.declared.boxes.Boxes.{Boxes}
+use Rattle.vme_boxes.specs.declared.boxes.Boxes.TheVariants.{Any}
+use Rattle.vme_boxes.specs.Names.{line_within}
 use Rattle.vme_script.specs.declared.fault.ConfigFault.{ConfigFault}
 use Rattle.vme_script.specs.declared.fault.ConfigFault.TheVariants.{BadScript}
 use Rattle.vme_script.specs.declared.fault.ScriptFault.{ScriptFault}
@@ -37,13 +39,18 @@ line_before number (Ok line) others = with_line (numbered number line) others
 line_before number (Err refusal) others = Err refusal
 
 -- the lines that ask for something, with numbers from this one on, or the first line that is refused (this project's own)
-abbrev pub lines_from : ℕ → List (List ℕ) → Result (List ScriptLine) ScriptRefusal
-lines_from number [] = Ok []
-lines_from number (line ∷ more) = line_before number (asked_at number (line_of line)) (lines_from (number + 1) more)
+abbrev pub lines_from : Boxes → ℕ → List (List ℕ) → Result (List ScriptLine) ScriptRefusal
+lines_from boxes number [] = Ok []
+lines_from boxes number (line ∷ more) =
+    line_before number (asked_at number (line_within boxes line)) (lines_from boxes (number + 1) more)
 
--- the script that a text is: it has at most 1,000 lines, whatever they are (this project's own)
-unfoldable pub script_of : List ℕ → Result (List ScriptLine) ScriptRefusal
-script_of text = if nat_lt 1000 (length (lines text)) then Err TooManyLines else lines_from 1 (lines text)
+-- the script that a text is, which names no other mailboxes: it has at most 1,000 lines, whatever they are (this project's own)
+unfoldable pub script_within : Boxes → List ℕ → Result (List ScriptLine) ScriptRefusal
+script_within boxes text = if nat_lt 1000 (length (lines text)) then Err TooManyLines else lines_from boxes 1 (lines text)
+
+-- the script that a text is by itself: of the mailboxes that it names nothing is known (this project's own)
+abbrev pub script_of : List ℕ → Result (List ScriptLine) ScriptRefusal
+script_of text = script_within Any text
 
 -- a fault is the refusal of a script; where memory was refused nothing is said (this project's own)
 abbrev pub IsRefusalOf : Result (List ScriptLine) ScriptRefusal → ScriptFault → Type 0
@@ -55,12 +62,12 @@ abbrev pub script_in : ℕ → Result (List ScriptLine) ScriptRefusal → Result
 script_in slot (Ok script) = Ok script
 script_in slot (Err refusal) = Err (BadScript slot refusal)
 
--- the scripts of boards, in order of slots (this project's own)
-abbrev pub scripts_of : List BoardValues → Result (List (List ScriptLine)) ConfigFault
-scripts_of [] = Ok []
-scripts_of (board ∷ more) = do
-  first ← script_in board.slot (script_of board.script)
-  others ← scripts_of more
+-- the scripts of boards, in order of slots, which name no other mailboxes (this project's own)
+abbrev pub scripts_of : Boxes → List BoardValues → Result (List (List ScriptLine)) ConfigFault
+scripts_of boxes [] = Ok []
+scripts_of boxes (board ∷ more) = do
+  first ← script_in board.slot (script_within boxes board.script)
+  others ← scripts_of boxes more
   Ok (first ∷ others)
 
 -- whether boards are in slots of a backplane (this project's own)

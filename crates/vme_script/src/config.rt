@@ -1,20 +1,26 @@
 ghost use Rattle.std.specs.Prelude.{◌≡◌, ◌<◌, ◌≤◌, length, slice_get, Some, IfOk, map, true};
+ghost use Rattle.vme_arbiter.specs.Arbitration.{opening_bus};
 ghost use Rattle.vme_script.specs.Answers.{Gives};
 ghost use Rattle.vme_script.specs.Boards.{entries_of};
-ghost use Rattle.vme_script.specs.Scripts.{script_of, script_in, scripts_of, has_slots};
+ghost use Rattle.vme_script.specs.Scripts.{script_within, script_in, scripts_of, has_slots};
 ghost use Rattle.vme_script.specs.Configurations.{configuration_of, opening_memory};
 ghost use Rattle.vme_script.specs.Lawful.{IsLawful};
 
+use crate::arbiter::kind_named;
 use crate::board::{BoardConfig, board_configs, map_of};
 use crate::fault::{ConfigFault, ScriptFault};
+use crate::mailboxes::mailboxes_of;
 use crate::schedule::schedule_of;
 use crate::script::Script;
 use std::alloc::Global;
 use std::marker::Model;
+use vme_arbiter::{Arbiter, ArbiterKind};
+use vme_boxes::Boxes;
 use vme_core::OutOfMemory;
 use vme_decode::AddressMap;
 use vme_document::{BoardTable, FileTable};
 use vme_memory::ByteMemory;
+use vme_shared::Mailbox;
 
 /// The greatest number of boards: a backplane has 21 slots.
 const MOST_BOARDS: usize = 21;
@@ -26,9 +32,11 @@ pub struct Config {
     boards: Vec<BoardConfig>,
     scripts: Vec<Script>,
     map: AddressMap,
+    arbiter: ArbiterKind,
     tries: u32,
     schedule: Vec<(u16, u32)>,
     rounds: u32,
+    mailboxes: Vec<Mailbox>,
 }
 
 impl Model for Config {
@@ -42,9 +50,11 @@ impl Model for Config {
     ghost view = { λ c. record {
       boards = c.boards.items;
       scripts = c.scripts.items;
+      arbiter = c.arbiter;
       tries = c.tries;
       schedule = c.schedule.items;
       rounds = c.rounds;
+      mailboxes = c.mailboxes.items;
     } };
 
     ghost invariant = { λ c.
@@ -52,9 +62,11 @@ impl Model for Config {
         × ((file : FileValues) × (configuration_of file ≡ Ok (record {
           boards = c.boards.items;
           scripts = c.scripts.items;
+          arbiter = c.arbiter;
           tries = c.tries;
           schedule = c.schedule.items;
           rounds = c.rounds;
+          mailboxes = c.mailboxes.items;
         }))) };
 }
 
@@ -72,18 +84,20 @@ impl Config {
         }
         let boards = board_configs(alloc, &file.boards)?;
         let map = map_of(alloc, &boards)?;
-        if file.arbiter != "priority" {
-            return Err(ConfigFault::BadWord);
-        }
+        let arbiter = kind_named(file.arbiter)?;
         let schedule = schedule_of(alloc, &boards, file)?;
-        let scripts = scripts_of(alloc, &file.boards)?;
+        let mailboxes = mailboxes_of(alloc, &boards, &map, &file.mailboxes)?;
+        let boxes = Boxes::Declared(mailboxes.len() as u8);
+        let scripts = scripts_of(alloc, &file.boards, boxes)?;
         Ok(Config {
             boards,
             scripts,
             map,
+            arbiter,
             tries: file.tries,
             schedule,
             rounds: file.rounds,
+            mailboxes,
         })
     }
 }
@@ -154,33 +168,51 @@ impl Config {
         self.schedule.as_slice()
     }
 
+    /// A fresh arbiter of the file's kind.
+    pub fn arbiter(&self) -> Arbiter
+        ensures { result ≡ opening_bus self.now.arbiter }
+    {
+        Arbiter::of(self.arbiter)
+    }
+
     /// The number of rounds over all slots after the schedule.
     pub fn rounds(&self) -> u32
         ensures { result ≡ self.now.rounds }
     {
         self.rounds
     }
+
+    /// The mailboxes, which scripts name by the numbers from 1 on.
+    pub fn mailboxes(&self) -> &[Mailbox]
+        ensures { result.now ≡ self.now.mailboxes }
+    {
+        self.mailboxes.as_slice()
+    }
 }
 
 /// The script of the processor in a slot.
-fn script_in(alloc: Global, slot: u16, text: &str) -> Result<Script, ConfigFault>
-    ensures { Gives (λ script. script) result (script_in slot (script_of text.now)) }
+fn script_in(alloc: Global, slot: u16, text: &str, boxes: Boxes) -> Result<Script, ConfigFault>
+    ensures { Gives (λ script. script) result (script_in slot (script_within boxes text.now)) }
 {
-    match Script::read(alloc, text.as_bytes()) {
+    match Script::within(alloc, text.as_bytes(), boxes) {
         Ok(script) => Ok(script),
         Err(ScriptFault::Refused(refusal)) => Err(ConfigFault::BadScript { slot, refusal }),
         Err(ScriptFault::OutOfMemory) => Err(ConfigFault::OutOfMemory),
     }
 }
 
-/// The scripts of boards in slots of a backplane.
-fn scripts_of(alloc: Global, boards: &[BoardTable<'_>]) -> Result<Vec<Script>, ConfigFault>
+/// The scripts of boards in slots of a backplane, which name no other mailboxes.
+fn scripts_of(
+    alloc: Global,
+    boards: &[BoardTable<'_>],
+    boxes: Boxes,
+) -> Result<Vec<Script>, ConfigFault>
     requires { has_slots boards.now ≡ true }
-    ensures { Gives (λ scripts. scripts.items) result (scripts_of boards.now) }
+    ensures { Gives (λ scripts. scripts.items) result (scripts_of boxes boards.now) }
 {
     let mut scripts = Vec::with_capacity(alloc, boards.len())?;
     for board in boards {
-        scripts.push(script_in(alloc, board.slot as u16, board.script)?)?;
+        scripts.push(script_in(alloc, board.slot as u16, board.script, boxes)?)?;
     }
     Ok(scripts)
 }

@@ -49,6 +49,12 @@ pub enum ConfigFault {
     /// C12: tries, rounds or turns out of range, or turns of a slot without a board.
     #[error("C12")]
     BadSchedule,
+    /// C13: more than 16 mailboxes; a code other than those of data and short access, an address
+    /// that is no multiple of four, or slots not from 1 to 64; bytes that do not lie wholly within
+    /// one board that the code selects; a board without quad bytes or read-modify-writes; or a byte
+    /// of an earlier mailbox.
+    #[error("C13")]
+    BadMailbox,
     /// C14: a script that is refused, by the slot of its board.
     #[error("C14 slot {slot} {refusal}")]
     BadScript { slot: u16, refusal: ScriptRefusal },
@@ -88,7 +94,8 @@ impl From<DocumentFault> for ConfigFault {
 /// Why a text is no script.
 #[derive(Clone, Copy, Debug, PartialEq, Eq, Error)]
 pub enum ScriptRefusal {
-    /// S1 to S7: a line that is refused, by its number from 1.
+    /// S1 to S7: a line that is refused, by its number from 1. S6 is also told of a mailbox that the
+    /// file does not declare.
     #[error("line {number} {fault}")]
     BadLine { number: u16, fault: LineFault },
     /// S8: more than 1,000 lines; told of the first line that is too many.

@@ -3,9 +3,11 @@
 //! processors, and how these are driven. A file that configures nothing has one refusal.
 #![tactic(auto)]
 
+mod arbiter;
 mod board;
 mod config;
 mod fault;
+mod mailboxes;
 mod read;
 mod schedule;
 mod script;
@@ -17,4 +19,4 @@ pub use script::{Script, ScriptLine};
 pub use vme_core::OutOfMemory;
 pub use vme_lines::{Line, LineFault, parse_line};
 pub use vme_report::reply_line;
-pub use vme_shared::LineReply;
+pub use vme_shared::{LineReply, Mailbox};

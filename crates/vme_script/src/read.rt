@@ -11,7 +11,7 @@ use vme_document::{file_values, table_of};
 impl Config {
     /// Reads the text of a TOML file. The refusals are looked for in this order: C6; C7; C11 and
     /// C4; for each board in order of the file C8, C9, C10, C5, C3 and C2; C1; C10 for the arbiter;
-    /// C12; and C14 of the first board in order whose script is refused. Want of memory is told
+    /// C12; C13; and C14 of the first board in order whose script is refused. Want of memory is told
     /// where a growth is refused.
     #[tactic(auto, unfolding(crate::specs::Readings::configuration_in))]
     pub fn read(alloc: Global, text: &[u8]) -> Result<Config, ConfigFault>

@@ -1,20 +1,21 @@
 //! Scripts: what the lines of a text ask for.
 ghost use Rattle.std.specs.Prelude.{◌≡◌, ◌<◌, ◌≤◌, nat_lt, length, slice_get, Some, Ok, Err, IfOk, IfErr, map};
 ghost use Rattle.std.specs.Str.Lines.{lines};
-ghost use Rattle.vme_script.specs.Scripts.{script_of, lines_from, IsRefusalOf};
+ghost use Rattle.vme_script.specs.Scripts.{script_of, script_within, lines_from, IsRefusalOf};
 
 use crate::fault::{ScriptFault, ScriptRefusal};
 use std::alloc::Global;
 use std::marker::Model;
-use vme_lines::{Line, parse_line};
+use vme_boxes::Boxes;
+use vme_lines::Line;
 use vme_words::Lines;
 
 /// The greatest number of lines of a script.
 const MOST_LINES: u16 = 1000;
 
-/// The least number of bytes of a line that asks for something, its end included. By it a script's
-/// room is taken once.
-const LEAST_LINE: usize = 14;
+/// The number of bytes of a short line, its end included. By it a script's room is taken: only a
+/// script with many lines that take from mailboxes has shorter ones, and takes more.
+const SHORT_LINE: usize = 14;
 
 /// A line that asks for something.
 #[derive(Debug, Drop)]
@@ -42,13 +43,21 @@ impl Model for Script {
 
 impl Script {
     /// The script that a text is. It has at most 1,000 lines, comments among them, and no line
-    /// begins at the end of the text.
-    #[tactic(auto, unfolding(crate::specs::Scripts::script_of))]
+    /// begins at the end of the text. It may name any mailbox.
     pub fn read(alloc: Global, text: &[u8]) -> Result<Script, ScriptFault>
         ensures script { IfOk result (λ script. script_of text.now ≡ Ok script) }
         ensures refused { IfErr result (IsRefusalOf (script_of text.now)) }
     {
-        let room = usize::from(MOST_LINES).min(text.len() / LEAST_LINE + 1);
+        Script::within(alloc, text, Boxes::Any)
+    }
+
+    /// The script that a text is, which names no other mailboxes than these.
+    #[tactic(auto, unfolding(crate::specs::Scripts::script_within))]
+    pub(crate) fn within(alloc: Global, text: &[u8], boxes: Boxes) -> Result<Script, ScriptFault>
+        ensures script { IfOk result (λ script. script_within boxes text.now ≡ Ok script) }
+        ensures refused { IfErr result (IsRefusalOf (script_within boxes text.now)) }
+    {
+        let room = usize::from(MOST_LINES).min(text.len() / SHORT_LINE + 1);
         let mut lines = Vec::with_capacity(alloc, room)?;
         let mut number = 0;
         for line in Lines::new(text) {
@@ -56,11 +65,11 @@ impl Script {
                 return Err(ScriptFault::Refused(ScriptRefusal::TooManyLines));
             }
             number += 1;
-            match parse_line(line) {
+            match boxes.line(line) {
                 Ok(Some(line)) => lines.push(ScriptLine { number, line })?,
                 Ok(None) => {}
                 Err(fault) => {
-                    return Err(fault_of(text, ScriptRefusal::BadLine { number, fault }));
+                    return Err(fault_of(text, boxes, ScriptRefusal::BadLine { number, fault }));
                 }
             }
         }
@@ -92,10 +101,10 @@ impl Script {
 }
 
 /// What a text is told of which a line is refused: that it has too many lines, or else that line.
-#[tactic(auto, unfolding(crate::specs::Scripts::script_of))]
-fn fault_of(text: &[u8], refusal: ScriptRefusal) -> ScriptFault
-    requires { lines_from 1 (lines text.now) ≡ Err refusal }
-    ensures { IsRefusalOf (script_of text.now) result }
+#[tactic(auto, unfolding(crate::specs::Scripts::script_within))]
+fn fault_of(text: &[u8], boxes: Boxes, refusal: ScriptRefusal) -> ScriptFault
+    requires { lines_from boxes 1 (lines text.now) ≡ Err refusal }
+    ensures { IsRefusalOf (script_within boxes text.now) result }
 {
     if has_too_many_lines(text) {
         ScriptFault::Refused(ScriptRefusal::TooManyLines)

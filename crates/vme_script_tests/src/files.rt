@@ -19,9 +19,9 @@ size = 16
 script = \"br 0b 00000000 4 2\"
 ";
 
-/// The number of a fault; 0 stands for none, 13 for want of memory.
+/// The number of a fault; 0 stands for none, 15 for want of memory.
 fn number_of(end: &Result<Config, ConfigFault>) -> usize
-    ensures { result < 15 }
+    ensures { result < 16 }
 {
     match end {
         Ok(_) => 0,
@@ -37,17 +37,18 @@ fn number_of(end: &Result<Config, ConfigFault>) -> usize
         Err(ConfigFault::BadWord) => 10,
         Err(ConfigFault::NoBoard) => 11,
         Err(ConfigFault::BadSchedule) => 12,
-        Err(ConfigFault::OutOfMemory) => 13,
+        Err(ConfigFault::BadMailbox) => 13,
         Err(ConfigFault::BadScript { .. }) => 14,
+        Err(ConfigFault::OutOfMemory) => 15,
     }
 }
 
 /// How many fronts of the file are told each number. Another reader of TOML gave these.
-static FRONTS: [u32; 15] = [4, 0, 0, 0, 0, 2, 151, 16, 0, 0, 0, 3, 4, 0, 0];
+static FRONTS: [u32; 16] = [4, 0, 0, 0, 0, 2, 151, 16, 0, 0, 0, 3, 4, 0, 0, 0];
 
 #[test]
 fn reads_or_refuses_each_front(rt: HostRuntime) {
-    let mut told = [0_u32; 15];
+    let mut told = [0_u32; 16];
     for end in 0..=TWO_BOARDS.len() {
         let number = number_of(&Config::read(rt.alloc(), &TWO_BOARDS.as_bytes()[..end]));
         told[number] = told[number].wrapping_add(1);
@@ -57,18 +58,18 @@ fn reads_or_refuses_each_front(rt: HostRuntime) {
 
 /// A byte, and how many of the files in which it stands for another are told each number. Another
 /// reader of TOML gave these.
-static CHANGES: [(u8, [u32; 15]); 4] = [
-    (0x00, [0, 0, 0, 0, 0, 0, 179, 0, 0, 0, 0, 0, 0, 0, 0]),
-    (0x0a, [17, 0, 0, 0, 0, 2, 148, 12, 0, 0, 0, 0, 0, 0, 0]),
-    (0x22, [4, 0, 0, 0, 0, 0, 175, 0, 0, 0, 0, 0, 0, 0, 0]),
-    (0xff, [0, 0, 0, 0, 0, 0, 179, 0, 0, 0, 0, 0, 0, 0, 0]),
+static CHANGES: [(u8, [u32; 16]); 4] = [
+    (0x00, [0, 0, 0, 0, 0, 0, 179, 0, 0, 0, 0, 0, 0, 0, 0, 0]),
+    (0x0a, [17, 0, 0, 0, 0, 2, 148, 12, 0, 0, 0, 0, 0, 0, 0, 0]),
+    (0x22, [4, 0, 0, 0, 0, 0, 175, 0, 0, 0, 0, 0, 0, 0, 0, 0]),
+    (0xff, [0, 0, 0, 0, 0, 0, 179, 0, 0, 0, 0, 0, 0, 0, 0, 0]),
 ];
 
 #[test]
 fn reads_or_refuses_with_each_byte_changed(rt: HostRuntime) -> Result<(), Fail> {
     let mut file = Vec::from_slice(rt.alloc(), TWO_BOARDS.as_bytes())?;
     for (byte, numbers) in &CHANGES {
-        let mut told = [0_u32; 15];
+        let mut told = [0_u32; 16];
         for at in 0..file.len() {
             let kept = file[at];
             file[at] = *byte;
@@ -79,6 +80,34 @@ fn reads_or_refuses_with_each_byte_changed(rt: HostRuntime) -> Result<(), Fail> 
         assert_eq!(rt; told, *numbers, "{byte}");
     }
     Ok(())
+}
+
+/// A mailbox on the second board, and a word that is put into it.
+static MAILBOX: &str = "[[board]]
+slot = 1
+base = 0
+size = 16
+script = \"put 1 00000007\"
+[[board]]
+slot = 2
+base = 0x1000
+size = 20
+[[mailbox]]
+am = 9
+addr = 0x1000
+slots = 1
+";
+
+#[test]
+fn is_read_with_a_mailbox_or_lacks_memory(rt: HostRuntime) {
+    match Config::read(rt.alloc(), MAILBOX.as_bytes()) {
+        Ok(config) => {
+            assert_eq!(rt; config.boards(), 2);
+            assert_eq!(rt; config.script(0).len(), 1);
+            assert_eq!(rt; config.mailboxes().len(), 1);
+        }
+        Err(fault) => assert_eq!(rt; fault, ConfigFault::OutOfMemory),
+    }
 }
 
 /// Where memory is refused, just that is told; else the whole configuration stands.

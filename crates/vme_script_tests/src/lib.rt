@@ -5,6 +5,8 @@
 #[cfg(test)]
 mod files;
 #[cfg(test)]
+mod mailboxes;
+#[cfg(test)]
 mod readers;
 #[cfg(test)]
 mod rows;

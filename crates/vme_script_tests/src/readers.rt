@@ -4,7 +4,7 @@ use std::test::Fail;
 use vme_am::Am;
 use vme_cycle::{Modify, Plan, Request};
 use vme_memory::{BoardCmd, ByteMemory, Reply};
-use vme_script::{Config, Line};
+use vme_script::{Config, Line, Mailbox};
 
 /// Each key once, none at its default.
 static EACH_KEY: &str = "arbiter = \"priority\"
@@ -27,6 +27,14 @@ script = \"# the first word\\nlr 00000000 1\\n\\nr 2d 00000020 1\"
 slot = 21
 base = 0x40
 size = 4096
+[[mailbox]]
+am = 9
+addr = 0x48
+slots = 2
+[[mailbox]]
+am = 0x0d
+addr = 0x80
+slots = 64
 ";
 
 /// The board that a code and an address select, and the offset from its base.
@@ -92,6 +100,19 @@ fn gives_what_the_file_says(rt: HostRuntime) -> Result<(), Fail> {
         )
     );
     assert!(rt; config.script(1).len() == 0);
+    let mailboxes = [
+        Mailbox {
+            am: 9,
+            addr: 0x48,
+            slots: 2,
+        },
+        Mailbox {
+            am: 0x0d,
+            addr: 0x80,
+            slots: 64,
+        },
+    ];
+    assert_eq!(rt; config.mailboxes(), mailboxes.as_slice());
     Ok(())
 }
 

@@ -6,7 +6,7 @@ use std::test::Fail;
 use vme_script::Config;
 
 /// A file, and what it is told.
-static TOLD: [(&str, &str); 45] = [
+static TOLD: [(&str, &str); 48] = [
     ("", "C11"),
     ("board = []", "C11"),
     ("board = [{ slot = 1, base = 0, size = 16 }]", "lawful"),
@@ -71,6 +71,18 @@ static TOLD: [(&str, &str); 45] = [
     (
         "arbiter = \"first\"\ntries = 0\nboard = [{ slot = 1, base = 0, size = 16 }]",
         "C10",
+    ),
+    (
+        "arbiter = \"rotating\"\nboard = [{ slot = 1, base = 0, size = 16 }]",
+        "lawful",
+    ),
+    (
+        "arbiter = \"Rotating\"\nboard = [{ slot = 1, base = 0, size = 16 }]",
+        "C10",
+    ),
+    (
+        "arbiter = 1\nboard = [{ slot = 1, base = 0, size = 16 }]",
+        "C7",
     ),
     // C5, C3, C2 and C1: ranges.
     ("board = [{ slot = 1, base = 2, size = 18 }]", "C5"),
@@ -149,7 +161,12 @@ static TOLD: [(&str, &str); 45] = [
 ];
 
 /// Reads a file, and compares what it is told.
-fn check(rt: &impl Abort, alloc: Global, file: &[u8], told: &str) -> Result<(), AllocError> {
+pub(crate) fn check(
+    rt: &impl Abort,
+    alloc: Global,
+    file: &[u8],
+    told: &str,
+) -> Result<(), AllocError> {
     match Config::read(alloc, file) {
         Ok(_) => assert_eq!(rt; "lawful", told),
         Err(fault) => assert_eq!(rt; fault.to_string(alloc)?.as_str(), told),

@@ -39,3 +39,21 @@ fn has_a_thousand_lines_at_most(rt: HostRuntime) -> Result<(), Fail> {
     }
     Ok(())
 }
+
+/// By itself a script may name any mailbox.
+#[test]
+fn names_any_mailbox_by_itself(rt: HostRuntime) -> Result<(), Fail> {
+    let script = Script::read(rt.alloc(), b"put 99 00000001\ntake 0\n")?;
+    assert_eq!(rt; script.len(), 2);
+    assert!(rt;
+        matches!(
+            script.line(0),
+            Line::Put {
+                mailbox: 99,
+                word: 1
+            }
+        )
+    );
+    assert!(rt; matches!(script.line(1), Line::Take { mailbox: 0 }));
+    Ok(())
+}

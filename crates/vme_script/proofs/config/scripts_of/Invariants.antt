@@ -6,6 +6,6 @@ use Rattle.vme_script.proofs.config.scripts_of.Given as goal
 -- the scripts so far, with those of the boards that are left, are the whole
 abbrev pub invariant-loop-board : goal.invariant-loop-board
 invariant-loop-board l = record {
-  scripts : with_answers l.scripts.items (scripts_of (drop l.board-index l.boards)) ≡ scripts_of l.fn.boards;
+  scripts : with_answers l.scripts.items (scripts_of l.boxes (drop l.board-index l.boards)) ≡ scripts_of l.fn.boxes l.fn.boards;
   slots : has_slots (drop l.board-index l.boards) ≡ true;
 }

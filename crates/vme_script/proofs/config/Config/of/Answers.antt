@@ -17,10 +17,16 @@ map_of-requires-clause-ranges c =
     let read : boards_after 0 c.deref.result.now ≡ Ok c.in_ok-boards.boards.items = c.in_ok-boards.ensures in
     ap have_ranges c.deref-2.ensures.value ∙ ranges_known c.in_ok-boards.boards.items (boards_known 0 c.deref.result.now c.in_ok-boards.boards.items read).lawful
 
+pub mailboxes_of-requires : goal.mailboxes_of-requires
+mailboxes_of-requires c =
+    let map : map_of (entries_of c.deref-2.result.now) ≡ Ok c.in_ok-map.map = c.in_ok-map.ensures in
+    let same : c.deref-2.result.now ≡ c.deref-4.result.now = cc in
+    map_known _ _ map ∙ ap entries_of same
+
 pub scripts_of-requires : goal.scripts_of-requires
 scripts_of-requires c =
     let read : boards_after 0 c.deref.result.now ≡ Ok c.in_ok-boards.boards.items = c.in_ok-boards.ensures in
-    let same : c.deref-4.result.now ≡ c.deref.result.now = cc in
+    let same : c.deref-6.result.now ≡ c.deref.result.now = cc in
     ap has_slots same ∙ (boards_known 0 c.deref.result.now c.in_ok-boards.boards.items read).slots
 
 pub invariant_of-result : goal.invariant_of-result

@@ -1,0 +1,3 @@
+pub mod Mailboxes
+pub mod Places
+pub mod Names

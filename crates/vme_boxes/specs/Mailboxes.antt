@@ -1,0 +1,36 @@
+-- Which numbers are a mailbox's.
+use Rattle.std.specs.Prelude.{ℕ, ◌≡◌, ◌≤◌, ◌+◌, ◌*◌, ◌%◌, nat_le, ◌==◌, ◌&&◌, Bool, true, [], ◌∷◌, Option, Some}
+use Rattle.std.specs.List.{list_any}
+use Rattle.vme_memory.specs.declared.class.Class.{Class}
+use Rattle.vme_memory.specs.Classes.{answers_quads}
+use Rattle.vme_document.specs.declared.file.MailboxTable.{MailboxTable}
+use Rattle.vme_document.specs.Keys.{◌>>=◌, when}
+use Rattle.vme_shared.specs.declared.mailbox.Mailbox.{Mailbox}
+
+-- whether a code is one of data or short access, by which a mailbox is reached (IEEE 1014, section 2.2.2)
+abbrev pub is_mailbox_code : ℕ → Bool
+is_mailbox_code am = list_any (λ code. code == am) (0x09 ∷ 0x0d ∷ 0x29 ∷ 0x2d ∷ 0x39 ∷ 0x3d ∷ [])
+
+-- the mailbox that a table tells: its code is one by which a mailbox is reached, its address a multiple of four, and it has 1
+-- to 64 slots (this project's own)
+unfoldable pub mailbox_of : MailboxTable → Option Mailbox
+mailbox_of table = do
+  _ ← when (is_mailbox_code table.am)
+  _ ← when (table.addr % 4 == 0)
+  _ ← when (nat_le 1 table.slots && nat_le table.slots 64)
+  Some (record { am = table.am; addr = table.addr; slots = table.slots })
+
+-- how many bytes a mailbox has: sixteen, and four for each slot (this project's own)
+abbrev pub mailbox_len : Mailbox → ℕ
+mailbox_len mailbox = 16 + 4 * mailbox.slots
+
+-- a mailbox has the numbers of one (this project's own)
+pub record HasNumbers (mailbox : Mailbox) : Type 0 where
+  pub code : is_mailbox_code mailbox.am ≡ true
+  pub aligned : mailbox.addr % 4 ≡ 0
+  pub some_slot : 1 ≤ mailbox.slots
+  pub few_slots : mailbox.slots ≤ 64
+
+-- whether a board is able to hold mailboxes: it answers quad bytes and read-modify-writes (this project's own)
+abbrev pub holds_mailboxes : Class → Bool
+holds_mailboxes class = answers_quads class.width && class.rmw

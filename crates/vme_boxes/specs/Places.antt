@@ -1,0 +1,32 @@
+-- Where bytes that are named over the bus lie on the boards.
+use Rattle.std.specs.Prelude.{ℕ, ◌+◌, nat_lt, nat_le, min, max, Bool, ◌==◌, ◌&&◌, List, Option, None, Result, Ok, Err}
+use Rattle.std.specs.Option.{option_map}
+use Rattle.vme_am.specs.declared.code.AmFault.{AmFault}
+use Rattle.vme_am.specs.Codes.{CodeRow, read_code}
+use Rattle.vme_decode.specs.declared.entry.Entry.{Entry}
+use Rattle.vme_decode.specs.Select.{selection_at}
+use Rattle.vme_shared.specs.declared.mailbox.Mailbox.{Mailbox}
+use Rattle.vme_boxes.specs.declared.place.Place.{Place}
+use Rattle.vme_boxes.specs.Mailboxes.{mailbox_len}
+
+-- so many bytes from an address on, on the board that a code and that address select (this project's own)
+abbrev pub place_by : List Entry → Result CodeRow AmFault → ℕ → ℕ → Option Place
+place_by entries (Ok code) addr len =
+    option_map (λ found. record { board = found.0; offset = found.1; len = len }) (selection_at entries code addr)
+place_by entries (Err fault) addr len = None
+
+-- so many bytes from an address on, on the board that the first of them selects (this project's own)
+unfoldable pub place_at : List Entry → ℕ → ℕ → ℕ → Option Place
+place_at entries am addr len = place_by entries (read_code am) addr len
+
+-- the bytes of a mailbox, on the board that the first of them selects (this project's own)
+abbrev pub place_of : List Entry → Mailbox → Option Place
+place_of entries mailbox = place_at entries mailbox.am mailbox.addr (mailbox_len mailbox)
+
+-- whether bytes end within a board of a size (this project's own)
+abbrev pub is_within : Place → ℕ → Bool
+is_within place size = nat_le (place.offset + place.len) size
+
+-- whether some byte is one of both: they lie on one board, and the greater offset is below the lesser end (this project's own)
+abbrev pub share : Place → Place → Bool
+share a b = a.board == b.board && nat_lt (max a.offset b.offset) (min (a.offset + a.len) (b.offset + b.len))

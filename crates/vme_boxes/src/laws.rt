@@ -1,0 +1,27 @@
+//! What holds of mailboxes and places. Each function's contract is a law; its body does nothing.
+ghost use Rattle.std.specs.Prelude.{◌≡◌, ℕ, ◌+◌, ◌^◌, ◌≤◌, List, Some, slice_get};
+ghost use Rattle.vme_am.specs.Spaces.{addresses_of};
+ghost use Rattle.vme_decode.specs.declared.entry.Entry.{Entry};
+ghost use Rattle.vme_decode.specs.Entries.{end_of};
+ghost use Rattle.vme_document.specs.declared.file.MailboxTable.{MailboxTable};
+ghost use Rattle.vme_shared.specs.declared.mailbox.Mailbox.{Mailbox};
+ghost use Rattle.vme_boxes.specs.declared.place.Place.{Place};
+ghost use Rattle.vme_boxes.specs.Mailboxes.{mailbox_of, HasNumbers};
+ghost use Rattle.vme_boxes.specs.Places.{place_at, share};
+
+/// A mailbox that a table tells has the numbers of one.
+pub fn tables_tell_lawful_numbers()
+    ensures { (table : MailboxTable) (mailbox : Mailbox) →
+        mailbox_of table ≡ Some mailbox → HasNumbers mailbox }
+{}
+
+/// Bytes share one with others as those share one with them. Bytes that end within a board that
+/// ends within its space have addresses below 2^32.
+#[tactic(auto, using(crate::proofs::Places::shared_both_ways, crate::proofs::Places::ends_within))]
+pub fn places_are_told_by_addresses()
+    ensures both_ways { (a b : Place) → share a b ≡ share b a }
+    ensures within { (entries : List Entry) (am addr len : ℕ) (place : Place) (entry : Entry) →
+        place_at entries am addr len ≡ Some place → slice_get entries place.board ≡ Some entry →
+        end_of entry ≤ addresses_of entry.space → place.offset + place.len ≤ entry.size →
+        addr + len ≤ 2 ^ 32 }
+{}

@@ -1,0 +1,67 @@
+//! Lawful mailboxes.
+ghost use Rattle.std.specs.Prelude.{◌≡◌, ◌≤◌, length, IfOk};
+ghost use Rattle.vme_script.specs.Answers.{Gives};
+ghost use Rattle.vme_script.specs.Boards.{entries_of};
+ghost use Rattle.vme_script.specs.Mailboxes.{declared_mailbox, mailboxes_of};
+
+use crate::board::BoardConfig;
+use crate::fault::ConfigFault;
+use std::alloc::Global;
+use vme_boxes::{Place, holds_mailboxes, mailbox_of};
+use vme_decode::AddressMap;
+use vme_document::MailboxTable;
+use vme_shared::Mailbox;
+
+/// The greatest number of mailboxes.
+const MOST_MAILBOXES: usize = 16;
+
+/// The mailbox that a table declares beside some bytes that others have, with its own bytes.
+#[tactic(auto, unfolding(crate::specs::Mailboxes::declared_mailbox))]
+fn declared_mailbox(
+    boards: &[BoardConfig],
+    map: &AddressMap,
+    earlier: &[Place],
+    table: MailboxTable,
+) -> Result<(Mailbox, Place), ConfigFault>
+    requires { map.now ≡ entries_of boards.now }
+    ensures { result ≡ declared_mailbox boards.now earlier.now table }
+{
+    let mailbox = mailbox_of(table).ok_or(ConfigFault::BadMailbox)?;
+    let place = Place::of(map, mailbox).ok_or(ConfigFault::BadMailbox)?;
+    let board = boards.get(place.board).ok_or(ConfigFault::BadMailbox)?;
+    if !place.is_within(board.entry.size) {
+        return Err(ConfigFault::BadMailbox);
+    }
+    if !holds_mailboxes(board.class) {
+        return Err(ConfigFault::BadMailbox);
+    }
+    if place.shares_any(earlier) {
+        return Err(ConfigFault::BadMailbox);
+    }
+    Ok((mailbox, place))
+}
+
+/// The mailboxes of a file, on boards that this is the map of.
+#[tactic(auto, unfolding(crate::specs::Mailboxes::mailboxes_of))]
+pub(crate) fn mailboxes_of(
+    alloc: Global,
+    boards: &[BoardConfig],
+    map: &AddressMap,
+    tables: &[MailboxTable],
+) -> Result<Vec<Mailbox>, ConfigFault>
+    requires { map.now ≡ entries_of boards.now }
+    ensures mailboxes { Gives (λ mailboxes. mailboxes.items) result (mailboxes_of boards.now tables.now) }
+    ensures few { IfOk result (λ mailboxes. length mailboxes.items ≤ 16) }
+{
+    if tables.len() > MOST_MAILBOXES {
+        return Err(ConfigFault::BadMailbox);
+    }
+    let mut mailboxes = Vec::with_capacity(alloc, tables.len())?;
+    let mut places = Vec::with_capacity(alloc, tables.len())?;
+    for table in tables {
+        let (mailbox, place) = declared_mailbox(boards, map, &places, *table)?;
+        mailboxes.push(mailbox)?;
+        places.push(place)?;
+    }
+    Ok(mailboxes)
+}

@@ -1,0 +1,176 @@
+//! Files that declare mailboxes, with what each is told. The values are this project's own.
+use crate::rows::check;
+use std::alloc::{AllocError, Global};
+use std::process::Abort;
+use std::test::Fail;
+
+/// Boards of 32 bytes: one that answers all, one with 16 data lines, one without read-modify-writes,
+/// one beside the first, and one each of the short and the standard space for supervisory codes.
+static BOARDS: &str = "[[board]]
+slot = 1
+base = 0
+size = 32
+[[board]]
+slot = 2
+base = 0x1000
+size = 32
+width = 16
+[[board]]
+slot = 3
+base = 0x2000
+size = 32
+rmw = false
+[[board]]
+slot = 4
+base = 32
+size = 32
+[[board]]
+slot = 5
+space = \"a16\"
+base = 0xffe0
+size = 32
+supervisory = true
+[[board]]
+slot = 6
+space = \"a24\"
+base = 0xffffe0
+size = 32
+supervisory = true
+";
+
+/// Mailboxes on these boards, and what the file is told.
+static MAILBOXES: [(&str, &str); 32] = [
+    ("", "lawful"),
+    ("{ am = 9, addr = 0, slots = 1 }", "lawful"),
+    ("{ am = 9, addr = 12, slots = 1 }", "lawful"),
+    ("{ am = 0x0d, addr = 0, slots = 4 }", "lawful"),
+    ("{ am = 0x2d, addr = 0xffe0, slots = 4 }", "lawful"),
+    ("{ am = 0x3d, addr = 0xfffff0, slots = 1 }", "C13"),
+    ("{ am = 0x3d, addr = 0xffffec, slots = 1 }", "lawful"),
+    // Codes of other accesses, and of no access.
+    ("{ am = 0x0a, addr = 0, slots = 1 }", "C13"),
+    ("{ am = 0x0b, addr = 0, slots = 1 }", "C13"),
+    ("{ am = 0x3e, addr = 0xffffe0, slots = 1 }", "C13"),
+    ("{ am = 0x10, addr = 0, slots = 1 }", "C13"),
+    ("{ am = 0x109, addr = 0, slots = 1 }", "C13"),
+    // Codes that the boards there do not admit.
+    ("{ am = 0x29, addr = 0xffe0, slots = 1 }", "C13"),
+    ("{ am = 0x39, addr = 0, slots = 1 }", "C13"),
+    ("{ am = 0x2d, addr = 0x1ffe0, slots = 1 }", "C13"),
+    // Addresses and slots.
+    ("{ am = 9, addr = 2, slots = 1 }", "C13"),
+    ("{ am = 9, addr = 0, slots = 0 }", "C13"),
+    ("{ am = 9, addr = 0, slots = 65 }", "C13"),
+    ("{ am = 9, addr = 0, slots = 257 }", "C13"),
+    ("{ am = 9, addr = 0, slots = -1 }", "C7"),
+    ("{ am = 9, addr = 4294967296, slots = 1 }", "C7"),
+    // Bytes past the end of a board, on two boards, and on none.
+    ("{ am = 9, addr = 0, slots = 5 }", "C13"),
+    ("{ am = 9, addr = 16, slots = 1 }", "C13"),
+    ("{ am = 9, addr = 64, slots = 1 }", "C13"),
+    ("{ am = 9, addr = 0xfffffffc, slots = 1 }", "C13"),
+    // Boards that are not able to hold one.
+    ("{ am = 9, addr = 0x1000, slots = 1 }", "C13"),
+    ("{ am = 9, addr = 0x2000, slots = 1 }", "C13"),
+    // Two mailboxes.
+    (
+        "{ am = 9, addr = 0, slots = 1 }, { am = 9, addr = 32, slots = 1 }",
+        "lawful",
+    ),
+    (
+        "{ am = 9, addr = 0, slots = 1 }, { am = 0x0d, addr = 12, slots = 1 }",
+        "C13",
+    ),
+    (
+        "{ am = 9, addr = 12, slots = 1 }, { am = 9, addr = 0, slots = 1 }",
+        "C13",
+    ),
+    // Keys.
+    ("{ am = 9, addr = 0 }", "C7"),
+    ("{ am = 9, addr = 0, slots = 1, words = 1 }", "C7"),
+];
+
+/// The key of mailboxes, with these.
+fn mailboxes(alloc: Global, tables: &str, boards: &str) -> Result<String, AllocError> {
+    format!(in alloc; "mailbox = [{tables}]\n{boards}")
+}
+
+#[test]
+fn tells_of_mailboxes(rt: HostRuntime) -> Result<(), Fail> {
+    for (tables, told) in &MAILBOXES {
+        let file = mailboxes(rt.alloc(), tables, BOARDS)?;
+        check(&rt, rt.alloc(), file.as_bytes(), told)?;
+    }
+    Ok(())
+}
+
+#[test]
+fn tells_of_a_board_that_can_hold_none(rt: HostRuntime) -> Result<(), Fail> {
+    let file = "board = [{ slot = 1, base = 0, size = 32, rmw = false }]
+mailbox = [{ am = 9, addr = 0, slots = 1 }]";
+    check(&rt, rt.alloc(), file.as_bytes(), "C13")?;
+    Ok(())
+}
+
+/// The numbers of mailboxes on one board of 512 bytes, and what the file is told.
+static COUNTS: [(u32, &str); 3] = [(1, "lawful"), (16, "lawful"), (17, "C13")];
+
+#[test]
+fn has_sixteen_mailboxes_at_most(rt: HostRuntime) -> Result<(), Fail> {
+    for (count, told) in &COUNTS {
+        let mut file = format!(in rt.alloc(); "board = [{{ slot = 1, base = 0, size = 512 }}]\n")?;
+        for k in 0..*count {
+            write!(file, "[[mailbox]]\nam = 9\naddr = {}\nslots = 1\n", 20 * k)?;
+        }
+        check(&rt, rt.alloc(), file.as_bytes(), told)?;
+    }
+    Ok(())
+}
+
+/// Scripts of a board on which two mailboxes are declared, and what the file is told.
+static SCRIPTS: [(&str, &str); 9] = [
+    ("put 1 00000001\\ntake 2\\ntake 02", "lawful"),
+    ("take 3", "C14 slot 1 line 1 S6"),
+    ("put 3 00000001", "C14 slot 1 line 1 S6"),
+    ("put 0 00000001", "C14 slot 1 line 1 S6"),
+    ("take 00", "C14 slot 1 line 1 S6"),
+    ("put 3 0000000", "C14 slot 1 line 1 S7"),
+    ("put 3", "C14 slot 1 line 1 S3"),
+    ("lock 09 00000000\\ntake 99\\nx", "C14 slot 1 line 2 S6"),
+    ("x\\ntake 3", "C14 slot 1 line 1 S2"),
+];
+
+#[test]
+fn tells_of_a_mailbox_that_is_not_declared(rt: HostRuntime) -> Result<(), Fail> {
+    let tables = "{ am = 9, addr = 0, slots = 1 }, { am = 9, addr = 20, slots = 1 }";
+    for (script, told) in &SCRIPTS {
+        let boards = format!(in rt.alloc();
+            "board = [{{ slot = 1, base = 0, size = 64, script = \"{script}\" }}]"
+        )?;
+        let file = mailboxes(rt.alloc(), tables, boards.as_str())?;
+        check(&rt, rt.alloc(), file.as_bytes(), told)?;
+    }
+    Ok(())
+}
+
+/// The order in which refusals are told: a schedule before a mailbox, and that before a script.
+static ORDERS: [(&str, &str); 2] = [
+    (
+        "tries = 0\nmailbox = [{ am = 1, addr = 0, slots = 1 }]
+board = [{ slot = 1, base = 0, size = 32, script = \"x\" }]",
+        "C12",
+    ),
+    (
+        "mailbox = [{ am = 1, addr = 0, slots = 1 }]
+board = [{ slot = 1, base = 0, size = 32, script = \"x\" }]",
+        "C13",
+    ),
+];
+
+#[test]
+fn tells_mailboxes_between_schedule_and_scripts(rt: HostRuntime) -> Result<(), Fail> {
+    for (file, told) in &ORDERS {
+        check(&rt, rt.alloc(), file.as_bytes(), told)?;
+    }
+    Ok(())
+}
