@@ -1,155 +1,159 @@
 -- The boards that a line calls are there.
-use Rattle.std.proofs.Common.{◌≡◌, ℕ, ◌<◌, List, [], ◌∷◌, length, Option, Some, None, Result, Ok, Err, refl, sym, subst, ◌∙◌, inl, inr}
+use Rattle.std.proofs.Common.{◌≡◌, ℕ, ◌<◌, List, [], ◌∷◌, ◌++◌, length, Option, Some, None, Result, Ok, Err, refl, ap, sym, subst, ◌∙◌}
+use Rattle.std.specs.Prelude.{option_map, IfSome}
 use Rattle.std.proofs.lemmas.List.{length-map}
-use Rattle.std.specs.Prelude.{nat_le, ◌||◌}
-use Rattle.std.specs.Str.{bytes_eq}
-use Rattle.std.proofs.lemmas.Bool.{cases_Bool}
 use Rattle.vme_cycle.specs.declared.fault.CycleFault.{CycleFault}
-use Rattle.vme_cycle.specs.Lawful.{Transfer}
+use Rattle.vme_cycle.specs.declared.request.Request.TheVariants as requests
+use Rattle.vme_cycle.specs.Lawful.{Transfer, transfer_of}
+use Rattle.vme_core.specs.declared.event.Event.{Event}
+use Rattle.vme_core.specs.declared.event.Event.TheVariants as asked
 use Rattle.vme_core.specs.declared.event.EventReply.{EventReply}
-use Rattle.vme_core.specs.Calls.{Call, OnBoard}
-use Rattle.vme_master.specs.declared.job.BusJob.{BusJob}
+use Rattle.vme_core.specs.Calls.{Call, OnBoard, OnBus, call_of}
 use Rattle.vme_master.specs.declared.job.Job.{Job}
-use Rattle.vme_master.specs.declared.job.Job.TheVariants.{Bus, Local}
-use Rattle.vme_master.specs.declared.phase.Phase.{Phase}
-use Rattle.vme_master.specs.declared.phase.Phase.TheVariants.{Fresh, Asks, Looks, Moves, Frees, Ended, Denied}
 use Rattle.vme_master.specs.declared.outcome.Outcome.TheVariants as outcomes
-use Rattle.vme_master.specs.Jobs.{bus_job, datum_call}
+use Rattle.vme_master.specs.Jobs.{bus_job}
 use Rattle.vme_master.specs.Tables as tasks
-use Rattle.vme_master.specs.Tables.{Next}
-use Rattle.vme_master.specs.Machine.{fresh_task, advance, to_do, job_next}
+use Rattle.vme_master.specs.Tables.{Next, Given, next_of}
 use Rattle.vme_master.specs.Laws.{IsBelow}
-use Rattle.vme_master.proofs.Stands.{job_stays}
-use Rattle.vme_master.proofs.Locals.{bus_below}
-use Rattle.vme_script.specs.Configurations.{Configuration}
-use Rattle.vme_script.specs.Boards.{entries_of}
+use Rattle.vme_master.proofs.Locals.{bus_below, calls_below as job_calls_below}
+use Rattle.vme_shared.specs.declared.request.SharedRequest.{SharedRequest}
+use Rattle.vme_shared.specs.declared.request.SharedRequest.TheVariants as asked_shared
+use Rattle.vme_shared.specs.Mailboxes.{shared_refusal}
+use Rattle.vme_shared.specs.Tables as shares
+use Rattle.vme_shared.specs.Tables.{SharedNext, shared_next}
+use Rattle.vme_shared.proofs.Tenures.{calls_below as shared_calls_below}
 use Rattle.vme_lines.specs.declared.line.Line.{Line}
 use Rattle.vme_lines.specs.declared.line.Line.TheVariants as lines
-use Rattle.vme_master.specs.Tables.{Given}
-use Rattle.vme_cycle.specs.declared.request.Request.TheVariants as requests
-use Rattle.vme_cycle.specs.Lawful.{transfer_of}
+use Rattle.vme_script.specs.Boards.{entries_of}
+use Rattle.vme_script.specs.Configurations.{Configuration}
 use Rattle.vme_course.specs.declared.task.LineTask.{LineTask}
-use Rattle.vme_course.specs.declared.task.LineTask.TheVariants.{Refused, Once, Await}
-use Rattle.vme_course.specs.declared.task.AwaitTask.{AwaitTask}
 use Rattle.vme_course.specs.declared.todo.LineTodo.{LineTodo}
 use Rattle.vme_course.specs.declared.todo.LineTodo.TheVariants as todos
-use Rattle.vme_core.specs.declared.event.Event.TheVariants as asked
-use Rattle.vme_course.specs.Scripts.{slot_at, level_at, request_job, line_job}
+use Rattle.vme_course.specs.Scripts.{Attempt, Moves, Waits, Shares, slot_at, level_at, transfer_job, request_attempt, unless_refused, shared_job, shared_attempt, line_attempt}
+use Rattle.vme_course.specs.Tables.{LineNext, Rests, Makes, Ends, moves_next, waits_next, shares_next, attempts_of, lawful_next, next_given}
+use Rattle.vme_course.specs.Machine.{line_started, line_advance, line_to_do, line_advanced, IsLineBelow}
+use Rattle.vme_course.specs.Events.{next_in, call_in, IsCallBelow, IsEventBelow, IsTodoBelow}
 use Rattle.vme_course.proofs.Lines.{by_the_given}
-use Rattle.vme_course.specs.Tables.{next_given, LineNext, Makes, once_next, await_next}
-use Rattle.vme_course.specs.Machine.{line_fresh, line_started, await_again, line_advance, line_to_do, line_given, IsLineBelow}
-use Rattle.vme_course.specs.Events.{next_in, IsCallBelow, IsTodoBelow}
 
--- the boards of what is done for a line
-abbrev IsJobBelow : ℕ → Result Job CycleFault → Type 0
-IsJobBelow n (Ok job) = IsBelow n job
-IsJobBelow n (Err fault) = Unit {0}
+-- the boards of what is attempted
+abbrev IsAttemptBelow : ℕ → Result Attempt CycleFault → Type 0
+IsAttemptBelow n (Ok (Moves job)) = IsBelow n job
+IsAttemptBelow n (Ok (Waits job want)) = IsBelow n job
+IsAttemptBelow n (Ok (Shares s)) = length s.map ≡ n
+IsAttemptBelow n (Err fault) = Unit {0}
 
-request_job_below : (config : Configuration) (board : ℕ) (transfer : Result Transfer CycleFault)
-    → IsJobBelow (length config.boards) (request_job config board transfer)
-request_job_below config board (Ok transfer) =
-    subst (λ n. IsBelow n (bus_job (entries_of config.boards) (slot_at config board) (level_at config board) transfer))
+transfer_below : (config : Configuration) (board : ℕ) (t : Transfer) → IsBelow (length config.boards) (transfer_job config board t)
+transfer_below config board t =
+    subst (λ n. IsBelow n (bus_job (entries_of config.boards) (slot_at config board) (level_at config board) t))
     (length-map config.boards (λ one. one.entry))
-    (bus_below (entries_of config.boards) (slot_at config board) (level_at config board) transfer)
-request_job_below config board (Err fault) = tt
+    (bus_below (entries_of config.boards) (slot_at config board) (level_at config board) t)
 
-line_job_below : (config : Configuration) (board : ℕ) (line : Line) → board < length config.boards
-    → IsJobBelow (length config.boards) (line_job config board line)
-line_job_below config board (lines.Bus request) there = request_job_below config board (transfer_of request)
-line_job_below config board (lines.Local cmd) there = there
-line_job_below config board (lines.Await am addr bytes) there =
-    request_job_below config board (transfer_of (requests.Read am addr (length bytes.items)))
+request_below : (n : ℕ) (attempt : Transfer → Attempt) (transfer : Result Transfer CycleFault)
+    → ((t : Transfer) → IsAttemptBelow n (Ok (attempt t))) → IsAttemptBelow n (request_attempt attempt transfer)
+request_below n attempt (Ok t) each = each t
+request_below n attempt (Err fault) each = tt
 
-fresh_below : (n tries : ℕ) (line : Line) (job : Result Job CycleFault) → IsJobBelow n job → IsLineBelow n (line_fresh tries line job)
-fresh_below n tries line (Err fault) below = tt
-fresh_below n tries (lines.Bus request) (Ok job) below = below
-fresh_below n tries (lines.Local cmd) (Ok job) below = below
-fresh_below n tries (lines.Await am addr bytes) (Ok job) below = below
+shared_below : (config : Configuration) (board : ℕ) (request : SharedRequest)
+    → IsAttemptBelow (length config.boards) (shared_attempt config board request)
+shared_below config board request = by_refusal (shared_refusal request)
+  where
+    by_refusal : (refusal : Option CycleFault)
+        → IsAttemptBelow (length config.boards) (unless_refused (Shares (shared_job config board request)) refusal)
+    by_refusal None = length-map config.boards (λ one. one.entry)
+    by_refusal (Some fault) = tt
 
-pub started_below : (config : Configuration) (board : ℕ) (line : Line) → board < length config.boards
-    → IsLineBelow (length config.boards) (line_started config board line)
-unfolding line_started
-started_below config board line there =
-    fresh_below (length config.boards) config.tries line (line_job config board line) (line_job_below config board line there)
+attempt_below : (config : Configuration) (board : ℕ) (line : Line) → board < length config.boards
+    → IsAttemptBelow (length config.boards) (line_attempt config board line)
+attempt_below config board (lines.Bus request) there =
+    request_below (length config.boards) (λ t. Moves (transfer_job config board t)) (transfer_of request) (transfer_below config board)
+attempt_below config board (lines.Local cmd) there = there
+attempt_below config board (lines.Await am addr bytes) there =
+    request_below (length config.boards) (λ t. Waits (transfer_job config board t) bytes.items)
+    (transfer_of (requests.Read am addr (length bytes.items))) (transfer_below config board)
+attempt_below config board (lines.Lock am addr) there = shared_below config board (asked_shared.Lock am addr)
+attempt_below config board (lines.Unlock am addr) there = shared_below config board (asked_shared.Unlock am addr)
+attempt_below config board line there = tt
 
--- a call, if one is made, is on a board that is there
-abbrev NextBelow : ℕ → Next → Type 0
-NextBelow n (tasks.Makes call) = IsCallBelow n call
-NextBelow n next = Unit {0}
+-- the calls of a line that are those of its task
+pub moves_makes : (next : Next) (call : Call) → moves_next next ≡ Makes call → next ≡ tasks.Makes call
+moves_makes tasks.Rests call made = absurd cc
+moves_makes (tasks.Makes other) call made = cc
+moves_makes (tasks.Ends outcome) call made = absurd cc
 
-abbrev LineNextBelow : ℕ → LineNext → Type 0
-LineNextBelow n (Makes call) = IsCallBelow n call
-LineNextBelow n next = Unit {0}
+pub waits_makes : (want : List ℕ) (next : Next) (call : Call) → waits_next want next ≡ Makes call → next ≡ tasks.Makes call
+waits_makes want tasks.Rests call made = absurd cc
+waits_makes want (tasks.Makes other) call made = cc
+waits_makes want (tasks.Ends (outcomes.Read bytes)) call made = absurd cc
+waits_makes want (tasks.Ends outcome) call made = absurd cc
 
-datum_below : (n : ℕ) (j : BusJob) (place : Option (ℕ × ℕ)) (i : ℕ) → j.place ≡ place → IsBelow n (Bus j) → IsCallBelow n (datum_call j place i)
-datum_below n j None i placed below = tt
-datum_below n j (Some place) i placed below = below place.0 place.1 placed
+pub shares_makes : (next : SharedNext) (call : Call) → shares_next next ≡ Makes call → next ≡ shares.Makes call
+shares_makes shares.Rests call made = absurd cc
+shares_makes (shares.Makes other) call made = cc
+shares_makes (shares.Ends outcome) call made = absurd cc
 
-job_below : (n : ℕ) (job : Job) (phase : Phase) (read : List ℕ) → IsBelow n job → NextBelow n (job_next job phase read)
-job_below n (Bus j) Fresh read below = tt
-job_below n (Bus j) Asks read below = tt
-job_below n (Bus j) Looks read below = tt
-job_below n (Bus j) (Moves i) read below = datum_below n j j.place i refl below
-job_below n (Bus j) (Frees berr) read below = tt
-job_below n (Bus j) (Ended berr) read below = tt
-job_below n (Bus j) Denied read below = tt
-job_below n (Local j) (Moves i) read below = below
-job_below n (Local j) Fresh read below = tt
-job_below n (Local j) (Ended berr) read below = tt
-job_below n (Local j) phase read below = tt
+-- each board that is called is one of them
+job_below : (n : ℕ) (job : Job) (given : Given) (call : Call) → IsBelow n job → next_of job given ≡ tasks.Makes call → IsCallBelow n call
+job_below n job given (OnBoard board command) below made = job_calls_below n job given board command below made
+job_below n job given (OnBus cmd) below made = tt
 
-once_below : (n : ℕ) (next : Next) → NextBelow n next → LineNextBelow n (once_next next)
-once_below n tasks.Rests below = tt
-once_below n (tasks.Makes call) below = below
-once_below n (tasks.Ends outcome) below = tt
-
-await_below : (n : ℕ) (want : List ℕ) (next : Next) → NextBelow n next → LineNextBelow n (await_next want next)
-await_below n want tasks.Rests below = tt
-await_below n want (tasks.Makes call) below = below
-await_below n want (tasks.Ends (outcomes.Read bytes)) below = tt
-await_below n want (tasks.Ends outcome) below = tt
-
-line_below : (n : ℕ) (t : LineTask) → IsLineBelow n t → LineNextBelow n (line_to_do t)
-line_below n (Refused fault) below = tt
-line_below n (Once t) below = once_below n (to_do t) (job_below n t.job t.phase t.read below)
-line_below n (Await a) below = await_below n a.want.items (to_do a.task) (job_below n a.task.job a.task.phase a.task.read below)
-
--- a line's call is on a board that is there
-pub calls_below : (n : ℕ) (t : LineTask) (call : Call) → IsLineBelow n t → line_to_do t ≡ Makes call → IsCallBelow n call
-calls_below n t call below next = subst (LineNextBelow n) next (line_below n t below)
-
--- and so is its event
-pub todo_below : (n : ℕ) (t : LineTask) (todo : LineTodo) → IsLineBelow n t → next_in todo ≡ line_to_do t → IsTodoBelow n todo
-todo_below n t (todos.Call (asked.Board board cmd)) below next = calls_below n t (OnBoard board _) below (sym next)
-todo_below n t (todos.Call (asked.Bus cmd)) below next = tt
-todo_below n t (todos.Ended answer) below next = tt
-
--- a line keeps its boards
-again_below : (n : ℕ) (a : AwaitTask) (next : Next) → IsBelow n a.task.job → IsBelow n (await_again a next).task.job
-again_below n a tasks.Rests below = below
-again_below n a (tasks.Makes call) below = below
-again_below n a (tasks.Ends (outcomes.Read bytes)) below =
-    elim (cases_Bool (bytes_eq bytes.items a.want.items || nat_le a.left 1)) [
-      | inl last ↦ rw last below
-      | inr more ↦ rw more (subst (IsBelow n) (sym (job_stays (fresh_task a.task.job) Fresh None)) below)
-    ]
-again_below n a (tasks.Ends outcome) below = below
-
-pub advance_below : (n : ℕ) (t : LineTask) (last : Option EventReply) → IsLineBelow n t → IsLineBelow n (line_advance t last)
-advance_below n (Refused fault) last below = tt
-advance_below n (Once t) last below = subst (IsBelow n) (sym (job_stays t t.phase last)) below
-advance_below n (Await a) last below =
-    again_below n (record { task = advance a.task last; want = a.want; left = a.left }) (to_do (advance a.task last))
-    (subst (IsBelow n) (sym (job_stays a.task a.task.phase last)) below)
-
-pub given_below : (config : Configuration) (board : ℕ) (line : Line) (given : Given) → board < length config.boards
-    → IsLineBelow (length config.boards) (line_given config board line given)
-given_below config board line [] there = started_below config board line there
-given_below config board line (last ∷ before) there =
-    advance_below (length config.boards) (line_given config board line before) last (given_below config board line before there)
+lawful_below : (n tries : ℕ) (attempt : Result Attempt CycleFault) (given : Given) (call : Call) → IsAttemptBelow n attempt
+    → lawful_next tries attempt given ≡ Makes call → IsCallBelow n call
+lawful_below n tries (Ok (Moves job)) given call below made =
+    let g = (attempts_of (Moves job) tries given).given in
+    job_below n job g call below (moves_makes (next_of job g) call made)
+lawful_below n tries (Ok (Waits job want)) given call below made =
+    let g = (attempts_of (Waits job want) tries given).given in
+    job_below n job g call below (waits_makes want (next_of job g) call made)
+lawful_below n tries (Ok (Shares s)) given (OnBoard board command) below made =
+    let g = (attempts_of (Shares s) tries given).given in
+    subst (λ (m : ℕ). board < m) below (shared_calls_below s g board command (shares_makes (shared_next s g) (OnBoard board command) made))
+lawful_below n tries (Ok (Shares s)) given (OnBus cmd) below made = tt
+lawful_below n tries (Err fault) given call below made = absurd cc
 
 pub next_below : (config : Configuration) (board : ℕ) (line : Line) (given : Given) (call : Call) → board < length config.boards
     → next_given config board line given ≡ Makes call → IsCallBelow (length config.boards) call
-next_below config board line given call there next =
-    calls_below (length config.boards) (line_given config board line given) call (given_below config board line given there)
-    (by_the_given config board line given ∙ next)
+unfolding next_given
+next_below config board line given call there made =
+    lawful_below (length config.boards) config.tries (line_attempt config board line) given call (attempt_below config board line there) made
+
+-- so it is of a line before its first call
+pub started_below : (config : Configuration) (board : ℕ) (line : Line) → board < length config.boards
+    → IsLineBelow (length config.boards) (line_started config board line)
+unfolding IsLineBelow
+started_below config board line there = λ given call made.
+    next_below config board line given call there (sym (by_the_given config board line given) ∙ made)
+
+-- and stays so
+advanced_on : (task : LineTask) (last : Option EventReply) (given : Given)
+    → line_advanced (line_advance task last) given ≡ line_advanced task (given ++ last ∷ [])
+advanced_on task last [] = refl
+advanced_on task last (next ∷ given) = ap (λ (t : LineTask). line_advance t next) (advanced_on task last given)
+
+pub advance_below : (n : ℕ) (task : LineTask) (last : Option EventReply) → IsLineBelow n task → IsLineBelow n (line_advance task last)
+unfolding IsLineBelow
+advance_below n task last below = λ given call made.
+    below (given ++ last ∷ []) call (sym (ap line_to_do (advanced_on task last given)) ∙ made)
+
+-- a line's call is on a board that is there
+pub calls_below : (n : ℕ) (task : LineTask) (call : Call) → IsLineBelow n task → line_to_do task ≡ Makes call → IsCallBelow n call
+unfolding IsLineBelow
+calls_below n task call below next = below [] call next
+
+-- and so is its event
+in_makes : (next : LineNext) (call : Call) → Some call ≡ call_in next → next ≡ Makes call
+in_makes Rests call is = absurd cc
+in_makes (Makes other) call is = cc
+in_makes (Ends answer) call is = absurd cc
+
+pub event_below : (n : ℕ) (task : LineTask) (event : Option Event) → IsLineBelow n task → option_map call_of event ≡ call_in (line_to_do task)
+    → IfSome event (IsEventBelow n)
+event_below n task None below is = tt
+event_below n task (Some (asked.Board board cmd)) below is =
+    calls_below n task (OnBoard board _) below (in_makes (line_to_do task) (OnBoard board _) is)
+event_below n task (Some (asked.Bus cmd)) below is = tt
+
+-- and what it has to do
+pub todo_below : (n : ℕ) (task : LineTask) (todo : LineTodo) → IsLineBelow n task → next_in todo ≡ line_to_do task → IsTodoBelow n todo
+todo_below n task (todos.Call (asked.Board board cmd)) below next = calls_below n task (OnBoard board _) below (sym next)
+todo_below n task (todos.Call (asked.Bus cmd)) below next = tt
+todo_below n task (todos.Ended answer) below next = tt

@@ -3,3 +3,6 @@ pub mod Below
 pub mod Ends
 pub mod Courses
 pub mod Tenures
+pub mod Attempted
+pub mod Kept
+pub mod Calls

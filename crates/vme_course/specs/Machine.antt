@@ -1,74 +1,98 @@
 -- A line as a machine, which keeps a task in place of the replies: for the drivers' own functions.
-use Rattle.std.specs.Prelude.{ℕ, ◌-◌, nat_le, ◌||◌, if◌then◌else◌, List, [], ◌∷◌, Option, None, Result, Ok, Err}
-use Rattle.std.specs.Str.{bytes_eq}
+use Rattle.std.specs.Prelude.{ℕ, ◌≡◌, ◌-◌, nat_lt, ◌&&◌, if◌then◌else◌, List, [], ◌∷◌, Option, None, Result, Ok, Err}
 use Rattle.vme_cycle.specs.declared.fault.CycleFault.{CycleFault}
 use Rattle.vme_core.specs.declared.event.EventReply.{EventReply}
-use Rattle.vme_master.specs.declared.job.Job.{Job}
-use Rattle.vme_master.specs.declared.outcome.Outcome.TheVariants as outcomes
-use Rattle.vme_master.specs.Tables as tasks
-use Rattle.vme_master.specs.Tables.{Next, Given}
-use Rattle.vme_master.specs.Machine.{TaskView, fresh_task, advance, to_do}
-use Rattle.vme_master.specs.Laws.{IsBelow}
+use Rattle.vme_core.specs.Calls.{Call}
+use Rattle.vme_master.specs.Tables.{Given}
+use Rattle.vme_master.specs.Machine.{fresh_task, advance, to_do}
 use Rattle.vme_shared.specs.declared.reply.LineReply.TheVariants as replies
+use Rattle.vme_shared.specs.Machine.{shared_fresh, shared_advance, shared_to_do}
 use Rattle.vme_lines.specs.declared.line.Line.{Line}
-use Rattle.vme_lines.specs.declared.line.Line.TheVariants as lines
 use Rattle.vme_script.specs.Configurations.{Configuration}
 use Rattle.vme_course.specs.declared.task.LineTask.{LineTask}
-use Rattle.vme_course.specs.declared.task.LineTask.TheVariants.{Refused, Once, Await}
-use Rattle.vme_course.specs.declared.task.AwaitTask.{AwaitTask}
-use Rattle.vme_course.specs.Scripts.{line_job}
-use Rattle.vme_course.specs.Tables.{LineNext, Ends, once_next, await_next, given_of}
+use Rattle.vme_course.specs.declared.task.LineTask.TheVariants.{Refused, Tries}
+use Rattle.vme_course.specs.declared.attempt.Attempts.{Attempts}
+use Rattle.vme_course.specs.declared.attempt.AttemptTask.{AttemptTask}
+use Rattle.vme_course.specs.declared.attempt.AttemptTask.TheVariants as tries
+use Rattle.vme_course.specs.Scripts.{Attempt, Moves, Waits, Shares, line_attempt}
+use Rattle.vme_course.specs.Tables.{LineNext, Makes, Ends, moves_next, waits_next, shares_next, next_asks_again, given_of}
+use Rattle.vme_course.specs.Events.{IsCallBelow}
 
--- the task of a job before its first call, or the refusal (this project's own)
-abbrev pub fresh_of : Result Job CycleFault → Result TaskView CycleFault
-fresh_of (Ok job) = Ok (fresh_task job)
+-- the task of an attempt before its first call (this project's own)
+abbrev pub attempt_fresh : Attempt → AttemptTask
+attempt_fresh (Moves job) = tries.Moves (fresh_task job)
+attempt_fresh (Waits job want) = tries.Waits (record { task = fresh_task job; want = record { items = want } })
+attempt_fresh (Shares s) = tries.Shares (shared_fresh s)
+
+-- the task of what is attempted, or the refusal (this project's own)
+abbrev pub fresh_of : Result Attempt CycleFault → Result AttemptTask CycleFault
+fresh_of (Ok attempt) = Ok (attempt_fresh attempt)
 fresh_of (Err fault) = Err fault
 
--- a line before its first call, by what is done for it, or its refusal (this project's own)
-abbrev pub line_fresh : ℕ → Line → Result Job CycleFault → LineTask
-line_fresh tries line (Err fault) = Refused fault
-line_fresh tries (lines.Await am addr bytes) (Ok job) = Await (record { task = fresh_task job; want = bytes; left = tries })
-line_fresh tries line (Ok job) = Once (fresh_task job)
+-- the same attempt before its first call (this project's own)
+abbrev pub attempt_anew : AttemptTask → AttemptTask
+attempt_anew (tries.Moves t) = tries.Moves (fresh_task t.job)
+attempt_anew (tries.Waits w) = tries.Waits (record { task = fresh_task w.task.job; want = w.want })
+attempt_anew (tries.Shares v) = tries.Shares (shared_fresh v.job)
+
+-- an attempt after a call of it (this project's own)
+abbrev pub attempt_advance : AttemptTask → Option EventReply → AttemptTask
+attempt_advance (tries.Moves t) given = tries.Moves (advance t given)
+attempt_advance (tries.Waits w) given = tries.Waits (record { task = advance w.task given; want = w.want })
+attempt_advance (tries.Shares v) given = tries.Shares (shared_advance v given)
+
+-- what an attempt does next (this project's own)
+abbrev pub attempt_to_do : AttemptTask → LineNext
+attempt_to_do (tries.Moves t) = moves_next (to_do t)
+attempt_to_do (tries.Waits w) = waits_next w.want.items (to_do w.task)
+attempt_to_do (tries.Shares v) = shares_next (shared_to_do v)
+
+-- where the attempt at work has ended with an answer that asks for another, that one has begun, while there may be one more
+-- (this project's own)
+abbrev pub attempts_again : Attempts → LineNext → Attempts
+attempts_again a next =
+    if next_asks_again next && nat_lt 1 a.left
+    then record { attempt = attempt_advance (attempt_anew a.attempt) None; left = a.left - 1 }
+    else a
+
+-- attempts after a call of the one at work (this project's own)
+abbrev pub attempts_advance : Attempts → Option EventReply → Attempts
+attempts_advance a given =
+    attempts_again (record { attempt = attempt_advance a.attempt given; left = a.left })
+    (attempt_to_do (attempt_advance a.attempt given))
+
+-- a line before its first call, by what is attempted for it, or its refusal (this project's own)
+abbrev pub line_fresh : ℕ → Result Attempt CycleFault → LineTask
+line_fresh tries (Ok attempt) = Tries (record { attempt = attempt_fresh attempt; left = tries })
+line_fresh tries (Err fault) = Refused fault
 
 -- a line of a board's processor before its first call (this project's own)
 unfoldable pub line_started : Configuration → ℕ → Line → LineTask
-line_started config board line = line_fresh config.tries line (line_job config board line)
-
--- a read that has found other bytes is begun again, while there may be one more (this project's own)
-abbrev pub await_again : AwaitTask → Next → AwaitTask
-await_again a (tasks.Ends (outcomes.Read bytes)) =
-    if bytes_eq bytes.items a.want.items || nat_le a.left 1 then a
-    else record { task = advance (fresh_task a.task.job) None; want = a.want; left = a.left - 1 }
-await_again a next = a
-
--- a line that waits, after a call of it (this project's own)
-abbrev pub await_advance : AwaitTask → Option EventReply → AwaitTask
-await_advance a given =
-    await_again (record { task = advance a.task given; want = a.want; left = a.left }) (to_do (advance a.task given))
+line_started config board line = line_fresh config.tries (line_attempt config board line)
 
 -- a line after a call of it (this project's own)
 abbrev pub line_advance : LineTask → Option EventReply → LineTask
 line_advance (Refused fault) given = Refused fault
-line_advance (Once t) given = Once (advance t given)
-line_advance (Await a) given = Await (await_advance a given)
+line_advance (Tries a) given = Tries (attempts_advance a given)
 
 -- what a line does next (this project's own)
 abbrev pub line_to_do : LineTask → LineNext
 line_to_do (Refused fault) = Ends (replies.Refused fault)
-line_to_do (Once t) = once_next (to_do t)
-line_to_do (Await a) = await_next a.want.items (to_do a.task)
+line_to_do (Tries a) = attempt_to_do a.attempt
+
+-- a line after calls with what it was given (this project's own)
+abbrev pub line_advanced : LineTask → Given → LineTask
+line_advanced task [] = task
+line_advanced task (last ∷ before) = line_advance (line_advanced task before) last
 
 -- a line of a board's processor after calls with what it was given (this project's own)
 abbrev pub line_given : Configuration → ℕ → Line → Given → LineTask
-line_given config board line [] = line_started config board line
-line_given config board line (last ∷ before) = line_advance (line_given config board line before) last
+line_given config board line given = line_advanced (line_started config board line) given
 
 -- a line after its first call and those with these replies, the newest first (this project's own)
 abbrev pub line_after : Configuration → ℕ → Line → List EventReply → LineTask
 line_after config board line replies = line_given config board line (given_of replies)
 
--- the boards that a line may call are among the first n (this project's own)
-abbrev pub IsLineBelow : ℕ → LineTask → Type 0
-IsLineBelow n (Refused fault) = Unit {0}
-IsLineBelow n (Once t) = IsBelow n t.job
-IsLineBelow n (Await a) = IsBelow n a.task.job
+-- the boards that a line calls, whatever it is given, are among the first n (this project's own)
+unfoldable pub IsLineBelow : ℕ → LineTask → Type 0
+IsLineBelow n task = (given : Given) (call : Call) → line_to_do (line_advanced task given) ≡ Makes call → IsCallBelow n call

@@ -1,12 +1,17 @@
 -- What the lines of a processor's script ask to be done.
-use Rattle.std.specs.Prelude.{ℕ, List, [], length, map, slice_index_or, Result, Ok, Err}
+use Rattle.std.specs.Prelude.{ℕ, List, [], length, map, slice_index_or, Option, Some, None, Result, Ok, Err}
 use Rattle.vme_cycle.specs.declared.fault.CycleFault.{CycleFault}
+use Rattle.vme_cycle.specs.declared.fault.CycleFault.TheVariants.{BadCount}
 use Rattle.vme_cycle.specs.declared.request.Request.TheVariants as requests
 use Rattle.vme_cycle.specs.Lawful.{Transfer, transfer_of}
 use Rattle.vme_master.specs.declared.job.Job.{Job}
 use Rattle.vme_master.specs.Jobs.{bus_job, local_job}
+use Rattle.vme_shared.specs.declared.request.SharedRequest.{SharedRequest}
+use Rattle.vme_shared.specs.declared.request.SharedRequest.TheVariants as asked
+use Rattle.vme_shared.specs.Mailboxes.{shared_refusal}
+use Rattle.vme_shared.specs.Tables.{SharedJob}
 use Rattle.vme_lines.specs.declared.line.Line.{Line}
-use Rattle.vme_lines.specs.declared.line.Line.TheVariants.{Bus, Local, Await}
+use Rattle.vme_lines.specs.declared.line.Line.TheVariants.{Bus, Local, Await, Lock, Unlock}
 use Rattle.vme_script.specs.declared.script.ScriptLine.{ScriptLine}
 use Rattle.vme_script.specs.Boards.{entries_of}
 use Rattle.vme_script.specs.Configurations.{Configuration}
@@ -27,15 +32,48 @@ script_at config board = slice_index_or config.scripts board []
 abbrev pub lines_at : Configuration → ℕ → List Line
 lines_at config board = map (λ one. one.line) (script_at config board)
 
--- the transfer of a processor's lawful request, or the refusal of the request (this project's own)
-abbrev pub request_job : Configuration → ℕ → Result Transfer CycleFault → Result Job CycleFault
-request_job config board (Ok t) = Ok (bus_job (entries_of config.boards) (slot_at config board) (level_at config board) t)
-request_job config board (Err fault) = Err fault
+-- an attempt at a line: a transfer over the bus or a command to the local port; a transfer that is to read these bytes; or what
+-- is asked of a lock or a mailbox (this project's own)
+pub data Attempt : Type 0 where
+  Moves : Job → Attempt
+  Waits : Job → List ℕ → Attempt
+  Shares : SharedJob → Attempt
 
--- what is done for a line of a board's processor: a transfer over the bus; a command to the local port of its own board; or,
--- where it waits for bytes, a read over the bus of as many (this project's own)
-abbrev pub line_job : Configuration → ℕ → Line → Result Job CycleFault
-line_job config board (Bus request) = request_job config board (transfer_of request)
-line_job config board (Local cmd) = Ok (local_job board cmd)
-line_job config board (Await am addr bytes) =
-    request_job config board (transfer_of (requests.Read am addr (length bytes.items)))
+-- the transfer of a processor's lawful request (this project's own)
+abbrev pub transfer_job : Configuration → ℕ → Transfer → Job
+transfer_job config board t = bus_job (entries_of config.boards) (slot_at config board) (level_at config board) t
+
+-- the attempt of a lawful request, by its transfer, or the refusal of the request (this project's own)
+abbrev pub request_attempt : (Transfer → Attempt) → Result Transfer CycleFault → Result Attempt CycleFault
+request_attempt attempt (Ok t) = Ok (attempt t)
+request_attempt attempt (Err fault) = Err fault
+
+-- an attempt, or its refusal, if it has one (this project's own)
+abbrev pub unless_refused : Attempt → Option CycleFault → Result Attempt CycleFault
+unless_refused attempt None = Ok attempt
+unless_refused attempt (Some fault) = Err fault
+
+-- what a processor asks of a lock or a mailbox (this project's own)
+abbrev pub shared_job : Configuration → ℕ → SharedRequest → SharedJob
+shared_job config board request = record {
+  map = entries_of config.boards;
+  slot = slot_at config board;
+  level = level_at config board;
+  request = request;
+}
+
+-- the attempt of what is asked of a lock or a mailbox, or its refusal (this project's own)
+abbrev pub shared_attempt : Configuration → ℕ → SharedRequest → Result Attempt CycleFault
+shared_attempt config board request = unless_refused (Shares (shared_job config board request)) (shared_refusal request)
+
+-- what is attempted for a line of a board's processor: a transfer over the bus; a command to the local port of its own board;
+-- where it waits for bytes, a read over the bus of as many; or what it asks of a lock or a mailbox (this project's own)
+abbrev pub line_attempt : Configuration → ℕ → Line → Result Attempt CycleFault
+line_attempt config board (Bus request) = request_attempt (λ t. Moves (transfer_job config board t)) (transfer_of request)
+line_attempt config board (Local cmd) = Ok (Moves (local_job board cmd))
+line_attempt config board (Await am addr bytes) =
+    request_attempt (λ t. Waits (transfer_job config board t) bytes.items)
+    (transfer_of (requests.Read am addr (length bytes.items)))
+line_attempt config board (Lock am addr) = shared_attempt config board (asked.Lock am addr)
+line_attempt config board (Unlock am addr) = shared_attempt config board (asked.Unlock am addr)
+line_attempt config board line = Err BadCount

@@ -1,4 +1,4 @@
-ghost use Rattle.std.specs.Prelude.{◌≡◌, ◌≢◌, ◌<◌, ◌⊎◌, ◌∷◌, ◌++◌, [], ℕ, List, Option, Some, None, length, slice_get, IsTrue};
+ghost use Rattle.std.specs.Prelude.{◌≡◌, ◌<◌, ◌⊎◌, ◌∷◌, ◌++◌, [], ℕ, List, Option, Some, None, length, slice_get, IsTrue};
 ghost use Rattle.vme_memory.specs.declared.reply.Reply.{Reply};
 ghost use Rattle.vme_memory.specs.Steps.{Command};
 ghost use Rattle.vme_arbiter.specs.declared.command.ArbCmd.{ArbCmd};
@@ -11,10 +11,8 @@ ghost use Rattle.vme_core.specs.declared.event.EventReply.{EventReply};
 ghost use Rattle.vme_core.specs.declared.event.EventReply.TheVariants as told;
 ghost use Rattle.vme_core.specs.Calls.{Call, OnBoard, OnBus, call_of};
 ghost use Rattle.vme_core.specs.Runs.{Move};
-ghost use Rattle.vme_master.specs.declared.outcome.Outcome.TheVariants.{Denied};
 ghost use Rattle.vme_master.specs.Tables.{Given};
 ghost use Rattle.vme_shared.specs.declared.reply.LineReply.{LineReply};
-ghost use Rattle.vme_shared.specs.declared.reply.LineReply.TheVariants.{Transfer};
 ghost use Rattle.vme_lines.specs.declared.line.Line.{Line};
 ghost use Rattle.vme_lines.specs.Grammar.{IsOwnLine};
 ghost use Rattle.vme_script.specs.Configurations.{Configuration};
@@ -23,7 +21,7 @@ ghost use Rattle.vme_course.specs.Tables.{Makes, Ends, next_given, line_next};
 ghost use Rattle.vme_course.specs.Machine.{line_given, line_after, line_to_do};
 ghost use Rattle.vme_course.specs.Events.{IsCallBelow};
 ghost use Rattle.vme_course.specs.Courses.{Course, Follows};
-ghost use Rattle.vme_course.specs.Tenures.{line_told, IsLocal, IsGood};
+ghost use Rattle.vme_course.specs.Tenures.{line_told, IsLocal, IsGood, IsGranted};
 
 /// A line goes by the table: after calls with any replies, fitting or not, it does next what the
 /// table says of them; and an answer is for good.
@@ -67,9 +65,12 @@ pub fn courses_go_line_by_line()
 /// slot's own, and go by what that slot was told last; while the data of a transfer go to a board,
 /// that is `Granted`. After a good reply, one that fits and is no denial, it goes on by what the slot
 /// was told; and where it is answered, it is no denial, and the slot is as one that was told nothing.
+/// Nor is the answer of a line without a call a denial.
 pub fn lines_keep_their_tenure()
     ensures begin { (config : Configuration) (board : ℕ) (line : Line) →
         line_told config board line [] ≡ None }
+    ensures first { (config : Configuration) (board : ℕ) (line : Line) (answer : LineReply) →
+        line_next config board line [] ≡ Ends answer → IsGranted answer }
     ensures turns { (config : Configuration) (board : ℕ) (line : Line) (replies : List EventReply)
         (cmd : ArbCmd) → IsTrue (is_level (level_at config board)) →
         line_next config board line replies ≡ Makes (OnBus cmd) →
@@ -89,9 +90,9 @@ pub fn lines_keep_their_tenure()
         line_told config board line (told.Board reply ∷ replies)
         ≡ line_told config board line replies }
     ensures granted { (config : Configuration) (board : ℕ) (line : Line) (replies : List EventReply)
-        (call : Call) (reply : EventReply) → line_next config board line replies ≡ Makes call →
-        IsGood call reply →
-        line_next config board line (reply ∷ replies) ≢ Ends (Transfer Denied) }
+        (call : Call) (reply : EventReply) (answer : LineReply) →
+        line_next config board line replies ≡ Makes call → IsGood call reply →
+        line_next config board line (reply ∷ replies) ≡ Ends answer → IsGranted answer }
     ensures end { (config : Configuration) (board : ℕ) (line : Line) (replies : List EventReply)
         (call : Call) (reply : EventReply) (answer : LineReply) (bus : Arbitration) (slot : ℕ) →
         line_next config board line replies ≡ Makes call → IsGood call reply →

@@ -3,13 +3,15 @@
 //! it so far, and what it is answered in the end. Drivers on one thread and on several go by it.
 #![tactic(auto)]
 
+mod attempt;
 mod laws;
 mod task;
 mod todo;
 
+pub use attempt::{AttemptTask, Attempts, WaitTask};
 pub use laws::{
     courses_go_line_by_line, lines_call_boards_that_are_there, lines_go_by_the_table,
     lines_keep_their_tenure,
 };
-pub use task::{AwaitTask, LineTask, line_count};
+pub use task::{LineTask, line_count};
 pub use todo::LineTodo;

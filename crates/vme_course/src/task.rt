@@ -1,48 +1,42 @@
-ghost use Rattle.std.specs.Prelude.{◌≡◌, ◌<◌, ◌∷◌, ℕ, length, slice_get, Some};
-ghost use Rattle.vme_lines.specs.declared.line.Line.{Line as AnyLine};
-ghost use Rattle.vme_script.specs.Configurations.{Configuration};
-ghost use Rattle.vme_master.specs.Tables.{Given, Ends};
-ghost use Rattle.vme_course.specs.Scripts.{lines_at, request_job};
-ghost use Rattle.vme_course.specs.Tables.{next_given, await_next};
-ghost use Rattle.vme_course.specs.Machine.{fresh_of, line_started, await_again, await_advance, line_advance, line_to_do, line_given, IsLineBelow};
-ghost use Rattle.vme_course.specs.Events.{next_in, IsTodoBelow};
+ghost use Rattle.std.specs.Prelude.{◌≡◌, ◌≢◌, ◌<◌, ◌∷◌, ℕ, length, option_map, slice_get, Some, IfSome};
 ghost use Rattle.vme_cycle.specs.Lawful.{transfer_of};
-ghost use Rattle.vme_master.specs.Machine.{to_do};
+ghost use Rattle.vme_core.specs.Calls.{call_of};
+ghost use Rattle.vme_lines.specs.declared.line.Line.{Line as AnyLine};
+ghost use Rattle.vme_script.specs.Boards.{entries_of};
+ghost use Rattle.vme_script.specs.Configurations.{Configuration};
+ghost use Rattle.vme_master.specs.Tables.{Given};
+ghost use Rattle.vme_master.specs.Machine.{bus_task};
+ghost use Rattle.vme_shared.specs.Mailboxes.{IsAsked};
+ghost use Rattle.vme_shared.specs.Machine.{shared_task};
+ghost use Rattle.vme_course.specs.Scripts.{slot_at, level_at, lines_at, shared_job, line_attempt};
+ghost use Rattle.vme_course.specs.Tables.{Rests, next_given};
+ghost use Rattle.vme_course.specs.Machine.{fresh_of, line_started, line_advance, line_to_do, line_given, IsLineBelow};
+ghost use Rattle.vme_course.specs.Events.{next_in, call_in, answer_in, IsEventBelow, IsTodoBelow};
 
+use crate::attempt::{AttemptTask, Attempts, WaitTask};
 use crate::todo::LineTodo;
-use vme_core::EventReply;
+use vme_core::{Event, EventReply};
 use vme_cycle::{CycleFault, Request};
-use vme_lanes::{Datum, copy_bytes};
+use vme_lanes::copy_bytes;
 use vme_lines::Line;
-use vme_master::{Outcome, Task, Todo};
+use vme_master::Task;
 use vme_script::Config;
-use vme_shared::LineReply;
+use vme_shared::{LineReply, SharedRequest, SharedTask};
 
 /// A line of a script at work.
 #[derive(Debug, Drop)]
-pub enum LineTask {
+pub enum LineTask<'a> {
     /// Its request is refused.
     Refused(CycleFault),
-    /// It is one task.
-    Once(Task),
-    /// It reads until it finds the bytes that it waits for.
-    Await(AwaitTask),
+    /// Attempts at it, one after another.
+    Tries(Attempts<'a>),
 }
 
-/// A read that is made again until it finds the bytes that it waits for.
-#[derive(Debug, Drop)]
-pub struct AwaitTask {
-    pub(crate) task: Task,
-    pub(crate) want: Datum,
-    /// How many reads it may make yet, the one at work among them.
-    pub(crate) left: u32,
-}
-
-impl LineTask {
+impl<'a> LineTask<'a> {
     /// A line of the script of a board's processor, by its place among those that ask for something,
     /// before its first call.
     #[tactic(auto, using(crate::proofs::Below::started_below))]
-    pub fn start(config: &Config, board: usize, line: usize) -> LineTask
+    pub fn start(config: &'a Config, board: usize, line: usize) -> LineTask<'a>
         requires board { board < length config.now.boards }
         requires line { line < length (lines_at config.now board) }
         ensures line { (one : AnyLine) → slice_get (lines_at config.now board) line ≡ Some one →
@@ -63,51 +57,107 @@ impl LineTask {
         ensures below { (n : ℕ) → IsLineBelow n self.old → IsLineBelow n self.new }
         ensures there { (n : ℕ) → IsLineBelow n self.old → IsTodoBelow n result }
     {
-        self.step(given)
+        self.give(given);
+        self.todo()
     }
 
-    fn step(&mut self, given: Option<EventReply>) -> LineTodo
+    /// The first half of `next`, for a driver that asks for the event or the answer apart: the line is
+    /// given nothing at first, and then each time the reply to its event.
+    pub fn give(&mut self, given: Option<EventReply>)
         ensures task { self.new ≡ line_advance self.old given }
-        ensures todo { next_in result ≡ line_to_do self.new }
+        ensures begun { line_to_do self.new ≢ Rests }
+        ensures below { (n : ℕ) → IsLineBelow n self.old → IsLineBelow n self.new }
     {
-        match self {
-            LineTask::Refused(fault) => LineTodo::Ended(LineReply::Refused(*fault)),
-            LineTask::Once(task) => match task.next(given) {
-                Todo::Call(event) => LineTodo::Call(event),
-                Todo::Finished(outcome) => LineTodo::Ended(LineReply::Transfer(outcome)),
-            },
-            LineTask::Await(read) => read.next(given),
+        if let LineTask::Tries(attempts) = self {
+            attempts.give(given);
         }
     }
 
-    /// What is done for a line of a board's processor.
+    /// The event that it makes next, where it has begun and has not ended.
+    pub fn event(&self) -> Option<Event>
+        ensures event { option_map call_of result ≡ call_in (line_to_do self.now) }
+        ensures there { (n : ℕ) → IsLineBelow n self.now → IfSome result (IsEventBelow n) }
+    {
+        match self {
+            LineTask::Refused(_) => None,
+            LineTask::Tries(attempts) => attempts.attempt.event(),
+        }
+    }
+
+    /// Its answer, where it has ended.
+    pub fn answer(&self) -> Option<LineReply>
+        ensures { result ≡ answer_in (line_to_do self.now) }
+    {
+        match self {
+            LineTask::Refused(fault) => Some(LineReply::Refused(*fault)),
+            LineTask::Tries(attempts) => attempts.attempt.answer(),
+        }
+    }
+
+    fn todo(&self) -> LineTodo
+        requires { line_to_do self.now ≢ Rests }
+        ensures { next_in result ≡ line_to_do self.now }
+    {
+        match self.event() {
+            Some(event) => LineTodo::Call(event),
+            None => LineTodo::Ended(self.answer().unwrap()),
+        }
+    }
+
+    /// A line of a board's processor before its first call.
     #[tactic(auto, unfolding(crate::specs::Machine::line_started))]
-    fn of(config: &Config, board: usize, line: &Line) -> LineTask
+    fn of(config: &'a Config, board: usize, line: &Line) -> LineTask<'a>
         requires { board < length config.now.boards }
         ensures { result ≡ line_started config.now board line.now }
     {
-        match line {
-            Line::Bus(request) => match task_of(config, board, request) {
-                Ok(task) => LineTask::Once(task),
-                Err(fault) => LineTask::Refused(fault),
-            },
-            Line::Local(cmd) => LineTask::Once(Task::local(board, cmd.copy())),
-            Line::Await { am, addr, bytes } => {
-                let request = Request::Read {
-                    am: *am,
-                    addr: *addr,
-                    n: bytes.as_slice().len() as u8,
-                };
-                match task_of(config, board, &request) {
-                    Ok(task) => LineTask::Await(AwaitTask {
-                        task,
-                        want: copy_bytes(bytes),
-                        left: config.tries(),
-                    }),
-                    Err(fault) => LineTask::Refused(fault),
-                }
-            }
+        match attempt_of(config, board, line) {
+            Ok(attempt) => LineTask::Tries(Attempts {
+                attempt,
+                left: config.tries(),
+            }),
+            Err(fault) => LineTask::Refused(fault),
         }
+    }
+}
+
+/// What is attempted for a line of a board's processor.
+fn attempt_of<'a>(
+    config: &'a Config,
+    board: usize,
+    line: &Line,
+) -> Result<AttemptTask<'a>, CycleFault>
+    requires { board < length config.now.boards }
+    ensures { result ≡ fresh_of (line_attempt config.now board line.now) }
+{
+    match line {
+        Line::Bus(request) => Ok(AttemptTask::Moves(transfer(config, board, request)?)),
+        Line::Local(cmd) => Ok(AttemptTask::Moves(Task::local(board, cmd.copy()))),
+        Line::Await { am, addr, bytes } => {
+            let n = bytes.as_slice().len() as u8;
+            let request = Request::Read {
+                am: *am,
+                addr: *addr,
+                n,
+            };
+            let task = transfer(config, board, &request)?;
+            let want = copy_bytes(bytes);
+            Ok(AttemptTask::Waits(WaitTask { task, want }))
+        }
+        Line::Lock { am, addr } => {
+            let request = SharedRequest::Lock {
+                am: *am,
+                addr: *addr,
+            };
+            Ok(AttemptTask::Shares(shared(config, board, request)?))
+        }
+        Line::Unlock { am, addr } => {
+            let request = SharedRequest::Unlock {
+                am: *am,
+                addr: *addr,
+            };
+            Ok(AttemptTask::Shares(shared(config, board, request)?))
+        }
+        _ => Err(CycleFault::BadCount),
     }
 }
 
@@ -120,48 +170,29 @@ pub fn line_count(config: &Config, board: usize) -> usize
 }
 
 /// The task of a request of a board's processor, or the refusal of the request.
-fn task_of(config: &Config, board: usize, request: &Request) -> Result<Task, CycleFault>
+fn transfer(config: &Config, board: usize, request: &Request) -> Result<Task, CycleFault>
     requires { board < length config.now.boards }
-    ensures { result ≡ fresh_of (request_job config.now board (transfer_of request.now)) }
+    ensures { result ≡ bus_task (entries_of config.now.boards) (slot_at config.now board)
+        (level_at config.now board) (transfer_of request.now) }
 {
-    Task::start(
+    let slot = config.slot(board);
+    Task::start(config.map(), slot, config.level(board), request)
+}
+
+/// The task of what a board's processor asks of a lock or a mailbox, or its refusal.
+fn shared<'a>(
+    config: &'a Config,
+    board: usize,
+    request: SharedRequest,
+) -> Result<SharedTask<'a>, CycleFault>
+    requires board { board < length config.now.boards }
+    requires request { IsAsked request }
+    ensures { result ≡ shared_task (shared_job config.now board request) }
+{
+    SharedTask::start(
         config.map(),
         config.slot(board),
         config.level(board),
         request,
     )
-}
-
-impl AwaitTask {
-    fn next(&mut self, given: Option<EventReply>) -> LineTodo
-        ensures task { self.new ≡ await_advance self.old given }
-        ensures todo { next_in result ≡ await_next self.new.want.items (to_do self.new.task) }
-    {
-        match self.task.next(given) {
-            Todo::Call(event) => LineTodo::Call(event),
-            Todo::Finished(Outcome::Read(bytes)) => self.found(bytes.as_slice()),
-            Todo::Finished(outcome) => LineTodo::Ended(LineReply::Transfer(outcome)),
-        }
-    }
-
-    /// The read has ended with these bytes. Where they are others than it waits for, it is begun
-    /// again, while there may be one more.
-    fn found(&mut self, bytes: &[u8]) -> LineTodo
-        requires { to_do self.old.task ≡ Ends (Outcome.Read (record { items = bytes.now })) }
-        ensures task { self.new ≡ await_again self.old (to_do self.old.task) }
-        ensures todo { next_in result ≡ await_next self.new.want.items (to_do self.new.task) }
-    {
-        if bytes == self.want.as_slice() {
-            return LineTodo::Ended(LineReply::Met);
-        }
-        if self.left <= 1 {
-            return LineTodo::Ended(LineReply::Timeout);
-        }
-        self.left -= 1;
-        self.task.again();
-        match self.task.next(None) {
-            Todo::Call(event) => LineTodo::Call(event),
-            Todo::Finished(_) => unreachable!(),
-        }
-    }
 }

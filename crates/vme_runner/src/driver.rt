@@ -22,12 +22,12 @@ use vme_shared::Status;
 
 /// The boards and the arbiter of a backplane, and the way of each processor through its script.
 #[derive(Drop)]
-pub(crate) struct Driver {
+pub(crate) struct Driver<'a> {
     core: Core,
-    lanes: Vec<Lane>,
+    lanes: Vec<Lane<'a>>,
 }
 
-impl Model for Driver {
+impl<'a> Model for Driver<'a> {
     ghost use Rattle.vme_runner.specs.Drivers.{DriverView};
 
     ghost Value = { DriverView };
@@ -35,9 +35,9 @@ impl Model for Driver {
     ghost view = { λ d. record { machine = d.core; lanes = d.lanes.items } };
 }
 
-impl Driver {
+impl<'a> Driver<'a> {
     /// The driver before the first turn. It takes all room that turns need.
-    pub(crate) fn new(alloc: Global, config: &Config) -> Result<Driver, OutOfMemory>
+    pub(crate) fn new(alloc: Global, config: &'a Config) -> Result<Driver<'a>, OutOfMemory>
         ensures driver { IfOk result (λ driver. driver ≡ driver_of config.now (opening_world config.now)) }
         ensures sound { IfOk result (IsDriverOf config.now) }
         ensures lawful { IsLawful config.now }
@@ -53,7 +53,7 @@ impl Driver {
     }
 
     /// A turn of the processor of a board.
-    fn turn(&mut self, config: &Config, board: usize)
+    fn turn(&mut self, config: &'a Config, board: usize)
         requires board { board < length config.now.boards }
         requires driver { IsDriverOf config.now self.old }
         requires room { StepsWithin (2 ^ 64 - 2) self.old.machine }
@@ -64,7 +64,7 @@ impl Driver {
     }
 
     /// Makes turns of slots, one after another.
-    pub(crate) fn run(&mut self, config: &Config, slots: &[u16])
+    pub(crate) fn run(&mut self, config: &'a Config, slots: &[u16])
         requires opening { self.old ≡ driver_of config.now (opening_world config.now) }
         requires driver { IsDriverOf config.now self.old }
         ensures run { self.new ≡ driver_of config.now (world_after config.now slots.now) }
@@ -79,7 +79,7 @@ impl Driver {
 
     /// Makes the turns of the file, which are laid out nowhere: those of its schedule, and then its
     /// rounds.
-    pub(crate) fn run_file(&mut self, config: &Config)
+    pub(crate) fn run_file(&mut self, config: &'a Config)
         requires lawful { IsLawful config.now }
         requires opening { self.old ≡ driver_of config.now (opening_world config.now) }
         requires driver { IsDriverOf config.now self.old }
@@ -91,7 +91,7 @@ impl Driver {
     }
 
     /// Makes the turns of the schedule.
-    fn run_schedule(&mut self, config: &Config)
+    fn run_schedule(&mut self, config: &'a Config)
         requires lawful { IsLawful config.now }
         requires opening { self.old ≡ driver_of config.now (opening_world config.now) }
         requires driver { IsDriverOf config.now self.old }
@@ -109,7 +109,7 @@ impl Driver {
     }
 
     /// Makes the rounds over all slots, after the schedule.
-    fn run_rounds(&mut self, config: &Config)
+    fn run_rounds(&mut self, config: &'a Config)
         requires lawful { IsLawful config.now }
         requires scheduled { self.old
             ≡ driver_of config.now (world_after config.now (schedule_turns config.now.schedule)) }
@@ -149,11 +149,11 @@ impl Driver {
     }
 
     /// What is told of the boards.
-    fn board_reports<'a>(
-        &'a self,
+    fn board_reports<'b>(
+        &'b self,
         alloc: Global,
         config: &Config,
-    ) -> Result<Vec<BoardReport<'a>>, AllocError>
+    ) -> Result<Vec<BoardReport<'b>>, AllocError>
         requires { IsDriverOf config.now self.now }
         ensures { IfOk result (λ reports. reports.items
             ≡ lanes_told config.now.boards self.now.lanes self.now.machine.boards) }
@@ -200,7 +200,7 @@ fn zero_memories(alloc: Global, config: &Config) -> Result<Vec<ByteMemory>, OutO
 }
 
 /// The ways of the processors, of which no line has ended.
-fn fresh_lanes(alloc: Global, config: &Config) -> Result<Vec<Lane>, AllocError>
+fn fresh_lanes<'a>(alloc: Global, config: &Config) -> Result<Vec<Lane<'a>>, AllocError>
     ensures { IfOk result (λ lanes. lanes.items
         ≡ lanes_from config.now 0 (opening_world config.now).courses) }
 {

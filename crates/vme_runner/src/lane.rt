@@ -4,52 +4,42 @@ ghost use Rattle.vme_shared.specs.declared.reply.LineReply.TheVariants.{Unfinish
 ghost use Rattle.vme_core.specs.Runs.{Machine};
 ghost use Rattle.vme_core.specs.Machines.{whos};
 ghost use Rattle.vme_script.specs.Configurations.{Configuration};
-ghost use Rattle.vme_core.specs.Calls.{call_of};
-ghost use Rattle.vme_course.specs.Tables.{Makes, Ends};
-ghost use Rattle.vme_course.specs.Machine.{line_advance, line_to_do, IsLineBelow};
+ghost use Rattle.vme_course.specs.Machine.{IsLineBelow};
 ghost use Rattle.vme_runner.specs.Drivers.{lane_turn, IsLaneOf, StepsWithin};
 
 use std::alloc::{AllocError, Global};
 use std::marker::Model;
-use vme_core::{Core, Event};
-use vme_course::{LineTask, LineTodo};
-use vme_cycle::CycleFault;
+use vme_core::Core;
+use vme_course::LineTask;
 use vme_script::{Config, Script};
 use vme_shared::LineReply;
 
 /// The lines of a script with their answers, of which the first have ended, and the line at work
-/// with the event that it makes next. Where no event is there no line is at work, and the task is
-/// that of no line. All room is taken when it is made, and a task stays in its place.
+/// if one is. All room is taken when it is made, and a task stays in its place.
 #[derive(Drop)]
-pub(crate) struct Lane {
+pub(crate) struct Lane<'a> {
     lines: Vec<(u16, LineReply)>,
     ended: usize,
-    task: LineTask,
-    event: Option<Event>,
+    task: Option<LineTask<'a>>,
 }
 
-impl Model for Lane {
-    ghost use Rattle.std.specs.Prelude.{◌≡◌, ◌<◌, length, option_map, IfSome};
-    ghost use Rattle.vme_core.specs.Calls.{call_of};
-    ghost use Rattle.vme_course.specs.Tables.{Makes};
+impl<'a> Model for Lane<'a> {
+    ghost use Rattle.std.specs.Prelude.{◌<◌, length, IfSome};
     ghost use Rattle.vme_course.specs.Machine.{line_to_do};
+    ghost use Rattle.vme_course.specs.Events.{MakesCall};
     ghost use Rattle.vme_runner.specs.Drivers.{LaneView};
 
     ghost Value = { LaneView };
 
-    ghost view = { λ l. record {
-      lines = l.lines.items;
-      ended = l.ended;
-      at = option_map (λ event. l.task) l.event;
-    } };
+    ghost view = { λ l. record { lines = l.lines.items; ended = l.ended; at = l.task } };
 
-    ghost invariant = { λ l. IfSome l.event (λ event.
-        (l.ended < length l.lines.items) × (line_to_do l.task ≡ Makes (call_of event))) };
+    ghost invariant = { λ l. IfSome l.task (λ task.
+        (l.ended < length l.lines.items) × MakesCall (line_to_do task)) };
 }
 
-impl Lane {
+impl<'a> Lane<'a> {
     /// A script of which no line has ended.
-    pub(crate) fn new(alloc: Global, script: &Script) -> Result<Lane, AllocError>
+    pub(crate) fn new(alloc: Global, script: &Script) -> Result<Lane<'a>, AllocError>
         ensures { IfOk result (λ lane. lane ≡ record {
           lines = map (λ line. (line.number, Unfinished)) script.now;
           ended = 0;
@@ -63,8 +53,7 @@ impl Lane {
         Ok(Lane {
             lines,
             ended: 0,
-            task: LineTask::Refused(CycleFault::BadCount),
-            event: None,
+            task: None,
         })
     }
 
@@ -76,7 +65,7 @@ impl Lane {
     }
 
     /// A turn of the processor: it makes one event, if there is a line that needs one.
-    pub(crate) fn turn(&mut self, config: &Config, core: &mut Core, board: usize)
+    pub(crate) fn turn(&mut self, config: &'a Config, core: &mut Core, board: usize)
         requires board { board < length config.now.boards }
         requires lane { IsLaneOf config.now board self.old }
         requires whos { whos core.old ≡ length config.now.boards }
@@ -90,7 +79,7 @@ impl Lane {
         if self.is_over() {
             return;
         }
-        if self.event.is_none() {
+        if self.task.is_none() {
             self.seek(config, board);
         }
         self.make(core, board);
@@ -104,7 +93,7 @@ impl Lane {
     }
 
     /// Answers lines that need no event, up to one that makes one.
-    fn seek(&mut self, config: &Config, board: usize)
+    fn seek(&mut self, config: &'a Config, board: usize)
         requires board { board < length config.now.boards }
         requires lane { IsLaneOf config.now board self.old }
         requires idle { self.old.at ≡ None }
@@ -114,13 +103,14 @@ impl Lane {
         ensures over { self.new.at ≡ None → length self.new.lines ≤ self.new.ended }
     {
         while self.ended < self.lines.len() {
-            self.task = LineTask::start(config, board, self.ended);
-            match self.task.next(None) {
-                LineTodo::Call(event) => {
-                    self.event = Some(event);
+            let mut task = LineTask::start(config, board, self.ended);
+            task.give(None);
+            match task.answer() {
+                None => {
+                    self.task = Some(task);
                     return;
                 }
-                LineTodo::Ended(answer) => {
+                Some(answer) => {
                     put_answer(&mut self.lines, self.ended, answer);
                     self.ended += 1;
                 }
@@ -142,16 +132,16 @@ impl Lane {
         ensures whos { whos core.new ≡ whos core.old }
         ensures boards { length core.new.boards ≡ length core.old.boards }
     {
-        let Some(event) = self.event.take() else {
+        let Some(task) = &mut self.task else {
             return;
         };
+        let event = task.event().unwrap();
         let reply = core.apply(board, &event).unwrap();
-        match self.task.next(Some(reply)) {
-            LineTodo::Call(event) => self.event = Some(event),
-            LineTodo::Ended(answer) => {
-                put_answer(&mut self.lines, self.ended, answer);
-                self.ended += 1;
-            }
+        task.give(Some(reply));
+        if let Some(answer) = task.answer() {
+            put_answer(&mut self.lines, self.ended, answer);
+            self.ended += 1;
+            self.task = None;
         }
     }
 }

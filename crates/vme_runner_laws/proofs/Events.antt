@@ -1,6 +1,7 @@
 -- Each call of a line is that of an event.
-use Rattle.std.proofs.Common.{◌≡◌, ℕ, ◌+◌, ◌*◌, List, length, Option, Result, Ok, Err, refl, ap, sym, subst, ◌∙◌}
+use Rattle.std.proofs.Common.{◌≡◌, ℕ, ◌+◌, ◌*◌, List, [], ◌∷◌, length, Option, Some, None, Result, Ok, Err, refl, ap, sym, subst, ◌∙◌}
 use Rattle.vme_cycle.specs.declared.fault.CycleFault.{CycleFault}
+use Rattle.vme_cycle.specs.declared.request.Request.{Request}
 use Rattle.vme_cycle.specs.declared.request.Request.TheVariants as requests
 use Rattle.vme_cycle.specs.Requests.{addr_of, datum_len, function_of}
 use Rattle.vme_cycle.specs.Lawful.{Transfer, transfer_of, IsLawfulTransfer}
@@ -12,12 +13,14 @@ use Rattle.vme_memory.specs.declared.command.BoardCmd.{BoardCmd}
 use Rattle.vme_memory.specs.declared.command.BoardCmd.TheVariants as given_cmd
 use Rattle.vme_memory.specs.Steps.{Command}
 use Rattle.vme_memory.specs.Locals.{command_given}
+use Rattle.vme_core.specs.declared.event.EventReply.{EventReply}
 use Rattle.vme_core.specs.declared.event.Event.{Event}
 use Rattle.vme_core.specs.declared.event.Event.TheVariants as asked
 use Rattle.vme_core.specs.Runs.{Machine, target_of}
 use Rattle.vme_core.specs.Calls.{Call, OnBoard, OnBus, call_of}
 use Rattle.vme_core.specs.Machines.{IsThere}
 use Rattle.vme_master.specs.declared.job.BusJob.{BusJob}
+use Rattle.vme_master.specs.declared.job.Job.{Job}
 use Rattle.vme_master.specs.declared.outcome.Outcome.TheVariants as outcomes
 use Rattle.vme_master.specs.Jobs.{bus_job, local_job, datum_call}
 use Rattle.vme_master.specs.Tables as tasks
@@ -31,25 +34,24 @@ use Rattle.vme_lines.specs.declared.line.Line.TheVariants as lines
 use Rattle.vme_script.specs.Boards.{entries_of}
 use Rattle.vme_script.specs.Configurations.{Configuration}
 use Rattle.vme_script.specs.Lawful.{IsLawful}
-use Rattle.vme_course.specs.Scripts.{slot_at, level_at, request_job, line_job}
-use Rattle.vme_course.specs.Tables.{Makes, once_next, await_next, reads_of, lawful_next, next_given}
+use Rattle.vme_shared.specs.declared.request.SharedRequest.{SharedRequest}
+use Rattle.vme_shared.specs.declared.request.SharedRequest.TheVariants as asked_shared
+use Rattle.vme_shared.specs.declared.stage.Stage.{Stage}
+use Rattle.vme_shared.specs.declared.stage.Step.{Step}
+use Rattle.vme_shared.specs.declared.stage.Step.TheVariants.{Goes, Stops}
+use Rattle.vme_shared.specs.Mailboxes.{stage_request, shared_refusal}
+use Rattle.vme_shared.specs.Steps.{first_stage, step_after}
+use Rattle.vme_shared.specs.Tables as shares
+use Rattle.vme_shared.specs.Tables.{SharedJob, Progress, At, Over, transfer_job as shared_transfer, stage_job, stage_begun, step_begun, progress_by, progress_given, progress_of, task_shown, next_at, shared_next}
+use Rattle.vme_course.specs.Scripts.{Attempt, Moves, Waits, Shares, slot_at, level_at, transfer_job, request_attempt, unless_refused, shared_job, line_attempt}
+use Rattle.vme_course.specs.Tables.{Makes, attempt_next, attempts_of, lawful_next, next_given}
+use Rattle.vme_course.proofs.Below.{moves_makes, waits_makes, shares_makes}
 use Rattle.vme_course.specs.Events.{IsCallBelow}
 
 -- a call has an event
 pub record HasEvent (call : Call) : Type 0 where
   pub event : Event
   pub is : call_of event ≡ call
-
-once_makes : (next : Next) (call : Call) → once_next next ≡ Makes call → next ≡ tasks.Makes call
-once_makes tasks.Rests call made = absurd cc
-once_makes (tasks.Makes other) call made = cc
-once_makes (tasks.Ends outcome) call made = absurd cc
-
-await_makes : (want : List ℕ) (next : Next) (call : Call) → await_next want next ≡ Makes call → next ≡ tasks.Makes call
-await_makes want tasks.Rests call made = absurd cc
-await_makes want (tasks.Makes other) call made = cc
-await_makes want (tasks.Ends (outcomes.Read bytes)) call made = absurd cc
-await_makes want (tasks.Ends outcome) call made = absurd cc
 
 -- a datum of a lawful transfer, on a board whose range begins at a multiple of four
 data_event : (config : Configuration) → IsLawful config → (slot level : ℕ) (t : Transfer) → IsLawfulTransfer t → (g : Given) (x : ℕ)
@@ -76,34 +78,101 @@ local_event board cmd g x command made =
     record { event = asked.Board board cmd; is = sym own }
 
 -- a request's
-request_event : (config : Configuration) → IsLawful config → (board : ℕ) (line : Line) (transfer : Result Transfer CycleFault) (given : Given)
-    (x : ℕ) (command : Option Command) → ((t : Transfer) → transfer ≡ Ok t → IsLawfulTransfer t)
-    → lawful_next config.tries line (request_job config board transfer) given ≡ Makes (OnBoard x command) → HasEvent (OnBoard x command)
-request_event config lawful board line (Err fault) given x command whole made = absurd cc
-request_event config lawful board (lines.Bus request) (Ok t) given x command whole made =
-    let job = bus_job (entries_of config.boards) (slot_at config board) (level_at config board) t in
-    data_event config lawful (slot_at config board) (level_at config board) t (whole t refl) given x command
-    (once_makes (next_of job given) (OnBoard x command) made)
-request_event config lawful board (lines.Local cmd) (Ok t) given x command whole made =
-    let job = bus_job (entries_of config.boards) (slot_at config board) (level_at config board) t in
-    data_event config lawful (slot_at config board) (level_at config board) t (whole t refl) given x command
-    (once_makes (next_of job given) (OnBoard x command) made)
-request_event config lawful board (lines.Await am addr bytes) (Ok t) given x command whole made =
-    let job = bus_job (entries_of config.boards) (slot_at config board) (level_at config board) t in
-    let g = (reads_of job bytes.items config.tries given).given in
-    data_event config lawful (slot_at config board) (level_at config board) t (whole t refl) g x command
-    (await_makes bytes.items (next_of job g) (OnBoard x command) made)
+lawful_event : (config : Configuration) → IsLawful config → (board : ℕ) (request : Request) (transfer : Result Transfer CycleFault)
+    (attempt : Transfer → Attempt) (given : Given) (x : ℕ) (command : Option Command) → transfer_of request ≡ transfer
+    → ((t : Transfer) (g : Given) → attempt_next (attempt t) g ≡ Makes (OnBoard x command)
+    → next_of (transfer_job config board t) g ≡ tasks.Makes (OnBoard x command))
+    → lawful_next config.tries (request_attempt attempt transfer) given ≡ Makes (OnBoard x command) → HasEvent (OnBoard x command)
+lawful_event config lawful board request (Err fault) attempt given x command is makes made = absurd cc
+lawful_event config lawful board request (Ok t) attempt given x command is makes made =
+    let g = (attempts_of (attempt t) config.tries given).given in
+    data_event config lawful (slot_at config board) (level_at config board) t (transfer_is_lawful request t is) g x command (makes t g made)
+
+-- each call of a lock or a mailbox is one of a transfer of a stage
+record IsOfStage (s : SharedJob) (call : Call) : Type 0 where
+  stage : Stage
+  job : Job
+  given : Given
+  own : stage_job s stage ≡ Ok job
+  makes : next_of job given ≡ tasks.Makes call
+
+abbrev OwnAt : SharedJob → Progress → Type 0
+OwnAt s (At stage job given) = stage_job s stage ≡ Ok job
+OwnAt s (Over end) = Unit {0}
+
+stage_own : (s : SharedJob) (stage : Stage) (given : Given) (job : Result Job CycleFault) → stage_job s stage ≡ job
+    → OwnAt s (stage_begun stage given job)
+stage_own s stage given (Ok job) own = own
+stage_own s stage given (Err fault) own = tt
+
+step_own : (s : SharedJob) (step : Step) → OwnAt s (step_begun s step)
+step_own s (Goes stage) = stage_own s stage (None ∷ []) (stage_job s stage) refl
+step_own s (Stops end) = tt
+
+next_own : (s : SharedJob) (stage : Stage) (job : Job) (given : Given) (next : Next) → stage_job s stage ≡ Ok job
+    → OwnAt s (progress_by s stage job given next)
+next_own s stage job given tasks.Rests own = own
+next_own s stage job given (tasks.Makes call) own = own
+next_own s stage job given (tasks.Ends outcome) own = step_own s (step_after s.request stage outcome)
+
+given_own : (s : SharedJob) (last : Option EventReply) (p : Progress) → OwnAt s p → OwnAt s (progress_given s last p)
+given_own s last (At stage job given) own = next_own s stage job (last ∷ given) (next_of job (last ∷ given)) own
+given_own s last (Over end) own = tt
+
+progress_own : (s : SharedJob) (given : Given) → OwnAt s (progress_of s given)
+progress_own s [] = stage_own s (first_stage s.request) [] (stage_job s (first_stage s.request)) refl
+progress_own s (last ∷ before) = given_own s last (progress_of s before) (progress_own s before)
+
+shown_makes : (next : Next) (call : Call) → task_shown next ≡ shares.Makes call → next ≡ tasks.Makes call
+shown_makes tasks.Rests call made = absurd cc
+shown_makes (tasks.Makes other) call made = cc
+shown_makes (tasks.Ends outcome) call made = absurd cc
+
+stage_calls : (s : SharedJob) (p : Progress) (call : Call) → OwnAt s p → next_at p ≡ shares.Makes call → IsOfStage s call
+stage_calls s (At stage job given) call own made =
+    record { stage = stage; job = job; given = given; own = own; makes = shown_makes (next_of job given) call made }
+stage_calls s (Over end) call own made = absurd cc
+
+stage_event : (config : Configuration) → IsLawful config → (board : ℕ) (request : SharedRequest) (cycle : Request)
+    (transfer : Result Transfer CycleFault) (job : Job) (g : Given) (x : ℕ) (command : Option Command) → transfer_of cycle ≡ transfer
+    → shared_transfer (shared_job config board request) transfer ≡ Ok job → next_of job g ≡ tasks.Makes (OnBoard x command)
+    → HasEvent (OnBoard x command)
+stage_event config lawful board request cycle (Err fault) job g x command is own made = absurd cc
+stage_event config lawful board request cycle (Ok t) job g x command is own made =
+    let same : job ≡ transfer_job config board t = sym cc in
+    data_event config lawful (slot_at config board) (level_at config board) t (transfer_is_lawful cycle t is) g x command
+    (subst (λ (one : Job). next_of one g ≡ tasks.Makes (OnBoard x command)) same made)
+
+shared_event : (config : Configuration) → IsLawful config → (board : ℕ) (request : SharedRequest) (refusal : Option CycleFault) (given : Given)
+    (x : ℕ) (command : Option Command)
+    → lawful_next config.tries (unless_refused (Shares (shared_job config board request)) refusal) given ≡ Makes (OnBoard x command)
+    → HasEvent (OnBoard x command)
+shared_event config lawful board request (Some fault) given x command made = absurd cc
+shared_event config lawful board request None given x command made =
+    let s = shared_job config board request in
+    let g = (attempts_of (Shares s) config.tries given).given in
+    let at = stage_calls s (progress_of s g) (OnBoard x command) (progress_own s g) (shares_makes (shared_next s g) (OnBoard x command) made) in
+    stage_event config lawful board request (stage_request request at.stage) (transfer_of (stage_request request at.stage)) at.job at.given x command
+    refl at.own at.makes
 
 line_event : (config : Configuration) → IsLawful config → (board : ℕ) (line : Line) (given : Given) (call : Call)
-    → lawful_next config.tries line (line_job config board line) given ≡ Makes call → HasEvent call
+    → lawful_next config.tries (line_attempt config board line) given ≡ Makes call → HasEvent call
 line_event config lawful board line given (OnBus cmd) made = record { event = asked.Bus cmd; is = refl }
 line_event config lawful board (lines.Bus request) given (OnBoard x command) made =
-    request_event config lawful board (lines.Bus request) (transfer_of request) given x command (transfer_is_lawful request) made
+    lawful_event config lawful board request (transfer_of request) (λ t. Moves (transfer_job config board t)) given x command refl
+    (λ t g makes. moves_makes (next_of (transfer_job config board t) g) (OnBoard x command) makes) made
 line_event config lawful board (lines.Local cmd) given (OnBoard x command) made =
-    local_event board cmd given x command (once_makes (next_of (local_job board cmd) given) (OnBoard x command) made)
+    let g = (attempts_of (Moves (local_job board cmd)) config.tries given).given in
+    local_event board cmd g x command (moves_makes (next_of (local_job board cmd) g) (OnBoard x command) made)
 line_event config lawful board (lines.Await am addr bytes) given (OnBoard x command) made =
     let request = requests.Read am addr (length bytes.items) in
-    request_event config lawful board (lines.Await am addr bytes) (transfer_of request) given x command (transfer_is_lawful request) made
+    lawful_event config lawful board request (transfer_of request) (λ t. Waits (transfer_job config board t) bytes.items) given x command refl
+    (λ t g makes. waits_makes bytes.items (next_of (transfer_job config board t) g) (OnBoard x command) makes) made
+line_event config lawful board (lines.Lock am addr) given (OnBoard x command) made =
+    shared_event config lawful board (asked_shared.Lock am addr) (shared_refusal (asked_shared.Lock am addr)) given x command made
+line_event config lawful board (lines.Unlock am addr) given (OnBoard x command) made =
+    shared_event config lawful board (asked_shared.Unlock am addr) (shared_refusal (asked_shared.Unlock am addr)) given x command made
+line_event config lawful board line given (OnBoard x command) made = absurd cc
 
 pub has_event : (config : Configuration) → IsLawful config → (board : ℕ) (line : Line) (given : Given) (call : Call)
     → next_given config board line given ≡ Makes call → HasEvent call

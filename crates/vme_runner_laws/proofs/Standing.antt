@@ -15,11 +15,11 @@ use Rattle.vme_shared.specs.declared.reply.LineReply.TheVariants.{Transfer}
 use Rattle.vme_lines.specs.declared.line.Line.{Line}
 use Rattle.vme_lines.specs.declared.line.Line.TheVariants as lines
 use Rattle.vme_script.specs.Configurations.{Configuration}
-use Rattle.vme_course.specs.Scripts.{slot_at, line_job, lines_at}
-use Rattle.vme_course.specs.Tables.{LineNext, Rests, Makes, Ends, lawful_next, next_given, line_next}
+use Rattle.vme_course.specs.Scripts.{slot_at, lines_at}
+use Rattle.vme_course.specs.Tables.{LineNext, Rests, Makes, Ends, line_next}
 use Rattle.vme_course.specs.Courses.{Course}
-use Rattle.vme_course.specs.Tenures.{line_told, IsGood}
-use Rattle.vme_course.proofs.Tenures.{line_begins, line_ends}
+use Rattle.vme_course.specs.Tenures.{line_told, IsGood, IsGranted}
+use Rattle.vme_course.proofs.Kept.{line_begins, line_ends}
 use Rattle.vme_runner.specs.Turns.{course, settled, lines_left}
 
 -- what the slot was told last, in the line that comes next
@@ -35,9 +35,6 @@ NotEnded next = Unit {0}
 abbrev pub IsOpen : Configuration → ℕ → List Line → List EventReply → Type 0
 IsOpen config board [] replies = Unit {0}
 IsOpen config board (line ∷ lines) replies = (replies ≡ []) ⊎ NotEnded (line_next config board line replies)
-
-abbrev pub IsGranted : LineReply → Type 0
-IsGranted answer = answer ≢ Transfer Denied
 
 pub record CourseStands (config : Configuration) (bus : Arbitration) (board : ℕ) (c : Course) : Type 0 where
   pub stands : StandsAsTold bus (slot_at config board) (told_left config board (lines_left config board c) c.replies)
@@ -63,19 +60,6 @@ rests_standing config bus board ended stands granted =
       opens = opens_begins config board left;
       granted = granted;
     }
-
--- a line that ends without a call is refused
-lawful_refused : (tries : ℕ) (line : Line) (job : Result Job CycleFault) (answer : LineReply)
-    → lawful_next tries line job (None ∷ []) ≡ Ends answer → IsGranted answer
-lawful_refused tries line (Err fault) answer ends = λ denied. absurd cc
-lawful_refused tries (lines.Bus request) (Ok job) answer ends = absurd cc
-lawful_refused tries (lines.Local cmd) (Ok job) answer ends = absurd cc
-lawful_refused tries (lines.Await am addr bytes) (Ok job) answer ends = absurd cc
-
-pub line_refused : (config : Configuration) (board : ℕ) (line : Line) (answer : LineReply)
-    → line_next config board line [] ≡ Ends answer → IsGranted answer
-unfolding next_given
-line_refused config board line answer ends = lawful_refused config.tries line (line_job config board line) answer ends
 
 -- a line that has ended had no reply
 pub ended_begins : (config : Configuration) (board : ℕ) (line : Line) (lines : List Line) (replies : List EventReply) (answer : LineReply)

@@ -22,13 +22,13 @@ use Rattle.vme_script.specs.Lawful.{IsLawful}
 use Rattle.vme_course.specs.Scripts.{slot_at}
 use Rattle.vme_course.specs.Tables.{LineNext, Rests, Makes, Ends, line_next}
 use Rattle.vme_course.specs.Courses.{Course}
-use Rattle.vme_course.specs.Tenures.{line_told, IsLocal}
-use Rattle.vme_course.proofs.Tenures.{line_turns, line_holds, line_turn, line_datum}
+use Rattle.vme_course.specs.Tenures.{line_told, IsLocal, IsGranted}
+use Rattle.vme_course.proofs.Kept.{line_first, line_turns, line_holds, line_turn, line_datum}
 use Rattle.vme_runner.specs.Turns.{course, settled, call_made, turn_by, course_turn, lines_left}
 use Rattle.vme_runner_laws.specs.TurnCalls.{call_or, first_call}
 use Rattle.vme_runner_laws.proofs.Places.{lawful_slot, lawful_level, left_after, AllOwn}
 use Rattle.vme_runner_laws.proofs.Called.{board_called, bus_called, call_granted}
-use Rattle.vme_runner_laws.proofs.Standing.{told_left, IsOpen, IsGranted, CourseStands, told_begins, rests_standing, line_refused, ended_begins, settled_stands}
+use Rattle.vme_runner_laws.proofs.Standing.{told_left, IsOpen, CourseStands, told_begins, rests_standing, ended_begins, settled_stands}
 
 -- after a turn of a board's processor the bus is orderly, the processor stands well, and other slots stand as they did
 pub record Stays (config : Configuration) (board : ℕ) (before : Arbitration) (after : Machine × Course) : Type 0 where
@@ -102,7 +102,7 @@ module _ (config : Configuration) (lawful : IsLawful config) (board : ℕ) (ther
       (ap (told_left config board (lines_left config board c)) none ∙ told_begins config board (lines_left config board c)) stands.stands in
       rests_standing config bus board (c.ended ++ answer ∷ []) free
       (All-push IsGranted c.ended answer stands.granted
-      (line_refused config board line answer (ap (line_next config board line) (sym none) ∙ ends)))
+      (line_first config board line answer (ap (line_next config board line) (sym none) ∙ ends)))
 
   -- a turn with these lines left
   by_next : (machine : Machine) (c : Course) (line : Line) (rest : List Line) (next : LineNext) (after : Course → Machine × Course)

@@ -5,12 +5,10 @@ ghost use Rattle.vme_arbiter.specs.Orderly.{IsOrderly};
 ghost use Rattle.vme_core.specs.declared.event.EventReply.TheVariants as told;
 ghost use Rattle.vme_core.specs.Runs.{Move};
 ghost use Rattle.vme_core.specs.Calls.{Call, OnBoard, machine_step};
-ghost use Rattle.vme_master.specs.declared.outcome.Outcome.TheVariants.{Denied};
-ghost use Rattle.vme_shared.specs.declared.reply.LineReply.TheVariants.{Transfer};
 ghost use Rattle.vme_script.specs.Configurations.{Configuration};
 ghost use Rattle.vme_script.specs.Lawful.{IsLawful};
 ghost use Rattle.vme_course.specs.Courses.{Course};
-ghost use Rattle.vme_course.specs.Tenures.{IsLocal};
+ghost use Rattle.vme_course.specs.Tenures.{IsLocal, IsGranted};
 ghost use Rattle.vme_runner.specs.Turns.{World, turn, world_after};
 ghost use Rattle.vme_runner_laws.specs.TurnCalls.{turn_call};
 ghost use Rattle.vme_runner_laws.specs.Moves.{AreRun};
@@ -40,7 +38,7 @@ pub fn commands_are_the_holders()
         (machine_step (world_after config slots).machine board call).1 ≢ told.Bus turned.Denied }
     ensures answers { (config : Configuration) (slots : List ℕ) (board : ℕ) (c : Course) →
         IsLawful config → slice_get (world_after config slots).courses board ≡ Some c →
-        All (λ answer. answer ≢ Transfer Denied) c.ended }
+        All IsGranted c.ended }
 {}
 
 /// Turns are a run of moves, one at most a turn. Each board is where its own part of the run leaves

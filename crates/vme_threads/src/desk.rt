@@ -11,7 +11,7 @@ use std::sync::Wait;
 use std::sync::atomic::Ordering;
 use vme_arbiter::{ArbReply, Arbiter};
 use vme_core::{Event, EventReply};
-use vme_course::{LineTask, LineTodo};
+use vme_course::LineTask;
 use vme_memory::ByteMemory;
 use vme_port::{Pass, Spent};
 use vme_script::Config;
@@ -71,11 +71,10 @@ impl Desk {
     {
         let backoff = Backoff::new();
         let mut task = LineTask::start(config, self.who, line);
-        let mut todo = task.next(None);
+        task.give(None);
         for _ in rt.forever() {
-            let event = match todo {
-                LineTodo::Ended(answer) => return Ok(answer),
-                LineTodo::Call(event) => event,
+            let Some(event) = task.event() else {
+                return Ok(task.answer().unwrap());
             };
             if ports.stop.load(Ordering::SeqCst) {
                 return Err(Spent);
@@ -84,7 +83,7 @@ impl Desk {
             if matches!(reply, EventReply::Bus(ArbReply::Waiting)) {
                 backoff.snooze();
             }
-            todo = task.next(Some(reply));
+            task.give(Some(reply));
         }
         unreachable!()
     }

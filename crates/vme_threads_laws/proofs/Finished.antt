@@ -5,59 +5,62 @@ use Rattle.std.proofs.lemmas.List.Elements.{All-nil, All-cons}
 use Rattle.vme_object.specs.Each.{Each}
 use Rattle.vme_cycle.specs.declared.fault.CycleFault.{CycleFault}
 use Rattle.vme_core.specs.Runs.{Move}
-use Rattle.vme_master.specs.declared.job.Job.{Job}
 use Rattle.vme_master.specs.declared.outcome.Outcome.TheVariants as outcomes
 use Rattle.vme_master.specs.Tables as tasks
 use Rattle.vme_master.specs.Tables.{Next, Given, next_of}
 use Rattle.vme_shared.specs.declared.reply.LineReply.{LineReply}
 use Rattle.vme_shared.specs.declared.reply.LineReply.TheVariants.{Met, Timeout, Unfinished}
+use Rattle.vme_shared.specs.Tables as shares
+use Rattle.vme_shared.specs.Tables.{SharedNext, shared_next}
 use Rattle.vme_lines.specs.declared.line.Line.{Line}
-use Rattle.vme_lines.specs.declared.line.Line.TheVariants as lines
 use Rattle.vme_script.specs.Configurations.{Configuration}
-use Rattle.vme_course.specs.Scripts.{lines_at, line_job}
-use Rattle.vme_course.specs.Tables.{Ends, once_next, await_next, reads_of, job_next, lawful_next, next_given}
+use Rattle.vme_course.specs.Scripts.{Attempt, Moves, Waits, Shares, lines_at, line_attempt}
+use Rattle.vme_course.specs.Tables.{Ends, moves_next, waits_next, shares_next, attempt_next, attempts_of, lawful_next, next_given}
 use Rattle.vme_course.specs.Courses.{IsCourse}
 use Rattle.vme_threads.specs.declared.report.Report.{Report}
 use Rattle.vme_threads.specs.Rans.{answers_in}
 use Rattle.vme_threads.specs.Reports.{IsReportOf}
 use Rattle.vme_threads_laws.specs.Finished.{AreFinished}
 
+-- a transfer or a command
+by_moves : (next : Next) (answer : LineReply) → moves_next next ≡ Ends answer → answer ≢ Unfinished
+by_moves tasks.Rests answer ends over = cc
+by_moves (tasks.Makes call) answer ends over = cc
+by_moves (tasks.Ends outcome) answer ends over = cc
+
 -- the bytes were found or not
 by_bytes : (found : Bool) (answer : LineReply) → Ends (if found then Met else Timeout) ≡ Ends answer → answer ≢ Unfinished
 by_bytes true answer ends over = cc
 by_bytes false answer ends over = cc
 
--- a line that waits
-by_await : (want : List ℕ) (next : Next) (answer : LineReply) → await_next want next ≡ Ends answer → answer ≢ Unfinished
-by_await want tasks.Rests answer ends over = cc
-by_await want (tasks.Makes call) answer ends over = cc
-by_await want (tasks.Ends (outcomes.Read bytes)) answer ends over = by_bytes (bytes_eq bytes.items want) answer ends over
-by_await want (tasks.Ends outcome) answer ends over = cc
+by_waits : (want : List ℕ) (next : Next) (answer : LineReply) → waits_next want next ≡ Ends answer → answer ≢ Unfinished
+by_waits want tasks.Rests answer ends over = cc
+by_waits want (tasks.Makes call) answer ends over = cc
+by_waits want (tasks.Ends (outcomes.Read bytes)) answer ends over = by_bytes (bytes_eq bytes.items want) answer ends over
+by_waits want (tasks.Ends outcome) answer ends over = cc
 
--- a line of one task
-by_once : (next : Next) (answer : LineReply) → once_next next ≡ Ends answer → answer ≢ Unfinished
-by_once tasks.Rests answer ends over = cc
-by_once (tasks.Makes call) answer ends over = cc
-by_once (tasks.Ends outcome) answer ends over = cc
+-- a lock or a mailbox
+by_shares : (next : SharedNext) (answer : LineReply) → shares_next next ≡ Ends answer → answer ≢ Unfinished
+by_shares shares.Rests answer ends over = cc
+by_shares (shares.Makes call) answer ends over = cc
+by_shares (shares.Ends outcome) answer ends over = cc
 
--- a line whose request is lawful
-by_job : (tries : ℕ) (line : Line) (job : Job) (given : Given) (answer : LineReply) → job_next tries line job given ≡ Ends answer → answer ≢ Unfinished
-by_job tries (lines.Await am addr bytes) job given answer ends over =
-    by_await bytes.items (next_of job (reads_of job bytes.items tries given).given) answer ends over
-by_job tries (lines.Bus request) job given answer ends over = by_once (next_of job given) answer ends over
-by_job tries (lines.Local cmd) job given answer ends over = by_once (next_of job given) answer ends over
+by_attempt : (a : Attempt) (given : Given) (answer : LineReply) → attempt_next a given ≡ Ends answer → answer ≢ Unfinished
+by_attempt (Moves job) given answer ends over = by_moves (next_of job given) answer ends over
+by_attempt (Waits job want) given answer ends over = by_waits want (next_of job given) answer ends over
+by_attempt (Shares s) given answer ends over = by_shares (shared_next s given) answer ends over
 
 -- any line
-by_line : (tries : ℕ) (line : Line) (job : Result Job CycleFault) (given : Given) (answer : LineReply) → lawful_next tries line job given ≡ Ends answer
+by_line : (tries : ℕ) (attempt : Result Attempt CycleFault) (given : Given) (answer : LineReply) → lawful_next tries attempt given ≡ Ends answer
     → answer ≢ Unfinished
-by_line tries line (Ok job) given answer ends over = by_job tries line job given answer ends over
-by_line tries line (Err fault) given answer ends over = cc
+by_line tries (Ok a) given answer ends over = by_attempt a (attempts_of a tries given).given answer ends over
+by_line tries (Err fault) given answer ends over = cc
 
 -- by the table
 by_table : (config : Configuration) (board : ℕ) (line : Line) (given : Given) (answer : LineReply) → next_given config board line given ≡ Ends answer
     → answer ≢ Unfinished
 unfolding next_given
-by_table config board line given answer ends over = by_line config.tries line (line_job config board line) given answer ends over
+by_table config board line given answer ends over = by_line config.tries (line_attempt config board line) given answer ends over
 
 -- all lines of a course
 course_finished : (config : Configuration) (board : ℕ) (ls : List Line) (run : List Move) (answers : List LineReply)

@@ -33,11 +33,10 @@ use Rattle.vme_script.specs.Lawful.{IsLawful}
 use Rattle.vme_course.specs.Scripts.{slot_at, lines_at}
 use Rattle.vme_course.specs.Tables.{Makes, Ends, line_next, given_of}
 use Rattle.vme_course.specs.Courses.{Goes, IsCourse}
-use Rattle.vme_course.specs.Tenures.{line_told, IsGood}
-use Rattle.vme_course.proofs.Tenures.{line_begins, line_turns, line_turn, line_datum, line_ends}
+use Rattle.vme_course.specs.Tenures.{line_told, IsGood, IsGranted}
+use Rattle.vme_course.proofs.Kept.{line_begins, line_first, line_turns, line_turn, line_datum, line_ends}
 use Rattle.vme_course.proofs.Below.{next_below}
 use Rattle.vme_runner_laws.proofs.Places.{has_board, lawful_slot, lawful_level, slots_apart}
-use Rattle.vme_runner_laws.proofs.Standing.{line_refused}
 use Rattle.vme_threads.specs.declared.report.Report.{Report}
 use Rattle.vme_threads.specs.Rans.{answers_in}
 use Rattle.vme_threads.specs.Reports.{HasHistory, IsReportOf}
@@ -65,12 +64,12 @@ AllTold (m ∷ run) = Told m.event m.reply × AllTold run
 
 -- an end of a line is no denial and leaves the slot free
 record Closes (config : Configuration) (board : ℕ) (line : Line) (before : List EventReply) : Type 0 where
-  granted : (answer : LineReply) → line_next config board line before ≡ Ends answer → answer ≢ Transfer Denied
+  granted : (answer : LineReply) → line_next config board line before ≡ Ends answer → IsGranted answer
   free : (answer : LineReply) (slot : ℕ) → line_next config board line before ≡ Ends answer → Leads slot (line_told config board line before) None
 
 closes_first : (config : Configuration) (board : ℕ) (line : Line) → Closes config board line []
 closes_first config board line = record {
-  granted = λ answer ends. line_refused config board line answer ends;
+  granted = λ answer ends. line_first config board line answer ends;
   free = λ answer slot ends bus stands. subst (StandsAsTold bus slot) (line_begins config board line) stands;
 }
 
@@ -140,7 +139,7 @@ module _ (config : Configuration) (lawful : IsLawful config) (board : ℕ) (ther
   move_good line before (asked.Bus cmd) (told.Board reply) made well good = absurd well
 
   record Left (rest : List Move) (answer : LineReply) : Type 0 where
-    granted : answer ≢ Transfer Denied
+    granted : IsGranted answer
     well : AllWell (length config.boards) rest
     good : AllTold rest
 
@@ -158,14 +157,14 @@ module _ (config : Configuration) (lawful : IsLawful config) (board : ℕ) (ther
       well.1 good.1
 
   course_granted : (ls : List Line) (run : List Move) (answers : List LineReply) → IsCourse config board ls run answers
-      → AllWell (length config.boards) run → AllTold run → All (λ (answer : LineReply). answer ≢ Transfer Denied) answers
-  course_granted [] run [] course well good = All-nil (λ (answer : LineReply). answer ≢ Transfer Denied)
+      → AllWell (length config.boards) run → AllTold run → All IsGranted answers
+  course_granted [] run [] course well good = All-nil IsGranted
   course_granted [] run (answer ∷ answers) course well good = absurd course
   course_granted (line ∷ ls) run [] course well good = absurd course
   course_granted (line ∷ ls) run (answer ∷ answers) course well good =
       let left = line_granted line [] course.0 course.1 course.3.replies answer course.3.goes course.3.ends (closes_first config board line)
       (subst (AllWell (length config.boards)) course.2 well) (subst AllTold course.2 good) in
-      All-cons (λ (answer : LineReply). answer ≢ Transfer Denied) answer answers left.granted
+      All-cons IsGranted answer answers left.granted
       (course_granted ls course.1 answers course.4 left.well left.good)
 
 -- replies of a board by its history

@@ -1,10 +1,9 @@
 -- Lines that were not denied the bus.
-use Rattle.std.specs.Prelude.{ℕ, ◌≢◌, List, All}
-use Rattle.vme_master.specs.declared.outcome.Outcome.TheVariants.{Denied}
+use Rattle.std.specs.Prelude.{ℕ, List, All}
 use Rattle.vme_shared.specs.declared.reply.LineReply.{LineReply}
-use Rattle.vme_shared.specs.declared.reply.LineReply.TheVariants.{Transfer}
+use Rattle.vme_course.specs.Tenures.{IsGranted}
 use Rattle.vme_threads.specs.Rans.{answers_in}
 
 -- none of these lines is answered that it was denied the bus (this project's own)
 abbrev pub AreGranted : List (ℕ × LineReply) → Type 0
-AreGranted lines = All (λ answer. answer ≢ Transfer Denied) (answers_in lines)
+AreGranted lines = All IsGranted (answers_in lines)

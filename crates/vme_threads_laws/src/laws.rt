@@ -5,7 +5,8 @@ ghost use Rattle.vme_object.specs.Each.{Each};
 ghost use Rattle.vme_arbiter.specs.declared.command.ArbCmd.{ArbCmd};
 ghost use Rattle.vme_arbiter.specs.declared.command.ArbReply.{ArbReply};
 ghost use Rattle.vme_arbiter.specs.declared.command.ArbReply.TheVariants.{Denied};
-ghost use Rattle.vme_arbiter.specs.Arbitration.{free_bus, turn_step};
+ghost use Rattle.vme_arbiter.specs.declared.kind.ArbiterKind.{ArbiterKind};
+ghost use Rattle.vme_arbiter.specs.Arbitration.{opening_bus, turn_step};
 ghost use Rattle.vme_arbiter.specs.Turns.{TakeTurns};
 ghost use Rattle.vme_script.specs.Configurations.{Configuration};
 ghost use Rattle.vme_script.specs.Lawful.{IsLawful};
@@ -27,12 +28,14 @@ pub fn no_line_is_denied()
         Each (λ who lines. AreGranted lines.items) report.lines.items }
 {}
 
-/// The arbiter denies nobody. In a legal history of it from a free bus, where each processor's
-/// commands name one slot, its own, and its asks a level, both in range, and where each goes by its
-/// last reply, no reply is `Denied`. Nor is one in the history that a report's processors share.
+/// The arbiter, of either kind, denies nobody. In a legal history of it from a free bus, where each
+/// processor's commands name one slot, its own, and its asks a level, both in range, and where each
+/// goes by its last reply, no reply is `Denied`. Nor is one in the history that a report's processors
+/// share.
 pub fn the_arbiter_denies_nobody()
-    ensures law { (k : ℕ) (slots : ℕ → ℕ) (h : List (Entry ArbCmd ArbReply)) →
-        IsLegal turn_step free_bus h → TakeTurns k slots h → All (λ e. e.reply ≢ Denied) h }
+    ensures law { (kind : ArbiterKind) (k : ℕ) (slots : ℕ → ℕ) (h : List (Entry ArbCmd ArbReply)) →
+        IsLegal turn_step (opening_bus kind) h → TakeTurns k slots h →
+        All (λ e. e.reply ≢ Denied) h }
     ensures report { (config : Configuration) (report : Report) → IsLawful config →
         (is : IsReportOf config report) → All (λ e. e.reply ≢ Denied) is.bus.1.history }
 {}

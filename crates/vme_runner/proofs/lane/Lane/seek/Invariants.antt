@@ -7,7 +7,7 @@ use Rattle.vme_runner.proofs.lane.Lane.seek.Given as goal
 -- the lines so far were answered without a call, so that the turn is the same
 abbrev pub invariant-loop-self : goal.invariant-loop-self
 invariant-loop-self l = record {
-  idle : l.self-inside.event ≡ None;
+  idle : l.self-inside.task ≡ None;
   lines : length l.self-inside.lines.items ≡ length (lines_at l.config l.board);
   turn : (machine : Machine)
       → lane_turn l.config l.board machine (record { lines = l.self-inside.lines.items; ended = l.self-inside.ended; at = None })

@@ -3,4 +3,4 @@ use Rattle.vme_threads.proofs.desk.Desk.line.Given as goal
 
 -- the line is at work
 abbrev pub invariant-loop : goal.invariant-loop
-invariant-loop g l = IsAtWork l.config l.line l.fn.self l.self l.task l.todo
+invariant-loop g l = IsAtWork l.config l.line l.fn.self l.self l.task

@@ -1,0 +1,45 @@
+-- What a line does next, by the event and the answer that it gives.
+use Rattle.std.proofs.Common.{◌≡◌, ◌≢◌, Option, Some, None, refl}
+use Rattle.std.specs.Option.{IsSome, option_map}
+use Rattle.vme_core.specs.declared.event.Event.{Event}
+use Rattle.vme_core.specs.Calls.{Call, call_of}
+use Rattle.vme_shared.specs.declared.reply.LineReply.{LineReply}
+use Rattle.vme_course.specs.Tables.{LineNext, Rests, Makes, Ends}
+use Rattle.vme_course.specs.Events.{call_in, answer_in, MakesCall}
+
+-- its event is that of its call
+pub makes_event : (next : LineNext) (event : Event) → Some (call_of event) ≡ call_in next → next ≡ Makes (call_of event)
+makes_event Rests event is = absurd cc
+makes_event (Makes call) event is = cc
+makes_event (Ends answer) event is = absurd cc
+
+-- where it makes a call there is an event
+pub has_event : (next : LineNext) (event : Option Event) → MakesCall next → option_map call_of event ≡ call_in next → IsSome event
+has_event Rests event makes is = absurd makes
+has_event (Makes call) None makes is = absurd cc
+has_event (Makes call) (Some event) makes is = refl
+has_event (Ends answer) event makes is = absurd makes
+
+-- a line that is called and has no answer makes a call
+pub goes_on : (next : LineNext) → next ≢ Rests → None ≡ answer_in next → MakesCall next
+goes_on Rests called is = absurd (called refl)
+goes_on (Makes call) called is = tt
+goes_on (Ends answer) called is = absurd cc
+
+pub its_call : (next : LineNext) → MakesCall next → (call : Call) × (Makes call ≡ next)
+its_call Rests makes = absurd makes
+its_call (Makes call) makes = (call, refl)
+its_call (Ends answer) makes = absurd makes
+
+-- and one that has an answer has ended
+pub ends_so : (next : LineNext) (answer : LineReply) → Some answer ≡ answer_in next → Ends answer ≡ next
+ends_so Rests answer is = absurd cc
+ends_so (Makes call) answer is = absurd cc
+ends_so (Ends other) answer is = cc
+
+-- a line that is called and makes no call has an answer
+pub has_answer : (next : LineNext) (answer : Option LineReply) → next ≢ Rests → None ≡ call_in next → answer ≡ answer_in next → IsSome answer
+has_answer Rests answer called none is = absurd (called refl)
+has_answer (Makes call) answer called none is = absurd cc
+has_answer (Ends end) None called none is = absurd cc
+has_answer (Ends end) (Some answer) called none is = refl

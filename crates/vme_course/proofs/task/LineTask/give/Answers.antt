@@ -1,0 +1,11 @@
+use Rattle.std.proofs.Common.{ap, sym, subst, ◌∙◌}
+use Rattle.vme_course.specs.declared.task.LineTask.{LineTask}
+use Rattle.vme_course.specs.declared.task.LineTask.TheVariants.{Tries}
+use Rattle.vme_course.specs.Machine.{line_advance, IsLineBelow}
+use Rattle.vme_course.proofs.Below.{advance_below}
+use Rattle.vme_course.proofs.task.LineTask.give.Goals as goal
+
+pub returns-in-Tries-clause-below : goal.returns-in-Tries-clause-below
+returns-in-Tries-clause-below c = λ n below.
+    subst (IsLineBelow n) (ap (λ (t : LineTask). line_advance t c.args.given) c.in-Tries.is ∙ ap Tries (sym c.give.ensures.task))
+    (advance_below n c.args.self.now c.args.given below)
