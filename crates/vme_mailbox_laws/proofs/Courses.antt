@@ -1,0 +1,267 @@
+-- A put or a take stands in the phase in which its commands have left the mailbox.
+use Rattle.std.proofs.Common.{◌≡◌, ℕ, ◌≤◌, ◌⊎◌, true, List, [], ◌∷◌, ◌++◌, Option, Some, None, Result, Ok, Err, refl, ap, sym, subst, ◌∙◌, inl, inr}
+use Rattle.std.specs.Prelude.{◌==◌}
+use Rattle.std.proofs.lemmas.Bool.{eq-eqb}
+use Rattle.std.proofs.lemmas.List.{append-nil}
+use Rattle.vme_cycle.specs.declared.fault.CycleFault.{CycleFault}
+use Rattle.vme_memory.specs.declared.reply.Reply.{Reply}
+use Rattle.vme_core.specs.declared.event.EventReply.{EventReply}
+use Rattle.vme_core.specs.declared.event.EventReply.TheVariants as told
+use Rattle.vme_core.specs.Calls.{Call, OnBoard}
+use Rattle.vme_master.specs.declared.job.BusJob.{BusJob}
+use Rattle.vme_master.specs.declared.job.Job.{Job}
+use Rattle.vme_master.specs.declared.job.Job.TheVariants.{Bus}
+use Rattle.vme_master.specs.Jobs.{ask_call, look_call, done_call, aim_outcome}
+use Rattle.vme_master.specs.Tables as tasks
+use Rattle.vme_master.specs.Tables.{Next, Given, next_of}
+use Rattle.vme_mailbox.specs.Mailboxes.{BoardMailbox}
+use Rattle.vme_mailbox.specs.Phases.{Phase, Idle}
+use Rattle.vme_mailbox.specs.Words.{put_by, taken_by}
+use Rattle.vme_mailbox.proofs.Quiet.{no_put, no_taken}
+use Rattle.vme_shared.specs.declared.mailbox.Mailbox.{Mailbox}
+use Rattle.vme_shared.specs.declared.outcome.SharedOutcome.{SharedOutcome}
+use Rattle.vme_shared.specs.declared.request.SharedRequest.{SharedRequest}
+use Rattle.vme_shared.specs.declared.request.SharedRequest.TheVariants as asked
+use Rattle.vme_shared.specs.declared.stage.Stage.{Stage}
+use Rattle.vme_shared.specs.declared.stage.Stage.TheVariants.{Locks}
+use Rattle.vme_shared.specs.declared.stage.Step.{Step}
+use Rattle.vme_shared.specs.declared.stage.Step.TheVariants.{Goes, Stops}
+use Rattle.vme_shared.specs.Mailboxes.{IsAsked}
+use Rattle.vme_shared.proofs.Starts.{all_lawful}
+use Rattle.vme_shared.specs.Steps.{first_stage, step_after}
+use Rattle.vme_shared.specs.Tables.{SharedJob, Makes, Progress, At, Over, stage_job, stage_begun, step_begun, progress_by, progress_given, progress_of, task_shown, next_at}
+use Rattle.vme_mailbox_laws.specs.Along.{mailbox_in, UsesMailbox, IsGood, AllGood, IsCount, AllCounts, phase_given, phase_along, words_given, put_told, taken_told}
+use Rattle.vme_mailbox_laws.proofs.Single.{IsGoodTo, Waits, Answered, reply_bytes, waits_fresh, waits_called, waits_told, answered_by, ended}
+use Rattle.vme_mailbox_laws.proofs.Stages.{IsStage, is_stage, stage_command, stage_aim}
+use Rattle.vme_mailbox_laws.proofs.Rows.{Before, Words, Leads, IsFine, IsFineEnd, goes}
+
+-- a stage's datum is to be answered yet, in the phase before it; or it was, and leads on
+abbrev pub AtWork : BoardMailbox → SharedRequest → Stage → BusJob → Given → Phase → List ℕ → List ℕ → Type 0
+AtWork m request stage bus g phase put taken =
+    (Waits bus g × (Before m request stage phase × Words request stage put taken))
+    ⊎ ((reply : Reply) × Answered bus reply g
+    × Leads m request (step_after request stage (aim_outcome (stage_aim stage) (reply_bytes reply))) phase put taken)
+
+-- a stage at work, in a phase
+pub record IsAt (m : BoardMailbox) (board : ℕ) (request : SharedRequest) (stage : Stage) (job : Job) (g : Given) (at : Option Phase)
+    (put taken : List ℕ) : Type 0 where
+  pub phase : Phase
+  pub is : at ≡ Some phase
+  pub own : IsStage m board stage job
+  pub work : AtWork m request stage own.bus g phase put taken
+
+-- an end: it has left the mailbox
+pub record IsOver (request : SharedRequest) (end : SharedOutcome) (at : Option Phase) (put taken : List ℕ) : Type 0 where
+  pub is : at ≡ Some Idle
+  pub put_is : put ≡ put_told end request
+  pub taken_is : taken ≡ taken_told end
+  pub fine : IsFineEnd end
+
+-- how far it has come stands for its phase and its words
+abbrev pub Stands : BoardMailbox → ℕ → SharedRequest → Progress → Option Phase → List ℕ → List ℕ → Type 0
+Stands m board request (At stage job g) at put taken = IsAt m board request stage job g at put taken
+Stands m board request (Over end) at put taken = IsOver request end at put taken
+
+-- where nothing went to the board
+unmoved : (m : BoardMailbox) (board : ℕ) (request : SharedRequest) (progress : Progress) (at after : Option Phase) (put taken : List ℕ) → after ≡ at
+    → Stands m board request progress at put taken
+    → Stands m board request progress after (put ++ put_by at after) (taken ++ taken_by at after)
+unmoved m board request progress at after put taken same stands =
+    rw same (subst (λ ps. Stands m board request progress at ps (taken ++ taken_by at at)) (sym (ap (λ ws. put ++ ws) (no_put at) ∙ append-nil put))
+    (subst (λ ts. Stands m board request progress at put ts) (sym (ap (λ ws. taken ++ ws) (no_taken at) ∙ append-nil taken)) stands))
+
+-- a mailbox in use has a slot
+asked_slot : (request : SharedRequest) (mailbox : Mailbox) → mailbox_in request ≡ Some mailbox → IsAsked request → 1 ≤ mailbox.slots
+asked_slot (asked.Lock am addr) mailbox is formed = absurd cc
+asked_slot (asked.Unlock am addr) mailbox is formed = absurd cc
+asked_slot (asked.Put own word) mailbox is formed = let same : own ≡ mailbox = cc in subst (λ (o : Mailbox). 1 ≤ o.slots) same formed.some_slot
+asked_slot (asked.Take own) mailbox is formed = let same : own ≡ mailbox = cc in subst (λ (o : Mailbox). 1 ≤ o.slots) same formed.some_slot
+
+pub some_slot : (s : SharedJob) (board : ℕ) (m : BoardMailbox) → UsesMailbox s board m → 1 ≤ m.slots
+some_slot s board m uses = rw uses.lies.slots (asked_slot s.request uses.mailbox uses.asked uses.formed)
+
+module _ (s : SharedJob) (board : ℕ) (m : BoardMailbox) (uses : UsesMailbox s board m) where
+  -- a stage begins
+  begun : (stage : Stage) (g : Given) (result : Result Job CycleFault) (at : Option Phase) (phase : Phase) (put taken : List ℕ) → stage_job s stage ≡ result
+      → at ≡ Some phase → Before m s.request stage phase → Words s.request stage put taken → ((bus : BusJob) → Waits bus g)
+      → Stands m board s.request (stage_begun stage g result) at put taken
+  begun stage g (Ok job) at phase put taken made there before words waits =
+      let own = is_stage s uses.mailbox board m stage job (some_slot s board m uses) uses.asked uses.lies made in
+      record { phase = phase; is = there; own = own; work = inl (waits own.bus, (before, words)) }
+  begun stage g (Err fault) at phase put taken made there before words waits =
+      let lawful = all_lawful s stage uses.formed uses.started in let refused = sym made ∙ lawful.1 in absurd cc
+
+  -- a step is taken
+  stepped : (step : Step) (at : Option Phase) (phase : Phase) (put taken : List ℕ) → at ≡ Some phase → Leads m s.request step phase put taken
+      → Stands m board s.request (step_begun s step) at put taken
+  stepped (Goes stage) at phase put taken there leads =
+      begun stage (None ∷ []) (stage_job s stage) at phase put taken refl there leads.0 leads.1 (λ bus. waits_called bus [] (waits_fresh bus) refl)
+  stepped (Stops end) at phase put taken there leads =
+      record { is = there ∙ ap Some leads.0; put_is = leads.1; taken_is = leads.2; fine = leads.3 }
+
+  -- the first stage
+  opening : Stands m board s.request (progress_of s []) (Some Idle) [] []
+  opening = by_request s.request refl
+    where
+      by_request : (request : SharedRequest) → s.request ≡ request
+          → Stands m board s.request (stage_begun (first_stage s.request) [] (stage_job s (first_stage s.request))) (Some Idle) [] []
+      by_request (asked.Lock am addr) same = let none = ap mailbox_in (sym same) ∙ uses.asked in absurd cc
+      by_request (asked.Unlock am addr) same = let none = ap mailbox_in (sym same) ∙ uses.asked in absurd cc
+      by_request (asked.Put own word) same =
+          let first : first_stage s.request ≡ Locks = ap first_stage same in
+          rw first (begun Locks [] (stage_job s Locks) (Some Idle) Idle [] [] refl refl refl (refl, refl) (λ bus. waits_fresh bus))
+      by_request (asked.Take own) same =
+          let first : first_stage s.request ≡ Locks = ap first_stage same in
+          rw first (begun Locks [] (stage_job s Locks) (Some Idle) Idle [] [] refl refl refl (refl, refl) (λ bus. waits_fresh bus))
+
+  -- one thing more is given
+  abbrev Moved : Progress → Option EventReply → Option Phase → List ℕ → List ℕ → Type 0
+  Moved progress last at put taken =
+      Stands m board s.request (progress_given s last progress) (phase_given m board (next_at progress) last at)
+      (put ++ put_by at (phase_given m board (next_at progress) last at)) (taken ++ taken_by at (phase_given m board (next_at progress) last at))
+
+  moved_to : (progress to : Progress) (last : Option EventReply) (at next : Option Phase) (put taken : List ℕ) → progress_given s last progress ≡ to
+      → phase_given m board (next_at progress) last at ≡ next
+      → Stands m board s.request to next (put ++ put_by at next) (taken ++ taken_by at next) → Moved progress last at put taken
+  moved_to progress to last at next put taken goes_to phase_is stands =
+      rw goes_to (subst (λ p. Stands m board s.request to p (put ++ put_by at p) (taken ++ taken_by at p)) (sym phase_is) stands)
+
+  -- the datum is not yet answered then: the stage stays at work
+  waits_stays : (stage : Stage) (job : Job) (bus : BusJob) (g : Given) → job ≡ Bus bus → Waits bus g
+      → progress_by s stage job g (next_of job g) ≡ At stage job g
+  waits_stays stage job bus g made waits =
+      ap (λ j. progress_by s stage job g (next_of j g)) made
+      ∙ elim waits.next [
+        | inl rests ↦ ap (progress_by s stage job g) rests
+        | inr (inl asks) ↦ ap (progress_by s stage job g) asks
+        | inr (inr (inl looks)) ↦ ap (progress_by s stage job g) looks
+        | inr (inr (inr moves)) ↦ ap (progress_by s stage job g) moves
+      ]
+
+  -- and so it does while the datum goes to no board
+  waits_on : (stage : Stage) (job : Job) (g : Given) (at : Option Phase) (put taken : List ℕ) (last : Option EventReply)
+      (stands : IsAt m board s.request stage job g at put taken) → Waits stands.own.bus (last ∷ g)
+      → Before m s.request stage stands.phase × Words s.request stage put taken
+      → phase_given m board (next_at (At stage job g)) last at ≡ at → Moved (At stage job g) last at put taken
+  waits_on stage job g at put taken last stands waits before same =
+      moved_to (At stage job g) (At stage job (last ∷ g)) last at at put taken (waits_stays stage job stands.own.bus (last ∷ g) stands.own.is waits) same
+      (unmoved m board s.request (At stage job (last ∷ g)) at at put taken refl
+      (record { phase = stands.phase; is = stands.is; own = stands.own; work = inl (waits, before) }))
+
+  -- the arbiter is asked, or looked to
+  turned_on : (stage : Stage) (job : Job) (g : Given) (at : Option Phase) (put taken : List ℕ) (last : Option EventReply) (call : Call)
+      (stands : IsAt m board s.request stage job g at put taken) → Waits stands.own.bus g
+      → Before m s.request stage stands.phase × Words s.request stage put taken
+      → ((call ≡ ask_call stands.own.bus) ⊎ (call ≡ look_call stands.own.bus)) → next_of job g ≡ tasks.Makes call
+      → IsGood (next_at (At stage job g)) last → Moved (At stage job g) last at put taken
+  turned_on stage job g at put taken None call stands waits before which makes good =
+      absurd (subst (λ n. IsGood (task_shown n) None) makes good)
+  turned_on stage job g at put taken (Some (told.Board reply)) call stands waits before which makes good =
+      let fine = subst (λ n. IsGood (task_shown n) (Some (told.Board reply))) makes good in
+      elim which [
+        | inl asks ↦ let fit = subst (λ c. IsGood (Makes c) (Some (told.Board reply))) asks fine in let no_fit = fit.0 in absurd cc
+        | inr looks ↦ let fit = subst (λ c. IsGood (Makes c) (Some (told.Board reply))) looks fine in let no_fit = fit.0 in absurd cc
+      ]
+  turned_on stage job g at put taken (Some (told.Bus reply)) call stands waits before which makes good =
+      let fine = subst (λ n. IsGood (task_shown n) (Some (told.Bus reply))) makes good in
+      let makes_bus : next_of (Bus stands.own.bus) g ≡ tasks.Makes call = ap (λ j. next_of j g) (sym stands.own.is) ∙ makes in
+      let same : phase_given m board (next_at (At stage job g)) (Some (told.Bus reply)) at ≡ at =
+      ap (λ n. phase_given m board (task_shown n) (Some (told.Bus reply)) at) makes
+      ∙ elim which [
+        | inl asks ↦ ap (λ c. phase_given m board (Makes c) (Some (told.Bus reply)) at) asks
+        | inr looks ↦ ap (λ c. phase_given m board (Makes c) (Some (told.Bus reply)) at) looks
+      ] in
+      waits_on stage job g at put taken (Some (told.Bus reply)) stands (waits_told stands.own.bus stands.own.one g call reply which waits makes_bus fine)
+      before same
+
+  -- the datum goes to the board
+  datum_on : (stage : Stage) (job : Job) (g : Given) (at : Option Phase) (put taken : List ℕ) (last : Option EventReply)
+      (stands : IsAt m board s.request stage job g at put taken) → Waits stands.own.bus g
+      → Before m s.request stage stands.phase × Words s.request stage put taken
+      → next_of job g ≡ tasks.Makes (OnBoard board (Some (stage_command m stage))) → IsGood (next_at (At stage job g)) last
+      → IsCount (phase_given m board (next_at (At stage job g)) last at) → Moved (At stage job g) last at put taken
+  datum_on stage job g at put taken None stands waits before makes good count = absurd (subst (λ n. IsGood (task_shown n) None) makes good)
+  datum_on stage job g at put taken (Some (told.Bus reply)) stands waits before makes good count =
+      let fine = subst (λ n. IsGood (task_shown n) (Some (told.Bus reply))) makes good in let no_fit = fine.0 in absurd cc
+  datum_on stage job g at put taken (Some (told.Board reply)) stands waits before makes good count =
+      let fine = subst (λ n. IsGood (task_shown n) (Some (told.Board reply))) makes good in
+      let makes_bus : next_of (Bus stands.own.bus) g ≡ tasks.Makes (OnBoard board (Some (stage_command m stage))) =
+      ap (λ j. next_of j g) (sym stands.own.is) ∙ makes in
+      let answered = answered_by stands.own.bus stands.own.one g (OnBoard board (Some (stage_command m stage))) reply waits makes_bus fine in
+      let fine_reply : IsFine m stage reply = record { form = fine.0; good = λ error. fine.1 (ap told.Board error) } in
+      let went = goes m s.request uses.mailbox uses.asked uses.lies.slots (some_slot s board m uses) put taken stage stands.phase reply before.0 before.1 fine_reply in
+      let own_board : (board == board) ≡ true = eq-eqb board board refl in
+      let after : phase_given m board (next_at (At stage job g)) (Some (told.Board reply)) at ≡ Some went.next =
+      ap (λ n. phase_given m board (task_shown n) (Some (told.Board reply)) at) makes ∙ rw own_board (rw stands.is went.is) in
+      let leads = went.leads (subst IsCount after count) in
+      let stays : progress_by s stage job (Some (told.Board reply) ∷ g) (next_of job (Some (told.Board reply) ∷ g)) ≡ At stage job (Some (told.Board reply) ∷ g) =
+      ap (λ j. progress_by s stage job (Some (told.Board reply) ∷ g) (next_of j (Some (told.Board reply) ∷ g))) stands.own.is
+      ∙ ap (progress_by s stage job (Some (told.Board reply) ∷ g)) answered.next in
+      moved_to (At stage job g) (At stage job (Some (told.Board reply) ∷ g)) (Some (told.Board reply)) at (Some went.next) put taken stays after
+      (record {
+        phase = went.next;
+        is = refl;
+        own = stands.own;
+        work = inr (reply, answered, rw stands.is leads);
+      })
+
+  -- the bus is given back, and the stage's outcome leads on
+  freed : (stage : Stage) (job : Job) (g : Given) (at : Option Phase) (put taken : List ℕ) (last : Option EventReply) (reply : Reply)
+      (stands : IsAt m board s.request stage job g at put taken) → Answered stands.own.bus reply g
+      → Leads m s.request (step_after s.request stage (aim_outcome (stage_aim stage) (reply_bytes reply))) stands.phase put taken
+      → IsGood (next_at (At stage job g)) last → Moved (At stage job g) last at put taken
+  freed stage job g at put taken last reply stands answered leads good =
+      let makes : next_of job g ≡ tasks.Makes (done_call stands.own.bus) = ap (λ j. next_of j g) stands.own.is ∙ answered.next in
+      let fine : IsGoodTo (next_of (Bus stands.own.bus) g) last =
+      subst (λ n. IsGoodTo n last) (sym answered.next) (subst (λ n. IsGood (task_shown n) last) makes good) in
+      let end = ended stands.own.bus stands.own.one g last reply stands.own.place stands.own.placed answered fine in
+      let outcome = aim_outcome (stage_aim stage) (reply_bytes reply) in
+      let ends : next_of job (last ∷ g) ≡ tasks.Ends outcome =
+      ap (λ j. next_of j (last ∷ g)) stands.own.is ∙ end.1 ∙ ap (λ a. tasks.Ends (aim_outcome a (reply_bytes reply))) stands.own.aim in
+      let to : progress_given s last (At stage job g) ≡ step_begun s (step_after s.request stage outcome) =
+      ap (progress_by s stage job (last ∷ g)) ends in
+      let same : phase_given m board (next_at (At stage job g)) last at ≡ at =
+      ap (λ n. phase_given m board (task_shown n) last at) makes ∙ ap (λ l. phase_given m board (Makes (done_call stands.own.bus)) l at) end.0 in
+      moved_to (At stage job g) (step_begun s (step_after s.request stage outcome)) last at at put taken to same
+      (unmoved m board s.request (step_begun s (step_after s.request stage outcome)) at at put taken refl
+      (stepped (step_after s.request stage outcome) at stands.phase put taken stands.is leads))
+
+  -- it rests until its first call
+  called : (stage : Stage) (job : Job) (g : Given) (at : Option Phase) (put taken : List ℕ) (last : Option EventReply)
+      (stands : IsAt m board s.request stage job g at put taken) → Waits stands.own.bus g
+      → Before m s.request stage stands.phase × Words s.request stage put taken → next_of job g ≡ tasks.Rests
+      → IsGood (next_at (At stage job g)) last → Moved (At stage job g) last at put taken
+  called stage job g at put taken (Some reply) stands waits before rests good =
+      let none = subst (λ n. IsGood (task_shown n) (Some reply)) rests good in absurd cc
+  called stage job g at put taken None stands waits before rests good =
+      let rests_bus : next_of (Bus stands.own.bus) g ≡ tasks.Rests = ap (λ j. next_of j g) (sym stands.own.is) ∙ rests in
+      waits_on stage job g at put taken None stands (waits_called stands.own.bus g waits rests_bus) before
+      (ap (λ n. phase_given m board (task_shown n) None at) rests)
+
+  -- whatever stage is at work
+  moves : (progress : Progress) (last : Option EventReply) (at : Option Phase) (put taken : List ℕ) → Stands m board s.request progress at put taken
+      → IsGood (next_at progress) last → IsCount (phase_given m board (next_at progress) last at) → Moved progress last at put taken
+  moves (Over end) last at put taken stands good count = unmoved m board s.request (Over end) at at put taken refl stands
+  moves (At stage job g) last at put taken stands good count =
+      let to_job = ap (λ j. next_of j g) stands.own.is in
+      elim stands.work [
+        | inl waiting ↦
+            elim waiting.0.next [
+              | inl rests ↦ called stage job g at put taken last stands waiting.0 waiting.1 (to_job ∙ rests) good
+              | inr (inl asks) ↦
+                  turned_on stage job g at put taken last (ask_call stands.own.bus) stands waiting.0 waiting.1 (inl refl) (to_job ∙ asks) good
+              | inr (inr (inl looks)) ↦
+                  turned_on stage job g at put taken last (look_call stands.own.bus) stands waiting.0 waiting.1 (inr refl) (to_job ∙ looks) good
+              | inr (inr (inr datum)) ↦
+                  datum_on stage job g at put taken last stands waiting.0 waiting.1 (to_job ∙ datum ∙ ap tasks.Makes stands.own.datum) good count
+            ]
+        | inr answered ↦ freed stage job g at put taken last answered.0 stands answered.1 answered.2 good
+      ]
+
+  -- by all that was given
+  pub stands_along : (given : Given) → AllGood s given → AllCounts m board s given
+      → Stands m board s.request (progress_of s given) (phase_along m board s given) (words_given put_by m board s given) (words_given taken_by m board s given)
+  stands_along [] good counts = opening
+  stands_along (last ∷ before) good counts =
+      moves (progress_of s before) last (phase_along m board s before) (words_given put_by m board s before) (words_given taken_by m board s before)
+      (stands_along before good.1 counts.1) good.0 counts.0

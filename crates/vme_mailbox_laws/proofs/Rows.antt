@@ -1,0 +1,300 @@
+-- Each stage's command, with a good reply, is the access that comes next.
+use Rattle.std.proofs.Common.{◌≡◌, ◌≢◌, ℕ, ◌+◌, ◌-◌, ◌*◌, ◌%◌, ◌^◌, ◌≤◌, ◌<◌, true, false, List, [], ◌∷◌, ◌++◌, Option, Some, refl, ap, sym, subst, ◌∙◌, arith, inl, inr}
+use Rattle.std.specs.Prelude.{length, nat_le, ◌==◌}
+use Rattle.std.proofs.lemmas.Bool.{cases_Bool, and_from, and_left, eq-eqb, ne_eqb, eqb-true, eqb-false, lt-ltb, ltb-true, leb-false, and_parts}
+use Rattle.std.proofs.lemmas.List.{append-nil}
+use Rattle.vme_cycle.specs.Functions.{number_of, number_bytes}
+use Rattle.vme_cycle.proofs.Sums.{number_of-number_bytes}
+use Rattle.vme_memory.specs.declared.reply.Reply.{Reply}
+use Rattle.vme_memory.specs.declared.reply.Reply.TheVariants.{Bytes, Done, Berr}
+use Rattle.vme_memory.specs.Data.{reply_len, has_form}
+use Rattle.vme_master.specs.declared.outcome.Outcome.{Outcome}
+use Rattle.vme_master.specs.Jobs.{aim_outcome}
+use Rattle.vme_mailbox.specs.Mailboxes as places
+use Rattle.vme_mailbox.specs.Mailboxes.{BoardMailbox, touches}
+use Rattle.vme_mailbox.specs.Phases.{Phase, Idle, Locked, First, Both, Written, Fetched, Counted, has_room, is_unlock, Writes, access_of, next_phase, after_command}
+use Rattle.vme_mailbox.specs.Words.{put_by, taken_by}
+use Rattle.vme_shared.specs.declared.mailbox.Mailbox.{Mailbox}
+use Rattle.vme_shared.specs.declared.outcome.SharedOutcome.{SharedOutcome}
+use Rattle.vme_shared.specs.declared.outcome.SharedOutcome.TheVariants as shared
+use Rattle.vme_shared.specs.declared.request.SharedRequest.{SharedRequest}
+use Rattle.vme_shared.specs.declared.request.SharedRequest.TheVariants as asked
+use Rattle.vme_shared.specs.declared.stage.Stage.{Stage}
+use Rattle.vme_shared.specs.declared.stage.Stage.TheVariants.{Locks, ReadsPutCount, ReadsTakeCount, WritesWord, RaisesPutCount, ReadsWord, RaisesTakeCount, Unlocks}
+use Rattle.vme_shared.specs.declared.stage.Step.{Step}
+use Rattle.vme_shared.specs.declared.stage.Step.TheVariants.{Goes, Stops}
+use Rattle.vme_shared.specs.Mailboxes.{raised}
+use Rattle.vme_shared.specs.Steps.{has_top_bit, word_in, words_between, counted_stage, mailbox_step, step_after}
+use Rattle.vme_mailbox_laws.specs.Along.{mailbox_in, IsCount, put_told, taken_told}
+use Rattle.vme_mailbox_laws.proofs.Single.{reply_bytes}
+use Rattle.vme_mailbox_laws.proofs.Stages.{stage_command, stage_aim, stage_touches}
+
+-- the phase in which an unlock finds the mailbox
+abbrev pub BeforeUnlock : SharedOutcome → Phase → Type 0
+BeforeUnlock shared.Put phase = phase ≡ Counted
+BeforeUnlock (shared.Took word) phase = phase ≡ Counted
+BeforeUnlock shared.Full phase = (p : ℕ) × (t : ℕ) × (phase ≡ Both p t)
+BeforeUnlock shared.Empty phase = (p : ℕ) × (t : ℕ) × (phase ≡ Both p t)
+BeforeUnlock shared.Spent phase = (p : ℕ) × (t : ℕ) × (phase ≡ Both p t)
+BeforeUnlock end phase = ⊥
+
+-- and each stage
+abbrev pub Before : BoardMailbox → SharedRequest → Stage → Phase → Type 0
+Before m request Locks phase = phase ≡ Idle
+Before m request ReadsPutCount phase = phase ≡ Locked
+Before m request (ReadsTakeCount p) phase = (phase ≡ First p) × (p < 2 ^ 32)
+Before m request (WritesWord p word) phase =
+    (t : ℕ) × (mailbox : Mailbox) × (phase ≡ Both p t) × (has_room m p t ≡ true) × (request ≡ asked.Put mailbox word)
+Before m request (RaisesPutCount p) phase =
+    (word : ℕ) × (mailbox : Mailbox) × (phase ≡ Written p (word % 2 ^ 32)) × (p < 2 ^ 32 - 1) × (request ≡ asked.Put mailbox word)
+Before m request (ReadsWord t) phase = (p : ℕ) × (phase ≡ Both p t) × ((p == t) ≡ false)
+Before m request (RaisesTakeCount t word) phase = phase ≡ Fetched t word
+Before m request (Unlocks end) phase = BeforeUnlock end phase
+
+-- the words that were put and taken until then
+abbrev pub Words : SharedRequest → Stage → List ℕ → List ℕ → Type 0
+Words request (Unlocks end) put taken = (put ≡ put_told end request) × (taken ≡ taken_told end)
+Words request stage put taken = (put ≡ []) × (taken ≡ [])
+
+-- what a put or a take may end as without an error
+abbrev pub IsFineEnd : SharedOutcome → Type 0
+IsFineEnd end = (end ≢ shared.Berr) × (end ≢ shared.Denied)
+
+-- where a step leads
+abbrev pub Leads : BoardMailbox → SharedRequest → Step → Phase → List ℕ → List ℕ → Type 0
+Leads m request (Goes stage) phase put taken = Before m request stage phase × Words request stage put taken
+Leads m request (Stops end) phase put taken = (phase ≡ Idle) × (put ≡ put_told end request) × (taken ≡ taken_told end) × IsFineEnd end
+
+-- a reply has the form that a stage wants, and is no bus error
+pub record IsFine (m : BoardMailbox) (stage : Stage) (reply : Reply) : Type 0 where
+  pub form : has_form (reply_len (stage_command m stage)) reply ≡ true
+  pub good : reply ≢ Berr
+
+-- the stage's access leads on
+pub record Went (m : BoardMailbox) (request : SharedRequest) (stage : Stage) (phase : Phase) (put taken : List ℕ) (reply : Reply) : Type 0 where
+  pub next : Phase
+  pub is : after_command m (Some phase) (Some (stage_command m stage)) reply ≡ Some next
+  pub leads :
+      IsCount (Some next)
+      → Leads m request (step_after request stage (aim_outcome (stage_aim stage) (reply_bytes reply))) next
+      (put ++ put_by (Some phase) (Some next)) (taken ++ taken_by (Some phase) (Some next))
+
+-- a write with its length and its number
+same_place : (at : ℕ) → (at == at) ≡ true
+same_place at = eq-eqb at at refl
+
+-- the access of a stage that touches the mailbox
+step_in : (m : BoardMailbox) (stage : Stage) (phase : Phase) (reply : Reply) (next : Option Phase) → 1 ≤ m.slots
+    → next_phase m phase (access_of (stage_command m stage) reply) ≡ next
+    → after_command m (Some phase) (Some (stage_command m stage)) reply ≡ next
+step_in m stage phase reply next some is = rw (stage_touches m stage some) is
+
+-- the lock
+locks_found : (bytes : List ℕ) → length bytes ≡ 1 → has_top_bit bytes ≡ nat_le 128 (number_of bytes)
+locks_found [] long = absurd (omega arith)
+locks_found (byte ∷ []) long = let is : byte ≡ 256 * 0 + byte = omega arith in ap (nat_le 128) is
+locks_found (byte ∷ other ∷ bytes) long = absurd (omega arith)
+
+-- nothing more
+nothing : (words : List ℕ) → words ≡ [] → words ++ [] ≡ []
+nothing words none = ap (λ ws. ws ++ []) none
+
+-- four bytes, read
+fine_four : (bytes : List ℕ) → (length bytes == 4) ≡ true → word_in bytes ≡ Some (number_of bytes)
+fine_four bytes long = rw long refl
+
+module _ (m : BoardMailbox) (request : SharedRequest) (mailbox : Mailbox) (is : mailbox_in request ≡ Some mailbox) (slots : m.slots ≡ mailbox.slots)
+    (some : 1 ≤ m.slots) (put taken : List ℕ) where
+  -- the table of a put or a take
+  own_step : (stage : Stage) (outcome : Outcome) → step_after request stage outcome ≡ mailbox_step request stage outcome
+  own_step = by_request request is
+    where
+      by_request : (request : SharedRequest) → mailbox_in request ≡ Some mailbox → (stage : Stage) (outcome : Outcome)
+          → step_after request stage outcome ≡ mailbox_step request stage outcome
+      by_request (asked.Lock am addr) is stage outcome = absurd cc
+      by_request (asked.Unlock am addr) is stage outcome = absurd cc
+      by_request (asked.Put own word) is stage outcome = refl
+      by_request (asked.Take own) is stage outcome = refl
+
+  -- a stage goes on to a next phase by a step
+  goes_by : (stage : Stage) (phase : Phase) (reply : Reply) (next : Phase) (step : Step)
+      → next_phase m phase (access_of (stage_command m stage) reply) ≡ Some next
+      → mailbox_step request stage (aim_outcome (stage_aim stage) (reply_bytes reply)) ≡ step
+      → (IsCount (Some next) → Leads m request step next (put ++ put_by (Some phase) (Some next)) (taken ++ taken_by (Some phase) (Some next)))
+      → Went m request stage phase put taken reply
+  goes_by stage phase reply next step row table leads = record {
+    next = next;
+    is = step_in m stage phase reply (Some next) some row;
+    leads = λ count. rw (own_step stage (aim_outcome (stage_aim stage) (reply_bytes reply))) (rw table (leads count));
+  }
+
+  row_locks : (reply : Reply) → IsFine m Locks reply → Words request Locks put taken → Went m request Locks Idle put taken reply
+  row_locks (Bytes datum) fine none =
+      let long : length datum.items ≡ 1 = eqb-true _ _ fine.form in
+      let found = locks_found datum.items long in
+      elim (cases_Bool (nat_le 128 (number_of datum.items))) [
+        | inl held ↦
+            goes_by Locks Idle (Bytes datum) Idle (Stops shared.Busy) (rw (same_place (places.lock_at m)) (rw held refl)) (rw (found ∙ held) refl)
+            (λ count. (refl, nothing put none.0, nothing taken none.1, (λ same. absurd cc, λ same. absurd cc)))
+        | inr free ↦
+            goes_by Locks Idle (Bytes datum) Locked (Goes ReadsPutCount) (rw (same_place (places.lock_at m)) (rw free refl)) (rw (found ∙ free) refl)
+            (λ count. (refl, (nothing put none.0, nothing taken none.1)))
+      ]
+  row_locks Done fine none = let form = fine.form in absurd cc
+  row_locks Berr fine none = absurd (fine.good refl)
+
+  row_reads_put_count : (reply : Reply) → IsFine m ReadsPutCount reply → Words request ReadsPutCount put taken
+      → Went m request ReadsPutCount Locked put taken reply
+  row_reads_put_count (Bytes datum) fine none =
+      goes_by ReadsPutCount Locked (Bytes datum) (First (number_of datum.items)) (Goes (ReadsTakeCount (number_of datum.items)))
+      (rw (same_place (places.put_count_at m)) refl) (rw fine.form refl)
+      (λ count. ((refl, count), (nothing put none.0, nothing taken none.1)))
+  row_reads_put_count Done fine none = let form = fine.form in absurd cc
+  row_reads_put_count Berr fine none = absurd (fine.good refl)
+
+  -- where both counts are known
+  counted : (p t : ℕ) → p < 2 ^ 32 → put ≡ [] → taken ≡ []
+      → Before m request (counted_stage request p t) (Both p t) × Words request (counted_stage request p t) (put ++ []) (taken ++ [])
+  counted p t small no_put no_taken = by_request request is
+    where
+      by_request : (request : SharedRequest) → mailbox_in request ≡ Some mailbox
+          → Before m request (counted_stage request p t) (Both p t) × Words request (counted_stage request p t) (put ++ []) (taken ++ [])
+      by_request (asked.Lock am addr) is = absurd cc
+      by_request (asked.Unlock am addr) is = absurd cc
+      by_request (asked.Put own word) is =
+          let same : own ≡ mailbox = cc in
+          let room : m.slots ≡ own.slots = slots ∙ ap (λ (o : Mailbox). o.slots) (sym same) in
+          elim (cases_Bool (p == 2 ^ 32 - 1)) [
+            | inl greatest ↦ rw greatest ((p, t, refl), (nothing put no_put, nothing taken no_taken))
+            | inr less ↦
+                let below : p < 2 ^ 32 - 1 = let other = eqb-false p (2 ^ 32 - 1) less in omega (arith, other) in
+                elim (cases_Bool (nat_le own.slots (words_between p t))) [
+                  | inl full ↦ rw (less, full) ((p, t, refl), (nothing put no_put, nothing taken no_taken))
+                  | inr free ↦
+                      let near : (p + 2 ^ 32 - t) % 2 ^ 32 < m.slots = let free_slot = leb-false own.slots (words_between p t) free in omega arith in
+                      let has : has_room m p t ≡ true = and_from _ _ (lt-ltb p (2 ^ 32 - 1) below) (lt-ltb ((p + 2 ^ 32 - t) % 2 ^ 32) m.slots near) in
+                      rw (less, free) ((t, own, refl, has, refl), (nothing put no_put, nothing taken no_taken))
+                ]
+          ]
+      by_request (asked.Take own) is =
+          elim (cases_Bool (p == t)) [
+            | inl same ↦ rw same ((p, t, refl), (nothing put no_put, nothing taken no_taken))
+            | inr other ↦ rw other ((p, refl, other), (nothing put no_put, nothing taken no_taken))
+          ]
+
+  row_reads_take_count : (p : ℕ) (reply : Reply) → p < 2 ^ 32 → IsFine m (ReadsTakeCount p) reply → Words request (ReadsTakeCount p) put taken
+      → Went m request (ReadsTakeCount p) (First p) put taken reply
+  row_reads_take_count p (Bytes datum) small fine none =
+      goes_by (ReadsTakeCount p) (First p) (Bytes datum) (Both p (number_of datum.items)) (Goes (counted_stage request p (number_of datum.items)))
+      (rw (same_place (places.take_count_at m)) refl) (rw fine.form refl)
+      (λ count. counted p (number_of datum.items) small none.0 none.1)
+  row_reads_take_count p Done small fine none = let form = fine.form in absurd cc
+  row_reads_take_count p Berr small fine none = absurd (fine.good refl)
+
+  row_reads_word : (p t : ℕ) (reply : Reply) → (p == t) ≡ false → IsFine m (ReadsWord t) reply → Words request (ReadsWord t) put taken
+      → Went m request (ReadsWord t) (Both p t) put taken reply
+  row_reads_word p t (Bytes datum) other fine none =
+      goes_by (ReadsWord t) (Both p t) (Bytes datum) (Fetched t (number_of datum.items)) (Goes (RaisesTakeCount t (number_of datum.items)))
+      (rw (same_place (places.word_at m t)) (rw other refl)) (rw fine.form refl) (λ count. (refl, (nothing put none.0, nothing taken none.1)))
+  row_reads_word p t Done other fine none = let form = fine.form in absurd cc
+  row_reads_word p t Berr other fine none = absurd (fine.good refl)
+
+  -- a word does not lie where the lock does
+  no_unlock : (n x : ℕ) → is_unlock m (places.word_at m n) 4 x ≡ false
+  no_unlock n x = and_left _ _ (and_left _ _ (ne_eqb (places.word_at m n) (places.lock_at m) (λ same. omega arith)))
+
+  row_writes_word : (p t word : ℕ) (own : Mailbox) (reply : Reply) → has_room m p t ≡ true → request ≡ asked.Put own word
+      → IsFine m (WritesWord p word) reply → Words request (WritesWord p word) put taken
+      → Went m request (WritesWord p word) (Both p t) put taken reply
+  row_writes_word p t word own (Bytes datum) has is_put fine none = let form = fine.form in absurd cc
+  row_writes_word p t word own Done has is_put fine none =
+      let below : p < 2 ^ 32 - 1 = ltb-true p (2 ^ 32 - 1) (and_parts _ _ has).0 in
+      goes_by (WritesWord p word) (Both p t) Done (Written p (word % 2 ^ 32)) (Goes (RaisesPutCount p))
+      (
+      ap (λ x. next_phase m (Both p t) (Writes (places.word_at m p) 4 x)) (number_of-number_bytes 4 word)
+      ∙ rw (no_unlock p (word % 2 ^ 32)) (rw (same_place (places.word_at m p)) (rw has refl))
+      )
+      refl (λ count. ((word, own, refl, below, is_put), (nothing put none.0, nothing taken none.1)))
+  row_writes_word p t word own Berr has is_put fine none = absurd (fine.good refl)
+
+  row_raises_put_count : (p word : ℕ) (own : Mailbox) (reply : Reply) → p < 2 ^ 32 - 1 → request ≡ asked.Put own word
+      → IsFine m (RaisesPutCount p) reply → Words request (RaisesPutCount p) put taken
+      → Went m request (RaisesPutCount p) (Written p (word % 2 ^ 32)) put taken reply
+  row_raises_put_count p word own (Bytes datum) below is_put fine none = let form = fine.form in absurd cc
+  row_raises_put_count p word own Done below is_put fine none =
+      let number : number_of (number_bytes 4 (raised p)) ≡ p + 1 = number_of-number_bytes 4 (raised p) ∙ omega arith in
+      goes_by (RaisesPutCount p) (Written p (word % 2 ^ 32)) Done Counted (Goes (Unlocks shared.Put))
+      (
+      ap (λ x. next_phase m (Written p (word % 2 ^ 32)) (Writes (places.put_count_at m) 4 x)) number
+      ∙ rw (same_place (places.put_count_at m)) (rw (same_place (p + 1)) refl)
+      )
+      refl
+      (λ count. (refl, (ap (λ ws. ws ++ (word % 2 ^ 32) ∷ []) none.0 ∙ ap (put_told shared.Put) (sym is_put), nothing taken none.1)))
+  row_raises_put_count p word own Berr below is_put fine none = absurd (fine.good refl)
+
+  row_raises_take_count : (t word : ℕ) (reply : Reply) → IsFine m (RaisesTakeCount t word) reply → Words request (RaisesTakeCount t word) put taken
+      → Went m request (RaisesTakeCount t word) (Fetched t word) put taken reply
+  row_raises_take_count t word (Bytes datum) fine none = let form = fine.form in absurd cc
+  row_raises_take_count t word Done fine none =
+      let number : number_of (number_bytes 4 (raised t)) ≡ (t + 1) % 2 ^ 32 = number_of-number_bytes 4 (raised t) ∙ omega arith in
+      goes_by (RaisesTakeCount t word) (Fetched t word) Done Counted (Goes (Unlocks (shared.Took word)))
+      (
+      ap (λ x. next_phase m (Fetched t word) (Writes (places.take_count_at m) 4 x)) number
+      ∙ rw (same_place (places.take_count_at m)) (rw (same_place ((t + 1) % 2 ^ 32)) refl)
+      )
+      refl (λ count. (refl, (nothing put none.0, ap (λ ws. ws ++ word ∷ []) none.1)))
+  row_raises_take_count t word Berr fine none = absurd (fine.good refl)
+
+  -- an unlock, from where it may be made
+  unlocked : (end : SharedOutcome) (phase : Phase) (reply : Reply) → IsFineEnd end → next_phase m phase (Writes (places.lock_at m) 1 0) ≡ Some Idle
+      → put_by (Some phase) (Some Idle) ≡ [] → taken_by (Some phase) (Some Idle) ≡ []
+      → IsFine m (Unlocks end) reply → Words request (Unlocks end) put taken → Went m request (Unlocks end) phase put taken reply
+  unlocked end phase (Bytes datum) ok goes no_put no_taken fine told = let form = fine.form in absurd cc
+  unlocked end phase Done ok goes no_put no_taken fine told =
+      goes_by (Unlocks end) phase Done Idle (Stops end) goes refl
+      (λ count. (
+        refl,
+        ap (λ ws. put ++ ws) no_put ∙ append-nil put ∙ told.0,
+        ap (λ ws. taken ++ ws) no_taken ∙ append-nil taken ∙ told.1,
+        ok,
+      ))
+  unlocked end phase Berr ok goes no_put no_taken fine told = absurd (fine.good refl)
+
+  row_unlocks_both : (end : SharedOutcome) (p t : ℕ) (reply : Reply) → IsFineEnd end → IsFine m (Unlocks end) reply → Words request (Unlocks end) put taken
+      → Went m request (Unlocks end) (Both p t) put taken reply
+  row_unlocks_both end p t reply ok fine told = unlocked end (Both p t) reply ok (rw (same_place (places.lock_at m)) refl) refl refl fine told
+
+  row_unlocks_counted : (end : SharedOutcome) (reply : Reply) → IsFineEnd end → IsFine m (Unlocks end) reply → Words request (Unlocks end) put taken
+      → Went m request (Unlocks end) Counted put taken reply
+  row_unlocks_counted end reply ok fine told = unlocked end Counted reply ok (rw (same_place (places.lock_at m)) refl) refl refl fine told
+
+  row_unlocks : (end : SharedOutcome) (phase : Phase) (reply : Reply) → BeforeUnlock end phase → IsFine m (Unlocks end) reply
+      → Words request (Unlocks end) put taken → Went m request (Unlocks end) phase put taken reply
+  row_unlocks shared.Put phase reply at fine told = subst (λ p. Went m request (Unlocks shared.Put) p put taken reply) (sym at) (row_unlocks_counted shared.Put reply (λ same. absurd cc, λ same. absurd cc) fine told)
+  row_unlocks (shared.Took word) phase reply at fine told =
+      subst (λ p. Went m request (Unlocks (shared.Took word)) p put taken reply) (sym at) (row_unlocks_counted (shared.Took word) reply (λ same. absurd cc, λ same. absurd cc) fine told)
+  row_unlocks shared.Full phase reply at fine told =
+      subst (λ p. Went m request (Unlocks shared.Full) p put taken reply) (sym at.2) (row_unlocks_both shared.Full at.0 at.1 reply (λ same. absurd cc, λ same. absurd cc) fine told)
+  row_unlocks shared.Empty phase reply at fine told =
+      subst (λ p. Went m request (Unlocks shared.Empty) p put taken reply) (sym at.2) (row_unlocks_both shared.Empty at.0 at.1 reply (λ same. absurd cc, λ same. absurd cc) fine told)
+  row_unlocks shared.Spent phase reply at fine told =
+      subst (λ p. Went m request (Unlocks shared.Spent) p put taken reply) (sym at.2) (row_unlocks_both shared.Spent at.0 at.1 reply (λ same. absurd cc, λ same. absurd cc) fine told)
+  row_unlocks end phase reply at fine told = absurd at
+
+  -- each stage
+  pub goes : (stage : Stage) (phase : Phase) (reply : Reply) → Before m request stage phase → Words request stage put taken → IsFine m stage reply
+      → Went m request stage phase put taken reply
+  goes Locks phase reply at none fine = subst (λ p. Went m request Locks p put taken reply) (sym at) (row_locks reply fine none)
+  goes ReadsPutCount phase reply at none fine =
+      subst (λ p. Went m request ReadsPutCount p put taken reply) (sym at) (row_reads_put_count reply fine none)
+  goes (ReadsTakeCount p) phase reply at none fine =
+      subst (λ q. Went m request (ReadsTakeCount p) q put taken reply) (sym at.0) (row_reads_take_count p reply at.1 fine none)
+  goes (WritesWord p word) phase reply (t, own, at, has, is_put) none fine =
+      subst (λ q. Went m request (WritesWord p word) q put taken reply) (sym at) (row_writes_word p t word own reply has is_put fine none)
+  goes (RaisesPutCount p) phase reply (word, own, at, below, is_put) none fine =
+      subst (λ q. Went m request (RaisesPutCount p) q put taken reply) (sym at) (row_raises_put_count p word own reply below is_put fine none)
+  goes (ReadsWord t) phase reply (p, at, other) none fine =
+      subst (λ q. Went m request (ReadsWord t) q put taken reply) (sym at) (row_reads_word p t reply other fine none)
+  goes (RaisesTakeCount t word) phase reply at none fine =
+      subst (λ q. Went m request (RaisesTakeCount t word) q put taken reply) (sym at) (row_raises_take_count t word reply fine none)
+  goes (Unlocks end) phase reply at told fine = row_unlocks end phase reply at fine told

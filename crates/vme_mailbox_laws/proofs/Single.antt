@@ -1,0 +1,123 @@
+-- A bus task of one datum that is given good replies: what it does next, and what comes of it.
+use Rattle.std.proofs.Common.{◌≡◌, ◌≢◌, ℕ, ◌+◌, ◌⊎◌, List, [], ◌∷◌, ◌++◌, Option, Some, None, refl, ap, sym, subst, ◌∙◌, inl, inr}
+use Rattle.std.specs.Prelude.{IsTrue}
+use Rattle.vme_cycle.specs.Requests.{count_of}
+use Rattle.vme_memory.specs.declared.reply.Reply.{Reply}
+use Rattle.vme_memory.specs.declared.reply.Reply.TheVariants.{Bytes, Done, Berr}
+use Rattle.vme_arbiter.specs.declared.command.ArbReply.{ArbReply}
+use Rattle.vme_arbiter.specs.declared.command.ArbReply.TheVariants as turned
+use Rattle.vme_core.specs.declared.event.EventReply.{EventReply}
+use Rattle.vme_core.specs.declared.event.EventReply.TheVariants as told
+use Rattle.vme_core.specs.Calls.{Call}
+use Rattle.vme_master.specs.declared.job.BusJob.{BusJob}
+use Rattle.vme_master.specs.declared.job.Job.TheVariants.{Bus}
+use Rattle.vme_master.specs.Jobs.{ask_call, look_call, done_call, datum_call, fits, request_aim, aim_outcome}
+use Rattle.vme_master.specs.Tables.{Next, Rests, Makes, Ends, Given, data_in, bytes_in, datum_or_done, next_of}
+
+-- the bytes of a reply
+abbrev pub reply_bytes : Reply → List ℕ
+reply_bytes (Bytes datum) = datum.items
+reply_bytes Done = []
+reply_bytes Berr = []
+
+-- what is good to what a task does next
+abbrev pub IsGoodTo : Next → Option EventReply → Type 0
+IsGoodTo Rests last = last ≡ None
+IsGoodTo (Makes call) None = ⊥
+IsGoodTo (Makes call) (Some reply) = IsTrue (fits call reply) × (reply ≢ told.Board Berr) × (reply ≢ told.Bus turned.Denied)
+IsGoodTo (Ends outcome) last = Unit {0}
+
+-- its datum was not yet answered: it rests, it asks or looks, or its datum goes to the board
+pub record Waits (job : BusJob) (g : Given) : Type 0 where
+  pub none : data_in g ≡ 0
+  pub bytes : bytes_in g ≡ []
+  pub next :
+      (next_of (Bus job) g ≡ Rests) ⊎ ((next_of (Bus job) g ≡ Makes (ask_call job))
+      ⊎ ((next_of (Bus job) g ≡ Makes (look_call job)) ⊎ (next_of (Bus job) g ≡ Makes (datum_call job job.place 0))))
+
+-- its datum was answered, and the bus is given back next
+pub record Answered (job : BusJob) (reply : Reply) (g : Given) : Type 0 where
+  pub before : Given
+  pub is : g ≡ Some (told.Board reply) ∷ before
+  pub bytes : bytes_in g ≡ reply_bytes reply
+  pub good : reply ≢ Berr
+  pub next : next_of (Bus job) g ≡ Makes (done_call job)
+
+-- before its first call
+pub waits_fresh : (job : BusJob) → Waits job []
+waits_fresh job = record { none = refl; bytes = refl; next = inl refl }
+
+-- at its first call
+pub waits_called : (job : BusJob) (g : Given) → Waits job g → next_of (Bus job) g ≡ Rests → Waits job (None ∷ g)
+waits_called job g waits rests = record { none = waits.none; bytes = waits.bytes; next = inr (inl (rw rests refl)) }
+
+module _ (job : BusJob) (one : count_of job.transfer.request ≡ 1) where
+  first_datum : datum_or_done job 0 ≡ datum_call job job.place 0
+  first_datum = rw one refl
+
+  past_datum : (n : ℕ) → n ≡ 0 → datum_or_done job (n + 1) ≡ done_call job
+  past_datum n none = rw none (rw one refl)
+
+  -- the arbiter replied to an ask or a look
+  pub waits_told : (g : Given) (cmd : Call) (reply : ArbReply) → ((cmd ≡ ask_call job) ⊎ (cmd ≡ look_call job)) → Waits job g
+      → next_of (Bus job) g ≡ Makes cmd → IsGoodTo (Makes cmd) (Some (told.Bus reply)) → Waits job (Some (told.Bus reply) ∷ g)
+  waits_told g cmd turned.Granted which waits makes good = record {
+    none = waits.none;
+    bytes = waits.bytes;
+    next = inr (inr (inr (rw makes (rw good.0 (ap Makes first_datum)))));
+  }
+  waits_told g cmd turned.Waiting which waits makes good = record {
+    none = waits.none;
+    bytes = waits.bytes;
+    next = inr (inr (inl (rw makes (rw good.0 refl))));
+  }
+  waits_told g cmd turned.Freed (inl asks) waits makes good = let fit = ap (λ c. fits c (told.Bus turned.Freed)) (sym asks) ∙ good.0 in absurd cc
+  waits_told g cmd turned.Freed (inr looks) waits makes good = let fit = ap (λ c. fits c (told.Bus turned.Freed)) (sym looks) ∙ good.0 in absurd cc
+  waits_told g cmd turned.Denied which waits makes good = absurd (good.2 refl)
+
+  -- a board replied to the datum
+  pub answered_by : (g : Given) (call : Call) (reply : Reply) → Waits job g → next_of (Bus job) g ≡ Makes call
+      → IsGoodTo (Makes call) (Some (told.Board reply)) → Answered job reply (Some (told.Board reply) ∷ g)
+  answered_by g call (Bytes datum) waits makes good = record {
+    before = g;
+    is = refl;
+    bytes = ap (λ bytes. bytes ++ datum.items) waits.bytes;
+    good = λ error. absurd cc;
+    next = rw makes (rw good.0 (ap Makes (past_datum (data_in g) waits.none)));
+  }
+  answered_by g call Done waits makes good = record {
+    before = g;
+    is = refl;
+    bytes = waits.bytes;
+    good = λ error. absurd cc;
+    next = rw makes (rw good.0 (ap Makes (past_datum (data_in g) waits.none)));
+  }
+  answered_by g call Berr waits makes good = absurd (good.1 refl)
+
+  -- the bus is free again: the outcome is what the request is for
+  ended_by : (g before : Given) (reply : Reply) (place : ℕ × ℕ) → job.place ≡ Some place → g ≡ Some (told.Board reply) ∷ before → reply ≢ Berr
+      → next_of (Bus job) g ≡ Makes (done_call job)
+      → next_of (Bus job) (Some (told.Bus turned.Freed) ∷ g) ≡ Ends (aim_outcome (request_aim job.transfer.request) (bytes_in g))
+  ended_by g before (Bytes datum) place placed is good next = rw next (rw placed (rw is refl))
+  ended_by g before Done place placed is good next = rw next (rw placed (rw is refl))
+  ended_by g before Berr place placed is good next = absurd (good refl)
+
+  pub ended : (g : Given) (last : Option EventReply) (reply : Reply) (place : ℕ × ℕ) → job.place ≡ Some place → Answered job reply g
+      → IsGoodTo (next_of (Bus job) g) last
+      → (last ≡ Some (told.Bus turned.Freed))
+      × (next_of (Bus job) (last ∷ g) ≡ Ends (aim_outcome (request_aim job.transfer.request) (reply_bytes reply)))
+  ended g last reply place placed answered good = by_last last (subst (λ n. IsGoodTo n last) answered.next good)
+    where
+      by_last : (last : Option EventReply) → IsGoodTo (Makes (done_call job)) last
+          → (last ≡ Some (told.Bus turned.Freed))
+          × (next_of (Bus job) (last ∷ g) ≡ Ends (aim_outcome (request_aim job.transfer.request) (reply_bytes reply)))
+      by_last None fine = absurd fine
+      by_last (Some (told.Board r)) fine = let fit = fine.0 in absurd cc
+      by_last (Some (told.Bus turned.Granted)) fine = let fit = fine.0 in absurd cc
+      by_last (Some (told.Bus turned.Waiting)) fine = let fit = fine.0 in absurd cc
+      by_last (Some (told.Bus turned.Freed)) fine = (
+        refl,
+        ended_by g answered.before reply place placed answered.is answered.good answered.next
+            ∙ ap (λ bytes. Ends (aim_outcome (request_aim job.transfer.request) bytes)) answered.bytes,
+      )
+      by_last (Some (told.Bus turned.Denied)) fine = absurd (fine.2 refl)

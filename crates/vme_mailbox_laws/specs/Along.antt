@@ -1,0 +1,103 @@
+-- A put or a take as the board sees it: where its mailbox lies, and through which phases its commands lead.
+use Rattle.std.specs.Prelude.{ℕ, ◌≡◌, ◌≢◌, ◌+◌, ◌%◌, ◌^◌, ◌<◌, ◌==◌, if◌then◌else◌, List, [], ◌∷◌, ◌++◌, Option, Some, None, Ok, IsTrue}
+use Rattle.vme_am.specs.Codes.{CodeRow, read_code}
+use Rattle.vme_decode.specs.declared.entry.Entry.{Entry}
+use Rattle.vme_decode.specs.Select.{selection_at}
+use Rattle.vme_memory.specs.declared.reply.Reply.TheVariants.{Berr}
+use Rattle.vme_memory.specs.Steps.{Command}
+use Rattle.vme_arbiter.specs.declared.command.ArbReply.TheVariants.{Denied}
+use Rattle.vme_core.specs.declared.event.EventReply.{EventReply}
+use Rattle.vme_core.specs.declared.event.EventReply.TheVariants as told
+use Rattle.vme_core.specs.Calls.{OnBoard}
+use Rattle.vme_master.specs.Jobs.{fits}
+use Rattle.vme_master.specs.Tables.{Given}
+use Rattle.vme_mailbox.specs.Mailboxes.{BoardMailbox, mailbox_len}
+use Rattle.vme_mailbox.specs.Phases.{Phase, Idle, First, after_command}
+use Rattle.vme_shared.specs.declared.mailbox.Mailbox.{Mailbox}
+use Rattle.vme_shared.specs.declared.outcome.SharedOutcome.{SharedOutcome}
+use Rattle.vme_shared.specs.declared.outcome.SharedOutcome.TheVariants as shared
+use Rattle.vme_shared.specs.declared.request.SharedRequest.{SharedRequest}
+use Rattle.vme_shared.specs.declared.request.SharedRequest.TheVariants as asked
+use Rattle.vme_shared.specs.Mailboxes.{IsAsked, shared_refusal}
+use Rattle.vme_shared.specs.Tables.{SharedJob, SharedNext, Rests, Makes, Ends, shared_next}
+
+-- the mailbox that is asked for, if one is (this project's own)
+abbrev pub mailbox_in : SharedRequest → Option Mailbox
+mailbox_in (asked.Lock am addr) = None
+mailbox_in (asked.Unlock am addr) = None
+mailbox_in (asked.Put mailbox word) = Some mailbox
+mailbox_in (asked.Take mailbox) = Some mailbox
+
+-- a mailbox lies wholly in the board at a place of a map: each of its addresses selects that board, so far on from the offset
+-- of the first (this project's own)
+pub record LiesAt (map : List Entry) (mailbox : Mailbox) (board : ℕ) (m : BoardMailbox) : Type 0 where
+  pub slots : m.slots ≡ mailbox.slots
+  pub each :
+      (code : CodeRow) (k : ℕ) → read_code mailbox.am ≡ Ok code → k < mailbox_len m.slots
+      → selection_at map code (mailbox.addr + k) ≡ Some (board, m.offset + k)
+
+-- a put or a take that was not refused at its start, and the mailbox of the board at a place that it uses (this project's own)
+pub record UsesMailbox (s : SharedJob) (board : ℕ) (m : BoardMailbox) : Type 0 where
+  pub mailbox : Mailbox
+  pub asked : mailbox_in s.request ≡ Some mailbox
+  pub lies : LiesAt s.map mailbox board m
+  pub formed : IsAsked s.request
+  pub started : shared_refusal s.request ≡ None
+
+-- what was given is good to what was done next: none before the first call, and then a reply that fits and is neither a bus
+-- error nor a denial (this project's own)
+abbrev pub IsGood : SharedNext → Option EventReply → Type 0
+IsGood Rests last = last ≡ None
+IsGood (Makes call) None = ⊥
+IsGood (Makes call) (Some reply) = IsTrue (fits call reply) × (reply ≢ told.Board Berr) × (reply ≢ told.Bus Denied)
+IsGood (Ends outcome) last = Unit {0}
+
+-- and so was all before it (this project's own)
+abbrev pub AllGood : SharedJob → Given → Type 0
+AllGood s [] = Unit {0}
+AllGood s (last ∷ before) = IsGood (shared_next s before) last × AllGood s before
+
+-- the phase after a call and what was given to it: a command to the board, with its reply, moves it (this project's own)
+abbrev pub phase_given : BoardMailbox → ℕ → SharedNext → Option EventReply → Option Phase → Option Phase
+phase_given m board (Makes (OnBoard x command)) (Some (told.Board reply)) phase =
+    if x == board then after_command m phase command reply else phase
+phase_given m board next last phase = phase
+
+-- the phase in which its commands to the board have left a mailbox, from idle on (this project's own)
+abbrev pub phase_along : BoardMailbox → ℕ → SharedJob → Given → Option Phase
+phase_along m board s [] = Some Idle
+phase_along m board s (last ∷ before) = phase_given m board (shared_next s before) last (phase_along m board s before)
+
+-- the words that its commands to the board have put or taken (this project's own)
+abbrev pub words_given : (Option Phase → Option Phase → List ℕ) → BoardMailbox → ℕ → SharedJob → Given → List ℕ
+words_given by m board s [] = []
+words_given by m board s (last ∷ before) =
+    words_given by m board s before ++ by (phase_along m board s before) (phase_along m board s (last ∷ before))
+
+-- a put count that was read is a number of four bytes (this project's own)
+abbrev pub IsCount : Option Phase → Type 0
+IsCount (Some (First p)) = p < 2 ^ 32
+IsCount phase = Unit {0}
+
+-- each one that was (this project's own)
+abbrev pub AllCounts : BoardMailbox → ℕ → SharedJob → Given → Type 0
+AllCounts m board s [] = Unit {0}
+AllCounts m board s (last ∷ before) = IsCount (phase_along m board s (last ∷ before)) × AllCounts m board s before
+
+-- the words that are put by what comes of it: its own, as four bytes, where it was put (this project's own)
+abbrev pub put_told : SharedOutcome → SharedRequest → List ℕ
+put_told shared.Put (asked.Put mailbox word) = word % 2 ^ 32 ∷ []
+put_told outcome request = []
+
+-- and those that are taken (this project's own)
+abbrev pub taken_told : SharedOutcome → List ℕ
+taken_told (shared.Took word) = word ∷ []
+taken_told outcome = []
+
+-- a command goes to the board, and to the offset there, that a code and an address select (this project's own)
+pub record GoesTo (map : List Entry) (am addr board : ℕ) (command_at : ℕ → Command) (command : Option Command) : Type 0 where
+  pub code : CodeRow
+  pub row : read_code am ≡ Ok code
+  pub offset : ℕ
+  pub selected : selection_at map code addr ≡ Some (board, offset)
+  pub own : command ≡ Some (command_at offset)

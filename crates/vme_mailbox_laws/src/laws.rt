@@ -1,0 +1,67 @@
+ghost use Rattle.std.specs.Prelude.{◌≡◌, ◌≢◌, ◌∷◌, [], ℕ, Option, Some, IsTrue, is_some};
+ghost use Rattle.vme_cycle.specs.declared.modify.Modify.TheVariants.{Set};
+ghost use Rattle.vme_memory.specs.Boards.{Board};
+ghost use Rattle.vme_memory.specs.Steps.{Command, Write, Modify};
+ghost use Rattle.vme_core.specs.declared.event.EventReply.TheVariants as told;
+ghost use Rattle.vme_core.specs.Calls.{OnBoard, command_step};
+ghost use Rattle.vme_master.specs.Tables.{Given};
+ghost use Rattle.vme_mailbox.specs.Mailboxes.{BoardMailbox, LiesIn, touches};
+ghost use Rattle.vme_mailbox.specs.Phases.{Idle};
+ghost use Rattle.vme_mailbox.specs.Words.{put_by, taken_by};
+ghost use Rattle.vme_shared.specs.declared.outcome.SharedOutcome.{SharedOutcome};
+ghost use Rattle.vme_shared.specs.declared.outcome.SharedOutcome.TheVariants.{Berr, Denied};
+ghost use Rattle.vme_shared.specs.declared.request.SharedRequest.TheVariants.{Lock, Unlock};
+ghost use Rattle.vme_shared.specs.Tables.{SharedJob, Makes, Ends, shared_next};
+ghost use Rattle.vme_mailbox_laws.specs.Along.{UsesMailbox, IsGood, AllGood, AllCounts, phase_along, words_given, put_told, taken_told, GoesTo};
+
+/// Each command of a put or a take to a board goes to the board of its mailbox, and touches the
+/// mailbox; where the mailbox lies wholly in a board that answers quad bytes and read-modify-writes,
+/// the reply is good.
+pub fn puts_and_takes_touch_their_mailbox_alone()
+    ensures touches { (s : SharedJob) (given : Given) (board x : ℕ) (m : BoardMailbox)
+        (command : Option Command) → UsesMailbox s board m →
+        shared_next s given ≡ Makes (OnBoard x command) →
+        (x ≡ board) × ((c : Command) × (command ≡ Some c) × IsTrue (touches m c)) }
+    ensures answered { (s : SharedJob) (given : Given) (board x : ℕ) (m : BoardMailbox)
+        (command : Option Command) (memory : Board) → UsesMailbox s board m → LiesIn memory m →
+        shared_next s given ≡ Makes (OnBoard x command) →
+        IsGood (shared_next s given) (Some (told.Board (command_step memory command).1)) }
+{}
+
+/// Whatever good replies it is given, a put or a take goes by the rows of its mailbox: each of its
+/// commands, with its reply, is the access that comes next there. Where it ends it has left the
+/// mailbox, it ends without a bus error or a denial, and the words that it has put or taken there
+/// are those that it tells.
+pub fn puts_and_takes_go_by_the_rows()
+    ensures rows { (s : SharedJob) (given : Given) (board : ℕ) (m : BoardMailbox) →
+        UsesMailbox s board m → AllGood s given → AllCounts m board s given →
+        IsTrue (is_some (phase_along m board s given)) }
+    ensures leaves { (s : SharedJob) (given : Given) (board : ℕ) (m : BoardMailbox)
+        (outcome : SharedOutcome) → UsesMailbox s board m → AllGood s given →
+        AllCounts m board s given → shared_next s given ≡ Ends outcome →
+        phase_along m board s given ≡ Some Idle }
+    ensures fine { (s : SharedJob) (given : Given) (board : ℕ) (m : BoardMailbox)
+        (outcome : SharedOutcome) → UsesMailbox s board m → AllGood s given →
+        AllCounts m board s given → shared_next s given ≡ Ends outcome →
+        (outcome ≢ Berr) × (outcome ≢ Denied) }
+    ensures put { (s : SharedJob) (given : Given) (board : ℕ) (m : BoardMailbox)
+        (outcome : SharedOutcome) → UsesMailbox s board m → AllGood s given →
+        AllCounts m board s given → shared_next s given ≡ Ends outcome →
+        words_given put_by m board s given ≡ put_told outcome s.request }
+    ensures taken { (s : SharedJob) (given : Given) (board : ℕ) (m : BoardMailbox)
+        (outcome : SharedOutcome) → UsesMailbox s board m → AllGood s given →
+        AllCounts m board s given → shared_next s given ≡ Ends outcome →
+        words_given taken_by m board s given ≡ taken_told outcome }
+{}
+
+/// A lock is taken by a read-modify-write of its one byte, and given back by a write of that byte:
+/// no other command goes to a board.
+pub fn locks_touch_their_byte_alone()
+    ensures taken { (s : SharedJob) (given : Given) (am addr board : ℕ) (command : Option Command) →
+        s.request ≡ Lock am addr → shared_next s given ≡ Makes (OnBoard board command) →
+        GoesTo s.map am addr board (λ offset. Modify offset 1 Set) command }
+    ensures given_back { (s : SharedJob) (given : Given) (am addr board : ℕ)
+        (command : Option Command) → s.request ≡ Unlock am addr →
+        shared_next s given ≡ Makes (OnBoard board command) →
+        GoesTo s.map am addr board (λ offset. Write offset (0 ∷ [])) command }
+{}
