@@ -1,0 +1,189 @@
+//! The boards of the tests, and how a task is led through a course of replies.
+use std::process::Abort;
+use vme_am::Space;
+use vme_arbiter::{ArbCmd, ArbReply};
+use vme_core::{Event, EventReply};
+use vme_cycle::{Modify, Plan, Request};
+use vme_decode::Entry;
+use vme_lanes::Datum;
+use vme_memory::{BoardCmd, Reply};
+use vme_shared::{LockTask, Mailbox, PutTask, SharedOutcome, SharedTodo, TakeTask};
+
+/// The second is a board of 64 bytes from address 1000 hex on.
+pub static BOARDS: [Entry; 2] = [
+    Entry {
+        space: Space::A32,
+        base: 0,
+        size: 16,
+        supervisory: false,
+    },
+    Entry {
+        space: Space::A32,
+        base: BASE,
+        size: 64,
+        supervisory: false,
+    },
+];
+
+const BASE: u32 = 0x1000;
+
+/// The offset of the mailbox in the second board: its counts lie at 12 and 16, its words at 24 and
+/// 28.
+const LOCK_AT: u32 = 8;
+
+pub const MAILBOX: Mailbox = Mailbox {
+    am: 0x0d,
+    addr: 0x1008,
+    slots: 2,
+};
+
+/// A cycle on the second board, at an offset.
+#[derive(Clone, Copy, Debug)]
+pub enum Cycle {
+    /// The read-modify-write of the lock.
+    Set,
+    /// The write of zero over the lock.
+    Clear,
+    /// A read of four bytes.
+    Read(u32),
+    /// A write of these bytes.
+    Write(u32, [u8; 4]),
+}
+
+/// What a board replies.
+#[derive(Clone, Copy, Debug)]
+pub enum Given {
+    /// These bytes.
+    Bytes(&'static [u8]),
+    /// That the bytes were written.
+    Done,
+    /// A bus error.
+    Berr,
+}
+
+/// The cycles of a task, each with the reply to it.
+pub type Course = &'static [(Cycle, Given)];
+
+impl Cycle {
+    fn offset(self) -> u32 {
+        match self {
+            Cycle::Set | Cycle::Clear => LOCK_AT,
+            Cycle::Read(at) | Cycle::Write(at, _) => at,
+        }
+    }
+
+    fn request(self) -> Request {
+        let am = MAILBOX.am;
+        let addr = BASE.wrapping_add(self.offset());
+        match self {
+            Cycle::Set => Request::Modify {
+                am,
+                addr,
+                n: 1,
+                f: Modify::Set,
+            },
+            Cycle::Clear => write(am, addr, &[0]),
+            Cycle::Read(_) => Request::Read { am, addr, n: 4 },
+            Cycle::Write(_, bytes) => write(am, addr, &bytes),
+        }
+    }
+
+    /// The command of the cycle.
+    fn command(self, rt: &impl Abort) -> BoardCmd {
+        let request = self.request();
+        let Ok(plan) = Plan::of(&request) else {
+            panic!(rt; "refused")
+        };
+        assert_eq!(rt; plan.len(), 1);
+        BoardCmd::Cycle {
+            signals: plan.signals(0),
+            at: self.offset(),
+            f: plan.modify().map(Modify::copy),
+        }
+    }
+}
+
+fn write(am: u8, addr: u32, bytes: &[u8]) -> Request {
+    let bytes = Datum::try_from(bytes).unwrap_or_default();
+    Request::Write { am, addr, bytes }
+}
+
+pub fn replied(given: Given) -> Option<EventReply> {
+    let reply = match given {
+        Given::Bytes(bytes) => Reply::Bytes(Datum::try_from(bytes).unwrap_or_default()),
+        Given::Done => Reply::Done,
+        Given::Berr => Reply::Berr,
+    };
+    Some(EventReply::Board(reply))
+}
+
+pub fn told(reply: ArbReply) -> Option<EventReply> {
+    Some(EventReply::Bus(reply))
+}
+
+/// A task of a lock or a mailbox.
+pub trait Asks {
+    fn call(&mut self, given: Option<EventReply>) -> SharedTodo;
+}
+
+impl<'a> Asks for LockTask<'a> {
+    fn call(&mut self, given: Option<EventReply>) -> SharedTodo {
+        self.next(given)
+    }
+}
+
+impl<'a> Asks for PutTask<'a> {
+    fn call(&mut self, given: Option<EventReply>) -> SharedTodo {
+        self.next(given)
+    }
+}
+
+impl<'a> Asks for TakeTask<'a> {
+    fn call(&mut self, given: Option<EventReply>) -> SharedTodo {
+        self.next(given)
+    }
+}
+
+pub fn expect_turn(rt: &impl Abort, todo: &SharedTodo, wanted: ArbCmd) {
+    match todo {
+        SharedTodo::Call(Event::Bus(cmd)) => assert_eq!(rt; *cmd, wanted),
+        _ => panic!(rt; "no command to the arbiter"),
+    }
+}
+
+fn expect_cycle(rt: &impl Abort, todo: &SharedTodo, wanted: Cycle) {
+    match todo {
+        SharedTodo::Call(Event::Board { board, cmd }) => {
+            assert_eq!(rt; *board, 1);
+            assert_eq!(rt; *cmd, wanted.command(rt));
+        }
+        _ => panic!(rt; "no cycle"),
+    }
+}
+
+pub fn expect_end(rt: &impl Abort, todo: &SharedTodo) -> SharedOutcome {
+    match todo {
+        SharedTodo::Finished(outcome) => *outcome,
+        SharedTodo::Call(_) => panic!(rt; "not ended"),
+    }
+}
+
+/// Leads a task of slot 2 on level 3 through a course, each cycle of which is a transfer of its own:
+/// its outcome, which is the same at a further call.
+pub fn outcome(rt: &impl Abort, task: &mut impl Asks, course: Course) -> SharedOutcome {
+    let mut todo = task.call(None);
+    for (cycle, given) in course {
+        expect_turn(rt, &todo, ArbCmd::Ask { slot: 2, level: 3 });
+        todo = task.call(told(ArbReply::Waiting));
+        expect_turn(rt, &todo, ArbCmd::Look { slot: 2 });
+        todo = task.call(told(ArbReply::Granted));
+        expect_cycle(rt, &todo, *cycle);
+        todo = task.call(replied(*given));
+        expect_turn(rt, &todo, ArbCmd::Done { slot: 2 });
+        todo = task.call(told(ArbReply::Freed));
+    }
+    let first = expect_end(rt, &todo);
+    let again = expect_end(rt, &task.call(told(ArbReply::Granted)));
+    assert_eq!(rt; first, again);
+    first
+}
