@@ -1,6 +1,5 @@
 -- What does not fit, is absent or comes early is a denial.
-use Rattle.std.proofs.Common.{◌≡◌, true, false, [], ◌∷◌, Option, Some, None, Ok, Err, Result, refl, ap, sym, ◌∙◌}
-use Rattle.vme_cycle.specs.declared.fault.CycleFault.{CycleFault}
+use Rattle.std.proofs.Common.{◌≡◌, false, [], ◌∷◌, Option, Some, None, refl, ap, ◌∙◌}
 use Rattle.vme_core.specs.declared.event.EventReply.{EventReply}
 use Rattle.vme_core.specs.Calls.{Call}
 use Rattle.vme_master.specs.declared.job.Job.{Job}
@@ -16,7 +15,7 @@ use Rattle.vme_shared.specs.declared.stage.Stage.TheVariants.{Locks, ReadsPutCou
 use Rattle.vme_shared.specs.declared.stage.Step.TheVariants.{Stops}
 use Rattle.vme_shared.specs.Mailboxes.{shared_refusal}
 use Rattle.vme_shared.specs.Steps.{first_stage, mailbox_step, step_after}
-use Rattle.vme_shared.specs.Tables.{SharedJob, Makes, Ends, Progress, At, Over, transfer_job, stage_job, stage_begun, step_begun, progress_by, progress_given, progress_of, next_at, shared_next}
+use Rattle.vme_shared.specs.Tables.{SharedJob, Makes, Ends, Progress, At, Over, transfer_job, stage_begun, step_begun, progress_by, progress_given, progress_of, next_at, shared_next}
 use Rattle.vme_shared.proofs.Starts.{first_lawful}
 use Rattle.vme_shared.proofs.Tenures.{shown_makes}
 

@@ -1,5 +1,5 @@
 -- The machine goes by the table: what its transfer at work has to do with what was given.
-use Rattle.std.proofs.Common.{◌≡◌, List, [], ◌∷◌, Option, Some, None, Result, Ok, Err, refl, ap, sym, ◌∙◌}
+use Rattle.std.proofs.Common.{◌≡◌, [], ◌∷◌, Option, None, Result, Ok, Err, refl, ap, ◌∙◌}
 use Rattle.std.specs.Option.{option_map}
 use Rattle.vme_cycle.specs.declared.fault.CycleFault.{CycleFault}
 use Rattle.vme_core.specs.declared.event.EventReply.{EventReply}
@@ -16,7 +16,7 @@ use Rattle.vme_shared.specs.declared.work.Work.{Work}
 use Rattle.vme_shared.specs.declared.work.Work.TheVariants as works
 use Rattle.vme_shared.specs.Steps.{first_stage, step_after}
 use Rattle.vme_shared.specs.Tables.{SharedJob, Progress, At, Over, stage_job, stage_begun, step_begun, progress_by, progress_given, progress_of, task_shown, next_at, shared_next}
-use Rattle.vme_shared.specs.Machine.{SharedView, stage_fresh, stage_called, work_stepped, work_by, work_or, work_after, shared_fresh, shared_advance, shared_given, work_to_do, shared_to_do}
+use Rattle.vme_shared.specs.Machine.{SharedView, stage_fresh, stage_called, work_stepped, work_by, work_or, work_after, shared_advance, shared_given, work_to_do, shared_to_do}
 
 -- a transfer that is given something goes on, or its outcome leads on
 pub by_outcome : (s : SharedJob) (stage : Stage) (task : TaskView) (next : Next)

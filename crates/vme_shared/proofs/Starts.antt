@@ -1,7 +1,6 @@
 -- What is not refused at the start: its first transfer is called first, and no later transfer is refused.
-use Rattle.std.proofs.Common.{◌≡◌, ℕ, suc, ◌+◌, ◌-◌, ◌*◌, ◌%◌, ◌^◌, ◌<◌, ◌≤◌, nat_lt, Bool, true, false, not, [], ◌∷◌, length, Option, Some, None, Result, Ok, Err, refl, ap, sym, subst, ◌∙◌, arith, inl, inr}
-use Rattle.std.specs.Prelude.{◌==◌, ◌&&◌, is_none, is_some}
-use Rattle.std.specs.Bool.{beq}
+use Rattle.std.proofs.Common.{◌≡◌, ℕ, suc, ◌+◌, ◌-◌, ◌*◌, ◌%◌, ◌<◌, ◌≤◌, nat_lt, true, false, [], ◌∷◌, Option, Some, None, Result, Ok, Err, refl, ap, sym, subst, arith, inl, inr}
+use Rattle.std.specs.Prelude.{◌&&◌, is_none, is_some}
 use Rattle.std.proofs.Math.Nat.{mod-eq_of_lt}
 use Rattle.std.proofs.lemmas.Nat.{mod_below}
 use Rattle.std.proofs.lemmas.Bool.Decides.{leb_tells}
@@ -12,10 +11,9 @@ use Rattle.vme_lanes.specs.declared.location.Location.TheVariants.{Byte0, Bytes0
 use Rattle.vme_lanes.proofs.Tables.{own_found}
 use Rattle.vme_cycle.specs.declared.fault.CycleFault.{CycleFault}
 use Rattle.vme_cycle.specs.declared.request.Request.{Request}
-use Rattle.vme_cycle.specs.Functions.{number_bytes}
 use Rattle.vme_cycle.specs.Requests.{code_of, addr_of, span_of, is_block_request, function_of, is_counted}
 use Rattle.vme_cycle.specs.Refusals.{first_of}
-use Rattle.vme_cycle.specs.Lawful.{Transfer, first_location, first_refusal, transfer_with, transfer_of}
+use Rattle.vme_cycle.specs.Lawful.{Transfer, first_location, first_refusal, transfer_of}
 use Rattle.vme_cycle.specs.Parts.{IsLawful}
 use Rattle.vme_cycle.proofs.Transfers.{comes_from, transfer_is_lawful, lawful_parts}
 use Rattle.vme_arbiter.specs.declared.command.ArbCmd.TheVariants.{Ask}

@@ -1,5 +1,5 @@
 -- Where the steps of a lock, a put and a take lead: to no denial, where the outcomes have their form.
-use Rattle.std.proofs.Common.{◌≡◌, ◌≢◌, ℕ, ◌-◌, ◌^◌, Bool, true, false, List, length, Option, Some, None, refl, sym, inl, inr}
+use Rattle.std.proofs.Common.{◌≡◌, ◌≢◌, ℕ, ◌-◌, ◌^◌, List, length, Option, Some, None, refl, inl, inr}
 use Rattle.std.specs.Prelude.{◌==◌, nat_le}
 use Rattle.std.proofs.lemmas.Bool.{cases_Bool, eq-eqb}
 use Rattle.vme_cycle.specs.Functions.{number_of}
