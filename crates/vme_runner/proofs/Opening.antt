@@ -6,7 +6,7 @@ use Rattle.std.proofs.lemmas.Option.{same_Some, slice_get_within, get_or_from_sl
 use Rattle.vme_memory.specs.Boards.{Board}
 use Rattle.vme_core.specs.Runs.{Machine}
 use Rattle.vme_core.specs.Tallies.{fresh_tally}
-use Rattle.vme_arbiter.specs.Arbitration.{free_bus}
+use Rattle.vme_arbiter.specs.Arbitration.{Arbitration, opening_bus}
 use Rattle.vme_core.specs.Machines.{opening}
 use Rattle.vme_script.specs.declared.script.ScriptLine.{ScriptLine}
 use Rattle.vme_script.specs.Configurations.{Configuration, opening_memory}
@@ -55,10 +55,10 @@ module _ (config : Configuration) where
       (sym (map_next fresh_course config.scripts board (course [] []) (get_map fresh_course config.scripts board ∙ ap (option_map fresh_course) found)))
 
   -- the driver of the opening world, by its parts
-  pub opens : (machine : Machine) (lanes : List LaneView) (memories : List Board) (k : ℕ) → machine ≡ opening memories free_bus k
-      → memories ≡ map opening_memory config.boards → k ≡ length config.boards → lanes ≡ lanes_from config 0 (opening_world config).courses
+  pub opens : (machine : Machine) (lanes : List LaneView) (memories : List Board) (bus : Arbitration) (k : ℕ) → machine ≡ opening memories bus k
+      → memories ≡ map opening_memory config.boards → bus ≡ opening_bus config.arbiter → k ≡ length config.boards → lanes ≡ lanes_from config 0 (opening_world config).courses
       → record { machine = machine; lanes = lanes } ≡ driver_of config (opening_world config)
-  opens machine lanes memories k is zeros whos own = rw (is, zeros, whos, own) refl
+  opens machine lanes memories bus k is zeros kind whos own = rw (is, zeros, kind, whos, own) refl
 
   by_script : (b : ℕ) (lane : LaneView) (found : Option (List ScriptLine)) → slice_get config.scripts b ≡ found
       → option_map (lane_of config b) (option_map fresh_course found) ≡ Some lane → IsLaneOf config b lane

@@ -4,7 +4,7 @@ use Rattle.std.specs.List.{position}
 use Rattle.vme_core.specs.declared.event.EventReply.{EventReply}
 use Rattle.vme_core.specs.Runs.{Machine}
 use Rattle.vme_core.specs.Calls.{Call, machine_step}
-use Rattle.vme_arbiter.specs.Arbitration.{free_bus}
+use Rattle.vme_arbiter.specs.Arbitration.{opening_bus}
 use Rattle.vme_core.specs.Machines.{opening}
 use Rattle.vme_shared.specs.declared.reply.LineReply.{LineReply}
 use Rattle.vme_lines.specs.declared.line.Line.{Line}
@@ -78,10 +78,10 @@ abbrev pub run : Configuration → World → List ℕ → World
 run config world [] = world
 run config world (slot ∷ slots) = run config (turn config world slot) slots
 
--- before the first turn: memories of zeros, a free bus, nothing counted, and no line answered (this project's own)
+-- before the first turn: memories of zeros, a free bus with an arbiter of its kind, nothing counted, and no line answered (this project's own)
 abbrev pub opening_world : Configuration → World
 opening_world config = record {
-  machine = opening (map opening_memory config.boards) free_bus (length config.boards);
+  machine = opening (map opening_memory config.boards) (opening_bus config.arbiter) (length config.boards);
   courses = map (λ script. course [] []) config.scripts;
 }
 

@@ -44,7 +44,7 @@ impl<'a> Driver<'a> {
     {
         let boards = config.boards();
         let memories = zero_memories(alloc, config)?;
-        let core = Core::new(alloc, memories, boards)?;
+        let core = Core::with_arbiter(alloc, memories, config.arbiter(), boards)?;
         let lanes = match fresh_lanes(alloc, config) {
             Ok(lanes) => lanes,
             Err(_) => return Err(OutOfMemory),

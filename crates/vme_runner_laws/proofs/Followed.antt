@@ -5,7 +5,7 @@ use Rattle.std.specs.Option.{option_to_list}
 use Rattle.std.proofs.lemmas.Bool.Decides.{eqb_tells}
 use Rattle.std.proofs.lemmas.List.{append-nil, map-append, length-map}
 use Rattle.std.proofs.lemmas.List.Elements.{filter-append}
-use Rattle.vme_arbiter.specs.Arbitration.{free_bus, turn_step}
+use Rattle.vme_arbiter.specs.Arbitration.{opening_bus, turn_step}
 use Rattle.vme_core.specs.Tallies.{fresh_tally}
 use Rattle.vme_core.specs.Runs.{Machine, Move, Did, bus_part}
 use Rattle.vme_core.specs.Calls.{Call, call_of}
@@ -128,8 +128,8 @@ are_run config slots lawful =
       all.more,
       record {
         calls = all.same;
-        boards = opened_boards memories free_bus (length config.boards) all.more after.machine all.did;
-        bus = went_tells turn_step free_bus (bus_part all.more) (length config.boards) after.machine.bus all.did.bus;
+        boards = opened_boards memories (opening_bus config.arbiter) (length config.boards) all.more after.machine all.did;
+        bus = went_tells turn_step (opening_bus config.arbiter) (bus_part all.more) (length config.boards) after.machine.bus all.did.bus;
         courses = all.follow;
       },
     )

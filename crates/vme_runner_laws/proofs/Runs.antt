@@ -6,9 +6,9 @@ use Rattle.std.proofs.lemmas.Bool.Decides.{eqb_tells}
 use Rattle.std.proofs.lemmas.List.{length-set, length-map}
 use Rattle.std.proofs.lemmas.Option.{slice_get_within, slice_get-map}
 use Rattle.vme_arbiter.specs.declared.command.ArbReply.TheVariants as turned
-use Rattle.vme_arbiter.specs.Arbitration.{free_bus}
+use Rattle.vme_arbiter.specs.Arbitration.{opening_bus}
 use Rattle.vme_arbiter.specs.Orderly.{IsOrderly}
-use Rattle.vme_arbiter.proofs.Orderly.{orderly-free}
+use Rattle.vme_arbiter.proofs.Orderly.{orderly-opening}
 use Rattle.vme_memory.specs.Steps.{Command}
 use Rattle.vme_core.specs.declared.event.EventReply.TheVariants as told
 use Rattle.vme_core.specs.Runs.{Machine}
@@ -100,10 +100,10 @@ course_begun scripts b c found = by_script (slice_get scripts b) (sym (slice_get
 
 opening_stand : (config : Configuration) → IsLawful config → AllStand config (opening_world config)
 opening_stand config lawful = record {
-  orderly = orderly-free;
+  orderly = orderly-opening config.arbiter;
   count = length-map config.scripts (λ script. course [] []) ∙ lawful.scripts;
-  each = λ b c found. subst (CourseStands config free_bus b) (course_begun config.scripts b c found)
-      (rests_standing config free_bus b [] (refl, refl) (λ k d less. absurd (omega (arith, less))));
+  each = λ b c found. subst (CourseStands config (opening_bus config.arbiter) b) (course_begun config.scripts b c found)
+      (rests_standing config (opening_bus config.arbiter) b [] (refl, refl) (λ k d less. absurd (omega (arith, less))));
 }
 
 pub after_stand : (config : Configuration) (slots : List ℕ) → IsLawful config → AllStand config (world_after config slots)

@@ -11,7 +11,7 @@ use Rattle.vme_memory.specs.Boards.{Board}
 use Rattle.vme_memory.specs.Locals.{board_step}
 use Rattle.vme_arbiter.specs.declared.command.ArbCmd.{ArbCmd}
 use Rattle.vme_arbiter.specs.declared.command.ArbReply.{ArbReply}
-use Rattle.vme_arbiter.specs.Arbitration.{Arbitration, free_bus, turn_step}
+use Rattle.vme_arbiter.specs.Arbitration.{Arbitration, opening_bus, turn_step}
 use Rattle.vme_core.specs.Runs.{Move, IsReplyTo, board_part, bus_part}
 use Rattle.vme_shared.specs.declared.reply.LineReply.{LineReply}
 use Rattle.vme_port.specs.Passes.{PassView}
@@ -200,7 +200,7 @@ module _ (config : Configuration) (ports : Ports) (rans : List Ran) (can : CanGa
   report_of report columns object wide dealt closed lines settled made =
       let runs = can.runs.runs in
       let passes = map (λ (r : Ran). r.desk.bus) rans in
-      let free : Settles turn_step free_bus (length config.boards) passes object report.arbiter_steps =
+      let free : Settles turn_step (opening_bus config.arbiter) (length config.boards) passes object report.arbiter_steps =
       subst (λ (s : Arbitration). Settles turn_step s (length config.boards) passes object report.arbiter_steps) can.built.bus
       (subst (λ k. Settles turn_step (opening ports.bus) k passes object report.arbiter_steps) can.built.passes settled)
       in
@@ -221,7 +221,7 @@ module _ (config : Configuration) (ports : Ports) (rans : List Ran) (can : CanGa
         boards = record { count = closed.count ∙ can.built.boards.count; each = end_of_board columns report.boards.items wide dealt closed };
         bus = (
           object,
-          shared_history turn_step free_bus (length config.boards) passes (map bus_part runs) object report.arbiter_steps report.arbiter_made.items free
+          shared_history turn_step (opening_bus config.arbiter) (length config.boards) passes (map bus_part runs) object report.arbiter_steps report.arbiter_made.items free
               (same_count (λ (r : Ran). r.desk.bus) rans ∙ can.count) bus_tells made,
         );
       }

@@ -5,7 +5,7 @@ use Rattle.vme_memory.specs.declared.command.BoardCmd.{BoardCmd}
 use Rattle.vme_memory.specs.declared.reply.Reply.{Reply}
 use Rattle.vme_arbiter.specs.declared.command.ArbCmd.{ArbCmd}
 use Rattle.vme_arbiter.specs.declared.command.ArbReply.{ArbReply}
-use Rattle.vme_arbiter.specs.Arbitration.{Arbitration, free_bus}
+use Rattle.vme_arbiter.specs.Arbitration.{Arbitration, opening_bus}
 use Rattle.vme_port.specs.declared.port.Port.{Port}
 use Rattle.vme_port.specs.Passes.{PassView, IsUnused}
 use Rattle.vme_port.specs.Ports.{port_id, opening, passes_of}
@@ -45,12 +45,12 @@ pub record AreHired (config : Configuration) (opened : List BoardPort) (arbiter 
   pub count : length workers ≡ length config.boards
   pub each : Each (IsHired config opened arbiter) workers
 
--- a port of each board, each opened with zero memory for as many passes as there are boards, and so one of the arbiter of a
--- free bus; and room for what is told of their run (this project's own)
+-- a port of each board, each opened with zero memory for as many passes as there are boards, and so one of the arbiter of
+-- its kind, of a free bus; and room for what is told of their run (this project's own)
 pub record IsBuilt (config : Configuration) (ports : Ports) : Type 0 where
   pub lawful : IsLawful config
   pub boards : AllAt (λ x own o. IsPortOf (length config.boards) own o) config.boards ports.boards.items
-  pub bus : opening ports.bus ≡ free_bus
+  pub bus : opening ports.bus ≡ opening_bus config.arbiter
   pub passes : passes_of ports.bus ≡ length config.boards
   pub sheet : IsBlank (length config.boards) ports.sheet
 

@@ -1,7 +1,7 @@
 //! How the ports are opened.
 ghost use Rattle.std.specs.Prelude.{◌≡◌, ◌<◌, ◌≤◌, [], length, slice_index_or, vec_len, IfOk};
 ghost use Rattle.vme_object.specs.Each.{Each, AllAt};
-ghost use Rattle.vme_arbiter.specs.Arbitration.{free_bus};
+ghost use Rattle.vme_arbiter.specs.Arbitration.{opening_bus};
 ghost use Rattle.vme_port.specs.Passes.{IsUnused};
 ghost use Rattle.vme_port.specs.Ports.{port_id, opening, passes_of};
 ghost use Rattle.vme_script.specs.declared.board.BoardConfig.{BoardConfig};
@@ -42,16 +42,14 @@ where
 /// A port of the arbiter of a free bus, with its passes.
 pub(crate) fn open_bus(
     alloc: Global,
-    count: usize,
+    config: &Config,
 ) -> Result<(Port<Arbiter>, Vec<Pass<Arbiter>>), AllocError>
-    requires some { 0 < count }
-    requires most { count ≤ 21 }
-    ensures opening { IfOk result (λ r. opening r.0 ≡ free_bus) }
-    ensures passes { IfOk result (λ r. passes_of r.0 ≡ count) }
-    ensures count { IfOk result (λ r. vec_len r.1 ≡ count) }
+    ensures opening { IfOk result (λ r. opening r.0 ≡ opening_bus config.now.arbiter) }
+    ensures passes { IfOk result (λ r. passes_of r.0 ≡ length config.now.boards) }
+    ensures count { IfOk result (λ r. vec_len r.1 ≡ length config.now.boards) }
     ensures unused { IfOk result (λ r. Each (λ i p. IsUnused (port_id r.0) i p) r.1.items) }
 {
-    open_port(alloc, Arbiter::new(), count)
+    open_port(alloc, config.arbiter(), config.boards())
 }
 
 /// A port of board `i`, with its passes.

@@ -52,7 +52,7 @@ impl Ports {
         ensures workers { IfOk result (λ r. AreWorkers config.now r.0 r.1.items) }
     {
         let count = config.boards();
-        let (bus, passes) = open_bus(alloc, count)?;
+        let (bus, passes) = open_bus(alloc, config)?;
         let mut workers = hire(alloc, config, &bus, passes)?;
         let boards = open_boards(alloc, config, &bus, &mut workers)?;
         let ports = Ports {

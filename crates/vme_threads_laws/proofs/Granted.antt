@@ -15,7 +15,7 @@ use Rattle.vme_memory.specs.Locals.{command_given, answer_given, board_step}
 use Rattle.vme_arbiter.specs.declared.command.ArbCmd.{ArbCmd}
 use Rattle.vme_arbiter.specs.declared.command.ArbReply.{ArbReply}
 use Rattle.vme_arbiter.specs.declared.command.ArbReply.TheVariants as turned
-use Rattle.vme_arbiter.specs.Arbitration.{turn_step, free_bus}
+use Rattle.vme_arbiter.specs.Arbitration.{turn_step, opening_bus}
 use Rattle.vme_arbiter.specs.Turns.{StandsAsTold}
 use Rattle.vme_core.specs.declared.event.Event.{Event}
 use Rattle.vme_core.specs.declared.event.Event.TheVariants as asked
@@ -279,7 +279,7 @@ run_well config report is who below =
 -- all turns of a report are good
 all_turns : (config : Configuration) → IsLawful config → (report : Report) (is : IsReportOf config report) → All GoodTurn is.bus.1.history
 all_turns config lawful report is =
-    turns_good (length config.boards) (slot_at config) is.bus.1.history
+    turns_good config.arbiter (length config.boards) (slot_at config) is.bus.1.history
     (record {
       in_range = λ who below. lawful_slot config who lawful below;
       apart = λ v w one two same. elim (eqb_tells v w) [
@@ -319,5 +319,5 @@ report_granted config report lawful is who d below =
     course_granted config lawful who there (lines_at config who) (slice_index_or is.runs who [])
     (answers_in (slice_index_or report.lines.items who d).items) (is.course.each who [] d within) (run_well config report is who within)
     (told_moves (slice_index_or is.runs who [])
-    (part_good turn_step free_bus bus_part is.runs is.bus.0 report.arbiter_steps report.arbiter_made.items GoodTurn is.bus.1 who within
+    (part_good turn_step (opening_bus config.arbiter) bus_part is.runs is.bus.0 report.arbiter_steps report.arbiter_made.items GoodTurn is.bus.1 who within
     (all_turns config lawful report is)))

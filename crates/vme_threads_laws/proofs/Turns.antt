@@ -8,11 +8,12 @@ use Rattle.vme_object.specs.History.{IsLegal, own}
 use Rattle.vme_arbiter.specs.declared.command.ArbCmd.{ArbCmd}
 use Rattle.vme_arbiter.specs.declared.command.ArbReply.{ArbReply}
 use Rattle.vme_arbiter.specs.Requests.{is_slot}
-use Rattle.vme_arbiter.specs.Arbitration.{Arbitration, turn_step, free_bus}
+use Rattle.vme_arbiter.specs.declared.kind.ArbiterKind.{ArbiterKind}
+use Rattle.vme_arbiter.specs.Arbitration.{Arbitration, turn_step, opening_bus}
 use Rattle.vme_arbiter.specs.Orderly.{IsOrderly}
 use Rattle.vme_arbiter.specs.Turns.{may_give, StandsAsTold}
 use Rattle.vme_arbiter.proofs.Turns.{other-turn}
-use Rattle.vme_arbiter.proofs.Orderly.{orderly-free}
+use Rattle.vme_arbiter.proofs.Orderly.{orderly-opening}
 use Rattle.vme_core.specs.declared.event.EventReply.TheVariants as told
 use Rattle.vme_core.specs.Calls.{OnBus}
 use Rattle.vme_course.specs.Tenures.{IsGood}
@@ -88,7 +89,7 @@ all_good k slots bus last (e ∷ h) masters orderly known legal fit =
     All-cons GoodTurn e h after.1
     (all_good k slots (turn_step bus e.cmd).0 (told_last last e) h masters after.0 (All-tail (λ e. e.who < k) e h known) legal.1 after.2)
 
-pub turns_good : (k : ℕ) (slots : ℕ → ℕ) (h : List (Entry ArbCmd ArbReply)) → AreMasters k slots → All (λ e. e.who < k) h
-    → IsLegal turn_step free_bus h → ((who : ℕ) → who < k → GoesWhile (slots who) None (own who h)) → All GoodTurn h
-turns_good k slots h masters known legal goes =
-    all_good k slots free_bus (λ who. None) h masters orderly-free known legal (record { fits = λ who below. (refl, refl); goes = goes })
+pub turns_good : (kind : ArbiterKind) (k : ℕ) (slots : ℕ → ℕ) (h : List (Entry ArbCmd ArbReply)) → AreMasters k slots → All (λ e. e.who < k) h
+    → IsLegal turn_step (opening_bus kind) h → ((who : ℕ) → who < k → GoesWhile (slots who) None (own who h)) → All GoodTurn h
+turns_good kind k slots h masters known legal goes =
+    all_good k slots (opening_bus kind) (λ who. None) h masters (orderly-opening kind) known legal (record { fits = λ who below. (refl, refl); goes = goes })
