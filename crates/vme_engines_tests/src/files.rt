@@ -61,7 +61,7 @@ fn expect_refusal(
 }
 
 /// Files of one board or none, and what is told of them.
-static REFUSED: [(&str, &str); 17] = [
+static REFUSED: [(&str, &str); 18] = [
     ("", "C11"),
     (
         "tries = 0\n[[board]]\nslot = 1\nbase = 0\nsize = 16\n",
@@ -104,6 +104,10 @@ static REFUSED: [(&str, &str); 17] = [
     (
         "[[board]]\nslot = 1\nbase = 0\nsize = 4096\n[[board]]\nslot = 2\nbase = 4092\nsize = 16\n",
         "C1",
+    ),
+    (
+        "[[mailbox]]\nam = 9\naddr = 0\nslots = 1\n[[board]]\nslot = 1\nbase = 0\nsize = 32\nrmw = false\n",
+        "C13",
     ),
     (
         "[[board]]\nslot = 2\nbase = 0\nsize = 16\nscript = '''\n\n# none\nr 0g 00000000 1'''\n",
