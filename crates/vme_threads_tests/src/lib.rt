@@ -1,9 +1,14 @@
-//! Tests of scripts on threads: processors that wait for each other, that are held at a line, and
-//! that add to one word. They stand apart so that `vme_threads` is not proved twice.
+//! Tests of scripts on threads: processors that wait for each other, that are held at a line, that
+//! add to one word, and that keep each other out by a lock. They stand apart so that `vme_threads` is
+//! not proved twice.
 #![tactic(auto)]
 
 #[cfg(test)]
+mod gates;
+#[cfg(test)]
 mod holds;
+#[cfg(test)]
+mod locks;
 #[cfg(test)]
 mod meetings;
 #[cfg(test)]

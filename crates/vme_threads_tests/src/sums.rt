@@ -1,4 +1,5 @@
 //! Processors that add to one word: four of them, and as many as there are slots.
+use crate::gates::Open;
 use std::alloc::{AllocError, Global};
 use std::process::Abort;
 use std::sync::Wait;
@@ -7,7 +8,7 @@ use std::thread::Threads;
 use vme_master::Outcome;
 use vme_script::Config;
 use vme_shared::LineReply;
-use vme_threads::{Gate, Report, run_threads};
+use vme_threads::{Report, run_threads};
 
 /// How often each adds one where few lines do.
 const FEW: u16 = 100;
@@ -43,23 +44,34 @@ static PLACES: [&str; 21] = [
     "slot = 21\nbase = 0x14000",
 ];
 
-/// A gate that is always open.
-struct Open;
-
-impl Gate for Open {
-    fn before(&self, _slot: u16, _line: u16) {}
-
-    fn after(&self, _slot: u16, _line: u16) {}
+/// How the boards share the bus: the arbiter's kind, and the levels that the slots ask on in turn.
+struct Bus {
+    arbiter: &'static str,
+    levels: [&'static str; 4],
 }
 
-/// A file of the first `count` boards, each with so many lines.
-fn boards(alloc: Global, count: usize, lines: u16) -> Result<String, AllocError> {
+/// By priority, with all slots on the greatest level.
+const BY_PRIORITY: Bus = Bus {
+    arbiter: "arbiter = 'priority'\n",
+    levels: ["", "", "", ""],
+};
+
+/// In rotation, with the slots spread over the levels.
+const ROTATING: Bus = Bus {
+    arbiter: "arbiter = 'rotating'\n",
+    levels: ["level = 3\n", "level = 2\n", "level = 1\n", "level = 0\n"],
+};
+
+/// A file of the first `count` boards on a bus, each with so many lines.
+fn boards(alloc: Global, bus: &Bus, count: usize, lines: u16) -> Result<String, AllocError> {
     let mut text = String::new(alloc);
+    text.push_str(bus.arbiter)?;
     for (number, place) in PLACES.iter().enumerate() {
         if count <= number {
             break;
         }
         text.push_str("[[board]]\n")?;
+        text.push_str(bus.levels[number % 4])?;
         text.push_str(place)?;
         text.push_str("\nsize = 32\nscript = \"\"\"\n")?;
         for _ in 0..lines {
@@ -124,9 +136,15 @@ fn expect_word(rt: &impl Abort, report: &Report, word: [u8; 4]) {
     }
 }
 
-/// So many boards that add, so often each.
-fn adding(rt: &impl Abort, alloc: Global, count: usize, lines: u16) -> Result<Config, AllocError> {
-    let text = boards(alloc, count, lines)?;
+/// So many boards that add, so often each, over a bus.
+fn adding(
+    rt: &impl Abort,
+    alloc: Global,
+    bus: &Bus,
+    count: usize,
+    lines: u16,
+) -> Result<Config, AllocError> {
+    let text = boards(alloc, bus, count, lines)?;
     let Ok(config) = Config::read(alloc, text.as_bytes()) else {
         panic!(rt; "refused")
     };
@@ -152,15 +170,16 @@ fn expect_sum(
     Ok(())
 }
 
-/// So many boards add, so often each, and come to this word.
+/// So many boards add over a bus, so often each, and come to this word.
 fn add_up<R: Threads + Wait + Abort + Sync>(
     rt: &R,
     alloc: Global,
+    bus: &Bus,
     count: usize,
     lines: u16,
     word: [u8; 4],
 ) -> Result<(), AllocError> {
-    let config = adding(rt, alloc, count, lines)?;
+    let config = adding(rt, alloc, bus, count, lines)?;
     let Ok(report) = run_threads(rt, alloc, &config, &Open) else {
         panic!(rt; "no report")
     };
@@ -169,18 +188,30 @@ fn add_up<R: Threads + Wait + Abort + Sync>(
 
 #[test]
 fn four_boards_add(rt: HostRuntime) -> Result<(), Fail> {
-    add_up(&rt, rt.alloc(), 4, FEW, [0, 0, 0x01, 0x90])?;
+    add_up(&rt, rt.alloc(), &BY_PRIORITY, 4, FEW, [0, 0, 0x01, 0x90])?;
     Ok(())
 }
 
 #[test]
 fn four_boards_add_with_the_longest_scripts(rt: HostRuntime) -> Result<(), Fail> {
-    add_up(&rt, rt.alloc(), 4, MOST, [0, 0, 0x0f, 0xa0])?;
+    add_up(&rt, rt.alloc(), &BY_PRIORITY, 4, MOST, [0, 0, 0x0f, 0xa0])?;
+    Ok(())
+}
+
+#[test]
+fn four_boards_add_in_rotation(rt: HostRuntime) -> Result<(), Fail> {
+    add_up(&rt, rt.alloc(), &ROTATING, 4, MOST, [0, 0, 0x0f, 0xa0])?;
+    Ok(())
+}
+
+#[test]
+fn a_board_in_each_slot_adds_in_rotation(rt: HostRuntime) -> Result<(), Fail> {
+    add_up(&rt, rt.alloc(), &ROTATING, 21, FEW, [0, 0, 0x08, 0x34])?;
     Ok(())
 }
 
 #[test]
 fn a_board_in_each_slot_adds(rt: HostRuntime) -> Result<(), Fail> {
-    add_up(&rt, rt.alloc(), 21, FEW, [0, 0, 0x08, 0x34])?;
+    add_up(&rt, rt.alloc(), &BY_PRIORITY, 21, FEW, [0, 0, 0x08, 0x34])?;
     Ok(())
 }
