@@ -29,7 +29,7 @@ use Rattle.vme_script.specs.Configurations.{Configuration}
 use Rattle.vme_course.specs.declared.task.LineTask.{LineTask}
 use Rattle.vme_course.specs.declared.todo.LineTodo.{LineTodo}
 use Rattle.vme_course.specs.declared.todo.LineTodo.TheVariants as todos
-use Rattle.vme_course.specs.Scripts.{Attempt, Moves, Waits, Shares, slot_at, level_at, transfer_job, request_attempt, unless_refused, shared_job, shared_attempt, line_attempt}
+use Rattle.vme_course.specs.Scripts.{Attempt, Moves, Waits, Shares, slot_at, level_at, mailbox_at, transfer_job, request_attempt, unless_refused, shared_job, shared_attempt, line_attempt}
 use Rattle.vme_course.specs.Tables.{LineNext, Rests, Makes, Ends, moves_next, waits_next, shares_next, attempts_of, lawful_next, next_given}
 use Rattle.vme_course.specs.Machine.{line_started, line_advance, line_to_do, line_advanced, IsLineBelow}
 use Rattle.vme_course.specs.Events.{next_in, call_in, IsCallBelow, IsEventBelow, IsTodoBelow}
@@ -72,7 +72,8 @@ attempt_below config board (lines.Await am addr bytes) there =
     (transfer_of (requests.Read am addr (length bytes.items))) (transfer_below config board)
 attempt_below config board (lines.Lock am addr) there = shared_below config board (asked_shared.Lock am addr)
 attempt_below config board (lines.Unlock am addr) there = shared_below config board (asked_shared.Unlock am addr)
-attempt_below config board line there = tt
+attempt_below config board (lines.Put box word) there = shared_below config board (asked_shared.Put (mailbox_at config box) word)
+attempt_below config board (lines.Take box) there = shared_below config board (asked_shared.Take (mailbox_at config box))
 
 -- the calls of a line that are those of its task
 pub moves_makes : (next : Next) (call : Call) → moves_next next ≡ Makes call → next ≡ tasks.Makes call

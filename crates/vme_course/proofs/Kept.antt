@@ -32,7 +32,7 @@ use Rattle.vme_lines.specs.declared.line.Line.{Line}
 use Rattle.vme_lines.specs.declared.line.Line.TheVariants as lines
 use Rattle.vme_lines.specs.Grammar.{IsOwnLine}
 use Rattle.vme_script.specs.Configurations.{Configuration}
-use Rattle.vme_course.specs.Scripts.{Attempt, Moves, Waits, Shares, slot_at, level_at, transfer_job, request_attempt, unless_refused, shared_job, shared_attempt, line_attempt}
+use Rattle.vme_course.specs.Scripts.{Attempt, Moves, Waits, Shares, slot_at, level_at, mailbox_at, transfer_job, request_attempt, unless_refused, shared_job, shared_attempt, line_attempt}
 use Rattle.vme_course.specs.Tables.{LineNext, Rests, Makes, Ends, attempt_next, asks_again, Attempts, next_attempt, attempts_of, lawful_next, next_given, line_next, given_of}
 use Rattle.vme_course.specs.Tenures.{attempt_told, lawful_told, line_told, IsLocal, IsGood, IsGranted}
 use Rattle.vme_course.proofs.Below.{moves_makes}
@@ -88,7 +88,8 @@ line_own config board (lines.Await am addr bytes) = request_own (transfer_of (re
     request_own (Err fault) = tt
 line_own config board (lines.Lock am addr) = shared_own config board (asked_shared.Lock am addr)
 line_own config board (lines.Unlock am addr) = shared_own config board (asked_shared.Unlock am addr)
-line_own config board line = tt
+line_own config board (lines.Put box word) = shared_own config board (asked_shared.Put (mailbox_at config box) word)
+line_own config board (lines.Take box) = shared_own config board (asked_shared.Take (mailbox_at config box))
 
 -- before the first reply
 first_given : (tries : ℕ) (a : Attempt) → (attempts_of a tries (None ∷ [])).given ≡ None ∷ []
@@ -187,7 +188,10 @@ line_holds_by config board (lines.Lock am addr) given b command own made =
     inr (shared_holds config board (asked_shared.Lock am addr) given b command made)
 line_holds_by config board (lines.Unlock am addr) given b command own made =
     inr (shared_holds config board (asked_shared.Unlock am addr) given b command made)
-line_holds_by config board line given b command own made = absurd cc
+line_holds_by config board (lines.Put box word) given b command own made =
+    inr (shared_holds config board (asked_shared.Put (mailbox_at config box) word) given b command made)
+line_holds_by config board (lines.Take box) given b command own made =
+    inr (shared_holds config board (asked_shared.Take (mailbox_at config box)) given b command made)
 
 pub line_holds : (config : Configuration) (board : ℕ) (line : Line) (replies : List EventReply) (b : ℕ) (command : Option Command)
     → IsOwnLine line → line_next config board line replies ≡ Makes (OnBoard b command)

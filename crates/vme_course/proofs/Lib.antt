@@ -6,3 +6,4 @@ pub mod Tenures
 pub mod Attempted
 pub mod Kept
 pub mod Calls
+pub mod Mailboxes

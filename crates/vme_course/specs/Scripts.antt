@@ -1,17 +1,17 @@
 -- What the lines of a processor's script ask to be done.
-use Rattle.std.specs.Prelude.{ℕ, List, [], length, map, slice_index_or, Option, Some, None, Result, Ok, Err}
+use Rattle.std.specs.Prelude.{ℕ, ◌-◌, ◌<◌, ◌≤◌, List, [], length, map, slice_index_or, Option, Some, None, Result, Ok, Err}
 use Rattle.vme_cycle.specs.declared.fault.CycleFault.{CycleFault}
-use Rattle.vme_cycle.specs.declared.fault.CycleFault.TheVariants.{BadCount}
 use Rattle.vme_cycle.specs.declared.request.Request.TheVariants as requests
 use Rattle.vme_cycle.specs.Lawful.{Transfer, transfer_of}
 use Rattle.vme_master.specs.declared.job.Job.{Job}
 use Rattle.vme_master.specs.Jobs.{bus_job, local_job}
 use Rattle.vme_shared.specs.declared.request.SharedRequest.{SharedRequest}
 use Rattle.vme_shared.specs.declared.request.SharedRequest.TheVariants as asked
-use Rattle.vme_shared.specs.Mailboxes.{shared_refusal}
+use Rattle.vme_shared.specs.declared.mailbox.Mailbox.{Mailbox}
+use Rattle.vme_shared.specs.Mailboxes.{IsMailbox, shared_refusal}
 use Rattle.vme_shared.specs.Tables.{SharedJob}
 use Rattle.vme_lines.specs.declared.line.Line.{Line}
-use Rattle.vme_lines.specs.declared.line.Line.TheVariants.{Bus, Local, Await, Lock, Unlock}
+use Rattle.vme_lines.specs.declared.line.Line.TheVariants.{Bus, Local, Await, Lock, Unlock, Put, Take}
 use Rattle.vme_script.specs.declared.script.ScriptLine.{ScriptLine}
 use Rattle.vme_script.specs.Boards.{entries_of}
 use Rattle.vme_script.specs.Configurations.{Configuration}
@@ -31,6 +31,22 @@ script_at config board = slice_index_or config.scripts board []
 -- what the lines of that script ask for (this project's own)
 abbrev pub lines_at : Configuration → ℕ → List Line
 lines_at config board = map (λ one. one.line) (script_at config board)
+
+-- the mailbox with a number; they are counted from 1 on (this project's own)
+abbrev pub mailbox_at : Configuration → ℕ → Mailbox
+mailbox_at config box = slice_index_or config.mailboxes (box - 1) (record { am = 0; addr = 0; slots = 0 })
+
+-- a mailbox with a number is there, and is one (this project's own)
+pub record HasMailbox (config : Configuration) (box : ℕ) : Type 0 where
+  pub first : 0 < box
+  pub last : box ≤ length config.mailboxes
+  pub is : IsMailbox (mailbox_at config box)
+
+-- so is the mailbox that a line names, if it names one (this project's own)
+abbrev pub HasItsMailbox : Configuration → Line → Type 0
+HasItsMailbox config (Put box word) = HasMailbox config box
+HasItsMailbox config (Take box) = HasMailbox config box
+HasItsMailbox config line = Unit {0}
 
 -- an attempt at a line: a transfer over the bus or a command to the local port; a transfer that is to read these bytes; or what
 -- is asked of a lock or a mailbox (this project's own)
@@ -76,4 +92,5 @@ line_attempt config board (Await am addr bytes) =
     (transfer_of (requests.Read am addr (length bytes.items)))
 line_attempt config board (Lock am addr) = shared_attempt config board (asked.Lock am addr)
 line_attempt config board (Unlock am addr) = shared_attempt config board (asked.Unlock am addr)
-line_attempt config board line = Err BadCount
+line_attempt config board (Put box word) = shared_attempt config board (asked.Put (mailbox_at config box) word)
+line_attempt config board (Take box) = shared_attempt config board (asked.Take (mailbox_at config box))

@@ -5,6 +5,7 @@
 
 mod attempt;
 mod laws;
+mod start;
 mod task;
 mod todo;
 

@@ -1,27 +1,21 @@
 ghost use Rattle.std.specs.Prelude.{◌≡◌, ◌≢◌, ◌<◌, ◌∷◌, ℕ, length, option_map, slice_get, Some, IfSome};
-ghost use Rattle.vme_cycle.specs.Lawful.{transfer_of};
 ghost use Rattle.vme_core.specs.Calls.{call_of};
 ghost use Rattle.vme_lines.specs.declared.line.Line.{Line as AnyLine};
-ghost use Rattle.vme_script.specs.Boards.{entries_of};
 ghost use Rattle.vme_script.specs.Configurations.{Configuration};
 ghost use Rattle.vme_master.specs.Tables.{Given};
-ghost use Rattle.vme_master.specs.Machine.{bus_task};
-ghost use Rattle.vme_shared.specs.Mailboxes.{IsAsked};
-ghost use Rattle.vme_shared.specs.Machine.{shared_task};
-ghost use Rattle.vme_course.specs.Scripts.{slot_at, level_at, lines_at, shared_job, line_attempt};
+ghost use Rattle.vme_course.specs.Scripts.{HasItsMailbox, lines_at};
 ghost use Rattle.vme_course.specs.Tables.{Rests, next_given};
-ghost use Rattle.vme_course.specs.Machine.{fresh_of, line_started, line_advance, line_to_do, line_given, IsLineBelow};
+ghost use Rattle.vme_course.specs.Machine.{line_started, line_advance, line_to_do, line_given, IsLineBelow};
 ghost use Rattle.vme_course.specs.Events.{next_in, call_in, answer_in, IsEventBelow, IsTodoBelow};
 
-use crate::attempt::{AttemptTask, Attempts, WaitTask};
+use crate::attempt::Attempts;
+use crate::start::attempt_of;
 use crate::todo::LineTodo;
 use vme_core::{Event, EventReply};
-use vme_cycle::{CycleFault, Request};
-use vme_lanes::copy_bytes;
+use vme_cycle::CycleFault;
 use vme_lines::Line;
-use vme_master::Task;
 use vme_script::Config;
-use vme_shared::{LineReply, SharedRequest, SharedTask};
+use vme_shared::LineReply;
 
 /// A line of a script at work.
 #[derive(Debug, Drop)]
@@ -43,6 +37,8 @@ impl<'a> LineTask<'a> {
             result ≡ line_started config.now board one }
         ensures there { IsLineBelow (length config.now.boards) result }
     {
+        let boards = config.boards();
+        prove!(board < boards);
         LineTask::of(config, board, config.script(board).line(line))
     }
 
@@ -107,7 +103,8 @@ impl<'a> LineTask<'a> {
     /// A line of a board's processor before its first call.
     #[tactic(auto, unfolding(crate::specs::Machine::line_started))]
     fn of(config: &'a Config, board: usize, line: &Line) -> LineTask<'a>
-        requires { board < length config.now.boards }
+        requires board { board < length config.now.boards }
+        requires mailbox { HasItsMailbox config.now line.now }
         ensures { result ≡ line_started config.now board line.now }
     {
         match attempt_of(config, board, line) {
@@ -120,79 +117,10 @@ impl<'a> LineTask<'a> {
     }
 }
 
-/// What is attempted for a line of a board's processor.
-fn attempt_of<'a>(
-    config: &'a Config,
-    board: usize,
-    line: &Line,
-) -> Result<AttemptTask<'a>, CycleFault>
-    requires { board < length config.now.boards }
-    ensures { result ≡ fresh_of (line_attempt config.now board line.now) }
-{
-    match line {
-        Line::Bus(request) => Ok(AttemptTask::Moves(transfer(config, board, request)?)),
-        Line::Local(cmd) => Ok(AttemptTask::Moves(Task::local(board, cmd.copy()))),
-        Line::Await { am, addr, bytes } => {
-            let n = bytes.as_slice().len() as u8;
-            let request = Request::Read {
-                am: *am,
-                addr: *addr,
-                n,
-            };
-            let task = transfer(config, board, &request)?;
-            let want = copy_bytes(bytes);
-            Ok(AttemptTask::Waits(WaitTask { task, want }))
-        }
-        Line::Lock { am, addr } => {
-            let request = SharedRequest::Lock {
-                am: *am,
-                addr: *addr,
-            };
-            Ok(AttemptTask::Shares(shared(config, board, request)?))
-        }
-        Line::Unlock { am, addr } => {
-            let request = SharedRequest::Unlock {
-                am: *am,
-                addr: *addr,
-            };
-            Ok(AttemptTask::Shares(shared(config, board, request)?))
-        }
-        _ => Err(CycleFault::BadCount),
-    }
-}
-
 /// The number of lines of the script of a board's processor that ask for something.
 pub fn line_count(config: &Config, board: usize) -> usize
     requires { board < length config.now.boards }
     ensures { result ≡ length (lines_at config.now board) }
 {
     config.script(board).len()
-}
-
-/// The task of a request of a board's processor, or the refusal of the request.
-fn transfer(config: &Config, board: usize, request: &Request) -> Result<Task, CycleFault>
-    requires { board < length config.now.boards }
-    ensures { result ≡ bus_task (entries_of config.now.boards) (slot_at config.now board)
-        (level_at config.now board) (transfer_of request.now) }
-{
-    let slot = config.slot(board);
-    Task::start(config.map(), slot, config.level(board), request)
-}
-
-/// The task of what a board's processor asks of a lock or a mailbox, or its refusal.
-fn shared<'a>(
-    config: &'a Config,
-    board: usize,
-    request: SharedRequest,
-) -> Result<SharedTask<'a>, CycleFault>
-    requires board { board < length config.now.boards }
-    requires request { IsAsked request }
-    ensures { result ≡ shared_task (shared_job config.now board request) }
-{
-    SharedTask::start(
-        config.map(),
-        config.slot(board),
-        config.level(board),
-        request,
-    )
 }

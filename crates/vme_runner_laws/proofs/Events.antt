@@ -43,7 +43,7 @@ use Rattle.vme_shared.specs.Mailboxes.{stage_request, shared_refusal}
 use Rattle.vme_shared.specs.Steps.{first_stage, step_after}
 use Rattle.vme_shared.specs.Tables as shares
 use Rattle.vme_shared.specs.Tables.{SharedJob, Progress, At, Over, transfer_job as shared_transfer, stage_job, stage_begun, step_begun, progress_by, progress_given, progress_of, task_shown, next_at, shared_next}
-use Rattle.vme_course.specs.Scripts.{Attempt, Moves, Waits, Shares, slot_at, level_at, transfer_job, request_attempt, unless_refused, shared_job, line_attempt}
+use Rattle.vme_course.specs.Scripts.{Attempt, Moves, Waits, Shares, slot_at, level_at, mailbox_at, transfer_job, request_attempt, unless_refused, shared_job, line_attempt}
 use Rattle.vme_course.specs.Tables.{Makes, attempt_next, attempts_of, lawful_next, next_given}
 use Rattle.vme_course.proofs.Below.{moves_makes, waits_makes, shares_makes}
 use Rattle.vme_course.specs.Events.{IsCallBelow}
@@ -172,7 +172,12 @@ line_event config lawful board (lines.Lock am addr) given (OnBoard x command) ma
     shared_event config lawful board (asked_shared.Lock am addr) (shared_refusal (asked_shared.Lock am addr)) given x command made
 line_event config lawful board (lines.Unlock am addr) given (OnBoard x command) made =
     shared_event config lawful board (asked_shared.Unlock am addr) (shared_refusal (asked_shared.Unlock am addr)) given x command made
-line_event config lawful board line given (OnBoard x command) made = absurd cc
+line_event config lawful board (lines.Put box word) given (OnBoard x command) made =
+    let request = asked_shared.Put (mailbox_at config box) word in
+    shared_event config lawful board request (shared_refusal request) given x command made
+line_event config lawful board (lines.Take box) given (OnBoard x command) made =
+    let request = asked_shared.Take (mailbox_at config box) in
+    shared_event config lawful board request (shared_refusal request) given x command made
 
 pub has_event : (config : Configuration) → IsLawful config → (board : ℕ) (line : Line) (given : Given) (call : Call)
     → next_given config board line given ≡ Makes call → HasEvent call

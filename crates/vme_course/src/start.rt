@@ -1,0 +1,135 @@
+//! What is attempted for a line, before its first call.
+ghost use Rattle.std.specs.Prelude.{◌≡◌, ◌<◌, length};
+ghost use Rattle.vme_cycle.specs.declared.request.Request.TheVariants.{Read};
+ghost use Rattle.vme_cycle.specs.Lawful.{transfer_of};
+ghost use Rattle.vme_script.specs.Boards.{entries_of};
+ghost use Rattle.vme_master.specs.Machine.{bus_task};
+ghost use Rattle.vme_shared.specs.Mailboxes.{IsAsked};
+ghost use Rattle.vme_course.specs.Scripts.{slot_at, level_at, mailbox_at, HasMailbox, HasItsMailbox, Moves, Waits, transfer_job, request_attempt, shared_attempt, line_attempt};
+ghost use Rattle.vme_course.specs.Machine.{fresh_of};
+
+use crate::attempt::{AttemptTask, WaitTask};
+use vme_cycle::{CycleFault, Request};
+use vme_lanes::{Datum, copy_bytes};
+use vme_lines::Line;
+use vme_master::Task;
+use vme_script::Config;
+use vme_shared::{Mailbox, SharedRequest, SharedTask};
+
+/// What is attempted for a line of a board's processor, or the refusal of its request.
+pub(crate) fn attempt_of<'a>(
+    config: &'a Config,
+    board: usize,
+    line: &Line,
+) -> Result<AttemptTask<'a>, CycleFault>
+    requires board { board < length config.now.boards }
+    requires mailbox { HasItsMailbox config.now line.now }
+    ensures { result ≡ fresh_of (line_attempt config.now board line.now) }
+{
+    match line {
+        Line::Bus(request) => moves(config, board, request),
+        Line::Local(cmd) => Ok(AttemptTask::Moves(Task::local(board, cmd.copy()))),
+        Line::Await { am, addr, bytes } => waits(config, board, *am, *addr, bytes),
+        Line::Lock { am, addr } => shares(
+            config,
+            board,
+            SharedRequest::Lock {
+                am: *am,
+                addr: *addr,
+            },
+        ),
+        Line::Unlock { am, addr } => shares(
+            config,
+            board,
+            SharedRequest::Unlock {
+                am: *am,
+                addr: *addr,
+            },
+        ),
+        Line::Put { mailbox, word } => {
+            let mailbox = mailbox_at(config, *mailbox);
+            shares(
+                config,
+                board,
+                SharedRequest::Put {
+                    mailbox,
+                    word: *word,
+                },
+            )
+        }
+        Line::Take { mailbox } => {
+            let mailbox = mailbox_at(config, *mailbox);
+            shares(config, board, SharedRequest::Take { mailbox })
+        }
+    }
+}
+
+/// A transfer over the bus.
+fn moves<'a>(
+    config: &Config,
+    board: usize,
+    request: &Request,
+) -> Result<AttemptTask<'a>, CycleFault>
+    requires { board < length config.now.boards }
+    ensures { result ≡ fresh_of (request_attempt (λ t. Moves (transfer_job config.now board t))
+        (transfer_of request.now)) }
+{
+    Ok(AttemptTask::Moves(transfer(config, board, request)?))
+}
+
+/// A read over the bus that is to find these bytes.
+fn waits<'a>(
+    config: &Config,
+    board: usize,
+    am: u8,
+    addr: u32,
+    bytes: &Datum,
+) -> Result<AttemptTask<'a>, CycleFault>
+    requires { board < length config.now.boards }
+    ensures { result
+        ≡ fresh_of (request_attempt (λ t. Waits (transfer_job config.now board t) bytes.now.items)
+        (transfer_of (Read am addr (length bytes.now.items)))) }
+{
+    let n = bytes.as_slice().len() as u8;
+    let task = transfer(config, board, &Request::Read { am, addr, n })?;
+    let want = copy_bytes(bytes);
+    Ok(AttemptTask::Waits(WaitTask { task, want }))
+}
+
+/// What is asked of a lock or a mailbox.
+fn shares<'a>(
+    config: &'a Config,
+    board: usize,
+    request: SharedRequest,
+) -> Result<AttemptTask<'a>, CycleFault>
+    requires board { board < length config.now.boards }
+    requires request { IsAsked request }
+    ensures { result ≡ fresh_of (shared_attempt config.now board request) }
+{
+    let slot = config.slot(board);
+    let level = config.level(board);
+    let task = SharedTask::start(config.map(), slot, level, request)?;
+    Ok(AttemptTask::Shares(task))
+}
+
+/// The task of a request of a board's processor, or the refusal of the request.
+fn transfer(config: &Config, board: usize, request: &Request) -> Result<Task, CycleFault>
+    requires { board < length config.now.boards }
+    ensures { result ≡ bus_task (entries_of config.now.boards) (slot_at config.now board)
+        (level_at config.now board) (transfer_of request.now) }
+{
+    Task::start(
+        config.map(),
+        config.slot(board),
+        config.level(board),
+        request,
+    )
+}
+
+/// The mailbox with a number, counted from 1 on.
+fn mailbox_at(config: &Config, number: u8) -> Mailbox
+    requires { HasMailbox config.now number }
+    ensures { result ≡ mailbox_at config.now number }
+{
+    config.mailboxes()[usize::from(number) - 1]
+}
