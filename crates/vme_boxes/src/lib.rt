@@ -4,11 +4,13 @@
 #![tactic(auto)]
 
 mod boxes;
+mod bytes;
 mod laws;
 mod mailbox;
 mod place;
+mod rules;
 
-pub use boxes::Boxes;
 pub use laws::{places_are_told_by_addresses, tables_tell_lawful_numbers};
 pub use mailbox::{holds_mailboxes, mailbox_of};
 pub use place::Place;
+pub use rules::{Declared, Rules};

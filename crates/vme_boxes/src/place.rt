@@ -56,7 +56,7 @@ impl Place {
     }
 
     /// Whether some byte is one of both.
-    fn shares(self, other: Place) -> bool
+    pub(crate) fn shares(self, other: Place) -> bool
         ensures { result ≡ share self other }
     {
         let start = u64::from(self.offset.max(other.offset));

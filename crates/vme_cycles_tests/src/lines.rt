@@ -179,7 +179,7 @@ fn tells_what_was_read_before_a_bus_error(rt: HostRuntime) -> Result<(), Fail> {
     Ok(())
 }
 
-static LINE_FAULTS: [(LineFault, &str); 7] = [
+static LINE_FAULTS: [(LineFault, &str); 8] = [
     (LineFault::LineTooLong, "S1"),
     (LineFault::UnknownWord, "S2"),
     (LineFault::WordCount, "S3"),
@@ -187,6 +187,7 @@ static LINE_FAULTS: [(LineFault, &str); 7] = [
     (LineFault::BadAddress, "S5"),
     (LineFault::BadNumber, "S6"),
     (LineFault::BadBytes, "S7"),
+    (LineFault::MailboxBytes, "S9"),
 ];
 
 #[test]

@@ -7,7 +7,7 @@ use Rattle.vme_cycle.specs.declared.fault.CycleFault.{CycleFault}
 use Rattle.vme_cycle.specs.declared.fault.CycleFault.TheVariants.{Code, WrongKindOfCode, ProgramModify, BadCount, OutsideSpace, NoCycle, CrossesBoundary}
 use Rattle.vme_cycle.specs.SignalLines.{SignalLines}
 use Rattle.vme_lines.specs.declared.fault.LineFault.{LineFault}
-use Rattle.vme_lines.specs.declared.fault.LineFault.TheVariants.{LineTooLong, UnknownWord, WordCount, BadCode, BadAddress, BadNumber, BadBytes}
+use Rattle.vme_lines.specs.declared.fault.LineFault.TheVariants.{LineTooLong, UnknownWord, WordCount, BadCode, BadAddress, BadNumber, BadBytes, MailboxBytes}
 
 -- the digit of a number below 16, in lower case (this project's own)
 abbrev pub digit : ℕ → ℕ
@@ -99,6 +99,7 @@ line_fault_text BadCode = codes "S4"
 line_fault_text BadAddress = codes "S5"
 line_fault_text BadNumber = codes "S6"
 line_fault_text BadBytes = codes "S7"
+line_fault_text MailboxBytes = codes "S9"
 
 -- a line of output: a text and LF (this project's own)
 abbrev pub output_line : List ℕ → List ℕ

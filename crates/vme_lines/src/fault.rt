@@ -24,4 +24,7 @@ pub enum LineFault {
     /// S7: the bytes.
     #[error("S7")]
     BadBytes,
+    /// S9: bytes of a mailbox. No line by itself is told this, but lines of files that declare it.
+    #[error("S9")]
+    MailboxBytes,
 }

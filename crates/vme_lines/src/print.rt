@@ -259,5 +259,6 @@ fn line_refusal(fault: LineFault) -> [u8; 16]
         LineFault::BadAddress => *b"line refused S5\n",
         LineFault::BadNumber => *b"line refused S6\n",
         LineFault::BadBytes => *b"line refused S7\n",
+        LineFault::MailboxBytes => *b"line refused S9\n",
     }
 }

@@ -8,7 +8,6 @@ use Rattle.vme_decode.specs.declared.entry.Entry.{Entry}
 use Rattle.vme_decode.specs.Lawful.{some_overlap}
 use Rattle.vme_arbiter.specs.declared.kind.ArbiterKind.{ArbiterKind}
 use Rattle.vme_shared.specs.declared.mailbox.Mailbox.{Mailbox}
-use Rattle.vme_boxes.specs.declared.boxes.Boxes.TheVariants.{Declared}
 use Rattle.vme_script.specs.declared.board.BoardConfig.{BoardConfig}
 use Rattle.vme_script.specs.declared.script.ScriptLine.{ScriptLine}
 use Rattle.vme_script.specs.declared.fault.ConfigFault.{ConfigFault}
@@ -24,7 +23,7 @@ use Rattle.vme_script.specs.Configurations.{Configuration, configuration_of}
 use Rattle.vme_script.specs.Lawful.{IsLawfulBoard, IsLawful}
 use Rattle.vme_script.proofs.Maps.{refusal_of_lawful, size_of_range}
 use Rattle.vme_script.proofs.Sites.{mailboxes_known}
-use Rattle.vme_script.proofs.Scripts.{scripts_known, own_scripts, named_scripts}
+use Rattle.vme_script.proofs.Scripts.{scripts_known, each_line}
 use Rattle.vme_script.proofs.Facts.{ascend, is_lawful, boards_known, ranges_known, true_from_not}
 
 -- ---- the parts of a configuration
@@ -74,7 +73,7 @@ pub record Made (file : FileValues) (c : Configuration) : Type 0 where
   pub mapped : map_of (entries_of c.boards) ≡ Ok map
   pub schedule : schedule_of c.boards file ≡ Ok c.schedule
   pub mailboxes : mailboxes_of c.boards file.mailboxes ≡ Ok c.mailboxes
-  pub scripts : scripts_of (Declared (length c.mailboxes)) file.boards ≡ Ok c.scripts
+  pub scripts : scripts_of (entries_of c.boards) c.mailboxes file.boards ≡ Ok c.scripts
   pub arbiter : kind_named file.arbiter ≡ Ok c.arbiter
   pub tries : c.tries ≡ file.tries
   pub rounds : c.rounds ≡ file.rounds
@@ -95,7 +94,7 @@ of_parts file boards arbiter schedule mailboxes scripts = record {
 abbrev mailboxes_and_scripts : FileValues → List BoardConfig → ArbiterKind → List (ℕ × ℕ) → Result Configuration ConfigFault
 mailboxes_and_scripts file boards arbiter schedule =
     mailboxes_of boards file.mailboxes
-    >>= (λ mailboxes. scripts_of (Declared (length mailboxes)) file.boards >>= (λ scripts. Ok (of_parts file boards arbiter schedule mailboxes scripts)))
+    >>= (λ mailboxes. scripts_of (entries_of boards) mailboxes file.boards >>= (λ scripts. Ok (of_parts file boards arbiter schedule mailboxes scripts)))
 
 -- where its boards are known
 rest_of : FileValues → List BoardConfig → Result Configuration ConfigFault
@@ -112,7 +111,7 @@ made file c e =
     let second = passed (map_of (entries_of boards)) (kind_named file.arbiter)
     (λ arbiter. schedule_of boards file >>= (λ schedule. mailboxes_and_scripts file boards arbiter schedule)) c first.2.2 in
     let third = opened (schedule_of boards file) (mailboxes_and_scripts file boards second.1) c second.4 in
-    let last = ended (mailboxes_of boards file.mailboxes) (λ mailboxes. scripts_of (Declared (length mailboxes)) file.boards)
+    let last = ended (mailboxes_of boards file.mailboxes) (λ mailboxes. scripts_of (entries_of boards) mailboxes file.boards)
     (of_parts file boards second.1 third.0) c third.2 in
     subst (Made file) (sym last.4) (record {
       some = first.0;
@@ -233,8 +232,9 @@ configuration_known file c e =
     let known = boards_known 0 file.boards c.boards m.boards in
     let few : length file.boards ≤ 21 = ltb-false 21 (length file.boards) m.most in
     let some : 0 < length file.boards = grind (arith, nat_tests, m.some) in
-    let boxes = Declared (length c.mailboxes) in
-    let scripts = scripts_known boxes file.boards c.scripts m.scripts in
+    let entries = entries_of c.boards in
+    let scripts = scripts_known entries c.mailboxes 0 file.boards c.scripts m.scripts in
+    let each = each_line entries c.mailboxes file.boards c.scripts m.scripts in
     let sites = mailboxes_known c.boards file.mailboxes c.mailboxes known.lawful m.mailboxes in
     let times = timed c.boards file c.schedule m.schedule in
     record {
@@ -245,7 +245,7 @@ configuration_known file c e =
       map = refusal_of_lawful c.boards (omega (arith, few, known.count)) (ranges_known c.boards known.lawful) ∙ rw (clear_map _ m.map m.mapped) refl;
       scripts = scripts.0 ∙ sym known.count;
       lines = scripts.1;
-      own = λ i j script line here there. own_scripts boxes file.boards c.scripts m.scripts i script here j line there;
+      own = λ i j script line here there. (each i j script line here there).own;
       tries = (omega (arith, m.tries, times.tries_some), omega (arith, m.tries, times.tries_most));
       rounds = omega (arith, m.rounds, times.rounds);
       slots = times.slots;
@@ -253,5 +253,6 @@ configuration_known file c e =
       few_mailboxes = sites.few;
       mailboxes = sites.lawful;
       own_bytes = sites.apart;
-      named = λ i j script line here there. named_scripts boxes file.boards c.scripts m.scripts i script here j line there;
+      named = λ i j script line here there. (each i j script line here there).named;
+      free = λ i j script line here there. (each i j script line here there).free;
     }

@@ -1,5 +1,5 @@
 -- What holds of every script.
-use Rattle.std.proofs.Common.{◌≡◌, ℕ, zero, suc, ◌+◌, ◌≤◌, Bool, true, List, [], ◌∷◌, length, Option, None, Some, Result, Ok, Err, refl, ap, subst, arith, inl, inr}
+use Rattle.std.proofs.Common.{◌≡◌, ℕ, zero, suc, ◌+◌, ◌≤◌, Bool, true, false, List, [], ◌∷◌, length, Option, None, Some, Result, Ok, Err, refl, ap, subst, arith, inl, inr}
 use Rattle.std.specs.Prelude.{nat_le, slice_get}
 use Rattle.std.specs.Str.Lines.{lines}
 use Rattle.std.specs.List.{list_all}
@@ -8,14 +8,18 @@ use Rattle.vme_lines.specs.declared.line.Line.{Line}
 use Rattle.vme_lines.specs.declared.fault.LineFault.{LineFault}
 use Rattle.vme_lines.specs.Grammar.{line_of, IsOwnLine}
 use Rattle.vme_lines.proofs.Spelling.{line_is_own}
-use Rattle.vme_boxes.specs.declared.boxes.Boxes.{Boxes}
-use Rattle.vme_boxes.specs.Names.{may_ask, asked_within, line_within}
+use Rattle.vme_decode.specs.declared.entry.Entry.{Entry}
+use Rattle.vme_shared.specs.declared.mailbox.Mailbox.{Mailbox}
+use Rattle.vme_boxes.specs.declared.boxes.Boxes.TheVariants.{Declared}
+use Rattle.vme_boxes.specs.declared.rules.Rules.{Rules}
+use Rattle.vme_boxes.specs.Names.{may_ask}
+use Rattle.vme_boxes.specs.Rules.{boxes_of, touches, asked_within, line_within}
 use Rattle.vme_script.specs.declared.fault.ConfigFault.{ConfigFault}
 use Rattle.vme_script.specs.declared.fault.ScriptRefusal.{ScriptRefusal}
 use Rattle.vme_script.specs.declared.script.ScriptLine.{ScriptLine}
 use Rattle.vme_script.specs.Answers.{◌>>=◌}
 use Rattle.vme_document.specs.Files.{BoardValues}
-use Rattle.vme_script.specs.Scripts.{asked_at, line_before, lines_from, script_within, script_in, scripts_of}
+use Rattle.vme_script.specs.Scripts.{asked_at, line_before, lines_from, script_within, script_in, rules_of, scripts_from, scripts_of}
 
 -- whether a script is no longer than its text may be
 abbrev pub is_short : List ScriptLine → Bool
@@ -32,21 +36,21 @@ one_line number count (Ok (Some line)) (Ok rest) script within e =
     let same : record { number = number; line = line } ∷ rest ≡ script = cc in omega (arith, within rest refl, ap length same)
 
 lines_count :
-    (boxes : Boxes) (number : ℕ) (text : List (List ℕ)) (script : List ScriptLine) → lines_from boxes number text ≡ Ok script → length script ≤ length text
-lines_count boxes number [] script e = let none : [] ≡ script = cc in omega (arith, ap length none)
-lines_count boxes number (line ∷ more) script e =
-    one_line number (length more) (asked_at number (line_within boxes line)) (lines_from boxes (number + 1) more) script
-    (λ rest f. lines_count boxes (number + 1) more rest f) e
+    (rules : Rules) (number : ℕ) (text : List (List ℕ)) (script : List ScriptLine) → lines_from rules number text ≡ Ok script → length script ≤ length text
+lines_count rules number [] script e = let none : [] ≡ script = cc in omega (arith, ap length none)
+lines_count rules number (line ∷ more) script e =
+    one_line number (length more) (asked_at number (line_within rules line)) (lines_from rules (number + 1) more) script
+    (λ rest f. lines_count rules (number + 1) more rest f) e
 
 script_short :
-    (boxes : Boxes) (text : List ℕ) (script : List ScriptLine) → script_within boxes text ≡ Ok script → is_short script ≡ true
+    (rules : Rules) (text : List ℕ) (script : List ScriptLine) → script_within rules text ≡ Ok script → is_short script ≡ true
 unfolding script_within
-script_short boxes text script e =
+script_short rules text script e =
     elim (cases_lt 1000 (length (lines text))) [
       | inl many ↦ absurd (let told = rw (lt-ltb 1000 (length (lines text)) many) at e in cc)
       | inr few ↦
           let read = rw (le-ltb 1000 (length (lines text)) few) at e in
-          le-leb (length script) 1000 (omega (arith, lines_count boxes 1 (lines text) script read, few))
+          le-leb (length script) 1000 (omega (arith, lines_count rules 1 (lines text) script read, few))
     ]
 
 one_script :
@@ -59,16 +63,17 @@ one_script slot (Ok x) (Ok xs) scripts e = (x, xs, refl, refl, cc)
 
 -- a script for each board, none of them too long
 pub scripts_known :
-    (boxes : Boxes) (boards : List BoardValues) (scripts : List (List ScriptLine)) → scripts_of boxes boards ≡ Ok scripts
-    → (length scripts ≡ length boards) × (list_all is_short scripts ≡ true)
-scripts_known boxes [] scripts e =
+    (entries : List Entry) (mailboxes : List Mailbox) (place : ℕ) (boards : List BoardValues) (scripts : List (List ScriptLine))
+    → scripts_from entries mailboxes place boards ≡ Ok scripts → (length scripts ≡ length boards) × (list_all is_short scripts ≡ true)
+scripts_known entries mailboxes place [] scripts e =
     let none : [] ≡ scripts = cc in
     subst (λ s. (length s ≡ 0) × (list_all is_short s ≡ true)) none (refl, refl)
-scripts_known boxes (board ∷ more) scripts e =
-    let parts = one_script board.slot (script_within boxes board.script) (scripts_of boxes more) scripts e in
-    let others = scripts_known boxes more parts.1 parts.3 in
+scripts_known entries mailboxes place (board ∷ more) scripts e =
+    let rules = rules_of entries mailboxes place in
+    let parts = one_script board.slot (script_within rules board.script) (scripts_from entries mailboxes (place + 1) more) scripts e in
+    let others = scripts_known entries mailboxes (place + 1) more parts.1 parts.3 in
     subst (λ s. (length s ≡ suc (length more)) × (list_all is_short s ≡ true)) parts.4
-    (ap suc others.0, rw (script_short boxes board.script parts.0 parts.2) others.1)
+    (ap suc others.0, rw (script_short rules board.script parts.0 parts.2) others.1)
 
 -- ---- what holds of each line that is read holds of each line of each script
 
@@ -77,8 +82,8 @@ abbrev AllOf : (Line → Type 0) → List ScriptLine → Type 0
 AllOf P script = (j : ℕ) (line : ScriptLine) → slice_get script j ≡ Some line → P line.line
 
 -- what is read of a line has it
-abbrev AllRead : (Line → Type 0) → Boxes → Type 0
-AllRead P boxes = (text : List ℕ) (line : Line) → line_within boxes text ≡ Ok (Some line) → P line
+abbrev AllRead : (Line → Type 0) → Rules → Type 0
+AllRead P rules = (text : List ℕ) (line : Line) → line_within rules text ≡ Ok (Some line) → P line
 
 all_first : (P : Line → Type 0) (first : ScriptLine) (others : List ScriptLine) → P first.line → AllOf P others → AllOf P (first ∷ others)
 all_first P first others own rest zero line there = let same : first ≡ line = cc in subst (λ l. P l.line) same own
@@ -97,71 +102,98 @@ all_line P number (Ok (Some line)) (Ok others) script own rest e =
     subst (AllOf P) same (all_first P (record { number = number; line = line }) others (own line refl) (rest others refl))
 
 all_lines :
-    (P : Line → Type 0) (boxes : Boxes) (number : ℕ) (text : List (List ℕ)) (script : List ScriptLine) → AllRead P boxes
-    → lines_from boxes number text ≡ Ok script → AllOf P script
-all_lines P boxes number [] script own e =
+    (P : Line → Type 0) (rules : Rules) (number : ℕ) (text : List (List ℕ)) (script : List ScriptLine) → AllRead P rules
+    → lines_from rules number text ≡ Ok script → AllOf P script
+all_lines P rules number [] script own e =
     let none : [] ≡ script = cc in subst (AllOf P) none (λ j line there. cc)
-all_lines P boxes number (line ∷ more) script own e =
-    all_line P number (line_within boxes line) (lines_from boxes (number + 1) more) script (own line)
-    (λ rest f. all_lines P boxes (number + 1) more rest own f) e
+all_lines P rules number (line ∷ more) script own e =
+    all_line P number (line_within rules line) (lines_from rules (number + 1) more) script (own line)
+    (λ rest f. all_lines P rules (number + 1) more rest own f) e
 
 all_script :
-    (P : Line → Type 0) (boxes : Boxes) (text : List ℕ) (script : List ScriptLine) → AllRead P boxes
-    → script_within boxes text ≡ Ok script → AllOf P script
+    (P : Line → Type 0) (rules : Rules) (text : List ℕ) (script : List ScriptLine) → AllRead P rules
+    → script_within rules text ≡ Ok script → AllOf P script
 unfolding script_within
-all_script P boxes text script own e =
+all_script P rules text script own e =
     elim (cases_lt 1000 (length (lines text))) [
       | inl many ↦ absurd (let told = rw (lt-ltb 1000 (length (lines text)) many) at e in cc)
-      | inr few ↦ all_lines P boxes 1 (lines text) script own (rw (le-ltb 1000 (length (lines text)) few) at e)
+      | inr few ↦ all_lines P rules 1 (lines text) script own (rw (le-ltb 1000 (length (lines text)) few) at e)
     ]
 
--- each line of each script has a property
-abbrev AllIn : (Line → Type 0) → List (List ScriptLine) → Type 0
-AllIn P scripts = (i : ℕ) (script : List ScriptLine) → slice_get scripts i ≡ Some script → AllOf P script
+-- each line of each script has a property that goes by the place of its board
+abbrev AllIn : (ℕ → Line → Type 0) → ℕ → List (List ScriptLine) → Type 0
+AllIn P place scripts = (i : ℕ) (script : List ScriptLine) → slice_get scripts i ≡ Some script → AllOf (P (place + i)) script
 
 all_in_first :
-    (P : Line → Type 0) (first : List ScriptLine) (others : List (List ScriptLine)) → AllOf P first → AllIn P others → AllIn P (first ∷ others)
-all_in_first P first others own rest zero script there = let same : first ≡ script = cc in subst (AllOf P) same own
-all_in_first P first others own rest (suc i) script there = rest i script there
+    (P : ℕ → Line → Type 0) (place : ℕ) (first : List ScriptLine) (others : List (List ScriptLine)) → AllOf (P place) first
+    → AllIn P (place + 1) others → AllIn P place (first ∷ others)
+all_in_first P place first others own rest zero script there =
+    let same : first ≡ script = cc in
+    let here : place ≡ place + zero = omega arith in
+    subst (λ k. AllOf (P k) script) here (subst (AllOf (P place)) same own)
+all_in_first P place first others own rest (suc i) script there =
+    let here : (place + 1) + i ≡ place + suc i = omega arith in
+    subst (λ k. AllOf (P k) script) here (rest i script there)
 
 all_scripts :
-    (P : Line → Type 0) (boxes : Boxes) (boards : List BoardValues) (scripts : List (List ScriptLine)) → AllRead P boxes
-    → scripts_of boxes boards ≡ Ok scripts → AllIn P scripts
-all_scripts P boxes [] scripts own e =
-    let none : [] ≡ scripts = cc in subst (AllIn P) none (λ i script there. cc)
-all_scripts P boxes (board ∷ more) scripts own e =
-    let parts = one_script board.slot (script_within boxes board.script) (scripts_of boxes more) scripts e in
-    subst (AllIn P) parts.4
-    (all_in_first P parts.0 parts.1 (all_script P boxes board.script parts.0 own parts.2) (all_scripts P boxes more parts.1 own parts.3))
+    (P : ℕ → Line → Type 0) (entries : List Entry) (mailboxes : List Mailbox) (place : ℕ) (boards : List BoardValues)
+    (scripts : List (List ScriptLine)) → ((k : ℕ) → AllRead (P k) (rules_of entries mailboxes k))
+    → scripts_from entries mailboxes place boards ≡ Ok scripts → AllIn P place scripts
+all_scripts P entries mailboxes place [] scripts own e =
+    let none : [] ≡ scripts = cc in subst (AllIn P place) none (λ i script there. cc)
+all_scripts P entries mailboxes place (board ∷ more) scripts own e =
+    let rules = rules_of entries mailboxes place in
+    let parts = one_script board.slot (script_within rules board.script) (scripts_from entries mailboxes (place + 1) more) scripts e in
+    subst (AllIn P place) parts.4
+    (all_in_first P place parts.0 parts.1 (all_script (P place) rules board.script parts.0 (own place) parts.2)
+    (all_scripts P entries mailboxes (place + 1) more parts.1 own parts.3))
 
--- a line that is read may be asked
+-- a line that is read is asked by the rules
 read_within :
-    (boxes : Boxes) (read : Result (Option Line) LineFault) (line : Line) → asked_within boxes read ≡ Ok (Some line)
-    → (read ≡ Ok (Some line)) × (may_ask boxes line ≡ true)
-read_within boxes (Ok None) line e = cc
-read_within boxes (Err fault) line e = cc
-read_within boxes (Ok (Some own)) line e =
-    elim (cases_Bool (may_ask boxes own)) [
-      | inl may ↦
-          let same : own ≡ line = cc (rw may at e) in
-          (rw same refl, rw (← same) may)
+    (rules : Rules) (read : Result (Option Line) LineFault) (line : Line) → asked_within rules read ≡ Ok (Some line)
+    → (read ≡ Ok (Some line)) × (may_ask (boxes_of rules) line ≡ true) × (touches rules line ≡ false)
+read_within rules (Ok None) line e = cc
+read_within rules (Err fault) line e = cc
+read_within rules (Ok (Some own)) line e =
+    elim (cases_Bool (may_ask (boxes_of rules) own)) [
       | inr not_there ↦ absurd (let told = rw not_there at e in cc)
+      | inl may ↦ elim (cases_Bool (touches rules own)) [
+        | inl bytes ↦ absurd (let told = rw (may, bytes) at e in cc)
+        | inr free ↦
+            let same : own ≡ line = cc (rw (may, free) at e) in
+            (rw same refl, rw (← same) may, rw (← same) free)
+      ]
     ]
 
-line_own : (boxes : Boxes) → AllRead IsOwnLine boxes
+line_own : (rules : Rules) → AllRead IsOwnLine rules
 unfolding line_within
-line_own boxes text line e = line_is_own text line (read_within boxes (line_of text) line e).0
+line_own rules text line e = line_is_own text line (read_within rules (line_of text) line e).0
 
-line_may : (boxes : Boxes) → AllRead (λ line. may_ask boxes line ≡ true) boxes
+line_may : (rules : Rules) → AllRead (λ line. may_ask (boxes_of rules) line ≡ true) rules
 unfolding line_within
-line_may boxes text line e = (read_within boxes (line_of text) line e).1
+line_may rules text line e = (read_within rules (line_of text) line e).1
 
--- no line of a script asks the local port for a cycle of the bus
-pub own_scripts : (boxes : Boxes) (boards : List BoardValues) (scripts : List (List ScriptLine)) → scripts_of boxes boards ≡ Ok scripts → AllIn IsOwnLine scripts
-own_scripts boxes boards scripts e = all_scripts IsOwnLine boxes boards scripts (line_own boxes) e
+line_free : (rules : Rules) → AllRead (λ line. touches rules line ≡ false) rules
+unfolding line_within
+line_free rules text line e = (read_within rules (line_of text) line e).2
 
--- and none names a mailbox that is not there
-pub named_scripts :
-    (boxes : Boxes) (boards : List BoardValues) (scripts : List (List ScriptLine)) → scripts_of boxes boards ≡ Ok scripts
-    → AllIn (λ line. may_ask boxes line ≡ true) scripts
-named_scripts boxes boards scripts e = all_scripts (λ line. may_ask boxes line ≡ true) boxes boards scripts (line_may boxes) e
+-- what is known of each line of the scripts of a file
+pub record EachLine (entries : List Entry) (mailboxes : List Mailbox) (i : ℕ) (line : Line) : Type 0 where
+  pub own : IsOwnLine line
+  pub named : may_ask (Declared (length mailboxes)) line ≡ true
+  pub free : touches (rules_of entries mailboxes i) line ≡ false
+
+each_read : (entries : List Entry) (mailboxes : List Mailbox) (k : ℕ) → AllRead (EachLine entries mailboxes k) (rules_of entries mailboxes k)
+each_read entries mailboxes k text line e =
+    let rules = rules_of entries mailboxes k in
+    record { own = line_own rules text line e; named = line_may rules text line e; free = line_free rules text line e }
+
+-- no line of a script asks the local port for a cycle of the bus, names a mailbox that is not there, or bytes of one that is
+pub each_line :
+    (entries : List Entry) (mailboxes : List Mailbox) (boards : List BoardValues) (scripts : List (List ScriptLine))
+    → scripts_of entries mailboxes boards ≡ Ok scripts → (i j : ℕ) (script : List ScriptLine) (line : ScriptLine)
+    → slice_get scripts i ≡ Some script → slice_get script j ≡ Some line → EachLine entries mailboxes i line.line
+each_line entries mailboxes boards scripts e i j script line here there =
+    let same : 0 + i ≡ i = omega arith in
+    subst (λ k. EachLine entries mailboxes k line.line) same
+    (all_scripts (EachLine entries mailboxes) entries mailboxes 0 boards scripts (each_read entries mailboxes) e i script here j line there)

@@ -11,7 +11,6 @@ use Rattle.vme_document.specs.Files.{FileValues}
 use Rattle.vme_script.specs.Boards.{boards_after, entries_of, map_of}
 use Rattle.vme_script.specs.Arbiters.{kind_named}
 use Rattle.vme_script.specs.Schedules.{schedule_of}
-use Rattle.vme_boxes.specs.declared.boxes.Boxes.TheVariants.{Declared}
 use Rattle.vme_shared.specs.declared.mailbox.Mailbox.{Mailbox}
 use Rattle.vme_script.specs.Mailboxes.{mailboxes_of}
 use Rattle.vme_script.specs.Scripts.{scripts_of}
@@ -37,7 +36,7 @@ configuration_of file = do
   arbiter ← kind_named file.arbiter
   schedule ← schedule_of boards file
   mailboxes ← mailboxes_of boards file.mailboxes
-  scripts ← scripts_of (Declared (length mailboxes)) file.boards
+  scripts ← scripts_of (entries_of boards) mailboxes file.boards
   Ok (record {
     boards = boards;
     scripts = scripts;

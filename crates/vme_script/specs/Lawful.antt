@@ -1,5 +1,5 @@
 -- What holds of every configuration.
-use Rattle.std.specs.Prelude.{◌≡◌, ℕ, ◌+◌, ◌<◌, ◌≤◌, nat_le, true, List, length, Some, None, slice_get}
+use Rattle.std.specs.Prelude.{◌≡◌, ℕ, ◌+◌, ◌<◌, ◌≤◌, nat_le, true, false, List, length, Some, None, slice_get}
 use Rattle.std.specs.List.{list_all}
 use Rattle.vme_decode.specs.Lawful.{first_refusal}
 use Rattle.vme_lines.specs.Grammar.{IsOwnLine}
@@ -11,10 +11,12 @@ use Rattle.vme_boxes.specs.declared.place.Place.{Place}
 use Rattle.vme_boxes.specs.Mailboxes.{is_mailbox_code, holds_mailboxes}
 use Rattle.vme_boxes.specs.Names.{may_ask}
 use Rattle.vme_boxes.specs.Places.{place_of, share}
+use Rattle.vme_boxes.specs.Rules.{touches}
 use Rattle.vme_script.specs.declared.board.BoardConfig.{BoardConfig}
 use Rattle.vme_script.specs.declared.script.ScriptLine.{ScriptLine}
 use Rattle.vme_script.specs.Boards.{entries_of}
 use Rattle.vme_script.specs.Schedules.{has_boards, turns_of}
+use Rattle.vme_script.specs.Scripts.{rules_of}
 use Rattle.vme_script.specs.Configurations.{Configuration}
 
 -- a board in one of the 21 slots of a backplane, on one of the four request levels, of a size that boards have
@@ -38,9 +40,9 @@ pub record IsLawfulMailbox (boards : List BoardConfig) (mailbox : Mailbox) : Typ
   pub able : holds_mailboxes board.class ≡ true
 
 -- one to 21 lawful boards, each in a slot of its own; ranges that share no address; a script for each board, of at most 1,000
--- lines, none of which asks the local port for a cycle of the bus or names a mailbox that is not there; tries and rounds within
--- their limits; a schedule of such boards' turns, within its limit; and at most sixteen lawful mailboxes, which share no byte
--- (this project's own)
+-- lines, none of which asks the local port for a cycle of the bus, names a mailbox that is not there, or a byte of one that is
+-- other than by a put or a take; tries and rounds within their limits; a schedule of such boards' turns, within its limit; and at
+-- most sixteen lawful mailboxes, which share no byte (this project's own)
 pub record IsLawful (config : Configuration) : Type 0 where
   pub some : 0 < length config.boards
   pub most : length config.boards ≤ 21
@@ -68,3 +70,6 @@ pub record IsLawful (config : Configuration) : Type 0 where
   pub named :
       (i j : ℕ) (script : List ScriptLine) (line : ScriptLine) → slice_get config.scripts i ≡ Some script
       → slice_get script j ≡ Some line → may_ask (Declared (length config.mailboxes)) line.line ≡ true
+  pub free :
+      (i j : ℕ) (script : List ScriptLine) (line : ScriptLine) → slice_get config.scripts i ≡ Some script
+      → slice_get script j ≡ Some line → touches (rules_of (entries_of config.boards) config.mailboxes i) line.line ≡ false

@@ -4,9 +4,11 @@ use Rattle.std.specs.List.{list_all}
 use Rattle.std.specs.Str.Lines.{lines}
 use Rattle.vme_lines.specs.declared.line.Line.{Line}
 use Rattle.vme_lines.specs.declared.fault.LineFault.{LineFault}
-use Rattle.vme_boxes.specs.declared.boxes.Boxes.{Boxes}
-use Rattle.vme_boxes.specs.declared.boxes.Boxes.TheVariants.{Any}
-use Rattle.vme_boxes.specs.Names.{line_within}
+use Rattle.vme_decode.specs.declared.entry.Entry.{Entry}
+use Rattle.vme_shared.specs.declared.mailbox.Mailbox.{Mailbox}
+use Rattle.vme_boxes.specs.declared.rules.Rules.{Rules}
+use Rattle.vme_boxes.specs.declared.rules.Rules.TheVariants.{ByItself, InFile}
+use Rattle.vme_boxes.specs.Rules.{line_within}
 use Rattle.vme_script.specs.declared.fault.ConfigFault.{ConfigFault}
 use Rattle.vme_script.specs.declared.fault.ConfigFault.TheVariants.{BadScript}
 use Rattle.vme_script.specs.declared.fault.ScriptFault.{ScriptFault}
@@ -39,18 +41,18 @@ line_before number (Ok line) others = with_line (numbered number line) others
 line_before number (Err refusal) others = Err refusal
 
 -- the lines that ask for something, with numbers from this one on, or the first line that is refused (this project's own)
-abbrev pub lines_from : Boxes → ℕ → List (List ℕ) → Result (List ScriptLine) ScriptRefusal
-lines_from boxes number [] = Ok []
-lines_from boxes number (line ∷ more) =
-    line_before number (asked_at number (line_within boxes line)) (lines_from boxes (number + 1) more)
+abbrev pub lines_from : Rules → ℕ → List (List ℕ) → Result (List ScriptLine) ScriptRefusal
+lines_from rules number [] = Ok []
+lines_from rules number (line ∷ more) =
+    line_before number (asked_at number (line_within rules line)) (lines_from rules (number + 1) more)
 
--- the script that a text is, which names no other mailboxes: it has at most 1,000 lines, whatever they are (this project's own)
-unfoldable pub script_within : Boxes → List ℕ → Result (List ScriptLine) ScriptRefusal
-script_within boxes text = if nat_lt 1000 (length (lines text)) then Err TooManyLines else lines_from boxes 1 (lines text)
+-- the script that a text is, whose lines go by rules: it has at most 1,000 lines, whatever they are (this project's own)
+unfoldable pub script_within : Rules → List ℕ → Result (List ScriptLine) ScriptRefusal
+script_within rules text = if nat_lt 1000 (length (lines text)) then Err TooManyLines else lines_from rules 1 (lines text)
 
 -- the script that a text is by itself: of the mailboxes that it names nothing is known (this project's own)
 abbrev pub script_of : List ℕ → Result (List ScriptLine) ScriptRefusal
-script_of text = script_within Any text
+script_of text = script_within ByItself text
 
 -- a fault is the refusal of a script; where memory was refused nothing is said (this project's own)
 abbrev pub IsRefusalOf : Result (List ScriptLine) ScriptRefusal → ScriptFault → Type 0
@@ -62,13 +64,21 @@ abbrev pub script_in : ℕ → Result (List ScriptLine) ScriptRefusal → Result
 script_in slot (Ok script) = Ok script
 script_in slot (Err refusal) = Err (BadScript slot refusal)
 
--- the scripts of boards, in order of slots, which name no other mailboxes (this project's own)
-abbrev pub scripts_of : Boxes → List BoardValues → Result (List (List ScriptLine)) ConfigFault
-scripts_of boxes [] = Ok []
-scripts_of boxes (board ∷ more) = do
-  first ← script_in board.slot (script_within boxes board.script)
-  others ← scripts_of boxes more
+-- the rules of the script of a board, where these ranges and mailboxes are declared (this project's own)
+abbrev pub rules_of : List Entry → List Mailbox → ℕ → Rules
+rules_of entries mailboxes board = InFile (record { entries = entries; mailboxes = mailboxes; board = board })
+
+-- the scripts of boards from a place on, in order of slots, each by the rules of its board (this project's own)
+abbrev pub scripts_from : List Entry → List Mailbox → ℕ → List BoardValues → Result (List (List ScriptLine)) ConfigFault
+scripts_from entries mailboxes place [] = Ok []
+scripts_from entries mailboxes place (board ∷ more) = do
+  first ← script_in board.slot (script_within (rules_of entries mailboxes place) board.script)
+  others ← scripts_from entries mailboxes (place + 1) more
   Ok (first ∷ others)
+
+-- the scripts of all boards (this project's own)
+abbrev pub scripts_of : List Entry → List Mailbox → List BoardValues → Result (List (List ScriptLine)) ConfigFault
+scripts_of entries mailboxes boards = scripts_from entries mailboxes 0 boards
 
 -- whether boards are in slots of a backplane (this project's own)
 abbrev pub has_slots : List BoardValues → Bool

@@ -153,7 +153,8 @@ fn entries_of(alloc: Global, boards: &[BoardConfig]) -> Result<Vec<Entry>, Alloc
 pub(crate) fn map_of(alloc: Global, boards: &[BoardConfig]) -> Result<AddressMap, ConfigFault>
     requires most { length boards.now ≤ 21 }
     requires ranges { have_ranges boards.now ≡ true }
-    ensures { Gives (λ map. map) result (map_of (entries_of boards.now)) }
+    ensures map { Gives (λ map. map) result (map_of (entries_of boards.now)) }
+    ensures same { IfOk result (λ map. map ≡ entries_of boards.now) }
 {
     match AddressMap::new(alloc, &entries_of(alloc, boards)?) {
         Ok(map) => Ok(map),

@@ -15,7 +15,7 @@ use crate::script::Script;
 use std::alloc::Global;
 use std::marker::Model;
 use vme_arbiter::{Arbiter, ArbiterKind};
-use vme_boxes::Boxes;
+use vme_boxes::{Declared, Rules};
 use vme_core::OutOfMemory;
 use vme_decode::AddressMap;
 use vme_document::{BoardTable, FileTable};
@@ -87,8 +87,7 @@ impl Config {
         let arbiter = kind_named(file.arbiter)?;
         let schedule = schedule_of(alloc, &boards, file)?;
         let mailboxes = mailboxes_of(alloc, &boards, &map, &file.mailboxes)?;
-        let boxes = Boxes::Declared(mailboxes.len() as u8);
-        let scripts = scripts_of(alloc, &file.boards, boxes)?;
+        let scripts = scripts_of(alloc, &file.boards, &map, &mailboxes)?;
         Ok(Config {
             boards,
             scripts,
@@ -191,28 +190,34 @@ impl Config {
 }
 
 /// The script of the processor in a slot.
-fn script_in(alloc: Global, slot: u16, text: &str, boxes: Boxes) -> Result<Script, ConfigFault>
-    ensures { Gives (λ script. script) result (script_in slot (script_within boxes text.now)) }
+fn script_in(alloc: Global, slot: u16, text: &str, rules: &Rules<'_>) -> Result<Script, ConfigFault>
+    ensures { Gives (λ script. script) result (script_in slot (script_within rules.now text.now)) }
 {
-    match Script::within(alloc, text.as_bytes(), boxes) {
+    match Script::within(alloc, text.as_bytes(), rules) {
         Ok(script) => Ok(script),
         Err(ScriptFault::Refused(refusal)) => Err(ConfigFault::BadScript { slot, refusal }),
         Err(ScriptFault::OutOfMemory) => Err(ConfigFault::OutOfMemory),
     }
 }
 
-/// The scripts of boards in slots of a backplane, which name no other mailboxes.
+/// The scripts of boards in slots of a backplane, each by the rules of its board.
 fn scripts_of(
     alloc: Global,
     boards: &[BoardTable<'_>],
-    boxes: Boxes,
+    map: &AddressMap,
+    mailboxes: &[Mailbox],
 ) -> Result<Vec<Script>, ConfigFault>
     requires { has_slots boards.now ≡ true }
-    ensures { Gives (λ scripts. scripts.items) result (scripts_of boxes boards.now) }
+    ensures { Gives (λ scripts. scripts.items) result (scripts_of map.now mailboxes.now boards.now) }
 {
     let mut scripts = Vec::with_capacity(alloc, boards.len())?;
     for board in boards {
-        scripts.push(script_in(alloc, board.slot as u16, board.script, boxes)?)?;
+        let rules = Rules::InFile(Declared {
+            map,
+            mailboxes,
+            board: scripts.len(),
+        });
+        scripts.push(script_in(alloc, board.slot as u16, board.script, &rules)?)?;
     }
     Ok(scripts)
 }

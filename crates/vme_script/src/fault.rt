@@ -94,8 +94,8 @@ impl From<DocumentFault> for ConfigFault {
 /// Why a text is no script.
 #[derive(Clone, Copy, Debug, PartialEq, Eq, Error)]
 pub enum ScriptRefusal {
-    /// S1 to S7: a line that is refused, by its number from 1. S6 is also told of a mailbox that the
-    /// file does not declare.
+    /// S1 to S7, S9: a line that is refused, by its number from 1. In a file S6 is also told of a
+    /// mailbox that it does not declare, and S9 of bytes of one that it does.
     #[error("line {number} {fault}")]
     BadLine { number: u16, fault: LineFault },
     /// S8: more than 1,000 lines; told of the first line that is too many.

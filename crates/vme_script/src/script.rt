@@ -6,7 +6,7 @@ ghost use Rattle.vme_script.specs.Scripts.{script_of, script_within, lines_from,
 use crate::fault::{ScriptFault, ScriptRefusal};
 use std::alloc::Global;
 use std::marker::Model;
-use vme_boxes::Boxes;
+use vme_boxes::Rules;
 use vme_lines::Line;
 use vme_words::Lines;
 
@@ -48,14 +48,18 @@ impl Script {
         ensures script { IfOk result (λ script. script_of text.now ≡ Ok script) }
         ensures refused { IfErr result (IsRefusalOf (script_of text.now)) }
     {
-        Script::within(alloc, text, Boxes::Any)
+        Script::within(alloc, text, &Rules::ByItself)
     }
 
-    /// The script that a text is, which names no other mailboxes than these.
+    /// The script that a text is, whose lines go by rules.
     #[tactic(auto, unfolding(crate::specs::Scripts::script_within))]
-    pub(crate) fn within(alloc: Global, text: &[u8], boxes: Boxes) -> Result<Script, ScriptFault>
-        ensures script { IfOk result (λ script. script_within boxes text.now ≡ Ok script) }
-        ensures refused { IfErr result (IsRefusalOf (script_within boxes text.now)) }
+    pub(crate) fn within(
+        alloc: Global,
+        text: &[u8],
+        rules: &Rules<'_>,
+    ) -> Result<Script, ScriptFault>
+        ensures script { IfOk result (λ script. script_within rules.now text.now ≡ Ok script) }
+        ensures refused { IfErr result (IsRefusalOf (script_within rules.now text.now)) }
     {
         let room = usize::from(MOST_LINES).min(text.len() / SHORT_LINE + 1);
         let mut lines = Vec::with_capacity(alloc, room)?;
@@ -65,11 +69,11 @@ impl Script {
                 return Err(ScriptFault::Refused(ScriptRefusal::TooManyLines));
             }
             number += 1;
-            match boxes.line(line) {
+            match rules.line(line) {
                 Ok(Some(line)) => lines.push(ScriptLine { number, line })?,
                 Ok(None) => {}
                 Err(fault) => {
-                    return Err(fault_of(text, boxes, ScriptRefusal::BadLine { number, fault }));
+                    return Err(fault_of(text, rules, ScriptRefusal::BadLine { number, fault }));
                 }
             }
         }
@@ -102,9 +106,9 @@ impl Script {
 
 /// What a text is told of which a line is refused: that it has too many lines, or else that line.
 #[tactic(auto, unfolding(crate::specs::Scripts::script_within))]
-fn fault_of(text: &[u8], boxes: Boxes, refusal: ScriptRefusal) -> ScriptFault
-    requires { lines_from boxes 1 (lines text.now) ≡ Err refusal }
-    ensures { IsRefusalOf (script_within boxes text.now) result }
+fn fault_of(text: &[u8], rules: &Rules<'_>, refusal: ScriptRefusal) -> ScriptFault
+    requires { lines_from rules.now 1 (lines text.now) ≡ Err refusal }
+    ensures { IsRefusalOf (script_within rules.now text.now) result }
 {
     if has_too_many_lines(text) {
         ScriptFault::Refused(ScriptRefusal::TooManyLines)

@@ -136,7 +136,7 @@ static SCRIPTS: [(&str, &str); 9] = [
     ("take 00", "C14 slot 1 line 1 S6"),
     ("put 3 0000000", "C14 slot 1 line 1 S7"),
     ("put 3", "C14 slot 1 line 1 S3"),
-    ("lock 09 00000000\\ntake 99\\nx", "C14 slot 1 line 2 S6"),
+    ("lock 09 0000003c\\ntake 99\\nx", "C14 slot 1 line 2 S6"),
     ("x\\ntake 3", "C14 slot 1 line 1 S2"),
 ];
 

@@ -1,9 +1,9 @@
 -- The boards are as many as in the file, each with a lawful range and slot; and the configuration is that of the file.
 use Rattle.std.proofs.Common.{◌≡◌, ap, ◌∙◌, arith, rules, length, Ok}
-use Rattle.vme_script.specs.Boards.{boards_after, have_ranges, entries_of, map_of}
+use Rattle.vme_script.specs.Boards.{boards_after, have_ranges, entries_of}
 use Rattle.vme_script.specs.Scripts.{has_slots}
 use Rattle.vme_script.specs.Configurations.{configuration_of}
-use Rattle.vme_script.proofs.Facts.{boards_known, ranges_known, map_known}
+use Rattle.vme_script.proofs.Facts.{boards_known, ranges_known}
 use Rattle.vme_script.proofs.config.Config.of.Goals as goal
 
 pub map_of-requires-clause-most : goal.map_of-requires-clause-most
@@ -17,12 +17,6 @@ map_of-requires-clause-ranges c =
     let read : boards_after 0 c.deref.result.now ≡ Ok c.in_ok-boards.boards.items = c.in_ok-boards.ensures in
     ap have_ranges c.deref-2.ensures.value ∙ ranges_known c.in_ok-boards.boards.items (boards_known 0 c.deref.result.now c.in_ok-boards.boards.items read).lawful
 
-pub mailboxes_of-requires : goal.mailboxes_of-requires
-mailboxes_of-requires c =
-    let map : map_of (entries_of c.deref-2.result.now) ≡ Ok c.in_ok-map.map = c.in_ok-map.ensures in
-    let same : c.deref-2.result.now ≡ c.deref-4.result.now = cc in
-    map_known _ _ map ∙ ap entries_of same
-
 pub scripts_of-requires : goal.scripts_of-requires
 scripts_of-requires c =
     let read : boards_after 0 c.deref.result.now ≡ Ok c.in_ok-boards.boards.items = c.in_ok-boards.ensures in
@@ -31,6 +25,4 @@ scripts_of-requires c =
 
 pub invariant_of-result : goal.invariant_of-result
 unfolding configuration_of
-invariant_of-result c =
-    let map : map_of (entries_of c.deref-2.result.now) ≡ Ok c.in_ok-map.map = c.in_ok-map.ensures in
-    (map_known _ _ map ∙ ap entries_of c.deref-2.ensures.value, (c.args.file.now, search rules))
+invariant_of-result c = (c.in_ok-map.ensures.same ∙ ap entries_of c.deref-2.ensures.value, (c.args.file.now, search rules))

@@ -6,7 +6,7 @@ use Rattle.vme_script.proofs.script.Script.within.Given as goal
 -- the lines so far, with those that are left, are the script; the lines passed over have been counted, to 1,000 at most
 abbrev pub invariant-loop-line : goal.invariant-loop-line
 invariant-loop-line l = record {
-  script : with_line l.lines.items (lines_from l.boxes (l.number + 1) (lines l.line-iterator.rest.now)) ≡ lines_from l.fn.boxes 1 (lines l.fn.text);
+  script : with_line l.lines.items (lines_from l.rules (l.number + 1) (lines l.line-iterator.rest.now)) ≡ lines_from l.fn.rules 1 (lines l.fn.text);
   count : l.number + length (lines l.line-iterator.rest.now) ≡ length (lines l.fn.text);
   few : l.number ≤ 1000;
 }

@@ -1,0 +1,46 @@
+-- Which bytes of a board a line names.
+use Rattle.std.specs.Prelude.{ℕ, length, Option, Some, None, Result, Ok, Err, List}
+use Rattle.std.specs.Option.{option_map}
+use Rattle.vme_cycle.specs.declared.fault.CycleFault.{CycleFault}
+use Rattle.vme_cycle.specs.declared.request.Request.{Request}
+use Rattle.vme_cycle.specs.declared.request.Request.TheVariants as requests
+use Rattle.vme_cycle.specs.Requests.{addr_of, span_of}
+use Rattle.vme_cycle.specs.Lawful.{Transfer, transfer_of}
+use Rattle.vme_decode.specs.declared.entry.Entry.{Entry}
+use Rattle.vme_decode.specs.Select.{selection_at}
+use Rattle.vme_memory.specs.declared.command.BoardCmd.{BoardCmd}
+use Rattle.vme_memory.specs.declared.command.BoardCmd.TheVariants.{LocalRead, LocalWrite, LocalModify, Cycle}
+use Rattle.vme_lines.specs.declared.line.Line.{Line}
+use Rattle.vme_lines.specs.declared.line.Line.TheVariants.{Bus, Local, Await, Lock, Unlock, Put, Take}
+use Rattle.vme_shared.specs.Mailboxes.{set_lock, clear_lock}
+use Rattle.vme_boxes.specs.declared.place.Place.{Place}
+
+-- the bytes of a lawful request, whatever it is answered: all of them count on the board that the first one selects, and a
+-- request that is refused has none (this project's own)
+abbrev pub transfer_bytes : List Entry → Result Transfer CycleFault → Option Place
+transfer_bytes entries (Ok t) =
+    option_map (λ found. record { board = found.0; offset = found.1; len = span_of t.request })
+    (selection_at entries t.am (addr_of t.request))
+transfer_bytes entries (Err fault) = None
+
+-- the bytes of a request over the bus (this project's own)
+unfoldable pub request_bytes : List Entry → Request → Option Place
+request_bytes entries request = transfer_bytes entries (transfer_of request)
+
+-- the bytes of a command to the local port of a board (this project's own)
+abbrev pub local_bytes : ℕ → BoardCmd → Option Place
+local_bytes board (LocalRead offset n) = Some (record { board = board; offset = offset; len = n })
+local_bytes board (LocalWrite offset bytes) = Some (record { board = board; offset = offset; len = length bytes.items })
+local_bytes board (LocalModify offset n f) = Some (record { board = board; offset = offset; len = n })
+local_bytes board (Cycle signals at f) = None
+
+-- the bytes that a line of the processor of a board names: a read that waits, a lock and an unlock name those of their
+-- transfers; a put and a take name a mailbox, and no byte (this project's own)
+abbrev pub line_bytes : List Entry → ℕ → Line → Option Place
+line_bytes entries board (Bus request) = request_bytes entries request
+line_bytes entries board (Local command) = local_bytes board command
+line_bytes entries board (Await am addr bytes) = request_bytes entries (requests.Read am addr (length bytes.items))
+line_bytes entries board (Lock am addr) = request_bytes entries (set_lock am addr)
+line_bytes entries board (Unlock am addr) = request_bytes entries (clear_lock am addr)
+line_bytes entries board (Put mailbox number) = None
+line_bytes entries board (Take mailbox) = None

@@ -1,0 +1,49 @@
+-- What a line may ask where mailboxes are declared.
+use Rattle.std.specs.Prelude.{ℕ, Bool, false, if◌then◌else◌, List, length, Option, Some, None, Result, Ok, Err}
+use Rattle.std.specs.List.{list_any}
+use Rattle.std.specs.Option.{option_map_or}
+use Rattle.vme_decode.specs.declared.entry.Entry.{Entry}
+use Rattle.vme_lines.specs.declared.line.Line.{Line}
+use Rattle.vme_lines.specs.declared.fault.LineFault.{LineFault}
+use Rattle.vme_lines.specs.declared.fault.LineFault.TheVariants.{BadNumber, MailboxBytes}
+use Rattle.vme_lines.specs.Grammar.{line_of}
+use Rattle.vme_shared.specs.declared.mailbox.Mailbox.{Mailbox}
+use Rattle.vme_boxes.specs.declared.boxes.Boxes.{Boxes}
+use Rattle.vme_boxes.specs.declared.boxes.Boxes.TheVariants as boxes
+use Rattle.vme_boxes.specs.declared.place.Place.{Place}
+use Rattle.vme_boxes.specs.declared.rules.Rules.{Rules}
+use Rattle.vme_boxes.specs.declared.rules.Rules.TheVariants.{ByItself, InFile}
+use Rattle.vme_boxes.specs.Declarations.{Declaration}
+use Rattle.vme_boxes.specs.Bytes.{line_bytes}
+use Rattle.vme_boxes.specs.Names.{may_ask}
+use Rattle.vme_boxes.specs.Places.{place_of, share}
+
+-- the mailboxes that a script may name: in a file those that it declares (this project's own)
+abbrev pub boxes_of : Rules → Boxes
+boxes_of ByItself = boxes.Any
+boxes_of (InFile file) = boxes.Declared (length file.mailboxes)
+
+-- whether some byte is one of a mailbox (this project's own)
+abbrev pub is_of_mailbox : List Entry → Place → Mailbox → Bool
+is_of_mailbox entries bytes mailbox = option_map_or (share bytes) (place_of entries mailbox) false
+
+-- whether some byte is one of a declared mailbox (this project's own)
+abbrev pub are_of_mailboxes : Declaration → Place → Bool
+are_of_mailboxes file bytes = list_any (is_of_mailbox file.entries bytes) file.mailboxes
+
+-- whether a line names a byte of a declared mailbox, by either port (this project's own)
+abbrev pub touches : Rules → Line → Bool
+touches ByItself line = false
+touches (InFile file) line = option_map_or (are_of_mailboxes file) (line_bytes file.entries file.board line) false
+
+-- what was read of a line, if it may be asked: it is refused for a mailbox that is not there, and then for bytes of one that is
+-- (this project's own)
+abbrev pub asked_within : Rules → Result (Option Line) LineFault → Result (Option Line) LineFault
+asked_within rules (Ok None) = Ok None
+asked_within rules (Ok (Some line)) =
+    if may_ask (boxes_of rules) line then (if touches rules line then Err MailboxBytes else Ok (Some line)) else Err BadNumber
+asked_within rules (Err fault) = Err fault
+
+-- what a line asks for, if for anything: whether it may be asked is told last (this project's own)
+unfoldable pub line_within : Rules → List ℕ → Result (Option Line) LineFault
+line_within rules line = asked_within rules (line_of line)

@@ -1,0 +1,62 @@
+//! Which bytes of a board a line names.
+ghost use Rattle.std.specs.Prelude.{◌≡◌, length};
+ghost use Rattle.vme_cycle.specs.declared.request.Request.TheVariants.{Read};
+ghost use Rattle.vme_shared.specs.Mailboxes.{set_lock, clear_lock};
+ghost use Rattle.vme_boxes.specs.Bytes.{request_bytes, local_bytes};
+
+use crate::place::Place;
+use vme_cycle::{Modify, Plan, Request};
+use vme_decode::AddressMap;
+use vme_lanes::Datum;
+use vme_memory::BoardCmd;
+
+/// The bytes of a request over the bus.
+#[tactic(auto, unfolding(crate::specs::Bytes::request_bytes))]
+pub(crate) fn request_bytes(map: &AddressMap, request: &Request) -> Option<Place>
+    ensures { result ≡ request_bytes map.now request.now }
+{
+    let Ok(plan) = Plan::of(request) else {
+        return None;
+    };
+    let (board, offset) = map.select_at(plan.am(), plan.addr())?;
+    let len = u32::from(plan.datum_len()) * u32::from(plan.len());
+    Some(Place { board, offset, len })
+}
+
+/// The bytes of a read that waits for these.
+pub(crate) fn await_bytes(map: &AddressMap, am: u8, addr: u32, bytes: &Datum) -> Option<Place>
+    ensures { result ≡ request_bytes map.now (Read am addr (length bytes.now.items)) }
+{
+    let n = bytes.as_slice().len() as u8;
+    request_bytes(map, &Request::Read { am, addr, n })
+}
+
+/// The byte of a lock that is taken.
+pub(crate) fn lock_bytes(map: &AddressMap, am: u8, addr: u32) -> Option<Place>
+    ensures { result ≡ request_bytes map.now (set_lock am addr) }
+{
+    let f = Modify::Set;
+    request_bytes(map, &Request::Modify { am, addr, n: 1, f })
+}
+
+/// The byte of a lock that is given back.
+pub(crate) fn unlock_bytes(map: &AddressMap, am: u8, addr: u32) -> Option<Place>
+    ensures { result ≡ request_bytes map.now (clear_lock am addr) }
+{
+    let bytes = Datum::try_from(&[0][..]).unwrap();
+    request_bytes(map, &Request::Write { am, addr, bytes })
+}
+
+/// The bytes of a command to the local port of a board.
+pub(crate) fn local_bytes(board: usize, command: &BoardCmd) -> Option<Place>
+    ensures { result ≡ local_bytes board command.now }
+{
+    let (offset, len) = match command {
+        BoardCmd::LocalRead { offset, n } | BoardCmd::LocalModify { offset, n, .. } => {
+            (*offset, u32::from(*n))
+        }
+        BoardCmd::LocalWrite { offset, bytes } => (*offset, bytes.as_slice().len() as u32),
+        BoardCmd::Cycle { .. } => return None,
+    };
+    Some(Place { board, offset, len })
+}

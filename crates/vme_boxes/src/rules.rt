@@ -1,0 +1,136 @@
+//! What a line may ask where mailboxes are declared.
+ghost use Rattle.std.specs.Prelude.{◌≡◌, false};
+ghost use Rattle.std.specs.Option.{option_map_or};
+ghost use Rattle.vme_boxes.specs.Bytes.{line_bytes};
+ghost use Rattle.vme_boxes.specs.Rules.{boxes_of, is_of_mailbox, are_of_mailboxes, touches, line_within};
+
+use crate::boxes::Boxes;
+use crate::bytes::{await_bytes, local_bytes, lock_bytes, request_bytes, unlock_bytes};
+use crate::place::Place;
+use std::marker::Model;
+use vme_decode::AddressMap;
+use vme_lines::{Line, LineFault, parse_line};
+use vme_shared::Mailbox;
+
+/// What a file declares, as a script in it sees it.
+#[derive(Drop)]
+pub struct Declared<'a> {
+    /// The ranges of the boards.
+    pub map: &'a AddressMap,
+    /// The mailboxes on them.
+    pub mailboxes: &'a [Mailbox],
+    /// The board whose processor has the script, by its place in the map.
+    pub board: usize,
+}
+
+impl<'a> Model for Declared<'a> {
+    ghost use Rattle.vme_boxes.specs.Declarations.{Declaration};
+
+    ghost Value = { Declaration };
+
+    ghost view = { λ d. record {
+      entries = d.map.now;
+      mailboxes = d.mailboxes.now;
+      board = d.board;
+    } };
+}
+
+/// The rules that the lines of a script go by.
+#[derive(Drop)]
+pub enum Rules<'a> {
+    /// A script by itself: nothing is known of the mailboxes that are there.
+    ByItself,
+    /// A script in a file.
+    InFile(Declared<'a>),
+}
+
+impl<'a> Declared<'a> {
+    /// The bytes that a line names.
+    fn line_bytes(&self, line: &Line) -> Option<Place>
+        ensures { result ≡ line_bytes self.now.entries self.now.board line.now }
+    {
+        match line {
+            Line::Bus(request) => request_bytes(self.map, request),
+            Line::Local(command) => local_bytes(self.board, command),
+            Line::Await { am, addr, bytes } => await_bytes(self.map, *am, *addr, bytes),
+            Line::Lock { am, addr } => lock_bytes(self.map, *am, *addr),
+            Line::Unlock { am, addr } => unlock_bytes(self.map, *am, *addr),
+            Line::Put { .. } | Line::Take { .. } => None,
+        }
+    }
+
+    /// Whether some byte is one of a mailbox.
+    fn is_of_mailbox(&self, bytes: Place, mailbox: Mailbox) -> bool
+        ensures { result ≡ is_of_mailbox self.now.entries bytes mailbox }
+    {
+        match Place::of(self.map, mailbox) {
+            Some(place) => bytes.shares(place),
+            None => false,
+        }
+    }
+
+    /// Whether some byte is one of a declared mailbox.
+    fn are_of_mailboxes(&self, bytes: Place) -> bool
+        ensures { result ≡ are_of_mailboxes self.now bytes }
+    {
+        self.mailboxes
+            .iter()
+            .any(|mailbox| self.is_of_mailbox(bytes, *mailbox))
+    }
+
+    /// Whether a line names a byte of a declared mailbox.
+    #[tactic(auto, using(crate::proofs::Untouched::none_touched))]
+    fn touches(&self, line: &Line) -> bool
+        ensures { result ≡ option_map_or (are_of_mailboxes self.now)
+            (line_bytes self.now.entries self.now.board line.now) false }
+    {
+        if self.mailboxes.is_empty() {
+            return false;
+        }
+        match self.line_bytes(line) {
+            Some(bytes) => self.are_of_mailboxes(bytes),
+            None => false,
+        }
+    }
+}
+
+impl<'a> Rules<'a> {
+    /// The mailboxes that a script may name.
+    fn boxes(&self) -> Boxes
+        ensures { result ≡ boxes_of self.now }
+    {
+        match self {
+            Rules::ByItself => Boxes::Any,
+            Rules::InFile(file) => Boxes::Declared(file.mailboxes.len()),
+        }
+    }
+
+    /// Whether a line names a byte of a declared mailbox.
+    fn touches(&self, line: &Line) -> bool
+        ensures { result ≡ touches self.now line.now }
+    {
+        match self {
+            Rules::ByItself => false,
+            Rules::InFile(file) => file.touches(line),
+        }
+    }
+
+    /// Reads a line, without its end, as `parse_line` does. In a file one that names a mailbox which
+    /// is not declared is refused by S6, and one that names a byte of one that is, other than by a
+    /// put or a take, by S9.
+    #[tactic(auto, unfolding(crate::specs::Rules::line_within))]
+    pub fn line(&self, text: &[u8]) -> Result<Option<Line>, LineFault>
+        ensures line { result ≡ line_within self.now text.now }
+    {
+        let Some(line) = parse_line(text)? else {
+            return Ok(None);
+        };
+        if !self.boxes().may_ask(&line) {
+            return Err(LineFault::BadNumber);
+        }
+        if self.touches(&line) {
+            return Err(LineFault::MailboxBytes);
+        }
+        Ok(Some(line))
+    }
+}
