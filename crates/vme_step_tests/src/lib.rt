@@ -6,3 +6,5 @@
 mod devices;
 #[cfg(test)]
 mod rows;
+#[cfg(test)]
+mod shared;

@@ -7,14 +7,14 @@ use vme_program::Status;
 use vme_step::step_engine;
 
 /// A file, its report, and whether every line has a good answer.
-struct Row {
-    file: &'static str,
-    report: &'static str,
-    status: Status,
+pub struct Row {
+    pub file: &'static str,
+    pub report: &'static str,
+    pub status: Status,
 }
 
 /// Runs a file in memory and compares its report and how the run ends.
-fn check(rt: &impl Abort, alloc: Global, row: &Row) -> Result<(), Fail> {
+pub fn check(rt: &impl Abort, alloc: Global, row: &Row) -> Result<(), Fail> {
     let mut source = SliceSource::new(row.file.as_bytes(), usize::MAX, usize::MAX);
     let mut sink = RoomSink::new(alloc, usize::MAX, 65_536)?;
     let end = step_engine(alloc, &mut source, &mut sink);

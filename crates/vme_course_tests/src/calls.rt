@@ -1,0 +1,93 @@
+//! Lines by replies given by hand: what each is given, and what it does next.
+use std::process::Abort;
+use vme_arbiter::{ArbCmd, ArbReply};
+use vme_core::{Event, EventReply};
+use vme_course::{LineTask, LineTodo, line_count};
+use vme_lanes::Datum;
+use vme_memory::{BoardCmd, Reply};
+use vme_script::Config;
+use vme_shared::LineReply;
+
+pub const ASK: Step = Step::Bus(ArbCmd::Ask { slot: 2, level: 3 });
+
+pub const LOOK: Step = Step::Bus(ArbCmd::Look { slot: 2 });
+
+pub const DONE: Step = Step::Bus(ArbCmd::Done { slot: 2 });
+
+/// What a line does, without the lines of a cycle.
+#[derive(Clone, Copy, Debug, PartialEq, Eq)]
+pub enum Step {
+    Bus(ArbCmd),
+    /// A cycle of the board at a place, at an offset.
+    Cycle(usize, u32),
+    /// A command to the local port of the board at a place.
+    Local(usize),
+    End,
+}
+
+fn step_of(todo: &LineTodo) -> Step {
+    match todo {
+        LineTodo::Call(Event::Bus(cmd)) => Step::Bus(*cmd),
+        LineTodo::Call(Event::Board { board, cmd }) => match cmd {
+            BoardCmd::Cycle { at, .. } => Step::Cycle(*board, *at),
+            _ => Step::Local(*board),
+        },
+        LineTodo::Ended(_) => Step::End,
+    }
+}
+
+/// What a line is given.
+#[derive(Clone, Copy, Debug, PartialEq, Eq)]
+pub enum Given {
+    Nothing,
+    Turn(ArbReply),
+    /// This byte, of a board.
+    Byte(u8),
+    /// This number, as four bytes of a board.
+    Word(u32),
+    Done,
+    Berr,
+}
+
+pub const GRANTED: Given = Given::Turn(ArbReply::Granted);
+
+pub const FREED: Given = Given::Turn(ArbReply::Freed);
+
+fn reply(given: Given) -> Option<EventReply> {
+    match given {
+        Given::Nothing => None,
+        Given::Turn(turn) => Some(EventReply::Bus(turn)),
+        Given::Byte(byte) => {
+            let datum = Datum::try_from(&[byte][..]).unwrap_or_default();
+            Some(EventReply::Board(Reply::Bytes(datum)))
+        }
+        Given::Word(number) => {
+            let datum = Datum::try_from(&number.to_be_bytes()[..]).unwrap_or_default();
+            Some(EventReply::Board(Reply::Bytes(datum)))
+        }
+        Given::Done => Some(EventReply::Board(Reply::Done)),
+        Given::Berr => Some(EventReply::Board(Reply::Berr)),
+    }
+}
+
+pub type Course = &'static [(Given, Step)];
+
+/// Calls a line of the first board as in a course, and once more after its end: its answer.
+pub fn answer(rt: &impl Abort, config: &Config, line: usize, course: Course) -> LineReply {
+    if config.boards() == 0 || line_count(config, 0) <= line {
+        panic!(rt; "no such line");
+    }
+    let mut task = LineTask::start(config, 0, line);
+    for (given, wanted) in course {
+        let todo = task.next(reply(*given));
+        assert_eq!(rt; step_of(&todo), *wanted, "{given:?}");
+    }
+    let LineTodo::Ended(first) = task.next(None) else {
+        panic!(rt; "not ended")
+    };
+    let LineTodo::Ended(again) = task.next(reply(GRANTED)) else {
+        panic!(rt; "not ended")
+    };
+    assert_eq!(rt; first, again);
+    first
+}
