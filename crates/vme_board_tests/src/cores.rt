@@ -5,7 +5,7 @@ ghost use Rattle.vme_core.specs.Machines.{whos, IsThere};
 
 use std::process::Abort;
 use std::test::Fail;
-use vme_arbiter::{ArbCmd, ArbReply};
+use vme_arbiter::{ArbCmd, ArbReply, Arbiter};
 use vme_core::{Core, Event, EventReply, OutOfMemory, RunStop, Target};
 use vme_lanes::Datum;
 use vme_memory::{BoardCmd, ByteMemory, Class, Reply, Width8To32};
@@ -17,10 +17,9 @@ const CLASS: Class = Class {
     rmw: true,
 };
 
-/// A core of one board of 16 bytes, for two whos.
-fn one_board(rt: &HostRuntime) -> Result<Core, OutOfMemory>
-    ensures boards { IfOk result (λ core. length core.boards ≡ 1) }
-    ensures whos { IfOk result (λ core. whos core ≡ 2) }
+/// The memory of one board, of 16 bytes.
+fn memories(rt: &HostRuntime) -> Result<Vec<ByteMemory>, OutOfMemory>
+    ensures { IfOk result (λ memories. length memories.items ≡ 1) }
 {
     let Ok(memory) = ByteMemory::new(rt.alloc(), 16, CLASS) else {
         return Err(OutOfMemory);
@@ -28,7 +27,23 @@ fn one_board(rt: &HostRuntime) -> Result<Core, OutOfMemory>
     let Ok(memories) = Vec::from_array(rt.alloc(), [memory]) else {
         return Err(OutOfMemory);
     };
-    Core::new(rt.alloc(), memories, 2)
+    Ok(memories)
+}
+
+/// A core of one board, for two whos.
+fn one_board(rt: &HostRuntime) -> Result<Core, OutOfMemory>
+    ensures boards { IfOk result (λ core. length core.boards ≡ 1) }
+    ensures whos { IfOk result (λ core. whos core ≡ 2) }
+{
+    Core::new(rt.alloc(), memories(rt)?, 2)
+}
+
+/// The same with a rotating arbiter.
+fn rotating(rt: &HostRuntime) -> Result<Core, OutOfMemory>
+    ensures boards { IfOk result (λ core. length core.boards ≡ 1) }
+    ensures whos { IfOk result (λ core. whos core ≡ 2) }
+{
+    Core::with_arbiter(rt.alloc(), memories(rt)?, Arbiter::rotating(), 2)
 }
 
 /// A write of one byte by who 0, a read of it by who 1, and slot 2's request for the bus.
@@ -118,4 +133,28 @@ fn applies_an_event(rt: HostRuntime) {
     let reply = core.apply(0, &look);
     assert!(&rt; matches!(reply, Ok(EventReply::Bus(ArbReply::Denied))));
     assert_eq!(&rt; core.made(0, Target::Bus), 1);
+}
+
+/// Slot 9 is done while slot 1 asks on its level and slot 3 on the one below, and both look.
+static LOOKS: [(ArbCmd, ArbReply); 6] = [
+    (ArbCmd::Ask { slot: 9, level: 3 }, ArbReply::Granted),
+    (ArbCmd::Ask { slot: 1, level: 3 }, ArbReply::Waiting),
+    (ArbCmd::Ask { slot: 3, level: 2 }, ArbReply::Waiting),
+    (ArbCmd::Done { slot: 9 }, ArbReply::Freed),
+    (ArbCmd::Look { slot: 1 }, ArbReply::Waiting),
+    (ArbCmd::Look { slot: 3 }, ArbReply::Granted),
+];
+
+/// A core takes the arbiter that it is given; where memory is refused there is none.
+#[test]
+fn takes_a_rotating_arbiter(rt: HostRuntime) {
+    let Ok(mut core) = rotating(&rt) else {
+        return;
+    };
+    for (cmd, wanted) in &LOOKS {
+        match core.apply(0, &Event::Bus(*cmd)) {
+            Ok(EventReply::Bus(reply)) => assert_eq!(&rt; reply, *wanted, "{cmd:?}"),
+            other => panic!(&rt; "{other:?}"),
+        }
+    }
 }

@@ -3,6 +3,8 @@
 #![tactic(auto)]
 
 #[cfg(test)]
+mod arbiters;
+#[cfg(test)]
 mod devices;
 #[cfg(test)]
 mod rows;
