@@ -71,6 +71,51 @@ mem 1 00000010 0000000a0000000b0000000000000000
     status: Status::Marked,
 };
 
+/// The same, and a line that names bytes of the mailbox, but is refused as a request: no bus has data
+/// of eight bytes.
+const REFUSED_AT_ITS_BYTES: Row = Row {
+    file: "tries = 1
+schedule = [[1, 48], [2, 48]]
+rounds = 1
+[[board]]
+slot = 1
+base = 0
+size = 32
+script = '''
+put 1 0000000a
+put 1 0000000b
+put 1 0000000c
+'''
+[[board]]
+slot = 2
+base = 0x1000
+size = 16
+script = '''
+take 1
+take 1
+take 1
+r 09 00000014 8
+'''
+[[mailbox]]
+am = 9
+addr = 0
+slots = 2
+",
+    report: "1:1 put
+1:2 put
+1:3 full
+2:1 took 0000000a
+2:2 took 0000000b
+2:3 empty
+2:4 refused K8
+board 1 steps 32 made 16 16
+board 2 steps 0 made 0 0
+mem 1 00000000 00000000000000020000000200000000
+mem 1 00000010 0000000a0000000b0000000000000000
+",
+    status: Status::Marked,
+};
+
 /// The second word finds no room, and is tried again after the first was taken.
 const ROOM_LATER: Row = Row {
     file: "tries = 2
@@ -131,7 +176,13 @@ board 1 steps 1 made 1
 
 #[test]
 fn processors_share_locks_and_mailboxes(rt: HostRuntime) -> Result<(), Fail> {
-    for row in [&LOCKS, &THREE_WORDS, &ROOM_LATER, &NO_LOCK] {
+    for row in [
+        &LOCKS,
+        &THREE_WORDS,
+        &REFUSED_AT_ITS_BYTES,
+        &ROOM_LATER,
+        &NO_LOCK,
+    ] {
         check(&rt, rt.alloc(), row)?;
     }
     Ok(())
