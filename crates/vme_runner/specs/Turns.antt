@@ -78,7 +78,8 @@ abbrev pub run : Configuration → World → List ℕ → World
 run config world [] = world
 run config world (slot ∷ slots) = run config (turn config world slot) slots
 
--- before the first turn: memories of zeros, a free bus with an arbiter of its kind, nothing counted, and no line answered (this project's own)
+-- before the first turn: memories of zeros, a free bus with an arbiter of its kind, nothing counted, and no line answered
+-- (this project's own)
 abbrev pub opening_world : Configuration → World
 opening_world config = record {
   machine = opening (map opening_memory config.boards) (opening_bus config.arbiter) (length config.boards);

@@ -28,14 +28,16 @@ calls_in run = map (λ m. (m.who, call_of m.event)) run
 abbrev pub moves_of : ℕ → List Move → List Move
 moves_of who run = filter (λ m. m.who == who) run
 
--- turns of these slots are this run of moves. Its calls are theirs. Each board, from a memory of zeros, and the arbiter of
--- the configuration's kind, from a free bus, is where its own part of the run leaves it, one command after another, and has counted that part. And each
--- processor has come so far in its script by its own moves (this project's own)
+-- turns of these slots are this run of moves. Its calls are theirs. Each board, from a memory of zeros, and the arbiter of the
+-- configuration's kind, from a free bus, is where its own part of the run leaves it, one command after another, and has counted
+-- that part. And each processor has come so far in its script by its own moves (this project's own)
 pub record AreRun (config : Configuration) (slots : List ℕ) (run : List Move) : Type 0 where
   pub calls : calls_in run ≡ calls_from config (opening_world config) slots
   pub boards :
       AllAt (λ x memory board. Tells board_step memory (board_part x run) (length config.boards) board)
       (map opening_memory config.boards) (world_after config slots).machine.boards
-  pub bus : Tells turn_step (opening_bus config.arbiter) (bus_part run) (length config.boards) (world_after config slots).machine.bus
+  pub bus :
+      Tells turn_step (opening_bus config.arbiter) (bus_part run) (length config.boards)
+      (world_after config slots).machine.bus
   pub courses :
       (b : ℕ) (c : Course) → slice_get (world_after config slots).courses b ≡ Some c → Follows config b (moves_of b run) c

@@ -36,7 +36,8 @@ pub record IsEndOf (runs : List (List Move)) (x : ℕ) (own : BoardConfig) (end 
   pub history : HasHistory board_step (opening_memory own) (map (board_part x) runs) end.memory end.steps end.made.items
 
 -- a run of each processor is its script's course and gives its lines, under their numbers; and each board, and the arbiter of
--- the configuration's kind, of a bus that is free at first, has one history, which is shared out among the runs (this project's own)
+-- the configuration's kind, of a bus that is free at first, has one history, which is shared out among the runs
+-- (this project's own)
 pub record IsReportOf (config : Configuration) (report : Report) : Type 0 where
   pub runs : List (List Move)
   pub workers : length runs ≡ length config.boards
@@ -49,7 +50,8 @@ pub record IsReportOf (config : Configuration) (report : Report) : Type 0 where
   pub boards : AllAt (IsEndOf runs) config.boards report.boards.items
   pub bus :
       (object : Arbitration)
-      × HasHistory turn_step (opening_bus config.arbiter) (map bus_part runs) object report.arbiter_steps report.arbiter_made.items
+      × HasHistory turn_step (opening_bus config.arbiter) (map bus_part runs) object report.arbiter_steps
+      report.arbiter_made.items
 
 -- each of these ran is that of the worker of its number, by a run (this project's own)
 pub record HaveRun (config : Configuration) (ports : Ports) (rans : List Ran) : Type 0 where
