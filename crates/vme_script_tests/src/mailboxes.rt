@@ -113,14 +113,18 @@ mailbox = [{ am = 9, addr = 0, slots = 1 }]";
 }
 
 /// The numbers of mailboxes on one board of 512 bytes, and what the file is told.
-static COUNTS: [(u32, &str); 3] = [(1, "lawful"), (16, "lawful"), (17, "C13")];
+static COUNTS: [(u16, &str); 3] = [(1, "lawful"), (16, "lawful"), (17, "C13")];
 
 #[test]
 fn has_sixteen_mailboxes_at_most(rt: HostRuntime) -> Result<(), Fail> {
     for (count, told) in &COUNTS {
         let mut file = format!(in rt.alloc(); "board = [{{ slot = 1, base = 0, size = 512 }}]\n")?;
         for k in 0..*count {
-            write!(file, "[[mailbox]]\nam = 9\naddr = {}\nslots = 1\n", 20 * k)?;
+            write!(
+                file,
+                "[[mailbox]]\nam = 9\naddr = {}\nslots = 1\n",
+                20 * u32::from(k)
+            )?;
         }
         check(&rt, rt.alloc(), file.as_bytes(), told)?;
     }
