@@ -1,5 +1,5 @@
 //! Attempts at a line, one after another.
-ghost use Rattle.std.specs.Prelude.{◌≡◌, ◌≢◌, if◌then◌else◌, option_map};
+ghost use Rattle.std.specs.Prelude.{◌≡◌, ◌≢◌, if◌then◌else◌, option_map, is_some};
 ghost use Rattle.std.specs.Str.{bytes_eq};
 ghost use Rattle.vme_core.specs.Calls.{call_of};
 ghost use Rattle.vme_master.specs.Machine.{to_do};
@@ -78,6 +78,17 @@ impl AttemptTask<'_> {
         }
     }
 
+    /// Whether it has ended.
+    pub(crate) fn is_over(&self) -> bool
+        ensures { result ≡ is_some (answer_in (attempt_to_do self.now)) }
+    {
+        match self {
+            AttemptTask::Moves(task) => task.is_over(),
+            AttemptTask::Waits(wait) => wait.task.is_over(),
+            AttemptTask::Shares(task) => task.outcome().is_some(),
+        }
+    }
+
     /// Its answer, where it has ended.
     pub(crate) fn answer(&self) -> Option<LineReply>
         ensures { result ≡ answer_in (attempt_to_do self.now) }
@@ -95,7 +106,7 @@ impl AttemptTask<'_> {
     {
         match self {
             AttemptTask::Moves(_) => false,
-            AttemptTask::Waits(wait) => matches!(wait.answer(), Some(LineReply::Timeout)),
+            AttemptTask::Waits(wait) => wait.asks_again(),
             AttemptTask::Shares(task) => matches!(
                 task.outcome(),
                 Some(SharedOutcome::Busy | SharedOutcome::Full | SharedOutcome::Empty)
@@ -116,6 +127,13 @@ impl AttemptTask<'_> {
 }
 
 impl WaitTask {
+    /// Whether it has ended with other bytes than it is to find.
+    fn asks_again(&self) -> bool
+        ensures { result ≡ next_asks_again (waits_next self.now.want.items (to_do self.now.task)) }
+    {
+        self.task.is_over() && matches!(self.answer(), Some(LineReply::Timeout))
+    }
+
     /// Its answer, where it has ended: whether the bytes are those that it is to find.
     fn answer(&self) -> Option<LineReply>
         ensures { result ≡ answer_in (waits_next self.now.want.items (to_do self.now.task)) }

@@ -1,4 +1,4 @@
-ghost use Rattle.std.specs.Prelude.{◌≡◌, ◌≢◌, ◌<◌, ◌∷◌, ℕ, length, option_map, slice_get, Some, IfSome};
+ghost use Rattle.std.specs.Prelude.{◌≡◌, ◌≢◌, ◌<◌, ◌∷◌, ℕ, length, option_map, is_some, slice_get, Some, IfSome};
 ghost use Rattle.vme_core.specs.Calls.{call_of};
 ghost use Rattle.vme_lines.specs.declared.line.Line.{Line as AnyLine};
 ghost use Rattle.vme_script.specs.Configurations.{Configuration};
@@ -77,6 +77,16 @@ impl<'a> LineTask<'a> {
         match self {
             LineTask::Refused(_) => None,
             LineTask::Tries(attempts) => attempts.attempt.event(),
+        }
+    }
+
+    /// Whether it has ended. A driver that asks this first moves no answer that is none.
+    pub fn is_over(&self) -> bool
+        ensures { result ≡ is_some (answer_in (line_to_do self.now)) }
+    {
+        match self {
+            LineTask::Refused(_) => true,
+            LineTask::Tries(attempts) => attempts.attempt.is_over(),
         }
     }
 

@@ -1,4 +1,4 @@
-ghost use Rattle.std.specs.Prelude.{◌≡◌, ◌≢◌, ◌≤◌, ◌+◌, ◌∷◌, ◌++◌, length, Some, None, IsTrue, option_map};
+ghost use Rattle.std.specs.Prelude.{◌≡◌, ◌≢◌, ◌≤◌, ◌+◌, ◌∷◌, ◌++◌, length, Some, None, IsTrue, option_map, is_some};
 ghost use Rattle.vme_cycle.specs.Lawful.{transfer_of};
 ghost use Rattle.vme_core.specs.declared.event.EventReply.TheVariants as told;
 ghost use Rattle.vme_master.specs.declared.job.Job.{Job as AnyJob};
@@ -113,6 +113,17 @@ impl Task {
         ensures { option_map call_of result ≡ call_in (to_do self.now) }
     {
         self.job.event(self.phase)
+    }
+
+    /// Whether it has ended. A driver that asks this first moves no outcome that is none.
+    pub fn is_over(&self) -> bool
+        ensures { result ≡ is_some (outcome_in (to_do self.now)) }
+    {
+        match self.phase {
+            Phase::Fresh => false,
+            Phase::Ended { .. } | Phase::Denied => true,
+            phase => !self.job.is_at_work(phase),
+        }
     }
 
     /// What came of it, where it has ended.
