@@ -12,7 +12,7 @@ use Rattle.vme_arbiter.specs.declared.kind.ArbiterKind.{ArbiterKind}
 use Rattle.vme_arbiter.specs.declared.kind.ArbiterKind.TheVariants.{Priority, Rotating}
 use Rattle.vme_arbiter.specs.Levels.{level_order, first_after}
 use Rattle.vme_arbiter.specs.Requests.{BusRequest, bus_request, is_slot, is_level}
-use Rattle.vme_arbiter.specs.Arbitration.{Arbitration, opening_bus, free_bus, holds, pends, can_ask, lawful_ask, bus_after_release, next_of, turn_step}
+use Rattle.vme_arbiter.specs.Arbitration.{Arbitration, opening_bus, holds, pends, can_ask, lawful_ask, bus_after_release, next_of, turn_step}
 use Rattle.vme_arbiter.specs.Orderly.{IsLawfulRequest, IsOrderly}
 use Rattle.vme_arbiter.proofs.Grants.{granted-pends, none-granted}
 use Rattle.vme_arbiter.proofs.Pending.{has_slot-with, has_slot-without_same, All-with, by_slot-with, by_slot-without}
@@ -135,10 +135,6 @@ orderly-opening kind = record {
   by_slot = tt;
   free = λ nobody. refl;
 }
-
--- a priority arbiter too
-pub orderly-free : IsOrderly free_bus
-orderly-free = orderly-opening Priority
 
 -- no command changes the kind
 pub kind-stays : (bus : Arbitration) (cmd : ArbCmd) → (turn_step bus cmd).0.kind ≡ bus.kind

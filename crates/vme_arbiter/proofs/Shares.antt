@@ -4,6 +4,7 @@ use Rattle.std.specs.Prelude.{All, Contains}
 use Rattle.std.specs.List.{cons_option}
 use Rattle.std.specs.Option.{option_map_or}
 use Rattle.std.proofs.lemmas.Bool.{cases_Bool, ltb-true}
+use Rattle.std.proofs.lemmas.Option.{same_Some}
 use Rattle.std.proofs.lemmas.List.Elements.{All-nil, All-cons, All-head, All-tail, All-contains, All-filter}
 use Rattle.vme_object.specs.declared.history.Entry.{Entry}
 use Rattle.vme_arbiter.specs.declared.command.ArbCmd.{ArbCmd}
@@ -25,6 +26,32 @@ use Rattle.vme_arbiter.proofs.Sets.{contains_parts, with-contains, without-conta
 -- whom the bus is granted to holds it
 pub grant-holds : (bus : Arbitration) (cmd : ArbCmd) (r : BusRequest) → grant_of bus cmd ≡ Some r → (turn_step bus cmd).0.holder ≡ Some r.slot
 grant-holds bus cmd r is = search rules
+
+-- and nobody comes to hold it otherwise
+taken_granted : (holder : Option ℕ) (bus : Arbitration) (new : BusRequest) (slot : ℕ) → bus.holder ≢ Some slot
+    → (lawful_ask holder bus new).0.holder ≡ Some slot
+    → (r : BusRequest) × (option_map_or (λ (h : ℕ). None) holder (Some new) ≡ Some r) × (r.slot ≡ slot)
+taken_granted None bus new slot other now = (new, refl, same_Some new.slot slot now)
+taken_granted (Some h) bus new slot other now = absurd (other now)
+
+handed_granted : (next : Option BusRequest) (bus : Arbitration) (slot : ℕ) → (bus_after_release next bus).holder ≡ Some slot
+    → (r : BusRequest) × (next ≡ Some r) × (r.slot ≡ slot)
+handed_granted None bus slot now = cc
+handed_granted (Some next) bus slot now = (next, refl, same_Some next.slot slot now)
+
+pub holder-granted : (bus : Arbitration) (cmd : ArbCmd) (slot : ℕ) → bus.holder ≢ Some slot → (turn_step bus cmd).0.holder ≡ Some slot
+    → (r : BusRequest) × (grant_of bus cmd ≡ Some r) × (r.slot ≡ slot)
+holder-granted bus (Ask asks level) slot other now =
+    elim (cases_Bool (can_ask bus asks level)) [
+      | inl can ↦ rw can (taken_granted bus.holder bus (bus_request level asks) slot other (rw can at now))
+      | inr cannot ↦ absurd (other (rw cannot at now))
+    ]
+holder-granted bus (Look looks) slot other now = absurd (other now)
+holder-granted bus (Done done) slot other now =
+    elim (cases_Bool (holds bus done)) [
+      | inl held ↦ rw held (handed_granted (next_of bus) bus slot (rw held at now))
+      | inr not_held ↦ absurd (other (rw not_held at now))
+    ]
 
 -- of two requests of one slot each is the other
 sole_slot : (a b : BusRequest) (pending : List BusRequest) → IsBySlot pending → Contains pending a → Contains pending b → a.slot ≡ b.slot

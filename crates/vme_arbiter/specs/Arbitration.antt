@@ -7,7 +7,6 @@ use Rattle.vme_arbiter.specs.declared.command.ArbCmd.TheVariants.{Ask, Look, Don
 use Rattle.vme_arbiter.specs.declared.command.ArbReply.{ArbReply}
 use Rattle.vme_arbiter.specs.declared.command.ArbReply.TheVariants.{Granted, Waiting, Freed, Denied}
 use Rattle.vme_arbiter.specs.declared.kind.ArbiterKind.{ArbiterKind}
-use Rattle.vme_arbiter.specs.declared.kind.ArbiterKind.TheVariants.{Priority}
 use Rattle.vme_arbiter.specs.Levels.{level_order, first_after}
 use Rattle.vme_arbiter.specs.Requests.{BusRequest, bus_request, is_slot, next_request, with_request, without_slot, is_level}
 
@@ -27,10 +26,6 @@ arbitration kind first holder pending = record { kind = kind; first = first; hol
 -- (this project's own)
 abbrev pub opening_bus : ArbiterKind → Arbitration
 opening_bus kind = arbitration kind 3 None []
-
--- and that of a priority arbiter (this project's own)
-abbrev pub free_bus : Arbitration
-free_bus = opening_bus Priority
 
 -- whether a slot holds the bus (this project's own)
 abbrev pub holds : Arbitration → ℕ → Bool

@@ -105,10 +105,14 @@ pub fn no_turn_is_denied()
 
 /// While a request of the lowest slot on its level waits at a rotating arbiter, the bus is granted
 /// on other levels alone, and at most once for each level that stands before its own in the order of
-/// the next grant, so at most three times.
+/// the next grant, so at most three times. A slot that comes to hold the bus was granted it, and
+/// whom it is granted to holds it.
 pub fn at_most_three_go_before()
     ensures granted { (bus : Arbitration) (cmd : ArbCmd) (r : BusRequest) → grant_of bus cmd ≡ Some r →
         (turn_step bus cmd).0.holder ≡ Some r.slot }
+    ensures every { (bus : Arbitration) (cmd : ArbCmd) (slot : ℕ) → bus.holder ≢ Some slot →
+        (turn_step bus cmd).0.holder ≡ Some slot →
+        (r : BusRequest) × (grant_of bus cmd ≡ Some r) × (r.slot ≡ slot) }
     ensures elsewhere { (bus : Arbitration) (r : BusRequest) (h : List (Entry ArbCmd ArbReply)) →
         IsOrderly bus → bus.kind ≡ Rotating → Waits bus r h →
         All (λ grant. grant.level ≢ r.level) (grants_in bus h) }
