@@ -1,5 +1,5 @@
 -- What a line does next, by the event and the answer that it gives.
-use Rattle.std.proofs.Common.{◌≡◌, ◌≢◌, Option, Some, None, refl}
+use Rattle.std.proofs.Common.{◌≡◌, ◌≢◌, false, is_some, Option, Some, None, refl}
 use Rattle.std.specs.Option.{IsSome, option_map}
 use Rattle.vme_core.specs.declared.event.Event.{Event}
 use Rattle.vme_core.specs.Calls.{Call, call_of}
@@ -25,6 +25,12 @@ pub goes_on : (next : LineNext) → next ≢ Rests → None ≡ answer_in next �
 goes_on Rests called is = absurd (called refl)
 goes_on (Makes call) called is = tt
 goes_on (Ends answer) called is = absurd cc
+
+-- and so does one that is called and is not over
+pub at_work : (next : LineNext) → next ≢ Rests → is_some (answer_in next) ≡ false → MakesCall next
+at_work Rests called is = absurd (called refl)
+at_work (Makes call) called is = tt
+at_work (Ends answer) called is = absurd cc
 
 pub its_call : (next : LineNext) → MakesCall next → (call : Call) × (Makes call ≡ next)
 its_call Rests makes = absurd makes

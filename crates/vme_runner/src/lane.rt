@@ -138,7 +138,8 @@ impl<'a> Lane<'a> {
         let event = task.event().unwrap();
         let reply = core.apply(board, &event).unwrap();
         task.give(Some(reply));
-        if let Some(answer) = task.answer() {
+        if task.is_over() {
+            let answer = task.answer().unwrap();
             put_answer(&mut self.lines, self.ended, answer);
             self.ended += 1;
             self.task = None;
