@@ -4,6 +4,9 @@ use Rattle.std.specs.Prelude.{◌==◌}
 use Rattle.std.proofs.lemmas.Bool.{eq-eqb}
 use Rattle.std.proofs.lemmas.List.{append-nil}
 use Rattle.vme_cycle.specs.declared.fault.CycleFault.{CycleFault}
+use Rattle.std.specs.Prelude.{is_some}
+use Rattle.vme_memory.specs.Steps.{Command}
+use Rattle.vme_shared.specs.declared.outcome.SharedOutcome.TheVariants as shared
 use Rattle.vme_memory.specs.declared.reply.Reply.{Reply}
 use Rattle.vme_core.specs.declared.event.EventReply.{EventReply}
 use Rattle.vme_core.specs.declared.event.EventReply.TheVariants as told
@@ -15,7 +18,7 @@ use Rattle.vme_master.specs.Jobs.{ask_call, look_call, done_call, aim_outcome}
 use Rattle.vme_master.specs.Tables as tasks
 use Rattle.vme_master.specs.Tables.{Next, Given, next_of}
 use Rattle.vme_mailbox.specs.Mailboxes.{BoardMailbox}
-use Rattle.vme_mailbox.specs.Phases.{Phase, Idle}
+use Rattle.vme_mailbox.specs.Phases.{Phase, Idle, after_command}
 use Rattle.vme_mailbox.specs.Words.{put_by, taken_by}
 use Rattle.vme_mailbox.proofs.Quiet.{no_put, no_taken}
 use Rattle.vme_shared.specs.declared.mailbox.Mailbox.{Mailbox}
@@ -24,11 +27,13 @@ use Rattle.vme_shared.specs.declared.request.SharedRequest.{SharedRequest}
 use Rattle.vme_shared.specs.declared.request.SharedRequest.TheVariants as asked
 use Rattle.vme_shared.specs.declared.stage.Stage.{Stage}
 use Rattle.vme_shared.specs.declared.stage.Stage.TheVariants.{Locks}
+use Rattle.vme_shared.specs.declared.stage.Stage.TheVariants as stages
 use Rattle.vme_shared.specs.declared.stage.Step.{Step}
 use Rattle.vme_shared.specs.declared.stage.Step.TheVariants.{Goes, Stops}
 use Rattle.vme_shared.specs.Mailboxes.{IsAsked}
 use Rattle.vme_shared.proofs.Starts.{all_lawful}
 use Rattle.vme_shared.specs.Steps.{first_stage, step_after}
+use Rattle.vme_shared.specs.Tables as shares
 use Rattle.vme_shared.specs.Tables.{SharedJob, Makes, Progress, At, Over, stage_job, stage_begun, step_begun, progress_by, progress_given, progress_of, task_shown, next_at}
 use Rattle.vme_mailbox_laws.specs.Along.{mailbox_in, UsesMailbox, IsGood, AllGood, IsCount, AllCounts, phase_given, phase_along, words_given, put_told, taken_told}
 use Rattle.vme_mailbox_laws.proofs.Single.{IsGoodTo, Waits, Answered, reply_bytes, waits_fresh, waits_called, waits_told, answered_by, ended}
@@ -100,7 +105,7 @@ module _ (s : SharedJob) (board : ℕ) (m : BoardMailbox) (uses : UsesMailbox s 
       record { is = there ∙ ap Some leads.0; put_is = leads.1; taken_is = leads.2; fine = leads.3 }
 
   -- the first stage
-  opening : Stands m board s.request (progress_of s []) (Some Idle) [] []
+  pub opening : Stands m board s.request (progress_of s []) (Some Idle) [] []
   opening = by_request s.request refl
     where
       by_request : (request : SharedRequest) → s.request ≡ request
@@ -115,7 +120,7 @@ module _ (s : SharedJob) (board : ℕ) (m : BoardMailbox) (uses : UsesMailbox s 
           rw first (begun Locks [] (stage_job s Locks) (Some Idle) Idle [] [] refl refl refl (refl, refl) (λ bus. waits_fresh bus))
 
   -- one thing more is given
-  abbrev Moved : Progress → Option EventReply → Option Phase → List ℕ → List ℕ → Type 0
+  abbrev pub Moved : Progress → Option EventReply → Option Phase → List ℕ → List ℕ → Type 0
   Moved progress last at put taken =
       Stands m board s.request (progress_given s last progress) (phase_given m board (next_at progress) last at)
       (put ++ put_by at (phase_given m board (next_at progress) last at)) (taken ++ taken_by at (phase_given m board (next_at progress) last at))
@@ -239,7 +244,7 @@ module _ (s : SharedJob) (board : ℕ) (m : BoardMailbox) (uses : UsesMailbox s 
       (ap (λ n. phase_given m board (task_shown n) None at) rests)
 
   -- whatever stage is at work
-  moves : (progress : Progress) (last : Option EventReply) (at : Option Phase) (put taken : List ℕ) → Stands m board s.request progress at put taken
+  pub moves : (progress : Progress) (last : Option EventReply) (at : Option Phase) (put taken : List ℕ) → Stands m board s.request progress at put taken
       → IsGood (next_at progress) last → IsCount (phase_given m board (next_at progress) last at) → Moved progress last at put taken
   moves (Over end) last at put taken stands good count = unmoved m board s.request (Over end) at at put taken refl stands
   moves (At stage job g) last at put taken stands good count =
@@ -256,6 +261,72 @@ module _ (s : SharedJob) (board : ℕ) (m : BoardMailbox) (uses : UsesMailbox s 
                   datum_on stage job g at put taken last stands waiting.0 waiting.1 (to_job ∙ datum ∙ ap tasks.Makes stands.own.datum) good count
             ]
         | inr answered ↦ freed stage job g at put taken last answered.0 stands answered.1 answered.2 good
+      ]
+
+  -- a put count that was read is a number of four bytes
+  before_count : (stage : Stage) (phase : Phase) → Before m s.request stage phase → IsCount (Some phase)
+  before_count stages.Locks phase before = subst (λ p. IsCount (Some p)) (sym before) tt
+  before_count stages.ReadsPutCount phase before = subst (λ p. IsCount (Some p)) (sym before) tt
+  before_count (stages.ReadsTakeCount p) phase before = subst (λ q. IsCount (Some q)) (sym before.0) before.1
+  before_count (stages.WritesWord p word) phase before = subst (λ q. IsCount (Some q)) (sym before.2) tt
+  before_count (stages.RaisesPutCount p) phase before = subst (λ q. IsCount (Some q)) (sym before.2) tt
+  before_count (stages.ReadsWord t) phase before = subst (λ q. IsCount (Some q)) (sym before.1) tt
+  before_count (stages.RaisesTakeCount t word) phase before = subst (λ q. IsCount (Some q)) (sym before) tt
+  before_count (stages.Unlocks shared.Put) phase before = subst (λ q. IsCount (Some q)) (sym before) tt
+  before_count (stages.Unlocks (shared.Took word)) phase before = subst (λ q. IsCount (Some q)) (sym before) tt
+  before_count (stages.Unlocks shared.Full) phase before = subst (λ q. IsCount (Some q)) (sym before.2) tt
+  before_count (stages.Unlocks shared.Empty) phase before = subst (λ q. IsCount (Some q)) (sym before.2) tt
+  before_count (stages.Unlocks shared.Spent) phase before = subst (λ q. IsCount (Some q)) (sym before.2) tt
+  before_count (stages.Unlocks end) phase before = absurd before
+
+  leads_count : (step : Step) (phase : Phase) (put taken : List ℕ) → Leads m s.request step phase put taken → IsCount (Some phase)
+  leads_count (Goes stage) phase put taken leads = before_count stage phase leads.0
+  leads_count (Stops end) phase put taken leads = subst (λ p. IsCount (Some p)) (sym leads.0) tt
+
+  pub stands_count : (progress : Progress) (at : Option Phase) (put taken : List ℕ) → Stands m board s.request progress at put taken → IsCount at
+  stands_count (Over end) at put taken stands = subst IsCount (sym stands.is) tt
+  stands_count (At stage job g) at put taken stands =
+      subst IsCount (sym stands.is)
+      (elim stands.work [
+        | inl waiting ↦ before_count stage stands.phase waiting.1.0
+        | inr answered ↦ leads_count (step_after s.request stage (aim_outcome (stage_aim stage) (reply_bytes answered.0))) stands.phase put taken answered.2
+      ])
+
+  -- a command with a good reply goes by the rows
+  datum_goes : (stage : Stage) (job : Job) (g : Given) (at : Option Phase) (put taken : List ℕ) (reply : Reply)
+      (stands : IsAt m board s.request stage job g at put taken) → Waits stands.own.bus g
+      → Before m s.request stage stands.phase × Words s.request stage put taken
+      → IsGood (Makes (OnBoard board (Some (stage_command m stage)))) (Some (told.Board reply))
+      → is_some (after_command m at (Some (stage_command m stage)) reply) ≡ true
+  datum_goes stage job g at put taken reply stands waits before fine =
+      let fine_reply : IsFine m stage reply = record { form = fine.0; good = λ error. fine.1 (ap told.Board error) } in
+      let went =
+      goes m s.request uses.mailbox uses.asked uses.lies.slots (some_slot s board m uses) put taken stage stands.phase reply before.0 before.1 fine_reply in
+      rw stands.is (rw went.is refl)
+
+  pub command_goes : (progress : Progress) (at : Option Phase) (put taken : List ℕ) (x : ℕ) (command : Option Command) (reply : Reply)
+      → Stands m board s.request progress at put taken → next_at progress ≡ Makes (OnBoard x command)
+      → IsGood (Makes (OnBoard x command)) (Some (told.Board reply)) → is_some (after_command m at command reply) ≡ true
+  command_goes (Over end) at put taken x command reply stands makes good = absurd cc
+  command_goes (At stage job g) at put taken x command reply stands makes good =
+      let to_job = ap (λ j. task_shown (next_of j g)) (sym stands.own.is) ∙ makes in
+      elim stands.work [
+        | inl waiting ↦
+            elim waiting.0.next [
+              | inl rests ↦ let no_call : shares.Rests ≡ Makes (OnBoard x command) = ap task_shown (sym rests) ∙ to_job in absurd cc
+              | inr (inl asks) ↦
+                  let other : Makes (ask_call stands.own.bus) ≡ Makes (OnBoard x command) = ap task_shown (sym asks) ∙ to_job in absurd cc
+              | inr (inr (inl looks)) ↦
+                  let other : Makes (look_call stands.own.bus) ≡ Makes (OnBoard x command) = ap task_shown (sym looks) ∙ to_job in absurd cc
+              | inr (inr (inr datum)) ↦
+                  let call : Makes (OnBoard board (Some (stage_command m stage))) ≡ Makes (OnBoard x command) =
+                  ap Makes (sym stands.own.datum) ∙ ap task_shown (sym datum) ∙ to_job in
+                  let own : command ≡ Some (stage_command m stage) = cc in
+                  let fine = subst (λ n. IsGood n (Some (told.Board reply))) (sym call) good in
+                  rw own (datum_goes stage job g at put taken reply stands waiting.0 waiting.1 fine)
+            ]
+        | inr answered ↦
+            let other : Makes (done_call stands.own.bus) ≡ Makes (OnBoard x command) = ap task_shown (sym answered.1.next) ∙ to_job in absurd cc
       ]
 
   -- by all that was given

@@ -36,7 +36,7 @@ goes_on_yet m board request stage job g at put taken outcome stands is =
     ]
 
 -- an end, where it has one
-ends_in : (m : BoardMailbox) (board : ℕ) (request : SharedRequest) (progress : Progress) (at : Option Phase) (put taken : List ℕ)
+pub ends_in : (m : BoardMailbox) (board : ℕ) (request : SharedRequest) (progress : Progress) (at : Option Phase) (put taken : List ℕ)
     (outcome : SharedOutcome) → Stands m board request progress at put taken → next_at progress ≡ Ends outcome
     → IsOver request outcome at put taken
 ends_in m board request (At stage job g) at put taken outcome stands is =

@@ -1,0 +1,9 @@
+pub mod Held
+pub mod Opening
+pub mod Through
+pub mod Histories
+pub mod Tasks
+pub mod Lines
+pub mod Scripts
+pub mod Shared
+pub mod Groups

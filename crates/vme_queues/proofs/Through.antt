@@ -1,0 +1,67 @@
+-- Entries of one that go by the rows of a mailbox, and where they lead.
+use Rattle.std.proofs.Common.{◌≡◌, ℕ, true, List, [], ◌∷◌, ◌++◌, Option, subst}
+use Rattle.std.specs.Prelude.{is_some}
+use Rattle.std.proofs.lemmas.List.{append_assoc}
+use Rattle.vme_object.specs.declared.history.Entry.{Entry}
+use Rattle.vme_memory.specs.declared.command.BoardCmd.{BoardCmd}
+use Rattle.vme_memory.specs.declared.reply.Reply.{Reply}
+use Rattle.vme_memory.specs.Boards.{Board}
+use Rattle.vme_memory.specs.Locals.{board_step}
+use Rattle.vme_mailbox.specs.Mailboxes.{BoardMailbox, LiesIn}
+use Rattle.vme_mailbox.specs.Phases.{Phase, after_entry}
+use Rattle.vme_mailbox.specs.Words.{put_by, taken_by}
+use Rattle.vme_mailbox_laws.specs.Along.{IsCount}
+
+-- an entry has the reply of some memory in which the mailbox lies
+pub record IsAnswered (m : BoardMailbox) (e : Entry BoardCmd Reply) : Type 0 where
+  pub memory : Board
+  pub lies : LiesIn memory m
+  pub replied : e.reply ≡ (board_step memory e.cmd).1
+
+-- what is wanted of a phase and of the words that were put and taken
+abbrev pub Wanted : Type 1
+Wanted = Option Phase → List ℕ → List ℕ → Type 0
+
+-- what is wanted after some words
+abbrev pub behind : Wanted → List ℕ → List ℕ → Wanted
+behind wanted put taken = λ p ps ts. wanted p (put ++ ps) (taken ++ ts)
+
+-- entries go by the rows, and lead to what is wanted, as long as each put count that is read is a number of four bytes
+abbrev pub Through : BoardMailbox → Option Phase → List (Entry BoardCmd Reply) → Wanted → Type 0
+Through m at [] wanted = wanted at [] []
+Through m at (e ∷ es) wanted =
+    IsAnswered m e
+    → (is_some (after_entry m at e) ≡ true)
+    × (IsCount (after_entry m at e)
+    → Through m (after_entry m at e) es (behind wanted (put_by at (after_entry m at e)) (taken_by at (after_entry m at e))))
+
+-- what implies what is wanted does as well
+pub through_map : (m : BoardMailbox) (at : Option Phase) (es : List (Entry BoardCmd Reply)) (wanted less : Wanted)
+    → ((p : Option Phase) (ps ts : List ℕ) → wanted p ps ts → less p ps ts) → Through m at es wanted → Through m at es less
+through_map m at [] wanted less then through = then at [] [] through
+through_map m at (e ∷ es) wanted less then through = λ answered.
+    let first = through answered in (
+      first.0,
+      λ count.
+          through_map m (after_entry m at e) es _ _ (λ p ps ts. then p (put_by at (after_entry m at e) ++ ps) (taken_by at (after_entry m at e) ++ ts))
+          (first.1 count),
+    )
+
+-- entries, and then others
+pub through_append : (m : BoardMailbox) (at : Option Phase) (es more : List (Entry BoardCmd Reply)) (wanted : Wanted)
+    → Through m at es (λ p ps ts. Through m p more (behind wanted ps ts)) → Through m at (es ++ more) wanted
+through_append m at [] more wanted through = through
+through_append m at (e ∷ es) more wanted through = λ answered.
+    let first = through answered in (
+      first.0,
+      λ count.
+          through_append m (after_entry m at e) es more _
+          (through_map m (after_entry m at e) es _ _
+          (λ p ps ts then.
+          through_map m p more _ _
+          (λ q qs us.
+          λ w. subst (λ l. wanted q l (taken_by at (after_entry m at e) ++ (ts ++ us))) (append_assoc (put_by at (after_entry m at e)) ps qs)
+          (subst (λ l. wanted q ((put_by at (after_entry m at e) ++ ps) ++ qs) l) (append_assoc (taken_by at (after_entry m at e)) ts us) w))
+          then)
+          (first.1 count)),
+    )

@@ -1,0 +1,65 @@
+-- The lines of scripts that name a mailbox, what they tell of its words, and that all others leave it alone.
+use Rattle.std.specs.Prelude.{ℕ, ◌≡◌, ◌%◌, ◌^◌, Bool, false, ◌==◌, if◌then◌else◌, List, [], ◌∷◌, ◌++◌, Some, None}
+use Rattle.vme_core.specs.declared.event.EventReply.{EventReply}
+use Rattle.vme_core.specs.Calls.{OnBoard}
+use Rattle.vme_memory.specs.Steps.{Command}
+use Rattle.vme_mailbox.specs.Mailboxes.{BoardMailbox, touches}
+use Rattle.vme_shared.specs.declared.outcome.SharedOutcome.TheVariants as shared
+use Rattle.vme_shared.specs.declared.reply.LineReply.{LineReply}
+use Rattle.vme_shared.specs.declared.reply.LineReply.TheVariants.{Shared}
+use Rattle.vme_shared.specs.Mailboxes.{IsMailbox, mailbox_refusal}
+use Rattle.vme_mailbox_laws.specs.Along.{LiesAt, taken_told}
+use Rattle.vme_lines.specs.declared.line.Line.{Line}
+use Rattle.vme_lines.specs.declared.line.Line.TheVariants.{Put, Take}
+use Rattle.vme_script.specs.Boards.{entries_of}
+use Rattle.vme_script.specs.Configurations.{Configuration}
+use Rattle.vme_course.specs.Scripts.{mailbox_at, lines_at}
+use Rattle.vme_course.specs.Tables.{Makes, line_next}
+
+-- whether a line puts into the mailbox with a number, or takes from it (this project's own)
+abbrev pub names : ℕ → Line → Bool
+names box (Put other word) = other == box
+names box (Take other) = other == box
+names box line = false
+
+-- the word that a line has put by its answer, as four bytes (this project's own)
+abbrev pub told_put : Line → LineReply → List ℕ
+told_put (Put box word) (Shared shared.Put) = word % 2 ^ 32 ∷ []
+told_put line answer = []
+
+-- the word that a line has taken by its answer (this project's own)
+abbrev pub told_taken : LineReply → List ℕ
+told_taken (Shared outcome) = taken_told outcome
+told_taken answer = []
+
+-- the words that lines have put into a mailbox by their answers, in order (this project's own)
+abbrev pub lines_put : ℕ → List Line → List LineReply → List ℕ
+lines_put box (line ∷ lines) (answer ∷ answers) =
+    (if names box line then told_put line answer else []) ++ lines_put box lines answers
+lines_put box lines answers = []
+
+-- the words that lines have taken from a mailbox by their answers, in order (this project's own)
+abbrev pub lines_taken : ℕ → List Line → List LineReply → List ℕ
+lines_taken box (line ∷ lines) (answer ∷ answers) =
+    (if names box line then told_taken answer else []) ++ lines_taken box lines answers
+lines_taken box lines answers = []
+
+-- no command of a line to the board at a place touches a mailbox there (this project's own)
+abbrev pub LeavesAlone : Configuration → ℕ → Line → ℕ → BoardMailbox → Type 0
+LeavesAlone config who line board m =
+    (replies : List EventReply) (command : Command) → line_next config who line replies ≡ Makes (OnBoard board (Some command))
+    → touches m command ≡ false
+
+-- each of these lines names the mailbox with a number, or leaves it alone (this project's own)
+abbrev pub AllLeave : Configuration → ℕ → ℕ → ℕ → BoardMailbox → List Line → Type 0
+AllLeave config who box board m [] = Unit {0}
+AllLeave config who box board m (line ∷ lines) =
+    (names box line ≡ false → LeavesAlone config who line board m) × AllLeave config who box board m lines
+
+-- the mailbox with a number lies at the board at a place, its transfers are lawful, and the lines of all scripts that do not
+-- name it leave it alone (this project's own)
+pub record IsMailboxOf (config : Configuration) (box board : ℕ) (m : BoardMailbox) : Type 0 where
+  pub lies : LiesAt (entries_of config.boards) (mailbox_at config box) board m
+  pub formed : IsMailbox (mailbox_at config box)
+  pub lawful : mailbox_refusal (mailbox_at config box) ≡ None
+  pub others : (who : ℕ) → AllLeave config who box board m (lines_at config who)
