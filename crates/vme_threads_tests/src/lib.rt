@@ -1,6 +1,6 @@
 //! Tests of scripts on threads: processors that wait for each other, that are held at a line, that
-//! add to one word, and that keep each other out by a lock. They stand apart so that `vme_threads` is
-//! not proved twice.
+//! add to one word, that keep each other out by a lock, and that pass words by a mailbox. They stand
+//! apart so that `vme_threads` is not proved twice.
 #![tactic(auto)]
 
 #[cfg(test)]
@@ -9,6 +9,8 @@ mod gates;
 mod holds;
 #[cfg(test)]
 mod locks;
+#[cfg(test)]
+mod mailboxes;
 #[cfg(test)]
 mod meetings;
 #[cfg(test)]
