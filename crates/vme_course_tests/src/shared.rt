@@ -6,22 +6,27 @@ use vme_arbiter::ArbReply;
 use vme_script::Config;
 use vme_shared::{LineReply, SharedOutcome};
 
-/// A processor on its one board, which has a mailbox of one word. It tries twice at most.
+/// A processor on its one board, which has two mailboxes of one word. It tries twice at most.
 static FILE: &str = "tries = 2
 [[board]]
 slot = 2
 base = 0
-size = 32
+size = 64
 script = '''
 lock 09 00000018
 unlock 09 00000018
 put 1 0000000a
 take 1
+take 2
 lock 09 00002000
 '''
 [[mailbox]]
 am = 9
 addr = 0
+slots = 1
+[[mailbox]]
+am = 9
+addr = 32
 slots = 1
 ";
 
@@ -33,8 +38,10 @@ const PUT: usize = 2;
 
 const TAKE: usize = 3;
 
+const TAKE_OF_SECOND: usize = 4;
+
 /// A byte of no board.
-const NOWHERE: usize = 4;
+const NOWHERE: usize = 5;
 
 fn check(rt: &impl Abort, config: &Config, line: usize, course: Course, wanted: SharedOutcome) {
     assert_eq!(rt; answer(rt, config, line, course), LineReply::Shared(wanted));
@@ -206,5 +213,47 @@ fn a_full_or_an_empty_mailbox_is_tried_again(rt: HostRuntime) -> Result<(), Fail
     check(&rt, &config, PUT, &PUT_BY_THE_SECOND, SharedOutcome::Put);
     check(&rt, &config, TAKE, &EMPTY, SharedOutcome::Empty);
     check(&rt, &config, PUT, &SPENT, SharedOutcome::Spent);
+    Ok(())
+}
+
+/// Another has the mailbox's lock, twice.
+static BUSY_TAKE: [(Given, Step); 7] = [
+    (Given::Nothing, ASK),
+    (GRANTED, Step::Cycle(0, 0)),
+    (Given::Byte(0x80), DONE),
+    (FREED, ASK),
+    (GRANTED, Step::Cycle(0, 0)),
+    (Given::Byte(0x80), DONE),
+    (FREED, Step::End),
+];
+
+/// The word is that of the second mailbox.
+static TOOK: [(Given, Step); 19] = [
+    (Given::Nothing, ASK),
+    (GRANTED, Step::Cycle(0, 32)),
+    (Given::Byte(0), DONE),
+    (FREED, ASK),
+    (GRANTED, Step::Cycle(0, 36)),
+    (Given::Word(1), DONE),
+    (FREED, ASK),
+    (GRANTED, Step::Cycle(0, 40)),
+    (Given::Word(0), DONE),
+    (FREED, ASK),
+    (GRANTED, Step::Cycle(0, 48)),
+    (Given::Word(7), DONE),
+    (FREED, ASK),
+    (GRANTED, Step::Cycle(0, 40)),
+    (Given::Done, DONE),
+    (FREED, ASK),
+    (GRANTED, Step::Cycle(0, 32)),
+    (Given::Done, DONE),
+    (FREED, Step::End),
+];
+
+#[test]
+fn a_mailbox_is_named_by_its_number(rt: HostRuntime) -> Result<(), Fail> {
+    let config = Config::read(rt.alloc(), FILE.as_bytes())?;
+    check(&rt, &config, TAKE, &BUSY_TAKE, SharedOutcome::Busy);
+    check(&rt, &config, TAKE_OF_SECOND, &TOOK, SharedOutcome::Took(7));
     Ok(())
 }
