@@ -7,3 +7,4 @@ pub mod Lines
 pub mod Scripts
 pub mod Shared
 pub mod Groups
+pub mod Lawful

@@ -7,13 +7,18 @@ ghost use Rattle.vme_memory.specs.declared.reply.Reply.{Reply};
 ghost use Rattle.vme_memory.specs.Boards.{Board};
 ghost use Rattle.vme_memory.specs.Locals.{board_step};
 ghost use Rattle.vme_core.specs.Runs.{Move};
-ghost use Rattle.vme_mailbox.specs.Mailboxes.{BoardMailbox, IsNewMailbox};
+ghost use Rattle.vme_mailbox.specs.Mailboxes.{BoardMailbox, LiesIn, IsNewMailbox};
 ghost use Rattle.vme_mailbox.specs.Phases.{Idle, IsProper};
 ghost use Rattle.vme_mailbox.specs.Words.{put_by, taken_by, words_put, words_taken, words_along};
 ghost use Rattle.vme_queues.specs.Groups.{own_words_put, own_words_taken};
 ghost use Rattle.vme_shared.specs.declared.reply.LineReply.{LineReply};
-ghost use Rattle.vme_script.specs.Configurations.{Configuration};
+ghost use Rattle.vme_mailbox_laws.specs.Along.{LiesAt};
+ghost use Rattle.vme_shared.specs.declared.mailbox.Mailbox.{Mailbox};
+ghost use Rattle.vme_script.specs.Boards.{entries_of};
+ghost use Rattle.vme_script.specs.Configurations.{Configuration, opening_memory};
+ghost use Rattle.vme_script.specs.Lawful.{IsLawful, IsLawfulMailbox};
 ghost use Rattle.vme_course.specs.Scripts.{lines_at};
+ghost use Rattle.vme_queues.specs.Places.{on_board};
 ghost use Rattle.vme_queues.specs.Names.{lines_put, lines_taken, IsMailboxOf};
 ghost use Rattle.vme_queues.specs.Runs.{ShareHistory};
 
@@ -53,4 +58,15 @@ pub fn own_words_are_those_of_own_entries()
         own_words_put who m h ≡ words_along put_by m (Some Idle) (own who h) }
     ensures taken { (who : ℕ) (m : BoardMailbox) (h : List (Entry BoardCmd Reply)) →
         own_words_taken who m h ≡ words_along taken_by m (Some Idle) (own who h) }
+{}
+
+/// The mailboxes of a lawful configuration lie at the boards where they are declared, each of their
+/// bytes, and wholly in the boards' memories, which answer their accesses.
+pub fn declared_mailboxes_lie_in_their_boards()
+    ensures addresses { (config : Configuration) (mailbox : Mailbox) → IsLawful config →
+        (fine : IsLawfulMailbox config.boards mailbox) →
+        LiesAt (entries_of config.boards) mailbox fine.place.board (on_board mailbox fine.place) }
+    ensures memory { (config : Configuration) (mailbox : Mailbox) → IsLawful config →
+        (fine : IsLawfulMailbox config.boards mailbox) →
+        LiesIn (opening_memory fine.board) (on_board mailbox fine.place) }
 {}

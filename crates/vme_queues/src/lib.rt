@@ -4,4 +4,7 @@
 
 mod laws;
 
-pub use laws::{own_words_are_those_of_own_entries, scripts_go_by_the_rows};
+pub use laws::{
+    declared_mailboxes_lie_in_their_boards, own_words_are_those_of_own_entries,
+    scripts_go_by_the_rows,
+};
