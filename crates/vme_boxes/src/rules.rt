@@ -122,15 +122,15 @@ impl<'a> Rules<'a> {
     pub fn line(&self, text: &[u8]) -> Result<Option<Line>, LineFault>
         ensures line { result ≡ line_within self.now text.now }
     {
-        let Some(line) = parse_line(text)? else {
-            return Ok(None);
-        };
-        if !self.boxes().may_ask(&line) {
-            return Err(LineFault::BadNumber);
+        let read = parse_line(text);
+        if let Ok(Some(line)) = &read {
+            if !self.boxes().may_ask(line) {
+                return Err(LineFault::BadNumber);
+            }
+            if self.touches(line) {
+                return Err(LineFault::MailboxBytes);
+            }
         }
-        if self.touches(&line) {
-            return Err(LineFault::MailboxBytes);
-        }
-        Ok(Some(line))
+        read
     }
 }

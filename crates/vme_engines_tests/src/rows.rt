@@ -74,12 +74,12 @@ pub const TORN_BLOCK: Row = Row {
 slot = 1
 base = 0
 size = 16
-script = 'lw 00000004 aabbccdd'
+script = \"lw 00000004 aabbccdd\"
 [[board]]
 slot = 2
 base = 0x1000
 size = 16
-script = 'br 0b 00000000 4 2'
+script = \"br 0b 00000000 4 2\"
 ",
     text: "1:1 done
 2:1 read 00000000aabbccdd

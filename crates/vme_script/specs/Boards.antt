@@ -31,8 +31,7 @@ space_named word =
 unfoldable pub width_of : ℕ → Option Width8To32
 width_of lines = if lines == 8 then Some D08 else (if lines == 16 then Some D16 else (if lines == 32 then Some D32 else None))
 
--- the range of a board: its word names a space, its size is one that a board has, and it begins at a multiple of four and
--- ends within the space (this project's own)
+-- the range of a board, whose word names a space (this project's own)
 unfoldable pub entry_of : RangeValues → Result Entry ConfigFault
 entry_of range = do
   space ← ok_or (space_named range.space) BadWord
