@@ -15,10 +15,12 @@ use Rattle.vme_memory.specs.Boards.{zeros}
 use Rattle.vme_memory.specs.Classes.{answers_quads}
 use Rattle.vme_mailbox.specs.Mailboxes.{LiesIn}
 use Rattle.vme_shared.specs.declared.mailbox.Mailbox.{Mailbox}
+use Rattle.vme_shared.specs.Mailboxes.{mailbox_refusal}
 use Rattle.vme_mailbox_laws.specs.Along.{LiesAt}
 use Rattle.vme_boxes.specs.declared.place.Place.{Place}
 use Rattle.vme_boxes.specs.Places.{place_by, place_at, place_of}
 use Rattle.vme_queues.specs.Places.{on_board}
+use Rattle.vme_queues.proofs.Refusals.{not_refused}
 use Rattle.vme_script.specs.declared.board.BoardConfig.{BoardConfig}
 use Rattle.vme_script.specs.Boards.{entries_of}
 use Rattle.vme_script.specs.Configurations.{Configuration, opening_memory}
@@ -121,3 +123,8 @@ module _ (config : Configuration) (lawful : IsLawful config) (mailbox : Mailbox)
         few_slots = fine.numbers.few_slots;
         within = subst (λ n. fine.place.offset + (16 + 4 * mailbox.slots) ≤ n) (sym (zeros_len fine.board.entry.size)) inside;
       }
+
+  -- and none of its transfers is refused
+  pub accepted : mailbox_refusal mailbox ≡ None
+  accepted =
+      not_refused (entries_of config.boards) mailbox fine.place.board (on_board mailbox fine.place) lawful.map lies_at fine.numbers fine.code

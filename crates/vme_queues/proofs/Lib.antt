@@ -7,4 +7,5 @@ pub mod Lines
 pub mod Scripts
 pub mod Shared
 pub mod Groups
+pub mod Refusals
 pub mod Lawful

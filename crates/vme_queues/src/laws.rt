@@ -1,4 +1,4 @@
-ghost use Rattle.std.specs.Prelude.{◌≡◌, ◌+◌, ◌≤◌, ℕ, List, Some, length};
+ghost use Rattle.std.specs.Prelude.{◌≡◌, ◌+◌, ◌≤◌, ℕ, List, Some, None, length};
 ghost use Rattle.vme_object.specs.declared.history.Entry.{Entry};
 ghost use Rattle.vme_object.specs.History.{IsLegal, own, Begins};
 ghost use Rattle.vme_object.specs.Each.{Each};
@@ -14,6 +14,7 @@ ghost use Rattle.vme_queues.specs.Groups.{own_words_put, own_words_taken};
 ghost use Rattle.vme_shared.specs.declared.reply.LineReply.{LineReply};
 ghost use Rattle.vme_mailbox_laws.specs.Along.{LiesAt};
 ghost use Rattle.vme_shared.specs.declared.mailbox.Mailbox.{Mailbox};
+ghost use Rattle.vme_shared.specs.Mailboxes.{mailbox_refusal};
 ghost use Rattle.vme_script.specs.Boards.{entries_of};
 ghost use Rattle.vme_script.specs.Configurations.{Configuration, opening_memory};
 ghost use Rattle.vme_script.specs.Lawful.{IsLawful, IsLawfulMailbox};
@@ -61,7 +62,8 @@ pub fn own_words_are_those_of_own_entries()
 {}
 
 /// The mailboxes of a lawful configuration lie at the boards where they are declared, each of their
-/// bytes, and wholly in the boards' memories, which answer their accesses.
+/// bytes, and wholly in the boards' memories, which answer their accesses. No put or take of one is
+/// refused.
 pub fn declared_mailboxes_lie_in_their_boards()
     ensures addresses { (config : Configuration) (mailbox : Mailbox) → IsLawful config →
         (fine : IsLawfulMailbox config.boards mailbox) →
@@ -69,4 +71,6 @@ pub fn declared_mailboxes_lie_in_their_boards()
     ensures memory { (config : Configuration) (mailbox : Mailbox) → IsLawful config →
         (fine : IsLawfulMailbox config.boards mailbox) →
         LiesIn (opening_memory fine.board) (on_board mailbox fine.place) }
+    ensures accepted { (config : Configuration) (mailbox : Mailbox) → IsLawful config →
+        IsLawfulMailbox config.boards mailbox → mailbox_refusal mailbox ≡ None }
 {}

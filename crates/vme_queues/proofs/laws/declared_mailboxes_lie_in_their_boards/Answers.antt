@@ -1,4 +1,4 @@
-use Rattle.vme_queues.proofs.Lawful.{lies_at, lies_in}
+use Rattle.vme_queues.proofs.Lawful.{lies_at, lies_in, accepted}
 use Rattle.vme_queues.proofs.laws.declared_mailboxes_lie_in_their_boards.Goals as goal
 
 pub returns-clause-addresses : goal.returns-clause-addresses
@@ -6,3 +6,6 @@ returns-clause-addresses c = λ config mailbox lawful fine. lies_at config lawfu
 
 pub returns-clause-memory : goal.returns-clause-memory
 returns-clause-memory c = λ config mailbox lawful fine. lies_in config lawful mailbox fine
+
+pub returns-clause-accepted : goal.returns-clause-accepted
+returns-clause-accepted c = λ config mailbox lawful fine. accepted config lawful mailbox fine
