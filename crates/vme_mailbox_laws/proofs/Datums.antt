@@ -1,5 +1,5 @@
 -- Which commands go to a board, whatever was given: each the datum of its stage's transfer.
-use Rattle.std.proofs.Common.{◌≡◌, ℕ, ◌+◌, ◌*◌, true, [], ◌∷◌, Option, Some, None, Result, Ok, Err, refl, ap, sym, subst, ◌∙◌, arith}
+use Rattle.std.proofs.Common.{◌≡◌, ℕ, ◌+◌, ◌*◌, ◌≤◌, true, [], ◌∷◌, Option, Some, None, Result, Ok, Err, refl, ap, sym, subst, ◌∙◌, arith}
 use Rattle.vme_am.specs.Codes.{CodeRow, read_code}
 use Rattle.vme_cycle.specs.declared.fault.CycleFault.{CycleFault}
 use Rattle.vme_cycle.specs.declared.modify.Modify.TheVariants.{Set}
@@ -23,6 +23,7 @@ use Rattle.vme_master.specs.Tables as tasks
 use Rattle.vme_master.specs.Tables.{Next, Given, data_in, next_of}
 use Rattle.vme_master.proofs.Tenures.{data_go_on}
 use Rattle.vme_mailbox.specs.Mailboxes.{BoardMailbox, LiesIn, touches}
+use Rattle.vme_shared.specs.declared.mailbox.Mailbox.{Mailbox}
 use Rattle.vme_shared.specs.declared.request.SharedRequest.{SharedRequest}
 use Rattle.vme_shared.specs.declared.request.SharedRequest.TheVariants as asked
 use Rattle.vme_shared.specs.declared.stage.Stage.{Stage}
@@ -32,7 +33,7 @@ use Rattle.vme_shared.specs.Mailboxes.{mailbox_request, stage_request, set_lock,
 use Rattle.vme_shared.specs.Steps.{first_stage, step_after}
 use Rattle.vme_shared.specs.Tables.{SharedJob, Makes, Progress, At, Over, transfer_job, stage_job, stage_begun, step_begun, progress_by, progress_given, progress_of, next_at, shared_next}
 use Rattle.vme_shared.proofs.Tenures.{shown_makes}
-use Rattle.vme_mailbox_laws.specs.Along.{UsesMailbox, IsGood, GoesTo}
+use Rattle.vme_mailbox_laws.specs.Along.{mailbox_in, LiesAt, UsesMailbox, IsGood, GoesTo}
 use Rattle.vme_mailbox_laws.proofs.Stages.{shape, own_request, distance, distance_within, stage_command, stage_touches}
 use Rattle.vme_mailbox_laws.proofs.Courses.{some_slot}
 use Rattle.vme_mailbox_laws.proofs.Answers.{stage_answered}
@@ -124,25 +125,34 @@ same_place : (p q : ℕ × ℕ) → Some p ≡ Some q → p ≡ q
 same_place p q same = cc
 
 -- of a mailbox
-mailbox_sent : (s : SharedJob) (board x : ℕ) (m : BoardMailbox) (stage : Stage) (command : Option Command) (uses : UsesMailbox s board m)
-    → Sent s (mailbox_request uses.mailbox stage) x command → (x ≡ board) × (command ≡ Some (stage_command m stage))
-mailbox_sent s board x m stage command uses out =
-    let form = shape uses.mailbox m stage uses.lies.slots in
-    let row : read_code uses.mailbox.am ≡ Ok out.code = ap read_code (sym form.code) ∙ out.row in
-    let there = uses.lies.each out.code (distance m stage) row (distance_within m stage (some_slot s board m uses)) in
+mailbox_sent : (s : SharedJob) (mailbox : Mailbox) (board x : ℕ) (m : BoardMailbox) (stage : Stage) (command : Option Command)
+    → LiesAt s.map mailbox board m → 1 ≤ m.slots → Sent s (mailbox_request mailbox stage) x command
+    → (x ≡ board) × (command ≡ Some (stage_command m stage))
+mailbox_sent s mailbox board x m stage command lies some out =
+    let form = shape mailbox m stage lies.slots in
+    let row : read_code mailbox.am ≡ Ok out.code = ap read_code (sym form.code) ∙ out.row in
+    let there = lies.each out.code (distance m stage) row (distance_within m stage some) in
     let place : Some (x, out.offset) ≡ Some (board, m.offset + distance m stage) =
     sym out.selected ∙ ap (selection_at s.map out.code) form.addr ∙ there in
     let same = same_place (x, out.offset) (board, m.offset + distance m stage) place in
     let at : out.offset ≡ m.offset + distance m stage = ap (λ p. p.1) same in
-    (ap (λ p. p.0) same, out.own ∙ ap (λ a. Some (datum_command (mailbox_request uses.mailbox stage) 0 a)) at ∙ ap Some form.own)
+    (ap (λ p. p.0) same, out.own ∙ ap (λ a. Some (datum_command (mailbox_request mailbox stage) 0 a)) at ∙ ap Some form.own)
+
+-- the board of its mailbox gets the commands of its stages
+pub stage_commands : (s : SharedJob) (given : Given) (mailbox : Mailbox) (board x : ℕ) (m : BoardMailbox) (command : Option Command)
+    → mailbox_in s.request ≡ Some mailbox → LiesAt s.map mailbox board m → 1 ≤ m.slots
+    → shared_next s given ≡ Makes (OnBoard x command)
+    → (x ≡ board) × ((stage : Stage) × (command ≡ Some (stage_command m stage)))
+stage_commands s given mailbox board x m command asks lies some makes =
+    let out = sent s given x command makes in
+    let own = own_request s.request mailbox out.0 asks in
+    let is = mailbox_sent s mailbox board x m out.0 command lies some (subst (λ r. Sent s r x command) own out.1) in
+    (is.0, (out.0, is.1))
 
 pub commands : (s : SharedJob) (given : Given) (board x : ℕ) (m : BoardMailbox) (command : Option Command) → UsesMailbox s board m
     → shared_next s given ≡ Makes (OnBoard x command) → (x ≡ board) × ((stage : Stage) × (command ≡ Some (stage_command m stage)))
 commands s given board x m command uses makes =
-    let out = sent s given x command makes in
-    let own = own_request s.request uses.mailbox out.0 uses.asked in
-    let is = mailbox_sent s board x m out.0 command uses (subst (λ r. Sent s r x command) own out.1) in
-    (is.0, (out.0, is.1))
+    stage_commands s given uses.mailbox board x m command uses.asked uses.lies (some_slot s board m uses) makes
 
 pub touching : (s : SharedJob) (given : Given) (board x : ℕ) (m : BoardMailbox) (command : Option Command) → UsesMailbox s board m
     → shared_next s given ≡ Makes (OnBoard x command) → (x ≡ board) × ((c : Command) × (command ≡ Some c) × (touches m c ≡ true))

@@ -5,3 +5,4 @@ pub mod Courses
 pub mod Ends
 pub mod Answers
 pub mod Datums
+pub mod Within

@@ -1,5 +1,5 @@
 -- A put or a take as the board sees it: where its mailbox lies, and through which phases its commands lead.
-use Rattle.std.specs.Prelude.{ℕ, ◌≡◌, ◌≢◌, ◌+◌, ◌%◌, ◌^◌, ◌<◌, ◌==◌, if◌then◌else◌, List, [], ◌∷◌, ◌++◌, Option, Some, None, Ok, IsTrue}
+use Rattle.std.specs.Prelude.{ℕ, ◌≡◌, ◌≢◌, ◌+◌, ◌%◌, ◌^◌, ◌<◌, ◌≤◌, nat_lt, max, min, Bool, ◌==◌, if◌then◌else◌, List, [], ◌∷◌, ◌++◌, Option, Some, None, Ok, IsTrue}
 use Rattle.vme_am.specs.Codes.{CodeRow, read_code}
 use Rattle.vme_decode.specs.declared.entry.Entry.{Entry}
 use Rattle.vme_decode.specs.Select.{selection_at}
@@ -11,7 +11,7 @@ use Rattle.vme_core.specs.declared.event.EventReply.TheVariants as told
 use Rattle.vme_core.specs.Calls.{OnBoard}
 use Rattle.vme_master.specs.Jobs.{fits}
 use Rattle.vme_master.specs.Tables.{Given}
-use Rattle.vme_mailbox.specs.Mailboxes.{BoardMailbox, mailbox_len}
+use Rattle.vme_mailbox.specs.Mailboxes.{BoardMailbox, mailbox_len, end_of, offset_of, len_of}
 use Rattle.vme_mailbox.specs.Phases.{Phase, Idle, First, after_command}
 use Rattle.vme_shared.specs.declared.mailbox.Mailbox.{Mailbox}
 use Rattle.vme_shared.specs.declared.outcome.SharedOutcome.{SharedOutcome}
@@ -101,3 +101,12 @@ pub record GoesTo (map : List Entry) (am addr board : ℕ) (command_at : ℕ →
   pub offset : ℕ
   pub selected : selection_at map code addr ≡ Some (board, offset)
   pub own : command ≡ Some (command_at offset)
+
+-- a command's bytes are all bytes of a mailbox (this project's own)
+pub record IsWithin (m : BoardMailbox) (command : Command) : Type 0 where
+  pub from : m.offset ≤ offset_of command
+  pub to : offset_of command + len_of command ≤ end_of m
+
+-- whether some byte of a board is one of both mailboxes: the greater offset is below the lesser end (this project's own)
+abbrev pub overlap : BoardMailbox → BoardMailbox → Bool
+overlap a b = nat_lt (max a.offset b.offset) (min (end_of a) (end_of b))

@@ -1,4 +1,4 @@
-ghost use Rattle.std.specs.Prelude.{◌≡◌, ◌≢◌, ◌∷◌, [], ℕ, Option, Some, IsTrue, is_some};
+ghost use Rattle.std.specs.Prelude.{◌≡◌, ◌≢◌, ◌≤◌, ◌∷◌, [], ℕ, false, Option, Some, IsTrue, is_some};
 ghost use Rattle.vme_cycle.specs.declared.modify.Modify.TheVariants.{Set};
 ghost use Rattle.vme_memory.specs.Boards.{Board};
 ghost use Rattle.vme_memory.specs.Steps.{Command, Write, Modify};
@@ -8,11 +8,12 @@ ghost use Rattle.vme_master.specs.Tables.{Given};
 ghost use Rattle.vme_mailbox.specs.Mailboxes.{BoardMailbox, LiesIn, touches};
 ghost use Rattle.vme_mailbox.specs.Phases.{Idle};
 ghost use Rattle.vme_mailbox.specs.Words.{put_by, taken_by};
+ghost use Rattle.vme_shared.specs.declared.mailbox.Mailbox.{Mailbox};
 ghost use Rattle.vme_shared.specs.declared.outcome.SharedOutcome.{SharedOutcome};
 ghost use Rattle.vme_shared.specs.declared.outcome.SharedOutcome.TheVariants.{Berr, Denied};
 ghost use Rattle.vme_shared.specs.declared.request.SharedRequest.TheVariants.{Lock, Unlock};
 ghost use Rattle.vme_shared.specs.Tables.{SharedJob, Makes, Ends, shared_next};
-ghost use Rattle.vme_mailbox_laws.specs.Along.{UsesMailbox, IsGood, AllGood, AllCounts, phase_along, words_given, put_told, taken_told, GoesTo};
+ghost use Rattle.vme_mailbox_laws.specs.Along.{mailbox_in, LiesAt, IsWithin, overlap, UsesMailbox, IsGood, AllGood, AllCounts, phase_along, words_given, put_told, taken_told, GoesTo};
 
 /// Each command of a put or a take to a board goes to the board of its mailbox, and touches the
 /// mailbox; where the mailbox lies wholly in a board that answers quad bytes and read-modify-writes,
@@ -26,6 +27,21 @@ pub fn puts_and_takes_touch_their_mailbox_alone()
         (command : Option Command) (memory : Board) → UsesMailbox s board m → LiesIn memory m →
         shared_next s given ≡ Makes (OnBoard x command) →
         IsGood (shared_next s given) (Some (told.Board (command_step memory command).1)) }
+{}
+
+/// Whatever is replied, each command of a put or a take to a board goes to the board of its mailbox
+/// and is wholly within the bytes of that mailbox: a mailbox there that shares no byte with it is not
+/// touched.
+pub fn puts_and_takes_stay_in_their_mailbox()
+    ensures within { (s : SharedJob) (given : Given) (mailbox : Mailbox) (board x : ℕ)
+        (mine : BoardMailbox) (command : Option Command) → mailbox_in s.request ≡ Some mailbox →
+        LiesAt s.map mailbox board mine → 1 ≤ mailbox.slots →
+        shared_next s given ≡ Makes (OnBoard x command) →
+        (x ≡ board) × ((c : Command) × (command ≡ Some c) × IsWithin mine c) }
+    ensures others { (s : SharedJob) (given : Given) (mailbox : Mailbox) (board x : ℕ)
+        (mine other : BoardMailbox) (command : Command) → mailbox_in s.request ≡ Some mailbox →
+        LiesAt s.map mailbox board mine → 1 ≤ mailbox.slots → overlap mine other ≡ false →
+        shared_next s given ≡ Makes (OnBoard x (Some command)) → touches other command ≡ false }
 {}
 
 /// Whatever good replies it is given, a put or a take goes by the rows of its mailbox: each of its

@@ -6,5 +6,5 @@ mod laws;
 
 pub use laws::{
     locks_touch_their_byte_alone, puts_and_takes_go_by_the_rows,
-    puts_and_takes_touch_their_mailbox_alone,
+    puts_and_takes_stay_in_their_mailbox, puts_and_takes_touch_their_mailbox_alone,
 };

@@ -1,0 +1,69 @@
+-- Each command of a put or a take is wholly within its mailbox, and so beside each other one.
+use Rattle.std.proofs.Common.{◌≡◌, ℕ, ◌+◌, ◌≤◌, ◌<◌, max, min, false, Option, Some, subst, arith, inl, inr}
+use Rattle.std.proofs.lemmas.Bool.{cases_Bool, and_parts, ltb-true, ltb-false}
+use Rattle.vme_memory.specs.Steps.{Command}
+use Rattle.vme_core.specs.Calls.{OnBoard}
+use Rattle.vme_master.specs.Tables.{Given}
+use Rattle.vme_mailbox.specs.Mailboxes.{BoardMailbox, end_of, touches, offset_of, len_of}
+use Rattle.vme_mailbox.proofs.Places.{rest_below}
+use Rattle.vme_shared.specs.declared.mailbox.Mailbox.{Mailbox}
+use Rattle.vme_shared.specs.declared.stage.Stage.{Stage}
+use Rattle.vme_shared.specs.declared.stage.Stage.TheVariants.{Locks, ReadsPutCount, ReadsTakeCount, WritesWord, RaisesPutCount, ReadsWord, RaisesTakeCount, Unlocks}
+use Rattle.vme_shared.specs.Tables.{SharedJob, Makes, shared_next}
+use Rattle.vme_mailbox_laws.specs.Along.{mailbox_in, LiesAt, UsesMailbox, IsWithin, overlap}
+use Rattle.vme_mailbox_laws.proofs.Stages.{stage_command}
+use Rattle.vme_mailbox_laws.proofs.Courses.{some_slot}
+use Rattle.vme_mailbox_laws.proofs.Datums.{stage_commands}
+
+-- that of each stage
+stage_within : (m : BoardMailbox) (stage : Stage) → 1 ≤ m.slots → IsWithin m (stage_command m stage)
+stage_within m Locks some = record { from = omega arith; to = omega arith }
+stage_within m ReadsPutCount some = record { from = omega arith; to = omega arith }
+stage_within m (ReadsTakeCount p) some = record { from = omega arith; to = omega arith }
+stage_within m (WritesWord p word) some = let rest = rest_below p m.slots some in record { from = omega arith; to = omega arith }
+stage_within m (RaisesPutCount p) some = record { from = omega arith; to = omega arith }
+stage_within m (ReadsWord t) some = let rest = rest_below t m.slots some in record { from = omega arith; to = omega arith }
+stage_within m (RaisesTakeCount t word) some = record { from = omega arith; to = omega arith }
+stage_within m (Unlocks end) some = record { from = omega arith; to = omega arith }
+
+pub within : (s : SharedJob) (given : Given) (mailbox : Mailbox) (board x : ℕ) (mine : BoardMailbox) (command : Option Command)
+    → mailbox_in s.request ≡ Some mailbox → LiesAt s.map mailbox board mine → 1 ≤ mailbox.slots
+    → shared_next s given ≡ Makes (OnBoard x command)
+    → (x ≡ board) × ((c : Command) × (command ≡ Some c) × IsWithin mine c)
+within s given mailbox board x mine command asks lies some makes =
+    let slot : 1 ≤ mine.slots = rw lies.slots some in
+    let own = stage_commands s given mailbox board x mine command asks lies slot makes in
+    (own.0, (stage_command mine own.1.0, own.1.1, stage_within mine own.1.0 slot))
+
+-- of one that was not refused at its start
+pub within_used : (s : SharedJob) (given : Given) (board x : ℕ) (m : BoardMailbox) (command : Command) → UsesMailbox s board m
+    → shared_next s given ≡ Makes (OnBoard x (Some command)) → (x ≡ board) × IsWithin m command
+within_used s given board x m command uses makes =
+    let some : 1 ≤ uses.mailbox.slots = rw (← uses.lies.slots) (some_slot s board m uses) in
+    let own = within s given uses.mailbox board x m (Some command) uses.asked uses.lies some makes in
+    let same : own.1.0 ≡ command = cc in
+    (own.0, subst (λ c. IsWithin m c) same own.1.2)
+
+-- a command within a mailbox has no byte of one that shares none with it
+pub beside : (mine other : BoardMailbox) (c : Command) → IsWithin mine c → overlap mine other ≡ false → touches other c ≡ false
+beside mine other c inside apart =
+    elim (cases_Bool (touches other c)) [
+      | inl touched ↦
+          let parts = and_parts _ _ touched in
+          let more = and_parts _ _ parts.0 in
+          let some : 0 < len_of c = ltb-true 0 (len_of c) more.0 in
+          let before : offset_of c < end_of other = ltb-true (offset_of c) (end_of other) more.1 in
+          let behind : other.offset < offset_of c + len_of c = ltb-true other.offset (offset_of c + len_of c) parts.1 in
+          let none : min (end_of mine) (end_of other) ≤ max mine.offset other.offset =
+          ltb-false (max mine.offset other.offset) (min (end_of mine) (end_of other)) apart in
+          absurd (omega (arith, some, before, behind, none, inside.from, inside.to))
+      | inr free ↦ free
+    ]
+
+pub others : (s : SharedJob) (given : Given) (mailbox : Mailbox) (board x : ℕ) (mine other : BoardMailbox) (command : Command)
+    → mailbox_in s.request ≡ Some mailbox → LiesAt s.map mailbox board mine → 1 ≤ mailbox.slots → overlap mine other ≡ false
+    → shared_next s given ≡ Makes (OnBoard x (Some command)) → touches other command ≡ false
+others s given mailbox board x mine other command asks lies some apart makes =
+    let own = within s given mailbox board x mine (Some command) asks lies some makes in
+    let same : own.1.0 ≡ command = cc in
+    beside mine other command (subst (λ c. IsWithin mine c) same own.1.2) apart
