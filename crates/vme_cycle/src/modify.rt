@@ -1,5 +1,5 @@
 ghost use Rattle.std.specs.Prelude.{◌≡◌, ◌<◌, ◌≤◌, ◌^◌, [], length};
-ghost use Rattle.vme_cycle.specs.Functions.{number_from, bytes_onto, sum_of, with_top_bit};
+ghost use Rattle.vme_cycle.specs.Functions.{number_from, bytes_onto};
 
 use vme_lanes::{Datum, copy_bytes};
 
@@ -21,15 +21,22 @@ impl Modify {
     ghost use Rattle.vme_cycle.specs.Functions.{value, has_len};
 
     /// What is written in the place of `old`.
+    #[tactic(auto, unfolding(crate::specs::Functions::sum_of))]
     pub fn value(&self, old: &Datum) -> Datum
         requires { IsTrue (has_len self.now (length old.now.items)) }
         ensures value { result.items ≡ value self.now old.now.items }
         ensures len { length result.items ≡ length old.now.items }
     {
         match self {
-            Modify::Set => with_top_bit(old),
+            Modify::Set => {
+                let mut new = copy_bytes(old);
+                if let Some(first) = new.as_mut_slice().first_mut() {
+                    *first |= 0x80;
+                }
+                new
+            }
             Modify::Exchange(put) => copy_bytes(put),
-            Modify::Add(by) => sum_of(old, by),
+            Modify::Add(by) => spelled(old.len(), number_of(old) + number_of(by)),
             Modify::Compare { expect, put } => {
                 if old.as_slice() == expect.as_slice() {
                     copy_bytes(put)
@@ -66,24 +73,6 @@ impl Modify {
             Modify::Compare { expect, put } => expect.len() == len && put.len() == len,
         }
     }
-}
-
-fn with_top_bit(old: &Datum) -> Datum
-    ensures { result.items ≡ with_top_bit old.now.items }
-{
-    let mut new = copy_bytes(old);
-    if let Some(first) = new.as_mut_slice().first_mut() {
-        *first |= 0x80;
-    }
-    new
-}
-
-#[tactic(auto, unfolding(crate::specs::Functions::sum_of))]
-fn sum_of(a: &Datum, b: &Datum) -> Datum
-    ensures value { result.items ≡ sum_of a.now.items b.now.items }
-    ensures len { length result.items ≡ length a.now.items }
-{
-    spelled(a.len(), number_of(a.as_slice()) + number_of(b.as_slice()))
 }
 
 /// The number that bytes spell, the first most significant.

@@ -1,5 +1,4 @@
-ghost use Rattle.std.specs.Prelude.{◌≡◌, ◌<◌, ◌≤◌, ◌+◌, ◌*◌, ◌^◌, ◌-◌, ◌%◌, ◌↔◌, length, Some, None, IsSome, IsTrue, IsOk, IfErr, IfSome};
-ghost use Rattle.vme_am.specs.Spaces.{addresses_of};
+ghost use Rattle.std.specs.Prelude.{◌≡◌, ◌<◌, ◌≤◌, ◌+◌, ◌*◌, ◌^◌, ◌%◌, ◌↔◌, length, Some, None, IsSome, IsTrue, IsOk, IfErr, IfSome};
 ghost use Rattle.vme_lanes.specs.Rows.{row_of, location_at};
 ghost use Rattle.std.specs.Option.{option_map};
 ghost use Rattle.vme_cycle.specs.Functions.{has_len};
@@ -146,14 +145,15 @@ impl<'a> Plan<'a> {
         ensures len { (row_len result.strobes ≡ Some (datum_len self.now.request))
             × (len_at result (address_of self.now.request i) ≡ Some (datum_len self.now.request)) }
     {
-        let bytes = self.request().datum(i);
+        let request = self.request();
+        let bytes = request.datum(i);
         let location = shown_location(self.location(0), self.location(i));
         let read = bytes.is_none();
         let lines = match bytes {
             Some(bytes) => place(location, bytes),
             None => DataLines::IDLE,
         };
-        Signals::new(self.am(), self.group(), location, read, lines)
+        Signals::new(self.am(), request.addr(), location, read, lines)
     }
 
     /// What the lines of a read-modify-write show in its write half, with these bytes driven. The
@@ -164,19 +164,10 @@ impl<'a> Plan<'a> {
         requires len { length bytes.now.items ≡ datum_len self.now.request }
         ensures { result ≡ write_half_of self.now bytes.now.items }
     {
+        let request = self.request();
         let location = self.location(0);
         let lines = place(location, bytes.as_slice());
-        Signals::new(self.am(), self.group(), location, false, lines)
-    }
-
-    /// The address lines from A02 up, as the address of a group of four.
-    fn group(&self) -> u32
-        ensures value { result ≡ addr_of self.now.request - addr_of self.now.request % 4 }
-        ensures aligned { result % 4 ≡ 0 }
-        ensures in_space { result < addresses_of self.now.am.space }
-    {
-        let addr = self.request().addr();
-        addr - addr % 4
+        Signals::new(self.am(), request.addr(), location, false, lines)
     }
 
     /// The location of datum `i` by itself.

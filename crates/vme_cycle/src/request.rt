@@ -1,5 +1,5 @@
 ghost use Rattle.std.specs.Prelude.{◌≡◌, ◌+◌, ◌<◌, length, IfSome, IsTrue};
-ghost use Rattle.vme_cycle.specs.Counts.{is_single_len, is_block_len, is_modify_len, is_block_count};
+ghost use Rattle.vme_cycle.specs.Counts.{is_block_len, is_block_count};
 
 use crate::modify::Modify;
 use arrayvec::ArrayVec;
@@ -58,25 +58,11 @@ pub enum Request {
     },
 }
 
-/// The lengths of the data of a block.
+/// The lengths of the data of a block, which are those of a read-modify-write.
 fn is_block_len(n: u8) -> bool
     ensures { result ≡ is_block_len n }
 {
     n == 1 || n == 2 || n == 4
-}
-
-/// The lengths of a read-modify-write.
-fn is_modify_len(n: u8) -> bool
-    ensures { result ≡ is_modify_len n }
-{
-    n == 1 || n == 2 || n == 4
-}
-
-/// The lengths of a single datum.
-fn is_single_len(n: usize) -> bool
-    ensures { result ≡ is_single_len n }
-{
-    1 <= n && n <= 4
 }
 
 /// The numbers of data of a block.
@@ -89,7 +75,7 @@ fn is_block_count(count: usize) -> bool
 impl Request {
     ghost use Rattle.std.specs.Option.{option_map};
     ghost use Rattle.vme_cycle.specs.Requests.{code_of, addr_of, is_block_request, function_of, reads, datum_len, count_of, is_counted, datum_of, span_of};
-    ghost use Rattle.vme_cycle.specs.Lawful.{is_aligned_kind, first_location, crosses_boundary};
+    ghost use Rattle.vme_cycle.specs.Lawful.{first_location, crosses_boundary};
 
     /// The same request once more. It takes no memory.
     pub fn copy(&self) -> Request
@@ -236,8 +222,8 @@ impl Request {
         ensures { result ≡ is_counted self.now }
     {
         match self {
-            Request::Read { n, .. } => is_single_len(usize::from(*n)),
-            Request::Write { bytes, .. } => is_single_len(bytes.len()),
+            Request::Read { n, .. } => (1..=4).contains(n),
+            Request::Write { bytes, .. } => (1..=4).contains(&bytes.len()),
             Request::BlockRead { n, count, .. } => {
                 is_block_len(*n) && is_block_count(usize::from(*count))
             }
@@ -257,7 +243,7 @@ impl Request {
                     && is_block_count(usize::from(*count))
                     && bytes.len() == usize::from(*n)
             }
-            Request::Modify { n, f, .. } => is_modify_len(*n) && f.has_len(*n),
+            Request::Modify { n, f, .. } => is_block_len(*n) && f.has_len(*n),
         }
     }
 
@@ -288,19 +274,13 @@ impl Request {
         u64::from(self.addr()) + u64::from(self.datum_len()) * u64::from(self.count())
     }
 
-    /// Whether its first address has to be a multiple of the length of its data.
-    fn is_aligned_kind(&self) -> bool
-        ensures { result ≡ is_aligned_kind self.now }
-    {
-        self.is_block() || self.function().is_some()
-    }
-
     /// The byte location of the first datum.
     pub(crate) fn first_location(&self) -> Option<Location>
         requires { IsTrue (is_counted self.now) }
         ensures { result ≡ first_location self.now }
     {
-        if self.is_aligned_kind() && self.addr() % u32::from(self.datum_len()) != 0 {
+        let is_aligned_kind = self.is_block() || self.function().is_some();
+        if is_aligned_kind && self.addr() % u32::from(self.datum_len()) != 0 {
             return None;
         }
         Location::of(self.addr(), self.datum_len())

@@ -1,4 +1,4 @@
-ghost use Rattle.std.specs.Prelude.{◌≡◌, ◌%◌, ◌<◌, Some, IfSome, IsNone, ◌↔◌, length};
+ghost use Rattle.std.specs.Prelude.{◌≡◌, ◌-◌, ◌%◌, ◌<◌, Some, IfSome, IsNone, ◌↔◌, length};
 ghost use Rattle.vme_am.specs.Spaces.{addresses_of};
 ghost use Rattle.vme_lanes.specs.Rows.{row_of, location_sensed};
 
@@ -82,7 +82,7 @@ impl Signals {
         })
     }
 
-    /// The signals of a cycle at a byte location.
+    /// The signals of a cycle at a byte location of the group of four that `addr` lies in.
     pub(crate) fn new(
         am: Am,
         addr: u32,
@@ -90,11 +90,10 @@ impl Signals {
         write: bool,
         lines: DataLines,
     ) -> Signals
-        requires aligned { addr % 4 ≡ 0 }
-        requires in_space { addr < addresses_of am.space }
+        requires { addr < addresses_of am.space }
         ensures { result ≡ record {
           am = am;
-          addr = addr;
+          addr = addr - addr % 4;
           strobes = (row_of location).strobes;
           write = write;
           lanes = lines.lanes;
@@ -102,7 +101,7 @@ impl Signals {
     {
         Signals {
             am,
-            addr,
+            addr: addr - addr % 4,
             location,
             write,
             lines,

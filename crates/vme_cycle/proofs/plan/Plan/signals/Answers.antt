@@ -8,14 +8,17 @@ use Rattle.vme_cycle.proofs.plan.Plan.signals.Goals as goal
 
 pub shown_location-location-requires-clause-lword : goal.shown_location-location-requires-clause-lword
 shown_location-location-requires-clause-lword c =
-    same_lword c.args.self.now.am c.args.self.now.request c.args.i c.location.result c.location-2.result c.request.ensures.lawful c.requires
+    let t = c.args.self.now in
+    same_lword t.am t.request c.args.i c.location.result c.location-2.result c.request-request.ensures.lawful c.requires
     c.location.ensures.found c.location-2.ensures.found
 
 pub returns-clause-sensed : goal.returns-clause-sensed
 returns-clause-sensed c =
-    counts_on c.args.self.now.am c.args.self.now.request c.args.i c.location.result c.location-2.result c.new.result c.request.ensures.lawful c.requires
-    c.location.ensures.found c.location-2.ensures.found (search rules) (search rules)
-    ∙ sym c.location-2.ensures.found
+    let t = c.args.self.now in
+    let own = c.location-2 in
+    counts_on t.am t.request c.args.i c.location.result own.result c.new.result c.request-request.ensures.lawful c.requires
+    c.location.ensures.found own.ensures.found (search rules) (search rules)
+    ∙ sym own.ensures.found
 
 pub returns-clause-first : goal.returns-clause-first
 returns-clause-first c = λ none.
@@ -26,9 +29,12 @@ returns-clause-first c = λ none.
 
 pub returns-clause-len : goal.returns-clause-len
 returns-clause-len c =
-    let at = counts_on c.args.self.now.am c.args.self.now.request c.args.i c.location.result c.location-2.result c.new.result c.request.ensures.lawful
-    c.requires c.location.ensures.found c.location-2.ensures.found (search rules) (search rules) in (
+    let t = c.args.self.now in
+    let own = c.location-2 in
+    let shown = c.shown_location-location in
+    let at = counts_on t.am t.request c.args.i c.location.result own.result c.new.result c.request-request.ensures.lawful
+    c.requires c.location.ensures.found own.ensures.found (search rules) (search rules) in (
       rw c.new.ensures
-          (len_of_strobes _ c.shown_location-location.result _ (own_sensed c.shown_location-location.result) (c.shown_location-location.ensures.len ∙ c.location-2.ensures.len)),
-      len_of_strobes _ c.location-2.result _ at c.location-2.ensures.len,
+          (len_of_strobes _ shown.result _ (own_sensed shown.result) (shown.ensures.len ∙ own.ensures.len)),
+      len_of_strobes _ own.result _ at own.ensures.len,
     )
