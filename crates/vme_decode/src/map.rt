@@ -17,7 +17,7 @@ const MOST_ENTRIES: usize = 21;
 /// The entries of the boards on one bus, none of which covers an address of another.
 #[derive(Debug, Drop)]
 pub struct AddressMap {
-    /// As the caller gave them: of these the contracts speak, and a search needs none of them.
+    /// As the caller gave them: of these the contracts speak. The first is asked before a search.
     entries: Vec<Entry>,
     table: Table,
 }
@@ -69,6 +69,14 @@ impl AddressMap {
         ensures offset { IfSome result (λ found. found.1 ≤ addr) }
         ensures remainder { IfSome result (λ found. found.1 % 4 ≡ addr % 4) }
     {
+        // Where this one responds there is nothing to search, and with one entry there never is.
+        let first = self.entries.first()?;
+        if first.responds(am, addr) {
+            return Some((0, addr - first.base));
+        }
+        if self.entries.len() == 1 {
+            return None;
+        }
         self.table.find(am, addr)
     }
 

@@ -1,12 +1,12 @@
 -- A word that takes the bytes of a location from another one, under its byte enables; and the word that data lines carry.
-use Rattle.std.proofs.Common.{◌≡◌, ℕ, zero, suc, ◌+◌, ◌/◌, ◌%◌, ◌^◌, ◌<◌, ◌≤◌, List, [], ◌∷◌, length, get_or, set, slice_range, refl, ap, sym, ◌∙◌, arith}
-use Rattle.std.specs.Prelude.{bit_or, bit_and, ◌==◌, ◌&&◌, ◌≢◌, find, None}
+use Rattle.std.proofs.Common.{◌≡◌, ℕ, ◌+◌, ◌/◌, ◌%◌, ◌^◌, ◌<◌, ◌≤◌, List, [], ◌∷◌, length, get_or, set, slice_range, refl, ap, sym, ◌∙◌, arith}
+use Rattle.std.specs.Prelude.{bit_or, bit_and}
 use Rattle.std.specs.Int.{w32, bit_not}
 use Rattle.std.specs.Int.Bits.{and_zero_r, or_zero_r, or_zero_l}
 use Rattle.std.proofs.lemmas.Nat.{or_shr, and_shr, or_mod, and_mod, and_mask}
 use Rattle.vme_lanes.specs.declared.location.Location.{Location}
 use Rattle.vme_lanes.specs.declared.location.Location.TheVariants.{Byte0, Byte1, Byte2, Byte3, Bytes01, Bytes23, Bytes03, Bytes02, Bytes13, Bytes12}
-use Rattle.vme_lanes.specs.Rows.{row_of, locations, location_at}
+use Rattle.vme_lanes.specs.Rows.{row_of}
 use Rattle.vme_memory.specs.Boards.{bytes_after_write}
 use Rattle.vme_memory.specs.Words.{word_bytes, bytes_of_words, part_of, enables_of}
 use Rattle.vme_memory.proofs.Words.{read_at, written_at}
@@ -55,7 +55,8 @@ put_low :
     (word new mask : ℕ) → bit_not w32 mask / 2 ^ 0 % 2 ^ 8 ≡ 0 → mask / 2 ^ 0 % 2 ^ 8 ≡ 255 → merged word new mask % 256 ≡ new % 256
 put_low word new mask zeros ones = sym (low_byte (merged word new mask)) ∙ put_byte word new mask 0 zeros ones ∙ low_byte new
 
-four :
+-- lists of four that agree place by place
+pub four :
     (a b c d e f g h : ℕ) → a ≡ e → b ≡ f → c ≡ g → d ≡ h → (a ∷ b ∷ c ∷ d ∷ []) ≡ (e ∷ f ∷ g ∷ h ∷ [])
 four a b c d e f g h p q r s = cc
 
@@ -148,21 +149,3 @@ part_at words l at word own place within =
     let there : at < length (bytes_of_words words) = omega (arith, (row_within l).0, within) in
     read_at words at (row_of l).len word own there few
     ∙ ap (λ p. slice_range (word_bytes word) p (p + (row_of l).len)) (sym place)
-
--- some bytes within one word are those of a location
-row_there : (first len : ℕ) → 0 < len → first + len ≤ 4 → find (λ l. (row_of l).first == first && (row_of l).len == len) locations ≢ None
-row_there zero (suc zero) some few found = cc
-row_there zero (suc (suc zero)) some few found = cc
-row_there zero (suc (suc (suc zero))) some few found = cc
-row_there zero (suc (suc (suc (suc zero)))) some few found = cc
-row_there (suc zero) (suc zero) some few found = cc
-row_there (suc zero) (suc (suc zero)) some few found = cc
-row_there (suc zero) (suc (suc (suc zero))) some few found = cc
-row_there (suc (suc zero)) (suc zero) some few found = cc
-row_there (suc (suc zero)) (suc (suc zero)) some few found = cc
-row_there (suc (suc (suc zero))) (suc zero) some few found = cc
-row_there first len some few found = absurd (omega arith)
-
-pub within_word : (at len : ℕ) → 0 < len → at % 4 + len ≤ 4 → location_at at len ≢ None
-unfolding location_at
-within_word at len some few found = row_there (at % 4) len some few found

@@ -1,9 +1,11 @@
 ghost use Rattle.std.specs.Prelude.{◌≡◌, ◌+◌, ◌%◌, ◌≤◌, ◌<◌, true, IfOk, length, take, drop, slice_get, slice_range};
 ghost use Rattle.vme_lanes.specs.Rows.{row_of};
 ghost use Rattle.vme_memory.specs.Boards.{is_board_size, zeros, bytes_after_write};
-ghost use Rattle.vme_memory.specs.Words.{part_of};
+ghost use Rattle.vme_memory.specs.Words.{part_of, word_bytes};
 
-use crate::word::{byte_in, bytes_at, bytes_of, merge, placed_word};
+use crate::word::{
+    byte_in, bytes_at, bytes_of, first_bytes, leading_word, merge, merge_from, word_across,
+};
 use arrayvec::ArrayVec;
 use std::alloc::{AllocError, Global};
 use std::cmp::min;
@@ -102,7 +104,6 @@ impl Storage {
     }
 
     /// Reads `len` bytes from any offset on: from one word or two.
-    #[tactic(auto, using(crate::proofs::Words::read_on))]
     pub(crate) fn datum(&self, at: u32, len: u8) -> Datum
         requires within { at + len ≤ length self.now }
         requires some { 0 < len }
@@ -110,54 +111,54 @@ impl Storage {
         ensures value { result.items ≡ slice_range self.now at (at + len) }
         ensures len { length result.items ≡ len }
     {
-        let here = min(len, 4 - (at % 4) as u8);
-        let mut datum = self.read(location_of(at, here), at);
-        if here < len {
-            let next = at + u32::from(here);
-            let rest = self.read(location_of(next, len - here), next);
-            datum.try_extend_from_slice(rest.as_slice()).unwrap();
-        }
-        datum
+        first_bytes(self.word_from(at, len), len)
+    }
+
+    /// The word whose first `len` bytes are those from any offset on.
+    #[tactic(auto, using(crate::proofs::Words::words_len, crate::proofs::Words::word_there, crate::proofs::Across::next_there, crate::proofs::Across::begun_within, crate::proofs::Across::begun_over))]
+    fn word_from(&self, at: u32, len: u8) -> u32
+        requires within { at + len ≤ length self.now }
+        requires some { 0 < len }
+        requires short { len ≤ 4 }
+        ensures { take len (word_bytes result) ≡ slice_range self.now at (at + len) }
+    {
+        let i = (at / 4) as usize;
+        let place = at % 4;
+        let next = if place + u32::from(len) > 4 {
+            self.words[i + 1]
+        } else {
+            0
+        };
+        word_across(self.words[i], next, place)
     }
 
     /// Puts bytes in the place of those from any offset on: in one word or two. All others stay.
-    #[tactic(auto, using(crate::proofs::Words::written_on))]
+    #[tactic(auto, using(crate::proofs::Across::put_over))]
     pub(crate) fn overwrite(&mut self, at: u32, new: &[u8])
         requires within { at + length new.now ≤ length self.old }
         requires some { 0 < length new.now }
         requires short { length new.now ≤ 4 }
         ensures { self.new ≡ bytes_after_write self.old at new.now }
     {
-        let (here, rest) = new.split_at(min(new.len(), 4 - (at % 4) as usize));
-        self.put(at, here);
-        if !rest.is_empty() {
-            self.put(at + here.len() as u32, rest);
+        let len = new.len() as u32;
+        let word = leading_word(new);
+        let here = min(len, 4 - at % 4);
+        self.put(at, here, word);
+        if here < len {
+            self.put(at + here, len - here, word << (8 * here));
         }
     }
 
-    /// The same within one word.
-    fn put(&mut self, at: u32, new: &[u8])
-        requires within { at + length new.now ≤ length self.old }
-        requires one_word { at % 4 + length new.now ≤ 4 }
-        requires some { 0 < length new.now }
-        ensures bytes { self.new ≡ bytes_after_write self.old at new.now }
+    /// Puts the first `len` bytes of a word in the place of those from an offset on, within one word.
+    #[tactic(auto, using(crate::proofs::Words::words_len, crate::proofs::Words::word_there, crate::proofs::Across::put_at))]
+    fn put(&mut self, at: u32, len: u32, new: u32)
+        requires within { at + len ≤ length self.old }
+        requires one_word { at % 4 + len ≤ 4 }
+        requires some { 0 < len }
+        ensures bytes { self.new ≡ bytes_after_write self.old at (take len (word_bytes new)) }
         ensures small { length self.old ≤ 1048576 }
     {
-        let location = location_of(at, new.len() as u8);
-        self.write(location, at, placed_word(location, new));
-    }
-}
-
-/// The location of some bytes within one word.
-#[tactic(auto, using(crate::proofs::Enables::within_word))]
-fn location_of(at: u32, len: u8) -> Location
-    requires some { 0 < len }
-    requires one_word { at % 4 + len ≤ 4 }
-    ensures first { (row_of result).first ≡ at % 4 }
-    ensures len { (row_of result).len ≡ len }
-{
-    match Location::of(at, len) {
-        Some(location) => location,
-        None => unreachable!(),
+        let i = (at / 4) as usize;
+        self.words[i] = merge_from(self.words[i], at % 4, len, new);
     }
 }

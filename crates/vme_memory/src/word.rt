@@ -1,4 +1,4 @@
-ghost use Rattle.std.specs.Prelude.{◌≡◌, ◌+◌, ◌≤◌, ◌<◌, Some, IsTrue, length, slice_get};
+ghost use Rattle.std.specs.Prelude.{◌≡◌, ◌+◌, ◌≤◌, ◌<◌, Some, IsTrue, length, take, ◌++◌, slice_get, slice_range};
 ghost use Rattle.vme_lanes.specs.Rows.{row_of};
 ghost use Rattle.vme_lanes.specs.Lanes.{carries, bytes_on};
 ghost use Rattle.vme_memory.specs.Boards.{bytes_after_write};
@@ -30,6 +30,25 @@ pub(crate) fn merge(word: u32, location: Location, new: u32) -> u32
 {
     let mask = enables(location);
     word & !mask | new & mask
+}
+
+/// The word with the first `len` bytes of another one from a place on; its other bytes stay.
+pub(crate) fn merge_from(word: u32, place: u32, len: u32, new: u32) -> u32
+    requires some { 0 < len }
+    requires within { place + len ≤ 4 }
+    ensures { word_bytes result ≡ bytes_after_write (word_bytes word) place (take len (word_bytes new)) }
+{
+    let mask = u32::MAX << (32 - 8 * len) >> (8 * place);
+    word & !mask | (new >> (8 * place)) & mask
+}
+
+/// The word of the four bytes from a place on in two words, one behind the other.
+pub(crate) fn word_across(here: u32, next: u32, place: u32) -> u32
+    requires { place < 4 }
+    ensures { word_bytes result ≡ slice_range (word_bytes here ++ word_bytes next) place (place + 4) }
+{
+    let pair = (u64::from(here) << 32) + u64::from(next);
+    (pair << (8 * place) >> 32) as u32
 }
 
 /// The four bytes of a word.
@@ -78,6 +97,39 @@ pub(crate) fn placed_word(location: Location, bytes: &[u8]) -> u32
         (Location::Bytes02, [a, b, c]) => word_of([*a, *b, *c, 0]),
         (Location::Bytes13, [b, c, d]) => word_of([0, *b, *c, *d]),
         (Location::Bytes12, [b, c]) => word_of([0, *b, *c, 0]),
+        _ => unreachable!(),
+    }
+}
+
+/// The word that begins with some bytes, with zeros behind them.
+pub(crate) fn leading_word(bytes: &[u8]) -> u32
+    requires some { 0 < length bytes.now }
+    requires short { length bytes.now ≤ 4 }
+    ensures { take (length bytes.now) (word_bytes result) ≡ bytes.now }
+{
+    match bytes {
+        [a] => word_of([*a, 0, 0, 0]),
+        [a, b] => word_of([*a, *b, 0, 0]),
+        [a, b, c] => word_of([*a, *b, *c, 0]),
+        [a, b, c, d] => word_of([*a, *b, *c, *d]),
+        _ => unreachable!(),
+    }
+}
+
+/// The first `len` bytes of a word.
+#[tactic(auto, unfolding(crate::specs::Words::word_bytes))]
+pub(crate) fn first_bytes(word: u32, len: u8) -> Datum
+    requires some { 0 < len }
+    requires short { len ≤ 4 }
+    ensures value { result.items ≡ take len (word_bytes word) }
+    ensures len { length result.items ≡ len }
+{
+    let [a, b, c, d] = bytes_of(word);
+    match len {
+        1 => datum(&[a]),
+        2 => datum(&[a, b]),
+        3 => datum(&[a, b, c]),
+        4 => datum(&[a, b, c, d]),
         _ => unreachable!(),
     }
 }

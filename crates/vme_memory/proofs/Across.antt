@@ -1,0 +1,206 @@
+-- Bytes from any place on in two words, one behind the other.
+use Rattle.std.proofs.Common.{◌≡◌, ℕ, zero, suc, ◌+◌, ◌-◌, ◌*◌, ◌/◌, ◌%◌, ◌^◌, ◌<◌, ◌≤◌, List, [], ◌∷◌, ◌++◌, length, take, get_or, set, slice_range, refl, ap, sym, ◌∙◌, arith}
+use Rattle.std.proofs.lemmas.List.{length-take-le}
+use Rattle.vme_lanes.specs.declared.location.Location.{Location}
+use Rattle.vme_lanes.specs.declared.location.Location.TheVariants.{Byte0, Byte1, Byte2, Byte3, Bytes01, Bytes23, Bytes03, Bytes02, Bytes13, Bytes12}
+use Rattle.vme_lanes.specs.Rows.{row_of}
+use Rattle.vme_memory.specs.Boards.{bytes_after_write}
+use Rattle.vme_memory.specs.Words.{word_bytes, bytes_of_words, part_of}
+use Rattle.vme_memory.proofs.Words.{word_len, words_len, read_at, read_on, written_at, written_on}
+use Rattle.vme_memory.proofs.Enables.{merged, merged_bytes, four}
+
+-- lists that agree place by place
+one : (a e : ℕ) → a ≡ e → (a ∷ []) ≡ (e ∷ [])
+one a e p = cc
+
+two : (a b e f : ℕ) → a ≡ e → b ≡ f → (a ∷ b ∷ []) ≡ (e ∷ f ∷ [])
+two a b e f p q = cc
+
+three : (a b c e f g : ℕ) → a ≡ e → b ≡ f → c ≡ g → (a ∷ b ∷ c ∷ []) ≡ (e ∷ f ∷ g ∷ [])
+three a b c e f g p q r = cc
+
+-- two words as one number, shifted up by a place, and its upper half
+abbrev pub upper : ℕ → ℕ → ℕ → ℕ
+upper here next place = (here * 4294967296 % 18446744073709551616 + next) * 2 ^ (8 * place) % 18446744073709551616 / 4294967296
+
+-- it has the four bytes from that place on
+pub upper_bytes :
+    (here next place : ℕ) → here < 2 ^ 32 → next < 2 ^ 32 → place < 4
+    → word_bytes (upper here next place) ≡ slice_range (word_bytes here ++ word_bytes next) place (place + 4)
+unfolding word_bytes
+upper_bytes here next zero small little less =
+    let same : upper here next 0 ≡ here = omega arith in
+    rw same refl
+upper_bytes here next (suc zero) small little less =
+    let same : upper here next 1 ≡ here % 2 ^ 24 * 2 ^ 8 + next / 2 ^ 24 = omega arith in
+    rw same (four _ _ _ _ _ _ _ _ (omega arith) (omega arith) (omega arith) (omega arith))
+upper_bytes here next (suc (suc zero)) small little less =
+    let same : upper here next 2 ≡ here % 2 ^ 16 * 2 ^ 16 + next / 2 ^ 16 = omega arith in
+    rw same (four _ _ _ _ _ _ _ _ (omega arith) (omega arith) (omega arith) (omega arith))
+upper_bytes here next (suc (suc (suc zero))) small little less =
+    let same : upper here next 3 ≡ here % 2 ^ 8 * 2 ^ 24 + next / 2 ^ 8 = omega arith in
+    rw same (four _ _ _ _ _ _ _ _ (omega arith) (omega arith) (omega arith) (omega arith))
+upper_bytes here next (suc (suc (suc (suc place)))) small little less = absurd (omega arith)
+
+-- bytes of the first word alone
+first_alone :
+    (here next p n : ℕ) → 0 < n → p + n ≤ 4
+    → slice_range (word_bytes here) p (p + n) ≡ take n (slice_range (word_bytes here ++ word_bytes next) p (p + 4))
+unfolding word_bytes
+first_alone here next zero (suc zero) some few = refl
+first_alone here next zero (suc (suc zero)) some few = refl
+first_alone here next zero (suc (suc (suc zero))) some few = refl
+first_alone here next zero (suc (suc (suc (suc zero)))) some few = refl
+first_alone here next (suc zero) (suc zero) some few = refl
+first_alone here next (suc zero) (suc (suc zero)) some few = refl
+first_alone here next (suc zero) (suc (suc (suc zero))) some few = refl
+first_alone here next (suc (suc zero)) (suc zero) some few = refl
+first_alone here next (suc (suc zero)) (suc (suc zero)) some few = refl
+first_alone here next (suc (suc (suc zero))) (suc zero) some few = refl
+first_alone here next p n some few = absurd (omega arith)
+
+-- bytes of both words
+both :
+    (here next p n : ℕ) → p < 4 → 4 < p + n → n ≤ 4
+    → slice_range (word_bytes here) p (p + (4 - p)) ++ slice_range (word_bytes next) 0 (0 + (n - (4 - p)))
+    ≡ take n (slice_range (word_bytes here ++ word_bytes next) p (p + 4))
+unfolding word_bytes
+both here next (suc zero) (suc (suc (suc (suc zero)))) less over few = refl
+both here next (suc (suc zero)) (suc (suc (suc zero))) less over few = refl
+both here next (suc (suc zero)) (suc (suc (suc (suc zero)))) less over few = refl
+both here next (suc (suc (suc zero))) (suc (suc zero)) less over few = refl
+both here next (suc (suc (suc zero))) (suc (suc (suc zero))) less over few = refl
+both here next (suc (suc (suc zero))) (suc (suc (suc (suc zero)))) less over few = refl
+both here next p n less over few = absurd (omega arith)
+
+-- what a word begins with that was made of those at an offset, where they lie in one word
+pub begun_within :
+    (words : List ℕ) (at n here next word : ℕ) → here ≡ get_or words (at / 4) here
+    → at + n ≤ length (bytes_of_words words) → 0 < n → at % 4 + n ≤ 4 → word_bytes word ≡ slice_range (word_bytes here ++ word_bytes next) (at % 4) (at % 4 + 4)
+    → take n (word_bytes word) ≡ slice_range (bytes_of_words words) at (at + n)
+begun_within words at n here next word own within some few made =
+    let there : at < length (bytes_of_words words) = omega arith in
+    ap (take n) made ∙ sym (first_alone here next (at % 4) n some few) ∙ sym (read_at words at n here own there few)
+
+-- and where they lie in two
+pub begun_over :
+    (words : List ℕ) (at n here next word : ℕ) → here ≡ get_or words (at / 4) here → next ≡ get_or words (at / 4 + 1) next
+    → at + n ≤ length (bytes_of_words words) → n ≤ 4
+    → 4 < at % 4 + n → word_bytes word ≡ slice_range (word_bytes here ++ word_bytes next) (at % 4) (at % 4 + 4)
+    → take n (word_bytes word) ≡ slice_range (bytes_of_words words) at (at + n)
+begun_over words at n here next word own own_next within few over made =
+    let m = 4 - at % 4 in
+    let there : at < length (bytes_of_words words) = omega arith in
+    let there_next : at + m < length (bytes_of_words words) = omega arith in
+    let up : at / 4 + 1 ≡ (at + m) / 4 = omega arith in
+    let start : (at + m) % 4 ≡ 0 = omega arith in
+    let own_up : next ≡ get_or words ((at + m) / 4) next = own_next ∙ ap (λ i. get_or words i next) up in
+    let front = read_at words at m here own there (omega arith) in
+    let back = read_at words (at + m) (n - m) next own_up there_next (omega arith)
+    ∙ ap (λ p. slice_range (word_bytes next) p (p + (n - m))) start in
+    ap (take n) made
+    ∙ sym (both here next (at % 4) n (omega arith) over few)
+    ∙ ap (λ bytes. bytes ++ slice_range (word_bytes next) 0 (0 + (n - m))) (sym front)
+    ∙ ap (λ bytes. slice_range (bytes_of_words words) at (at + m) ++ bytes) (sym back)
+    ∙ read_on (bytes_of_words words) at m n (omega arith)
+
+-- where bytes lie in two words the second is there
+pub next_there : (words : List ℕ) (at n : ℕ) → at + n ≤ length (bytes_of_words words) → 4 < at % 4 + n → at / 4 + 1 < length words
+next_there words at n within over = omega (arith, words_len words)
+
+-- a word that is shifted down to the place of a location has there what it began with
+part_from : (l : Location) (new : ℕ) → part_of l (new / 2 ^ (8 * (row_of l).first)) ≡ take (row_of l).len (word_bytes new)
+unfolding word_bytes
+part_from Byte0 new = one _ _ (omega arith)
+part_from Byte1 new = one _ _ (omega arith)
+part_from Byte2 new = one _ _ (omega arith)
+part_from Byte3 new = one _ _ (omega arith)
+part_from Bytes01 new = two _ _ _ _ (omega arith) (omega arith)
+part_from Bytes23 new = two _ _ _ _ (omega arith) (omega arith)
+part_from Bytes03 new = four _ _ _ _ _ _ _ _ (omega arith) (omega arith) (omega arith) (omega arith)
+part_from Bytes02 new = three _ _ _ _ _ _ (omega arith) (omega arith) (omega arith)
+part_from Bytes13 new = three _ _ _ _ _ _ (omega arith) (omega arith) (omega arith)
+part_from Bytes12 new = two _ _ _ _ (omega arith) (omega arith)
+
+-- the mask of so many bytes from a place on
+abbrev pub mask_of : ℕ → ℕ → ℕ
+mask_of place len = 4294967295 * 2 ^ (32 - 8 * len) % 4294967296 / 2 ^ (8 * place)
+
+-- under it a word takes what another one begins with
+merged_at_row :
+    (l : Location) (word new : ℕ)
+    → word_bytes (merged word (new / 2 ^ (8 * (row_of l).first)) (mask_of (row_of l).first (row_of l).len))
+    ≡ bytes_after_write (word_bytes word) (row_of l).first (take (row_of l).len (word_bytes new))
+merged_at_row Byte0 word new = merged_bytes Byte0 word _ ∙ ap (bytes_after_write (word_bytes word) 0) (part_from Byte0 new)
+merged_at_row Byte1 word new = merged_bytes Byte1 word _ ∙ ap (bytes_after_write (word_bytes word) 1) (part_from Byte1 new)
+merged_at_row Byte2 word new = merged_bytes Byte2 word _ ∙ ap (bytes_after_write (word_bytes word) 2) (part_from Byte2 new)
+merged_at_row Byte3 word new = merged_bytes Byte3 word _ ∙ ap (bytes_after_write (word_bytes word) 3) (part_from Byte3 new)
+merged_at_row Bytes01 word new = merged_bytes Bytes01 word _ ∙ ap (bytes_after_write (word_bytes word) 0) (part_from Bytes01 new)
+merged_at_row Bytes23 word new = merged_bytes Bytes23 word _ ∙ ap (bytes_after_write (word_bytes word) 2) (part_from Bytes23 new)
+merged_at_row Bytes03 word new = merged_bytes Bytes03 word _ ∙ ap (bytes_after_write (word_bytes word) 0) (part_from Bytes03 new)
+merged_at_row Bytes02 word new = merged_bytes Bytes02 word _ ∙ ap (bytes_after_write (word_bytes word) 0) (part_from Bytes02 new)
+merged_at_row Bytes13 word new = merged_bytes Bytes13 word _ ∙ ap (bytes_after_write (word_bytes word) 1) (part_from Bytes13 new)
+merged_at_row Bytes12 word new = merged_bytes Bytes12 word _ ∙ ap (bytes_after_write (word_bytes word) 1) (part_from Bytes12 new)
+
+pub merged_from :
+    (word new place len : ℕ) → 0 < len → place + len ≤ 4
+    → word_bytes (merged word (new / 2 ^ (8 * place)) (mask_of place len))
+    ≡ bytes_after_write (word_bytes word) place (take len (word_bytes new))
+merged_from word new zero (suc zero) some few = merged_at_row Byte0 word new
+merged_from word new zero (suc (suc zero)) some few = merged_at_row Bytes01 word new
+merged_from word new zero (suc (suc (suc zero))) some few = merged_at_row Bytes02 word new
+merged_from word new zero (suc (suc (suc (suc zero)))) some few = merged_at_row Bytes03 word new
+merged_from word new (suc zero) (suc zero) some few = merged_at_row Byte1 word new
+merged_from word new (suc zero) (suc (suc zero)) some few = merged_at_row Bytes12 word new
+merged_from word new (suc zero) (suc (suc (suc zero))) some few = merged_at_row Bytes13 word new
+merged_from word new (suc (suc zero)) (suc zero) some few = merged_at_row Byte2 word new
+merged_from word new (suc (suc zero)) (suc (suc zero)) some few = merged_at_row Bytes23 word new
+merged_from word new (suc (suc (suc zero))) (suc zero) some few = merged_at_row Byte3 word new
+merged_from word new place len some few = absurd (omega arith)
+
+-- what is put within one word, among its words
+pub put_at :
+    (words : List ℕ) (at len old word new : ℕ) → old ≡ get_or words (at / 4) old
+    → at + len ≤ length (bytes_of_words words) → 0 < len
+    → at % 4 + len ≤ 4 → word_bytes word ≡ bytes_after_write (word_bytes old) (at % 4) (take len (word_bytes new))
+    → bytes_of_words (set words (at / 4) word) ≡ bytes_after_write (bytes_of_words words) at (take len (word_bytes new))
+put_at words at len old word new own within some few changed =
+    let part = take len (word_bytes new) in
+    let short : length part ≡ len = length-take-le len (word_bytes new) (omega (arith, word_len new)) in
+    written_at words part at old word own (omega arith) (omega arith) changed
+
+-- what a word begins with, in two parts
+halves :
+    (word h n : ℕ) → word < 2 ^ 32 → 0 < h → h < n → n ≤ 4
+    → take h (word_bytes word) ++ take (n - h) (word_bytes (word * 2 ^ (8 * h) % 4294967296)) ≡ take n (word_bytes word)
+unfolding word_bytes
+halves word (suc zero) (suc (suc zero)) small some less few = two _ _ _ _ refl (omega arith)
+halves word (suc zero) (suc (suc (suc zero))) small some less few = three _ _ _ _ _ _ refl (omega arith) (omega arith)
+halves word (suc zero) (suc (suc (suc (suc zero)))) small some less few =
+    four _ _ _ _ _ _ _ _ refl (omega arith) (omega arith) (omega arith)
+halves word (suc (suc zero)) (suc (suc (suc zero))) small some less few = three _ _ _ _ _ _ refl refl (omega arith)
+halves word (suc (suc zero)) (suc (suc (suc (suc zero)))) small some less few =
+    four _ _ _ _ _ _ _ _ refl refl (omega arith) (omega arith)
+halves word (suc (suc (suc zero))) (suc (suc (suc (suc zero)))) small some less few =
+    four _ _ _ _ _ _ _ _ refl refl refl (omega arith)
+halves word h n small some less few = absurd (omega arith)
+
+-- so what is put in two words is put whole
+pub put_over :
+    (bytes new : List ℕ) (at h word : ℕ) → word < 2 ^ 32 → take (length new) (word_bytes word) ≡ new
+    → at + length new ≤ length bytes
+    → 0 < h → h < length new → length new ≤ 4
+    → bytes_after_write (bytes_after_write bytes at (take h (word_bytes word))) (at + h)
+    (take (length new - h) (word_bytes (word * 2 ^ (8 * h) % 4294967296)))
+    ≡ bytes_after_write bytes at new
+put_over bytes new at h word small begins within some less few =
+    let shifted = word * 2 ^ (8 * h) % 4294967296 in
+    let a = take h (word_bytes word) in
+    let b = take (length new - h) (word_bytes shifted) in
+    let a_len : length a ≡ h = length-take-le h (word_bytes word) (omega (arith, word_len word)) in
+    let b_len : length b ≡ length new - h =
+    length-take-le (length new - h) (word_bytes shifted) (omega (arith, word_len shifted)) in
+    let whole : a ++ b ≡ new = halves word h (length new) small some less few ∙ begins in
+    ap (λ k. bytes_after_write (bytes_after_write bytes at a) (at + k) b) (sym a_len)
+    ∙ written_on bytes a b at (omega arith)
+    ∙ ap (bytes_after_write bytes at) whole
