@@ -76,7 +76,8 @@ both here next p n less over few = absurd (omega arith)
 -- what a word begins with that was made of those at an offset, where they lie in one word
 pub begun_within :
     (words : List ℕ) (at n here next word : ℕ) → here ≡ get_or words (at / 4) here
-    → at + n ≤ length (bytes_of_words words) → 0 < n → at % 4 + n ≤ 4 → word_bytes word ≡ slice_range (word_bytes here ++ word_bytes next) (at % 4) (at % 4 + 4)
+    → at + n ≤ length (bytes_of_words words) → 0 < n → at % 4 + n ≤ 4
+    → word_bytes word ≡ slice_range (word_bytes here ++ word_bytes next) (at % 4) (at % 4 + 4)
     → take n (word_bytes word) ≡ slice_range (bytes_of_words words) at (at + n)
 begun_within words at n here next word own within some few made =
     let there : at < length (bytes_of_words words) = omega arith in
@@ -187,20 +188,16 @@ halves word h n small some less few = absurd (omega arith)
 
 -- so what is put in two words is put whole
 pub put_over :
-    (bytes new : List ℕ) (at h word : ℕ) → word < 2 ^ 32 → take (length new) (word_bytes word) ≡ new
-    → at + length new ≤ length bytes
-    → 0 < h → h < length new → length new ≤ 4
+    (bytes : List ℕ) (at h n word : ℕ) → word < 2 ^ 32 → at + n ≤ length bytes → 0 < h → h < n → n ≤ 4
     → bytes_after_write (bytes_after_write bytes at (take h (word_bytes word))) (at + h)
-    (take (length new - h) (word_bytes (word * 2 ^ (8 * h) % 4294967296)))
-    ≡ bytes_after_write bytes at new
-put_over bytes new at h word small begins within some less few =
+    (take (n - h) (word_bytes (word * 2 ^ (8 * h) % 4294967296)))
+    ≡ bytes_after_write bytes at (take n (word_bytes word))
+put_over bytes at h n word small within some less few =
     let shifted = word * 2 ^ (8 * h) % 4294967296 in
     let a = take h (word_bytes word) in
-    let b = take (length new - h) (word_bytes shifted) in
+    let b = take (n - h) (word_bytes shifted) in
     let a_len : length a ≡ h = length-take-le h (word_bytes word) (omega (arith, word_len word)) in
-    let b_len : length b ≡ length new - h =
-    length-take-le (length new - h) (word_bytes shifted) (omega (arith, word_len shifted)) in
-    let whole : a ++ b ≡ new = halves word h (length new) small some less few ∙ begins in
+    let b_len : length b ≡ n - h = length-take-le (n - h) (word_bytes shifted) (omega (arith, word_len shifted)) in
     ap (λ k. bytes_after_write (bytes_after_write bytes at a) (at + k) b) (sym a_len)
     ∙ written_on bytes a b at (omega arith)
-    ∙ ap (bytes_after_write bytes at) whole
+    ∙ ap (bytes_after_write bytes at) (halves word h n small some less few)

@@ -133,19 +133,34 @@ impl Storage {
     }
 
     /// Puts bytes in the place of those from any offset on: in one word or two. All others stay.
-    #[tactic(auto, using(crate::proofs::Across::put_over))]
     pub(crate) fn overwrite(&mut self, at: u32, new: &[u8])
         requires within { at + length new.now ≤ length self.old }
         requires some { 0 < length new.now }
         requires short { length new.now ≤ 4 }
         ensures { self.new ≡ bytes_after_write self.old at new.now }
     {
-        let len = new.len() as u32;
         let word = leading_word(new);
+        // Lengths as literals, so that the compiler works out the masks.
+        match new.len() {
+            1 => self.put(at, 1, word),
+            2 if at % 4 <= 2 => self.put(at, 2, word),
+            4 if at % 4 == 0 => self.put(at, 4, word),
+            len => self.put_over(at, len as u32, word),
+        }
+    }
+
+    /// Puts the first `len` bytes of a word in the place of those from any offset on.
+    #[tactic(auto, using(crate::proofs::Across::put_over))]
+    fn put_over(&mut self, at: u32, len: u32, new: u32)
+        requires within { at + len ≤ length self.old }
+        requires some { 0 < len }
+        requires short { len ≤ 4 }
+        ensures { self.new ≡ bytes_after_write self.old at (take len (word_bytes new)) }
+    {
         let here = min(len, 4 - at % 4);
-        self.put(at, here, word);
+        self.put(at, here, new);
         if here < len {
-            self.put(at + here, len - here, word << (8 * here));
+            self.put(at + here, len - here, new << (8 * here));
         }
     }
 
