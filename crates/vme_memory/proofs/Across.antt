@@ -170,6 +170,16 @@ put_at words at len old word new own within some few changed =
     let short : length part ≡ len = length-take-le len (word_bytes new) (omega (arith, word_len new)) in
     written_at words part at old word own (omega arith) (omega arith) changed
 
+-- the same from the first byte of a word on
+pub put_first :
+    (words : List ℕ) (at len old word new : ℕ) → old ≡ get_or words (at / 4) old
+    → at + len ≤ length (bytes_of_words words) → at % 4 ≡ 0 → 0 < len → len ≤ 4
+    → word_bytes word ≡ bytes_after_write (word_bytes old) 0 (take len (word_bytes new))
+    → bytes_of_words (set words (at / 4) word) ≡ bytes_after_write (bytes_of_words words) at (take len (word_bytes new))
+put_first words at len old word new own within first some few changed =
+    put_at words at len old word new own within some (omega arith)
+    (changed ∙ ap (λ p. bytes_after_write (word_bytes old) p (take len (word_bytes new))) (sym first))
+
 -- what a word begins with, in two parts
 halves :
     (word h n : ℕ) → word < 2 ^ 32 → 0 < h → h < n → n ≤ 4

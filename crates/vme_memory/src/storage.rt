@@ -4,7 +4,7 @@ ghost use Rattle.vme_memory.specs.Boards.{is_board_size, zeros, bytes_after_writ
 ghost use Rattle.vme_memory.specs.Words.{part_of, word_bytes};
 
 use crate::word::{
-    byte_in, bytes_at, bytes_of, first_bytes, leading_word, merge, merge_from, word_across,
+    byte_in, bytes_at, bytes_of, first_bytes, leading_word, merge, merge_from, word_across, word_of,
 };
 use arrayvec::ArrayVec;
 use std::alloc::{AllocError, Global};
@@ -139,17 +139,17 @@ impl Storage {
         requires short { length new.now ≤ 4 }
         ensures { self.new ≡ bytes_after_write self.old at new.now }
     {
-        let word = leading_word(new);
         // Lengths as literals, so that the compiler works out the masks.
-        match new.len() {
-            1 => self.put(at, 1, word),
-            2 if at % 4 <= 2 => self.put(at, 2, word),
-            4 if at % 4 == 0 => self.put(at, 4, word),
-            len => self.put_over(at, len as u32, word),
+        match new {
+            [a] => self.put(at, 1, word_of([*a, 0, 0, 0])),
+            [a, b] if at % 4 <= 2 => self.put(at, 2, word_of([*a, *b, 0, 0])),
+            [a, b, c, d] if at % 4 == 0 => self.put_first(at, 4, word_of([*a, *b, *c, *d])),
+            _ => self.put_over(at, new.len() as u32, leading_word(new)),
         }
     }
 
     /// Puts the first `len` bytes of a word in the place of those from any offset on.
+    #[inline(never)]
     #[tactic(auto, using(crate::proofs::Across::put_over))]
     fn put_over(&mut self, at: u32, len: u32, new: u32)
         requires within { at + len ≤ length self.old }
@@ -157,10 +157,12 @@ impl Storage {
         requires short { len ≤ 4 }
         ensures { self.new ≡ bytes_after_write self.old at (take len (word_bytes new)) }
     {
-        let here = min(len, 4 - at % 4);
-        self.put(at, here, new);
-        if here < len {
-            self.put(at + here, len - here, new << (8 * here));
+        let here = 4 - at % 4;
+        if len <= here {
+            self.put(at, len, new);
+        } else {
+            self.put(at, here, new);
+            self.put_first(at + here, len - here, new << (8 * here));
         }
     }
 
@@ -175,5 +177,18 @@ impl Storage {
     {
         let i = (at / 4) as usize;
         self.words[i] = merge_from(self.words[i], at % 4, len, new);
+    }
+
+    /// The same from the first byte of a word on.
+    #[tactic(auto, using(crate::proofs::Words::words_len, crate::proofs::Words::word_there, crate::proofs::Across::put_first))]
+    fn put_first(&mut self, at: u32, len: u32, new: u32)
+        requires within { at + len ≤ length self.old }
+        requires first { at % 4 ≡ 0 }
+        requires some { 0 < len }
+        requires short { len ≤ 4 }
+        ensures { self.new ≡ bytes_after_write self.old at (take len (word_bytes new)) }
+    {
+        let i = (at / 4) as usize;
+        self.words[i] = merge_from(self.words[i], 0, len, new);
     }
 }

@@ -60,7 +60,7 @@ pub(crate) fn bytes_of(word: u32) -> [u8; 4]
 }
 
 /// The word of four bytes.
-fn word_of(bytes: [u8; 4]) -> u32
+pub(crate) fn word_of(bytes: [u8; 4]) -> u32
     ensures { word_bytes result ≡ bytes }
 {
     u32::from_be_bytes(bytes)
