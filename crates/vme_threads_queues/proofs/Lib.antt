@@ -1,1 +1,4 @@
 pub mod Shared
+pub mod Queues
+pub mod Declared
+pub mod Texts

@@ -95,14 +95,16 @@ module _ (config : Configuration) (report : Report) (lawful : IsLawful config) (
       let owned = bus.owns who (bus_part d) (subst (λ (n : ℕ). who < n) (sym (length-map is.runs bus_part)) below)
       ∙ get_or-map bus_part is.runs who d (bus_part d) below in
       let fine = all_fine (opening_bus config.arbiter) bus.history bus.legal (report_turns config report lawful is) in
-      all_turned (slice_index_or is.runs who d) (is.fitting who d below) (subst (All Fine) owned (all_own Fine who bus.history fine))
+      all_turned (slice_index_or is.runs who d) (is.fitting who d below)
+      (subst (All Fine) owned (all_own Fine who bus.history fine))
 
   pub share : (board : ℕ) (own_board : BoardConfig) (end : BoardEnd) (below : board < length config.boards)
       → ShareHistory config board (is.boards.each board own_board end below).history.history is.runs (told_in report)
   share board own_board end below =
       let has = (is.boards.each board own_board end below).history in
       record {
-        known = subst (λ (n : ℕ). All (λ (e : Entry BoardCmd Reply). e.who < n) has.history) (length-map is.runs (board_part board)) has.known;
+        known = subst (λ (n : ℕ). All (λ (e : Entry BoardCmd Reply). e.who < n) has.history)
+            (length-map is.runs (board_part board)) has.known;
         owns = λ who d less.
             has.owns who (board_part board d) (subst (λ (n : ℕ). who < n) (sym (length-map is.runs (board_part board))) less)
             ∙ get_or-map (board_part board) is.runs who d (board_part board d) less;
@@ -111,7 +113,8 @@ module _ (config : Configuration) (report : Report) (lawful : IsLawful config) (
           each = λ who a b less.
               let there : who < length report.lines.items = omega (arith, less, is.course.count) in
               let d = some_of report.lines.items who there in
-              subst (λ (answers : List LineReply). IsCourse config who (lines_at config who) (slice_index_or is.runs who a) answers)
+              let run = slice_index_or is.runs who a in
+              subst (λ (answers : List LineReply). IsCourse config who (lines_at config who) run answers)
               (sym (get_or-map (λ lines. answers_in lines.items) report.lines.items who d b there)) (is.course.each who a d less);
         };
         turned = λ who d less. turned_run who d less;
@@ -126,7 +129,8 @@ zeros_at : (size at len : ℕ) → at + len ≤ size → slice_range (zeros size
 unfolding zeros
 zeros_at size at len within =
     let count : at + len - at ≡ len = omega arith in
-    ap (λ n. take n (drop at (replicate size 0))) count ∙ ap (take len) (drop-replicate at size 0) ∙ take-replicate len (size - at) 0 (omega arith)
+    ap (λ n. take n (drop at (replicate size 0))) count ∙ ap (take len) (drop-replicate at size 0)
+    ∙ take-replicate len (size - at) 0 (omega arith)
 
 pub new_there : (there : BoardConfig) (m : BoardMailbox) → LiesIn (opening_memory there) m → IsNewMailbox (opening_memory there) m
 new_there there m lies =
