@@ -80,6 +80,12 @@ abbrev pub line_to_do : LineTask → LineNext
 line_to_do (Refused fault) = Ends (replies.Refused fault)
 line_to_do (Tries a) = attempt_to_do a.attempt
 
+-- how many attempts at a line there may be yet, the one at work among them; at one that is refused there is none
+-- (this project's own)
+abbrev pub attempts_left : LineTask → ℕ
+attempts_left (Refused fault) = 0
+attempts_left (Tries a) = a.left
+
 -- a line after calls with what it was given (this project's own)
 abbrev pub line_advanced : LineTask → Given → LineTask
 line_advanced task [] = task

@@ -5,7 +5,7 @@ ghost use Rattle.vme_script.specs.Configurations.{Configuration};
 ghost use Rattle.vme_master.specs.Tables.{Given};
 ghost use Rattle.vme_course.specs.Scripts.{HasItsMailbox, lines_at};
 ghost use Rattle.vme_course.specs.Tables.{Rests, next_given};
-ghost use Rattle.vme_course.specs.Machine.{line_started, line_advance, line_to_do, line_given, IsLineBelow};
+ghost use Rattle.vme_course.specs.Machine.{line_started, line_advance, line_to_do, line_given, attempts_left, IsLineBelow};
 ghost use Rattle.vme_course.specs.Events.{next_in, call_in, answer_in, IsEventBelow, IsTodoBelow};
 
 use crate::attempt::Attempts;
@@ -87,6 +87,17 @@ impl<'a> LineTask<'a> {
         match self {
             LineTask::Refused(_) => true,
             LineTask::Tries(attempts) => attempts.attempt.is_over(),
+        }
+    }
+
+    /// How many attempts at it there may be yet, the one at work among them. Where this falls as it is
+    /// given a reply, another attempt has begun, for which a driver on a thread may wait.
+    pub fn attempts_left(&self) -> u32
+        ensures { result ≡ attempts_left self.now }
+    {
+        match self {
+            LineTask::Refused(_) => 0,
+            LineTask::Tries(attempts) => attempts.left,
         }
     }
 

@@ -52,7 +52,8 @@ impl Desk {
     }
 
     /// Makes the events of a line of the script, by its place among those that ask for something,
-    /// until it is answered. It snoozes before it looks again whether it has the bus.
+    /// until it is answered. It snoozes before it looks again whether it has the bus, and before each
+    /// further attempt at the line.
     ///
     /// # Errors
     /// `Spent` where an object has made as many steps as can be counted, here or for another worker.
@@ -80,10 +81,12 @@ impl Desk {
                 return Err(Spent);
             }
             let reply = self.make(rt, ports, &event)?;
-            if matches!(reply, EventReply::Bus(ArbReply::Waiting)) {
+            let waits = matches!(reply, EventReply::Bus(ArbReply::Waiting));
+            let attempts = task.attempts_left();
+            task.give(Some(reply));
+            if waits || task.attempts_left() < attempts {
                 backoff.snooze();
             }
-            task.give(Some(reply));
         }
         unreachable!()
     }
