@@ -1,5 +1,5 @@
 -- Which numbers are a mailbox's.
-use Rattle.std.specs.Prelude.{ℕ, ◌≡◌, ◌≤◌, ◌+◌, ◌*◌, ◌%◌, nat_le, ◌==◌, ◌&&◌, Bool, true, [], ◌∷◌, Option, Some}
+use Rattle.std.specs.Prelude.{ℕ, ◌≡◌, ◌≤◌, ◌%◌, nat_le, ◌==◌, ◌&&◌, Bool, true, [], ◌∷◌, Option, Some}
 use Rattle.std.specs.List.{list_any}
 use Rattle.vme_memory.specs.declared.class.Class.{Class}
 use Rattle.vme_memory.specs.Classes.{answers_quads}
@@ -19,10 +19,6 @@ mailbox_of table = do
   _ ← when (table.addr % 4 == 0)
   _ ← when (nat_le 1 table.slots && nat_le table.slots 64)
   Some (record { am = table.am; addr = table.addr; slots = table.slots })
-
--- how many bytes a mailbox has: sixteen, and four for each slot (this project's own)
-abbrev pub mailbox_len : Mailbox → ℕ
-mailbox_len mailbox = 16 + 4 * mailbox.slots
 
 -- a mailbox has the numbers of one (this project's own)
 pub record HasNumbers (mailbox : Mailbox) : Type 0 where

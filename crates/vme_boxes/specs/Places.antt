@@ -5,9 +5,9 @@ use Rattle.vme_am.specs.declared.code.AmFault.{AmFault}
 use Rattle.vme_am.specs.Codes.{CodeRow, read_code}
 use Rattle.vme_decode.specs.declared.entry.Entry.{Entry}
 use Rattle.vme_decode.specs.Select.{selection_at}
+use Rattle.vme_mailbox.specs.Layout.{mailbox_len}
 use Rattle.vme_shared.specs.declared.mailbox.Mailbox.{Mailbox}
 use Rattle.vme_boxes.specs.declared.place.Place.{Place}
-use Rattle.vme_boxes.specs.Mailboxes.{mailbox_len}
 
 -- so many bytes from an address on, on the board that a code and that address select (this project's own)
 abbrev pub place_by : List Entry → Result CodeRow AmFault → ℕ → ℕ → Option Place
@@ -21,7 +21,7 @@ place_at entries am addr len = place_by entries (read_code am) addr len
 
 -- the bytes of a mailbox, on the board that the first of them selects (this project's own)
 abbrev pub place_of : List Entry → Mailbox → Option Place
-place_of entries mailbox = place_at entries mailbox.am mailbox.addr (mailbox_len mailbox)
+place_of entries mailbox = place_at entries mailbox.am mailbox.addr (mailbox_len mailbox.slots)
 
 -- whether bytes end within a board of a size (this project's own)
 abbrev pub is_within : Place → ℕ → Bool

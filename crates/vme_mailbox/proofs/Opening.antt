@@ -9,7 +9,8 @@ use Rattle.vme_memory.specs.declared.command.BoardCmd.{BoardCmd}
 use Rattle.vme_memory.specs.declared.reply.Reply.{Reply}
 use Rattle.vme_memory.specs.Boards.{Board, zeros}
 use Rattle.vme_memory.specs.Locals.{board_step}
-use Rattle.vme_mailbox.specs.Mailboxes.{BoardMailbox, IsNewMailbox, mailbox_len}
+use Rattle.vme_mailbox.specs.Layout.{mailbox_len}
+use Rattle.vme_mailbox.specs.Mailboxes.{BoardMailbox, IsNewMailbox}
 use Rattle.vme_mailbox.specs.Phases.{Idle, IsProper}
 use Rattle.vme_mailbox.specs.Words.{all_idle, words_put, words_taken}
 use Rattle.vme_mailbox.proofs.Bytes.{number_in}

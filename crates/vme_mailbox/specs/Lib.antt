@@ -1,3 +1,4 @@
+pub mod Layout
 pub mod Mailboxes
 pub mod Phases
 pub mod Words

@@ -1,8 +1,9 @@
 -- Where a mailbox lies in a board's memory, and what a new one holds.
-use Rattle.std.specs.Prelude.{ℕ, ◌≡◌, ◌+◌, ◌*◌, ◌%◌, ◌≤◌, nat_lt, Bool, true, ◌&&◌, length}
+use Rattle.std.specs.Prelude.{ℕ, ◌≡◌, ◌+◌, ◌%◌, ◌≤◌, nat_lt, Bool, true, ◌&&◌, length}
 use Rattle.vme_memory.specs.declared.class.Width8To32.TheVariants.{D32}
 use Rattle.vme_memory.specs.Boards.{Board, zeros}
 use Rattle.vme_memory.specs.Steps.{Command, LocalRead, LocalWrite, LocalModify, Read, Write, Modify, BlockRead, BlockWrite, bytes_at}
+use Rattle.vme_mailbox.specs.Layout.{put_count_from, take_count_from, word_from, mailbox_len}
 
 -- a mailbox in a board's memory: the offset of its first byte, and how many words it has room for (this project's own)
 pub record BoardMailbox : Type 0 where
@@ -13,21 +14,17 @@ pub record BoardMailbox : Type 0 where
 abbrev pub lock_at : BoardMailbox → ℕ
 lock_at m = m.offset
 
--- how many words were put, a number of four bytes (this project's own)
+-- the offset of the number of words put, of four bytes (this project's own)
 abbrev pub put_count_at : BoardMailbox → ℕ
-put_count_at m = m.offset + 4
+put_count_at m = put_count_from m.offset
 
--- how many words were taken, a number of four bytes (this project's own)
+-- the offset of the number of words taken, of four bytes (this project's own)
 abbrev pub take_count_at : BoardMailbox → ℕ
-take_count_at m = m.offset + 8
+take_count_at m = take_count_from m.offset
 
--- the place of the word with each number, four bytes: the words go round the slots (this project's own)
+-- the offset of the word with each number, of four bytes (this project's own)
 abbrev pub word_at : BoardMailbox → ℕ → ℕ
-word_at m n = m.offset + 16 + 4 * (n % m.slots)
-
--- how many bytes a mailbox with so many slots has (this project's own)
-abbrev pub mailbox_len : ℕ → ℕ
-mailbox_len slots = 16 + 4 * slots
+word_at m n = word_from m.offset m.slots n
 
 -- the offset behind its last byte (this project's own)
 abbrev pub end_of : BoardMailbox → ℕ

@@ -4,7 +4,8 @@ use Rattle.std.proofs.lemmas.Grind.{same_number_lists}
 use Rattle.std.proofs.lemmas.List.{get_or-replicate, get_or-take, get_or-drop, length-replicate}
 use Rattle.vme_cycle.specs.Functions.{number_of}
 use Rattle.vme_memory.specs.Boards.{Board, zeros}
-use Rattle.vme_mailbox.specs.Mailboxes.{BoardMailbox, IsNewMailbox, mailbox_len}
+use Rattle.vme_mailbox.specs.Layout.{mailbox_len}
+use Rattle.vme_mailbox.specs.Mailboxes.{BoardMailbox, IsNewMailbox}
 use Rattle.vme_mailbox.specs.Phases.{Idle}
 use Rattle.vme_mailbox.specs.Words.{all_idle}
 use Rattle.vme_mailbox.proofs.Bytes.{number_in}

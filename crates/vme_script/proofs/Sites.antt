@@ -9,7 +9,8 @@ use Rattle.std.proofs.lemmas.Option.{slice_get-map}
 use Rattle.vme_document.specs.declared.file.MailboxTable.{MailboxTable}
 use Rattle.vme_shared.specs.declared.mailbox.Mailbox.{Mailbox}
 use Rattle.vme_boxes.specs.declared.place.Place.{Place}
-use Rattle.vme_boxes.specs.Mailboxes.{mailbox_of, mailbox_len, holds_mailboxes}
+use Rattle.vme_mailbox.specs.Layout.{mailbox_len}
+use Rattle.vme_boxes.specs.Mailboxes.{mailbox_of, holds_mailboxes}
 use Rattle.vme_boxes.specs.Places.{place_of, is_within, share}
 use Rattle.vme_boxes.proofs.Numbers.{numbers_known}
 use Rattle.vme_boxes.proofs.Places.{shared_both_ways, ends_within}
@@ -98,7 +99,7 @@ lawful_mailbox boards earlier table mailbox place lawful s =
     let inside : place.offset + place.len ≤ s.board.entry.size = leb-true _ _ s.inside in
     let entry : slice_get (entries_of boards) place.board ≡ Some s.board.entry
     = slice_get-map (λ board. board.entry) boards place.board ∙ rw s.there refl in
-    let within = ends_within (entries_of boards) mailbox.am mailbox.addr (mailbox_len mailbox) place s.board.entry s.placed entry
+    let within = ends_within (entries_of boards) mailbox.am mailbox.addr (mailbox_len mailbox.slots) place s.board.entry s.placed entry
     (end_of_range s.board.entry (range_at boards place.board s.board lawful s.there)) inside in
     record {
       code = numbers.code;

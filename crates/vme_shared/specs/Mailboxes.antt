@@ -1,5 +1,5 @@
 -- Where the parts of a mailbox lie, what is asked of a lock or a mailbox, and which transfers that takes.
-use Rattle.std.specs.Prelude.{ℕ, ◌≡◌, ◌+◌, ◌-◌, ◌*◌, ◌%◌, ◌^◌, ◌≤◌, [], ◌∷◌, Option, Some, None, Result, Ok, Err}
+use Rattle.std.specs.Prelude.{ℕ, ◌≡◌, ◌+◌, ◌-◌, ◌%◌, ◌^◌, ◌≤◌, [], ◌∷◌, Option, Some, None, Result, Ok, Err}
 use Rattle.vme_cycle.specs.declared.fault.CycleFault.{CycleFault}
 use Rattle.vme_cycle.specs.declared.modify.Modify.TheVariants.{Set}
 use Rattle.vme_cycle.specs.declared.request.Request.{Request}
@@ -7,27 +7,28 @@ use Rattle.vme_cycle.specs.declared.request.Request.TheVariants as cycles
 use Rattle.vme_cycle.specs.Functions.{number_bytes}
 use Rattle.vme_cycle.specs.Refusals.{first_of}
 use Rattle.vme_cycle.specs.Lawful.{transfer_of}
+use Rattle.vme_mailbox.specs.Layout.{put_count_from, take_count_from, word_from, mailbox_len}
 use Rattle.vme_shared.specs.declared.mailbox.Mailbox.{Mailbox}
 use Rattle.vme_shared.specs.declared.request.SharedRequest.{SharedRequest}
 use Rattle.vme_shared.specs.declared.request.SharedRequest.TheVariants.{Lock, Unlock, Put, Take}
 use Rattle.vme_shared.specs.declared.stage.Stage.{Stage}
 use Rattle.vme_shared.specs.declared.stage.Stage.TheVariants as stages
 
--- how many words were put is told behind the lock, at the next multiple of four (this project's own)
+-- the address of the number of words put (this project's own)
 abbrev pub put_count_at : Mailbox → ℕ
-put_count_at m = m.addr + 4
+put_count_at m = put_count_from m.addr
 
--- and how many were taken behind that (this project's own)
+-- the address of the number of words taken (this project's own)
 abbrev pub take_count_at : Mailbox → ℕ
-take_count_at m = m.addr + 8
+take_count_at m = take_count_from m.addr
 
--- where the word with each number lies: the words go round the slots (this project's own)
+-- the address of the word with each number (this project's own)
 abbrev pub word_at : Mailbox → ℕ → ℕ
-word_at m n = m.addr + 16 + 4 * (n % m.slots)
+word_at m n = word_from m.addr m.slots n
 
 -- the address behind a mailbox (this project's own)
 abbrev pub mailbox_end : Mailbox → ℕ
-mailbox_end m = m.addr + 16 + 4 * m.slots
+mailbox_end m = m.addr + mailbox_len m.slots
 
 -- a count raised by one, modulo 2 ^ 32 (this project's own)
 abbrev pub raised : ℕ → ℕ
