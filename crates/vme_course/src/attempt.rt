@@ -1,5 +1,5 @@
 //! Attempts at a line, one after another.
-ghost use Rattle.std.specs.Prelude.{◌≡◌, ◌≢◌, if◌then◌else◌, option_map, is_some};
+ghost use Rattle.std.specs.Prelude.{◌≡◌, ◌≢◌, if◌then◌else◌, option_map, option_copied, is_some};
 ghost use Rattle.std.specs.Str.{bytes_eq};
 ghost use Rattle.vme_core.specs.Calls.{call_of};
 ghost use Rattle.vme_master.specs.Machine.{to_do};
@@ -42,8 +42,8 @@ pub struct WaitTask {
 impl Attempts<'_> {
     /// The attempt at work is given nothing at first, and then the reply to each of its events. Where
     /// it ends with an answer that asks for another, this is begun, while there may be one more.
-    pub(crate) fn give(&mut self, given: Option<EventReply>)
-        ensures task { self.new ≡ attempts_advance self.old given }
+    pub(crate) fn give(&mut self, given: Option<&EventReply>)
+        ensures task { self.new ≡ attempts_advance self.old (option_copied given.entry) }
         ensures begun { attempt_to_do self.new.attempt ≢ Rests }
     {
         self.attempt.give(given);
@@ -56,8 +56,8 @@ impl Attempts<'_> {
 }
 
 impl AttemptTask<'_> {
-    fn give(&mut self, given: Option<EventReply>)
-        ensures task { self.new ≡ attempt_advance self.old given }
+    fn give(&mut self, given: Option<&EventReply>)
+        ensures task { self.new ≡ attempt_advance self.old (option_copied given.entry) }
         ensures begun { attempt_to_do self.new ≢ Rests }
     {
         match self {

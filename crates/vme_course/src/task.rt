@@ -1,4 +1,4 @@
-ghost use Rattle.std.specs.Prelude.{◌≡◌, ◌≢◌, ◌<◌, ◌∷◌, ℕ, length, option_map, is_some, slice_get, Some, IfSome};
+ghost use Rattle.std.specs.Prelude.{◌≡◌, ◌≢◌, ◌<◌, ◌∷◌, ℕ, length, option_map, option_copied, is_some, slice_get, Some, IfSome};
 ghost use Rattle.vme_core.specs.Calls.{call_of};
 ghost use Rattle.vme_lines.specs.declared.line.Line.{Line as AnyLine};
 ghost use Rattle.vme_script.specs.Configurations.{Configuration};
@@ -53,14 +53,14 @@ impl<'a> LineTask<'a> {
         ensures below { (n : ℕ) → IsLineBelow n self.old → IsLineBelow n self.new }
         ensures there { (n : ℕ) → IsLineBelow n self.old → IsTodoBelow n result }
     {
-        self.give(given);
+        self.give(given.as_ref());
         self.todo()
     }
 
     /// The first half of `next`, for a driver that asks for the event or the answer apart: the line is
     /// given nothing at first, and then each time the reply to its event.
-    pub fn give(&mut self, given: Option<EventReply>)
-        ensures task { self.new ≡ line_advance self.old given }
+    pub fn give(&mut self, given: Option<&EventReply>)
+        ensures task { self.new ≡ line_advance self.old (option_copied given.entry) }
         ensures begun { line_to_do self.new ≢ Rests }
         ensures below { (n : ℕ) → IsLineBelow n self.old → IsLineBelow n self.new }
     {

@@ -1,4 +1,4 @@
-ghost use Rattle.std.specs.Prelude.{◌≡◌, ◌≢◌, ◌≤◌, ◌+◌, ◌∷◌, ◌++◌, length, Some, None, IsTrue, option_map, is_some};
+ghost use Rattle.std.specs.Prelude.{◌≡◌, ◌≢◌, ◌≤◌, ◌+◌, ◌∷◌, ◌++◌, length, Some, None, IsTrue, option_map, option_copied, is_some};
 ghost use Rattle.vme_cycle.specs.Lawful.{transfer_of};
 ghost use Rattle.vme_core.specs.declared.event.EventReply.TheVariants as told;
 ghost use Rattle.vme_master.specs.declared.job.Job.{Job as AnyJob};
@@ -91,20 +91,20 @@ impl Task {
         ensures table { (job : AnyJob) (before : Given) → self.old ≡ task_given job before →
             next_in result ≡ next_of job (reply ∷ before) }
     {
-        self.give(reply);
+        self.give(reply.as_ref());
         self.todo()
     }
 
     /// The first half of `next`, for a driver that asks for the event or the outcome apart: the task
     /// is given nothing at first, and then each time the reply to its event.
-    pub fn give(&mut self, reply: Option<EventReply>)
-        ensures task { self.new ≡ advance self.old reply }
+    pub fn give(&mut self, reply: Option<&EventReply>)
+        ensures task { self.new ≡ advance self.old (option_copied reply.entry) }
         ensures begun { to_do self.new ≢ Rests }
     {
         match reply {
             None => self.call(),
-            Some(EventReply::Bus(reply)) => self.turn(reply),
-            Some(EventReply::Board(reply)) => self.answer(&reply),
+            Some(EventReply::Bus(reply)) => self.turn(*reply),
+            Some(EventReply::Board(reply)) => self.answer(reply),
         }
     }
 

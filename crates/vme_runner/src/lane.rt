@@ -137,7 +137,7 @@ impl<'a> Lane<'a> {
         };
         let event = task.event().unwrap();
         let reply = core.apply(board, &event).unwrap();
-        task.give(Some(reply));
+        task.give(Some(&reply));
         if task.is_over() {
             let answer = task.answer().unwrap();
             put_answer(&mut self.lines, self.ended, answer);

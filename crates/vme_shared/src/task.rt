@@ -62,14 +62,14 @@ impl<'a> SharedTask<'a> {
         ensures table { (s : SharedJob) (before : Given) → self.old ≡ shared_given s before →
             next_in result ≡ shared_next s (reply ∷ before) }
     {
-        self.give(reply);
+        self.give(reply.as_ref());
         self.todo()
     }
 
     /// The first half of `next`, for a driver that asks for the event or the outcome apart: it is
     /// given nothing at first, and then each time the reply to its event.
-    pub fn give(&mut self, reply: Option<EventReply>)
-        ensures task { self.new ≡ shared_advance self.old reply }
+    pub fn give(&mut self, reply: Option<&EventReply>)
+        ensures task { self.new ≡ shared_advance self.old (option_copied reply.entry) }
         ensures begun { shared_to_do self.new ≢ Rests }
     {
         if let Some(step) = self.work.give(self.asked.request(), reply) {

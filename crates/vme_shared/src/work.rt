@@ -1,4 +1,4 @@
-ghost use Rattle.std.specs.Prelude.{◌≡◌, ◌≢◌, None};
+ghost use Rattle.std.specs.Prelude.{◌≡◌, ◌≢◌, None, option_copied};
 ghost use Rattle.vme_shared.specs.Tables.{SharedJob, Rests};
 ghost use Rattle.vme_shared.specs.Machine.{work_after, work_or, work_to_do, IsGoing};
 
@@ -21,8 +21,9 @@ impl Work {
     /// The transfer at work is given the reply to its event, or nothing. Where it has ended by that,
     /// this is where its outcome leads.
     #[tactic(auto, using(crate::proofs::Stands::by_outcome))]
-    pub(crate) fn give(&mut self, request: SharedRequest, reply: Option<EventReply>) -> Option<Step>
-        ensures work { (s : SharedJob) → s.request ≡ request → work_after s self.old reply ≡ work_or s self.new result }
+    pub(crate) fn give(&mut self, request: SharedRequest, reply: Option<&EventReply>) -> Option<Step>
+        ensures work { (s : SharedJob) → s.request ≡ request →
+            work_after s self.old (option_copied reply.entry) ≡ work_or s self.new result }
         ensures going { result ≡ None → IsGoing self.old → IsGoing self.new }
         ensures begun { result ≡ None → work_to_do self.new ≢ Rests }
     {

@@ -83,7 +83,7 @@ impl Desk {
             let reply = self.make(rt, ports, &event)?;
             let waits = matches!(reply, EventReply::Bus(ArbReply::Waiting));
             let attempts = task.attempts_left();
-            task.give(Some(reply));
+            task.give(Some(&reply));
             if waits || task.attempts_left() < attempts {
                 backoff.snooze();
             }
