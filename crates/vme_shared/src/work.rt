@@ -31,6 +31,9 @@ impl Work {
             return None;
         };
         task.give(reply);
+        if !task.is_over() {
+            return None;
+        }
         let outcome = task.outcome()?;
         Some(request.step_after(*stage, &outcome))
     }

@@ -1,12 +1,14 @@
 use Rattle.std.proofs.Common.{ap, ◌∙◌}
-use Rattle.vme_course.specs.Machine.{line_to_do}
+use Rattle.vme_course.specs.Machine.{line_to_do, line_advance}
 use Rattle.vme_course.proofs.Lines.{next_by_the_given}
 use Rattle.vme_course.proofs.Below.{todo_below}
 use Rattle.vme_course.proofs.task.LineTask.next.Goals as goal
 
 pub returns-clause-table : goal.returns-clause-table
 returns-clause-table c = λ config board line before same.
-    c.todo.ensures ∙ ap line_to_do c.give.ensures.task ∙ next_by_the_given config board line before _ _ same
+    c.todo.ensures ∙ ap line_to_do c.give.ensures.task
+    ∙ ap (λ given. line_to_do (line_advance c.args.self.now given)) c.as_ref.ensures.value
+    ∙ next_by_the_given config board line before _ _ same
 
 pub returns-clause-there : goal.returns-clause-there
 returns-clause-there c = λ n below. todo_below n _ _ (c.give.ensures.below n below) c.todo.ensures

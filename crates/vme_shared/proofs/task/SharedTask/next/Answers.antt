@@ -1,9 +1,11 @@
 use Rattle.std.proofs.Common.{ap, ◌∙◌}
-use Rattle.vme_shared.specs.Machine.{shared_to_do}
+use Rattle.vme_shared.specs.Machine.{shared_to_do, shared_advance}
 use Rattle.vme_shared.proofs.Stands.{next_by_the_given}
 use Rattle.vme_shared.proofs.task.SharedTask.next.Goals as goal
 
 -- what it does next is what the table says
 pub returns-clause-table : goal.returns-clause-table
 returns-clause-table c = λ s before same.
-    c.todo.ensures ∙ ap shared_to_do c.give.ensures.task ∙ next_by_the_given s before c.args.self.now c.args.reply same
+    c.todo.ensures ∙ ap shared_to_do c.give.ensures.task
+    ∙ ap (λ reply. shared_to_do (shared_advance c.args.self.now reply)) c.as_ref.ensures.value
+    ∙ next_by_the_given s before c.args.self.now c.args.reply same
