@@ -1,3 +1,4 @@
+use Rattle.std.specs.Prelude.{option_copied}
 use Rattle.std.proofs.Common.{ap, sym, subst, ◌∙◌}
 use Rattle.vme_course.specs.declared.task.LineTask.{LineTask}
 use Rattle.vme_course.specs.declared.task.LineTask.TheVariants.{Tries}
@@ -7,5 +8,6 @@ use Rattle.vme_course.proofs.task.LineTask.give.Goals as goal
 
 pub returns-in-Tries-clause-below : goal.returns-in-Tries-clause-below
 returns-in-Tries-clause-below c = λ n below.
-    subst (IsLineBelow n) (ap (λ (t : LineTask). line_advance t c.args.given) c.in-Tries.is ∙ ap Tries (sym c.give.ensures.task))
-    (advance_below n c.args.self.now c.args.given below)
+    let given = option_copied c.args.given in
+    subst (IsLineBelow n) (ap (λ (t : LineTask). line_advance t given) c.in-Tries.is ∙ ap Tries (sym c.give.ensures.task))
+    (advance_below n c.args.self.now given below)
