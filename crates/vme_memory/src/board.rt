@@ -166,7 +166,7 @@ impl ByteMemory {
     fn has_block(&self, location: Location, at: u32) -> bool
         ensures { result ≡ (is_block_place at (row_of location).len && self.now.class.blt) }
     {
-        is_block_place(location.len(), at) && self.class.blt
+        is_whole_place(location.len(), at) && self.class.blt
     }
 
     fn write(&mut self, block: bool, location: Location, at: u32, lines: DataLines) -> Reply
@@ -198,7 +198,8 @@ impl ByteMemory {
         if !self.reaches(location, at) {
             return Reply::Berr;
         }
-        if !self.has_modify(location, at, f) {
+        let has_place = is_whole_place(location.len(), at);
+        if !(has_place && self.class.rmw && f.has_len(location.len())) {
             return Reply::Berr;
         }
         let old = self.storage.read(location, at);
@@ -206,13 +207,6 @@ impl ByteMemory {
         self.storage
             .write(location, at, placed_word(location, new.as_slice()));
         Reply::Bytes(old)
-    }
-
-    fn has_modify(&self, location: Location, at: u32, f: &Modify) -> bool
-        ensures { result ≡ (is_modify_place at (row_of location).len && self.now.class.rmw
-            && has_len f.now (row_of location).len) }
-    {
-        is_modify_place(location.len(), at) && self.class.rmw && f.has_len(location.len())
     }
 
     fn local_read(&self, at: u32, n: u8) -> Reply
@@ -256,32 +250,14 @@ impl ByteMemory {
     fn is_local_place(&self, at: u32, n: u8) -> bool
         ensures { result ≡ (fits self.now at n && is_local_len n) }
     {
-        self.fits(at, n) && is_local_len(n)
+        self.fits(at, n) && (n == 1 || n == 2 || n == 4)
     }
 }
 
-/// The lengths that the local port takes.
-fn is_local_len(len: u8) -> bool
-    ensures { result ≡ is_local_len len }
-{
-    len == 1 || len == 2 || len == 4
-}
-
-/// Where one datum of a block may be: `len` bytes from `at` on.
-fn is_block_place(len: u8, at: u32) -> bool
-    ensures { result ≡ is_block_place at len }
-{
-    match len {
-        1 => true,
-        2 => at % 2 == 0,
-        4 => at % 4 == 0,
-        _ => false,
-    }
-}
-
-/// Where a read-modify-write may be: `len` bytes from `at` on.
-fn is_modify_place(len: u8, at: u32) -> bool
-    ensures { result ≡ is_modify_place at len }
+/// Where one datum of a block, or a read-modify-write, may be: `len` bytes from `at` on.
+fn is_whole_place(len: u8, at: u32) -> bool
+    ensures block { result ≡ is_block_place at len }
+    ensures modify { result ≡ is_modify_place at len }
 {
     match len {
         1 => true,

@@ -21,6 +21,13 @@ loop-preserved g c =
     c.give-in-loop.new.self c.loop.invariant c.in-Some-event.ensures.event c.in_ok-reply.ensures c.give-in-loop.ensures.task
     c.give-in-loop.ensures.begun (c.give-in-loop.ensures.below n c.loop.invariant.below)
 
+pub loop-preserved-in-loop : goal.loop-preserved-in-loop
+loop-preserved-in-loop g c =
+    let n = length c.args.config.now.boards in
+    at_more c.args.config.now c.args.line c.args.self.now c.loop.self c.make.new.self c.in-Some-event.event c.in_ok-reply.reply c.loop.task
+    c.give-in-loop.new.self c.loop.invariant c.in-Some-event.ensures.event c.in_ok-reply.ensures c.give-in-loop.ensures.task
+    c.give-in-loop.ensures.begun (c.give-in-loop.ensures.below n c.loop.invariant.below)
+
 pub returns-in_default : goal.returns-in_default
 returns-in_default g c =
     at_end c.args.config.now c.args.line c.args.self.now c.loop.self c.loop.task c.unwrap.result c.loop.invariant
