@@ -21,7 +21,11 @@ impl Work {
     /// The transfer at work is given the reply to its event, or nothing. Where it has ended by that,
     /// this is where its outcome leads.
     #[tactic(auto, using(crate::proofs::Stands::by_outcome))]
-    pub(crate) fn give(&mut self, request: SharedRequest, reply: Option<&EventReply>) -> Option<Step>
+    pub(crate) fn give(
+        &mut self,
+        request: SharedRequest,
+        reply: Option<&EventReply>,
+    ) -> Option<Step>
         ensures work { (s : SharedJob) → s.request ≡ request →
             work_after s self.old (option_copied reply.entry) ≡ work_or s self.new result }
         ensures going { result ≡ None → IsGoing self.old → IsGoing self.new }
