@@ -1,0 +1,115 @@
+ghost use Rattle.std.specs.Prelude.{◌≡◌, ◌<◌, ◌≤◌, ◌↔◌, [], length, Err, IfOk, IsOk};
+ghost use Rattle.vme_block.specs.Rooms.{short_room, block_limit};
+ghost use Rattle.vme_block.specs.Held.{held_bytes};
+ghost use Rattle.vme_block.specs.declared.fault.BlockFault.TheVariants.{TooLong};
+
+use crate::fault::BlockFault;
+use crate::held::Held;
+use crate::room::Room;
+use arrayvec::ArrayVec;
+use std::alloc::Global;
+use std::marker::Model;
+
+/// The most bytes of a block.
+pub const BLOCK_LIMIT: usize = 2048;
+
+/// The bytes of a block, in order of address.
+#[derive(Debug, Drop)]
+pub struct Block {
+    held: Held,
+}
+
+impl Model for Block {
+    ghost use Rattle.std.specs.Prelude.{◌≤◌, length};
+    ghost use Rattle.vme_block.specs.Rooms.{BlockBytes, block_limit};
+
+    ghost Value = { BlockBytes };
+
+    ghost use Rattle.vme_block.specs.Held.{held_bytes};
+
+    ghost view = { λ b. record { items = held_bytes b.held } };
+
+    ghost invariant = { λ b. length (held_bytes b.held) ≤ block_limit };
+}
+
+impl Block {
+    /// No bytes.
+    pub fn new() -> Block
+        ensures { result.items ≡ [] }
+    {
+        Block::of_short(ArrayVec::new())
+    }
+
+    /// A few bytes. It takes no memory.
+    pub fn of_short(bytes: ArrayVec<u8, 40>) -> Block
+        ensures { result.items ≡ bytes.items }
+    {
+        let len = bytes.len();
+        prove!(len <= 40);
+        Block {
+            held: Held::Short(bytes),
+        }
+    }
+
+    /// These bytes, if they are not too many and there is memory for them.
+    pub fn from_slice(alloc: Global, bytes: &[u8]) -> Result<Block, BlockFault>
+        ensures bytes { IfOk result (λ block. block.items ≡ bytes.now) }
+        ensures long { (result ≡ Err TooLong) ↔ (block_limit < length bytes.now) }
+        ensures short { length bytes.now ≤ short_room → IsOk result }
+    {
+        if BLOCK_LIMIT < bytes.len() {
+            return Err(BlockFault::TooLong);
+        }
+        match Room::with_room(alloc, bytes.len()) {
+            Ok(mut room) => {
+                room.push_all(bytes);
+                Ok(room.into_block())
+            }
+            Err(_) => Err(BlockFault::Memory),
+        }
+    }
+
+    pub(crate) fn of_held(held: Held) -> Block
+        requires { length (held_bytes held) ≤ block_limit }
+        ensures { result.items ≡ held_bytes held }
+    {
+        Block { held }
+    }
+
+    /// The bytes.
+    pub fn as_slice(&self) -> &[u8]
+        ensures value { result.now ≡ self.now.items }
+        ensures fits { length result.now ≤ block_limit }
+    {
+        self.held.as_slice()
+    }
+
+    /// The number of bytes.
+    pub fn len(&self) -> usize
+        ensures value { result ≡ length self.now.items }
+        ensures fits { result ≤ block_limit }
+    {
+        self.as_slice().len()
+    }
+}
+
+impl PartialEq for Block {
+    ghost use Rattle.std.specs.Prelude.{nat_eq};
+    ghost use Rattle.std.specs.Cmp.{on_per, partial_equiv_from_equiv};
+    ghost use Rattle.std.specs.Cmp.Lexicographic.{pointwise, nat_list_eq_equiv};
+
+    ghost eq = { λ a b. pointwise nat_eq a.items b.items };
+
+    ghost laws = { on_per (λ b. b.items) (partial_equiv_from_equiv nat_list_eq_equiv) };
+
+    fn eq(&self, other: &Block) -> bool {
+        self.as_slice() == other.as_slice()
+    }
+}
+
+impl Eq for Block {
+    ghost use Rattle.std.specs.Cmp.{on_equiv};
+    ghost use Rattle.std.specs.Cmp.Lexicographic.{nat_list_eq_equiv};
+
+    ghost laws = { on_equiv (λ b. b.items) nat_list_eq_equiv };
+}
