@@ -17,9 +17,9 @@ at_below P zero k all lt = absurd (omega arith)
 at_below P (suc n) k all lt =
     elim (eqb_tells n k) [ inl same ↦ subst P same.1 all.0 | inr other ↦ at_below P n k all.1 (omega (arith, other.1)) ]
 
--- the row of a space and a kind, with the privilege that bit 2 shows
+-- the row of a space and a kind, with the privilege that bit 2 shows, and eight bytes a datum where bits 1 and 0 are low
 abbrev row_with : ℕ → Space → Kind → CodeRow
-row_with code space kind = row code space kind (not (nat_eq (bit_and code 4) 0))
+row_with code space kind = row code space kind (not (nat_eq (bit_and code 4) 0)) (nat_eq (bit_and code 11) 8)
 
 abbrev row_from_bits : ℕ → Option CodeRow
 row_from_bits code = option_and_then (λ space. option_map (row_with code space) (kind_by_bits space code)) (space_by_bits code)

@@ -12,13 +12,14 @@ space_by_bits code =
     (if bit_and code 0x30 == 0x10 then None else
     (if bit_and code 0x30 == 0x20 then Some A16 else Some A24))
 
--- the kind that bits 1 and 0 name in a space whose codes have a data, a program and a block row (this project's own
+-- the kind that bits 1 and 0 name in a space whose codes have a data, a program and two block rows (this project's own
 -- reading of the table)
 abbrev pub long_kind : ℕ → Option Kind
 long_kind bits =
     if bits == 0x09 then Some DataAccess else
     (if bits == 0x0a then Some ProgramAccess else
-    (if bits == 0x0b then Some BlockAccess else None))
+    (if bits == 0x0b then Some BlockAccess else
+    (if bits == 0x08 then Some BlockAccess else None)))
 
 -- the kind that bits 3, 1 and 0 name in a space, if any (this project's own reading of the table)
 abbrev pub kind_by_bits : Space → ℕ → Option Kind

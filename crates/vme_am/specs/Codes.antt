@@ -14,19 +14,24 @@ pub record CodeRow : Type 0 where
   pub space : Space
   pub kind : Kind
   pub supervisory : Bool
+  pub wide : Bool
 
--- a row, by place: code, space, kind, privilege (this project's own)
-abbrev pub row : ℕ → Space → Kind → Bool → CodeRow
-row code space kind supervisory = record { code = code; space = space; kind = kind; supervisory = supervisory }
+-- a row, by place: code, space, kind, privilege, whether a datum has eight bytes (this project's own)
+abbrev pub row : ℕ → Space → Kind → Bool → Bool → CodeRow
+row code space kind supervisory wide =
+    record { code = code; space = space; kind = kind; supervisory = supervisory; wide = wide }
 
--- the address modifier table (IEEE 1014, section 2.2.2)
+-- the address modifier table (IEEE 1014, section 2.2.2; the four rows of eight-byte blocks, codes 08, 0c, 38 and 3c: this
+-- project's own)
 abbrev pub table : List CodeRow
 table =
-    row 0x29 A16 ShortAccess false ∷ row 0x2d A16 ShortAccess true
-    ∷ row 0x39 A24 DataAccess false ∷ row 0x3a A24 ProgramAccess false ∷ row 0x3b A24 BlockAccess false
-    ∷ row 0x3d A24 DataAccess true ∷ row 0x3e A24 ProgramAccess true ∷ row 0x3f A24 BlockAccess true
-    ∷ row 0x09 A32 DataAccess false ∷ row 0x0a A32 ProgramAccess false ∷ row 0x0b A32 BlockAccess false
-    ∷ row 0x0d A32 DataAccess true ∷ row 0x0e A32 ProgramAccess true ∷ row 0x0f A32 BlockAccess true
+    row 0x29 A16 ShortAccess false false ∷ row 0x2d A16 ShortAccess true false
+    ∷ row 0x39 A24 DataAccess false false ∷ row 0x3a A24 ProgramAccess false false ∷ row 0x3b A24 BlockAccess false false
+    ∷ row 0x3d A24 DataAccess true false ∷ row 0x3e A24 ProgramAccess true false ∷ row 0x3f A24 BlockAccess true false
+    ∷ row 0x38 A24 BlockAccess false true ∷ row 0x3c A24 BlockAccess true true
+    ∷ row 0x09 A32 DataAccess false false ∷ row 0x0a A32 ProgramAccess false false ∷ row 0x0b A32 BlockAccess false false
+    ∷ row 0x0d A32 DataAccess true false ∷ row 0x0e A32 ProgramAccess true false ∷ row 0x0f A32 BlockAccess true false
+    ∷ row 0x08 A32 BlockAccess false true ∷ row 0x0c A32 BlockAccess true true
     ∷ []
 
 -- the row of a code, if the table has one (IEEE 1014, section 2.2.2)

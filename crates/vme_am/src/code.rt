@@ -90,7 +90,7 @@ fn kind_of(space: Space, code: u8) -> Option<Kind>
         (Space::A16, 0x09) => Some(Kind::ShortAccess),
         (Space::A24 | Space::A32, 0x09) => Some(Kind::DataAccess),
         (Space::A24 | Space::A32, 0x0a) => Some(Kind::ProgramAccess),
-        (Space::A24 | Space::A32, 0x0b) => Some(Kind::BlockAccess),
+        (Space::A24 | Space::A32, 0x08 | 0x0b) => Some(Kind::BlockAccess),
         _ => None,
     }
 }
@@ -113,6 +113,7 @@ pub struct Am {
     space: Space,
     kind: Kind,
     supervisory: bool,
+    wide: bool,
 }
 
 impl Model for Am {
@@ -121,15 +122,16 @@ impl Model for Am {
 
     ghost Value = { CodeRow };
 
-    ghost view = { λ a. row a.code a.space a.kind a.supervisory };
+    ghost view = { λ a. row a.code a.space a.kind a.supervisory a.wide };
 
-    ghost invariant = { λ a. row_at a.code ≡ Some (row a.code a.space a.kind a.supervisory) };
+    ghost invariant = { λ a. row_at a.code ≡ Some (row a.code a.space a.kind a.supervisory a.wide) };
 
     ghost inverse = { λ e. record {
       code = e.code;
       space = e.space;
       kind = e.kind;
       supervisory = e.supervisory;
+      wide = e.wide;
     } };
 }
 
@@ -140,7 +142,8 @@ impl Am {
     /// Reads a code of the address modifier table.
     ///
     /// The table is laid out by bits: AM5 and AM4 name the space or leave the code to the user,
-    /// AM3 is high in each row, AM2 is the privilege, and AM1 with AM0 names the kind of access.
+    /// AM3 is high in each row, AM2 is the privilege, and AM1 with AM0 names the kind of access:
+    /// both low, blocks whose data have eight bytes.
     #[tactic(auto, unfolding(crate::specs::Codes::read_code))]
     pub fn from_code(code: u8) -> Result<Am, AmFault>
         ensures { result ≡ read_code code }
@@ -159,6 +162,7 @@ impl Am {
             space,
             kind,
             supervisory: code & AM2 != 0,
+            wide: code & (AM3 | AM1_AM0) == AM3,
         })
     }
 
@@ -189,5 +193,12 @@ impl Am {
         ensures { result ≡ self.supervisory }
     {
         self.supervisory
+    }
+
+    /// Whether each datum has eight bytes, on the address lines and the data lines.
+    pub fn wide(self) -> bool
+        ensures { result ≡ self.wide }
+    {
+        self.wide
     }
 }

@@ -29,7 +29,7 @@ example_mailbox = record { offset = 0; slots = 2 }
 
 -- the transfer of a request with the code of data in A32 (this project's own)
 abbrev pub data_transfer : Request → Transfer
-data_transfer request = record { am = row 0x09 A32 DataAccess false; request = request }
+data_transfer request = record { am = row 0x09 A32 DataAccess false false; request = request }
 
 -- the entry of a master's cycle on this board (this project's own)
 abbrev pub cycle_by : ℕ → Request → Reply → Entry BoardCmd Reply
