@@ -1,3 +1,4 @@
 mod Full
 pub mod Tables
 pub mod Placing
+pub mod Wide

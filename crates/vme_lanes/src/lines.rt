@@ -1,7 +1,7 @@
-ghost use Rattle.std.specs.Prelude.{◌≡◌, List, ℕ, length, IsTrue};
+ghost use Rattle.std.specs.Prelude.{◌≡◌, ◌≤◌, List, [], ◌∷◌, ℕ, length, map, IsTrue};
 ghost use Rattle.vme_lanes.specs.declared.location.Location.{Location};
 ghost use Rattle.vme_lanes.specs.Rows.{row_of};
-ghost use Rattle.vme_lanes.specs.Lanes.{byte_on, lanes_with, carries, bytes_on};
+ghost use Rattle.vme_lanes.specs.Lanes.{byte_on, lanes_with, wide_lanes, carries, carries_all, bytes_of, bytes_on};
 
 use crate::location::Location;
 use arrayvec::ArrayVec;
@@ -16,26 +16,37 @@ pub fn copy_bytes<const N: usize>(bytes: &ArrayVec<u8, N>) -> ArrayVec<u8, N>
     ArrayVec::try_from(bytes.as_slice()).unwrap()
 }
 
-/// The data lines by lanes, from D31-D24 to D07-D00: each carries a byte or nothing.
+/// How many lanes go before D31-D24.
+const UPPER: usize = 4;
+
+/// The data lines by lanes, from the most significant: each carries a byte or nothing.
 #[derive(Clone, Copy, Debug, PartialEq, Eq)]
 pub struct DataLines {
-    /// D31-D24, D23-D16, D15-D08 and D07-D00.
-    pub lanes: [Option<u8>; 4],
+    /// The address lines' four lanes, which carry data in a block of eight-byte data alone, D63 to
+    /// D32; then D31-D24, D23-D16, D15-D08 and D07-D00.
+    pub lanes: [Option<u8>; 8],
 }
 
 impl DataLines {
     /// The lines while nothing drives them.
-    pub const IDLE: DataLines = DataLines { lanes: [None; 4] };
+    pub const IDLE: DataLines = DataLines { lanes: [None; 8] };
 
     /// Whether each lane of the location carries a byte.
     pub fn carries(&self, location: Location) -> bool
         ensures { result ≡ carries location self.now.lanes }
     {
-        let first = location.lane();
+        let first = UPPER + location.lane();
         let len = usize::from(location.len());
         self.lanes[first..first + len]
             .iter()
             .all(|lane| lane.is_some())
+    }
+
+    /// Whether every lane carries a byte.
+    pub fn carries_all(&self) -> bool
+        ensures { result ≡ carries_all self.now.lanes }
+    {
+        self.lanes.iter().all(|lane| lane.is_some())
     }
 }
 
@@ -44,10 +55,27 @@ pub fn place(location: Location, bytes: &[u8]) -> DataLines
     requires { length bytes.now ≡ (row_of location).len }
     ensures { result.lanes ≡ lanes_with location bytes.now }
 {
-    let first = location.lane();
     DataLines {
-        lanes: [0, 1, 2, 3].map(|lane| byte_on(first, bytes, lane)),
+        lanes: lanes_from(UPPER + location.lane(), bytes),
     }
+}
+
+/// Puts a datum of eight bytes on all lanes, in order of address.
+#[tactic(auto, using(crate::proofs::Wide::all_placed))]
+pub fn place_wide(bytes: &[u8]) -> DataLines
+    requires { length bytes.now ≡ 8 }
+    ensures { result.lanes ≡ wide_lanes bytes.now }
+{
+    DataLines {
+        lanes: lanes_from(0, bytes),
+    }
+}
+
+/// All lanes, where the bytes begin at lane `first`.
+fn lanes_from(first: usize, bytes: &[u8]) -> [Option<u8>; 8]
+    ensures { result ≡ map (byte_on first bytes.now) (0 ∷ 1 ∷ 2 ∷ 3 ∷ 4 ∷ 5 ∷ 6 ∷ 7 ∷ []) }
+{
+    [0, 1, 2, 3, 4, 5, 6, 7].map(|lane| byte_on(first, bytes, lane))
 }
 
 /// What a lane carries, where the bytes begin at lane `first`.
@@ -68,10 +96,28 @@ pub fn pick(location: Location, lines: DataLines) -> Datum
     ensures value { result.items ≡ bytes_on location lines.lanes }
     ensures len { length result.items ≡ (row_of location).len }
 {
-    let first = location.lane();
+    let first = UPPER + location.lane();
     let len = usize::from(location.len());
+    bytes_of(&lines.lanes[first..first + len])
+}
+
+/// Takes a datum of eight bytes from all lanes, in order of address.
+#[tactic(auto, using(crate::proofs::Full::length_bytes_of))]
+pub fn pick_wide(lines: DataLines) -> Datum
+    requires { IsTrue (carries_all lines.lanes) }
+    ensures value { result.items ≡ bytes_of lines.lanes }
+    ensures len { length result.items ≡ 8 }
+{
+    bytes_of(&lines.lanes)
+}
+
+/// The bytes on some lanes, in order.
+fn bytes_of(lanes: &[Option<u8>]) -> Datum
+    requires { length lanes.now ≤ 8 }
+    ensures { result.items ≡ bytes_of lanes.now }
+{
     let mut datum = Datum::new();
-    for lane in &lines.lanes[first..first + len] {
+    for lane in lanes {
         if let Some(byte) = lane {
             datum.push(*byte);
         }
@@ -86,4 +132,11 @@ pub fn placed_is_picked()
         length bytes ≡ (row_of l).len → IsTrue (carries l (lanes_with l bytes)) }
     ensures picked { (l : Location) (bytes : List ℕ) →
         length bytes ≡ (row_of l).len → bytes_on l (lanes_with l bytes) ≡ bytes }
+{}
+
+/// What is placed on all lanes is picked from them.
+#[tactic(auto, using(crate::proofs::Wide::all_carry, crate::proofs::Wide::all_again))]
+pub fn wide_is_picked()
+    ensures carries { (bytes : List ℕ) → IsTrue (carries_all (wide_lanes bytes)) }
+    ensures picked { (bytes : List ℕ) → bytes_of (wide_lanes bytes) ≡ bytes }
 {}

@@ -1,10 +1,10 @@
 use Rattle.std.proofs.Common.{◌≡◌, ◌≤◌, ◌++◌, length, drop}
 use Rattle.vme_lanes.specs.Lanes.{bytes_of}
-use Rattle.vme_lanes.proofs.lines.pick.Given as goal
+use Rattle.vme_lanes.proofs.lines.bytes_of.Given as goal
 
 -- the bytes so far, with those on the lanes that are left, are those on all lanes
 abbrev pub invariant-loop-lane : goal.invariant-loop-lane
 invariant-loop-lane l = record {
-  bytes : l.datum.items ++ bytes_of (drop l.lane-index l.lane-items) ≡ bytes_of l.lane-items;
+  bytes : l.datum.items ++ bytes_of (drop l.lane-index l.lanes) ≡ bytes_of l.lanes;
   room : length l.datum.items ≤ l.lane-index;
 }
