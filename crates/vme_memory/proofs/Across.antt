@@ -1,46 +1,9 @@
--- Bytes from any place on in two words, one behind the other.
-use Rattle.std.proofs.Common.{◌≡◌, ℕ, zero, suc, ◌+◌, ◌-◌, ◌*◌, ◌/◌, ◌%◌, ◌^◌, ◌<◌, ◌≤◌, List, [], ◌∷◌, ◌++◌, length, take, get_or, set, slice_range, refl, ap, sym, ◌∙◌, arith}
+-- Bytes from any offset on, in one word of a board or in two.
+use Rattle.std.proofs.Common.{◌≡◌, ℕ, zero, suc, ◌+◌, ◌-◌, ◌*◌, ◌/◌, ◌%◌, ◌^◌, ◌<◌, ◌≤◌, List, ◌++◌, length, take, get_or, set, slice_range, refl, ap, sym, ◌∙◌, arith}
 use Rattle.std.proofs.lemmas.List.{length-take-le}
-use Rattle.vme_lanes.specs.declared.location.Location.{Location}
-use Rattle.vme_lanes.specs.declared.location.Location.TheVariants.{Byte0, Byte1, Byte2, Byte3, Bytes01, Bytes23, Bytes03, Bytes02, Bytes13, Bytes12}
-use Rattle.vme_lanes.specs.Rows.{row_of}
-use Rattle.vme_memory.specs.Boards.{bytes_after_write}
-use Rattle.vme_memory.specs.Words.{word_bytes, bytes_of_words, part_of}
+use Rattle.vme_word.specs.Words.{bytes_after_write, word_bytes, bytes_of_words}
+use Rattle.vme_word.proofs.Shifts.{halves}
 use Rattle.vme_memory.proofs.Words.{word_len, words_len, read_at, read_on, written_at, written_on}
-use Rattle.vme_memory.proofs.Enables.{merged, merged_bytes, four}
-
--- lists that agree place by place
-one : (a e : ℕ) → a ≡ e → (a ∷ []) ≡ (e ∷ [])
-one a e p = cc
-
-two : (a b e f : ℕ) → a ≡ e → b ≡ f → (a ∷ b ∷ []) ≡ (e ∷ f ∷ [])
-two a b e f p q = cc
-
-three : (a b c e f g : ℕ) → a ≡ e → b ≡ f → c ≡ g → (a ∷ b ∷ c ∷ []) ≡ (e ∷ f ∷ g ∷ [])
-three a b c e f g p q r = cc
-
--- two words as one number, shifted up by a place, and its upper half
-abbrev pub upper : ℕ → ℕ → ℕ → ℕ
-upper here next place = (here * 4294967296 % 18446744073709551616 + next) * 2 ^ (8 * place) % 18446744073709551616 / 4294967296
-
--- it has the four bytes from that place on
-pub upper_bytes :
-    (here next place : ℕ) → here < 2 ^ 32 → next < 2 ^ 32 → place < 4
-    → word_bytes (upper here next place) ≡ slice_range (word_bytes here ++ word_bytes next) place (place + 4)
-unfolding word_bytes
-upper_bytes here next zero small little less =
-    let same : upper here next 0 ≡ here = omega arith in
-    rw same refl
-upper_bytes here next (suc zero) small little less =
-    let same : upper here next 1 ≡ here % 2 ^ 24 * 2 ^ 8 + next / 2 ^ 24 = omega arith in
-    rw same (four _ _ _ _ _ _ _ _ (omega arith) (omega arith) (omega arith) (omega arith))
-upper_bytes here next (suc (suc zero)) small little less =
-    let same : upper here next 2 ≡ here % 2 ^ 16 * 2 ^ 16 + next / 2 ^ 16 = omega arith in
-    rw same (four _ _ _ _ _ _ _ _ (omega arith) (omega arith) (omega arith) (omega arith))
-upper_bytes here next (suc (suc (suc zero))) small little less =
-    let same : upper here next 3 ≡ here % 2 ^ 8 * 2 ^ 24 + next / 2 ^ 8 = omega arith in
-    rw same (four _ _ _ _ _ _ _ _ (omega arith) (omega arith) (omega arith) (omega arith))
-upper_bytes here next (suc (suc (suc (suc place)))) small little less = absurd (omega arith)
 
 -- bytes of the first word alone
 first_alone :
@@ -109,56 +72,6 @@ begun_over words at n here next word own own_next within few over made =
 pub next_there : (words : List ℕ) (at n : ℕ) → at + n ≤ length (bytes_of_words words) → 4 < at % 4 + n → at / 4 + 1 < length words
 next_there words at n within over = omega (arith, words_len words)
 
--- a word that is shifted down to the place of a location has there what it began with
-part_from : (l : Location) (new : ℕ) → part_of l (new / 2 ^ (8 * (row_of l).first)) ≡ take (row_of l).len (word_bytes new)
-unfolding word_bytes
-part_from Byte0 new = one _ _ (omega arith)
-part_from Byte1 new = one _ _ (omega arith)
-part_from Byte2 new = one _ _ (omega arith)
-part_from Byte3 new = one _ _ (omega arith)
-part_from Bytes01 new = two _ _ _ _ (omega arith) (omega arith)
-part_from Bytes23 new = two _ _ _ _ (omega arith) (omega arith)
-part_from Bytes03 new = four _ _ _ _ _ _ _ _ (omega arith) (omega arith) (omega arith) (omega arith)
-part_from Bytes02 new = three _ _ _ _ _ _ (omega arith) (omega arith) (omega arith)
-part_from Bytes13 new = three _ _ _ _ _ _ (omega arith) (omega arith) (omega arith)
-part_from Bytes12 new = two _ _ _ _ (omega arith) (omega arith)
-
--- the mask of so many bytes from a place on
-abbrev pub mask_of : ℕ → ℕ → ℕ
-mask_of place len = 4294967295 * 2 ^ (32 - 8 * len) % 4294967296 / 2 ^ (8 * place)
-
--- under it a word takes what another one begins with
-merged_at_row :
-    (l : Location) (word new : ℕ)
-    → word_bytes (merged word (new / 2 ^ (8 * (row_of l).first)) (mask_of (row_of l).first (row_of l).len))
-    ≡ bytes_after_write (word_bytes word) (row_of l).first (take (row_of l).len (word_bytes new))
-merged_at_row Byte0 word new = merged_bytes Byte0 word _ ∙ ap (bytes_after_write (word_bytes word) 0) (part_from Byte0 new)
-merged_at_row Byte1 word new = merged_bytes Byte1 word _ ∙ ap (bytes_after_write (word_bytes word) 1) (part_from Byte1 new)
-merged_at_row Byte2 word new = merged_bytes Byte2 word _ ∙ ap (bytes_after_write (word_bytes word) 2) (part_from Byte2 new)
-merged_at_row Byte3 word new = merged_bytes Byte3 word _ ∙ ap (bytes_after_write (word_bytes word) 3) (part_from Byte3 new)
-merged_at_row Bytes01 word new = merged_bytes Bytes01 word _ ∙ ap (bytes_after_write (word_bytes word) 0) (part_from Bytes01 new)
-merged_at_row Bytes23 word new = merged_bytes Bytes23 word _ ∙ ap (bytes_after_write (word_bytes word) 2) (part_from Bytes23 new)
-merged_at_row Bytes03 word new = merged_bytes Bytes03 word _ ∙ ap (bytes_after_write (word_bytes word) 0) (part_from Bytes03 new)
-merged_at_row Bytes02 word new = merged_bytes Bytes02 word _ ∙ ap (bytes_after_write (word_bytes word) 0) (part_from Bytes02 new)
-merged_at_row Bytes13 word new = merged_bytes Bytes13 word _ ∙ ap (bytes_after_write (word_bytes word) 1) (part_from Bytes13 new)
-merged_at_row Bytes12 word new = merged_bytes Bytes12 word _ ∙ ap (bytes_after_write (word_bytes word) 1) (part_from Bytes12 new)
-
-pub merged_from :
-    (word new place len : ℕ) → 0 < len → place + len ≤ 4
-    → word_bytes (merged word (new / 2 ^ (8 * place)) (mask_of place len))
-    ≡ bytes_after_write (word_bytes word) place (take len (word_bytes new))
-merged_from word new zero (suc zero) some few = merged_at_row Byte0 word new
-merged_from word new zero (suc (suc zero)) some few = merged_at_row Bytes01 word new
-merged_from word new zero (suc (suc (suc zero))) some few = merged_at_row Bytes02 word new
-merged_from word new zero (suc (suc (suc (suc zero)))) some few = merged_at_row Bytes03 word new
-merged_from word new (suc zero) (suc zero) some few = merged_at_row Byte1 word new
-merged_from word new (suc zero) (suc (suc zero)) some few = merged_at_row Bytes12 word new
-merged_from word new (suc zero) (suc (suc (suc zero))) some few = merged_at_row Bytes13 word new
-merged_from word new (suc (suc zero)) (suc zero) some few = merged_at_row Byte2 word new
-merged_from word new (suc (suc zero)) (suc (suc zero)) some few = merged_at_row Bytes23 word new
-merged_from word new (suc (suc (suc zero))) (suc zero) some few = merged_at_row Byte3 word new
-merged_from word new place len some few = absurd (omega arith)
-
 -- what is put within one word, among its words
 pub put_at :
     (words : List ℕ) (at len old word new : ℕ) → old ≡ get_or words (at / 4) old
@@ -179,22 +92,6 @@ pub put_first :
 put_first words at len old word new own within first some few changed =
     put_at words at len old word new own within some (omega arith)
     (changed ∙ ap (λ p. bytes_after_write (word_bytes old) p (take len (word_bytes new))) (sym first))
-
--- what a word begins with, in two parts
-halves :
-    (word h n : ℕ) → word < 2 ^ 32 → 0 < h → h < n → n ≤ 4
-    → take h (word_bytes word) ++ take (n - h) (word_bytes (word * 2 ^ (8 * h) % 4294967296)) ≡ take n (word_bytes word)
-unfolding word_bytes
-halves word (suc zero) (suc (suc zero)) small some less few = two _ _ _ _ refl (omega arith)
-halves word (suc zero) (suc (suc (suc zero))) small some less few = three _ _ _ _ _ _ refl (omega arith) (omega arith)
-halves word (suc zero) (suc (suc (suc (suc zero)))) small some less few =
-    four _ _ _ _ _ _ _ _ refl (omega arith) (omega arith) (omega arith)
-halves word (suc (suc zero)) (suc (suc (suc zero))) small some less few = three _ _ _ _ _ _ refl refl (omega arith)
-halves word (suc (suc zero)) (suc (suc (suc (suc zero)))) small some less few =
-    four _ _ _ _ _ _ _ _ refl refl (omega arith) (omega arith)
-halves word (suc (suc (suc zero))) (suc (suc (suc (suc zero)))) small some less few =
-    four _ _ _ _ _ _ _ _ refl refl refl (omega arith)
-halves word h n small some less few = absurd (omega arith)
 
 -- so what is put in two words is put whole
 pub put_over :

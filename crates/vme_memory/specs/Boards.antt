@@ -1,5 +1,6 @@
 -- A board's memory: its bytes by offset, and its class.
-use Rattle.std.specs.Prelude.{ℕ, ◌+◌, ◌%◌, nat_le, Bool, ◌==◌, ◌&&◌, List, ◌++◌, length, take, drop, replicate}
+use Rattle.std.specs.Prelude.{ℕ, ◌%◌, nat_le, Bool, ◌==◌, ◌&&◌, List, replicate}
+pub use Rattle.vme_word.specs.Words.{bytes_after_write}
 use Rattle.vme_memory.specs.declared.class.Class.{Class}
 
 -- the bytes, each at its offset, and what the slave is able to answer (this project's own)
@@ -14,7 +15,3 @@ is_board_size size = nat_le 4 size && nat_le size 1048576 && size % 4 == 0
 -- that many zero bytes (this project's own)
 unfoldable pub zeros : ℕ → List ℕ
 zeros size = replicate size 0
-
--- the bytes with new ones in the place of those from at on (this project's own)
-abbrev pub bytes_after_write : List ℕ → ℕ → List ℕ → List ℕ
-bytes_after_write bytes at new = take at bytes ++ new ++ drop (at + length new) bytes

@@ -9,7 +9,6 @@ mod command;
 mod laws;
 mod reply;
 mod storage;
-mod word;
 
 pub use board::{ByteMemory, MemoryFault};
 pub use class::{Class, Width8To32};

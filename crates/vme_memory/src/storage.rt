@@ -1,16 +1,16 @@
 ghost use Rattle.std.specs.Prelude.{◌≡◌, ◌+◌, ◌%◌, ◌≤◌, ◌<◌, true, IfOk, length, take, drop, slice_get, slice_range};
 ghost use Rattle.vme_lanes.specs.Rows.{row_of};
-ghost use Rattle.vme_memory.specs.Boards.{is_board_size, zeros, bytes_after_write};
-ghost use Rattle.vme_memory.specs.Words.{part_of, word_bytes};
+ghost use Rattle.vme_word.specs.Words.{bytes_after_write, part_of, word_bytes};
+ghost use Rattle.vme_memory.specs.Boards.{is_board_size, zeros};
 
-use crate::word::{
-    byte_in, bytes_at, bytes_of, first_bytes, leading_word, merge, merge_from, word_across, word_of,
-};
 use arrayvec::ArrayVec;
 use std::alloc::{AllocError, Global};
 use std::cmp::min;
 use std::marker::Model;
 use vme_lanes::{Datum, Location};
+use vme_word::{
+    byte_in, bytes_at, bytes_of, first_bytes, leading_word, merge, merge_from, word_across, word_of,
+};
 
 /// Sixteen bytes of a memory, or those that are left.
 pub type Row = ArrayVec<u8, 16>;
@@ -25,7 +25,7 @@ pub(crate) struct Storage {
 impl Model for Storage {
     ghost use Rattle.std.specs.Prelude.{ℕ, List, ◌≡◌, ◌*◌, true, length};
     ghost use Rattle.vme_memory.specs.Boards.{is_board_size};
-    ghost use Rattle.vme_memory.specs.Words.{bytes_of_words};
+    ghost use Rattle.vme_word.specs.Words.{bytes_of_words};
 
     ghost Value = { List ℕ };
 
@@ -79,7 +79,7 @@ impl Storage {
     }
 
     /// Reads the bytes of a location from one word. `at` is the offset of the first.
-    #[tactic(auto, using(crate::proofs::Words::words_len, crate::proofs::Words::word_there, crate::proofs::Enables::part_at))]
+    #[tactic(auto, using(crate::proofs::Words::words_len, crate::proofs::Words::word_there, crate::proofs::Parts::part_at))]
     pub(crate) fn read(&self, location: Location, at: u32) -> Datum
         requires place { (row_of location).first ≡ at % 4 }
         requires within { at + (row_of location).len ≤ length self.now }
@@ -92,7 +92,7 @@ impl Storage {
 
     /// Changes the bytes of a location in one word to those of another word. `at` is the offset of
     /// the first.
-    #[tactic(auto, using(crate::proofs::Words::words_len, crate::proofs::Words::word_there, crate::proofs::Enables::merged_at))]
+    #[tactic(auto, using(crate::proofs::Words::words_len, crate::proofs::Words::word_there, crate::proofs::Parts::merged_at))]
     pub(crate) fn write(&mut self, location: Location, at: u32, new: u32)
         requires place { (row_of location).first ≡ at % 4 }
         requires within { at + (row_of location).len ≤ length self.old }

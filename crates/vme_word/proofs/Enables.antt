@@ -1,5 +1,5 @@
 -- A word that takes the bytes of a location from another one, under its byte enables; and the word that data lines carry.
-use Rattle.std.proofs.Common.{◌≡◌, ℕ, ◌+◌, ◌/◌, ◌%◌, ◌^◌, ◌<◌, ◌≤◌, List, [], ◌∷◌, length, get_or, set, slice_range, refl, ap, sym, ◌∙◌, arith}
+use Rattle.std.proofs.Common.{◌≡◌, ℕ, ◌+◌, ◌/◌, ◌%◌, ◌^◌, ◌<◌, ◌≤◌, [], ◌∷◌, length, refl, ap, sym, ◌∙◌, arith}
 use Rattle.std.specs.Prelude.{bit_or, bit_and}
 use Rattle.std.specs.Int.{w32, bit_not}
 use Rattle.std.specs.Int.Bits.{and_zero_r, or_zero_r, or_zero_l}
@@ -7,9 +7,7 @@ use Rattle.std.proofs.lemmas.Nat.{or_shr, and_shr, or_mod, and_mod, and_mask}
 use Rattle.vme_lanes.specs.declared.location.Location.{Location}
 use Rattle.vme_lanes.specs.declared.location.Location.TheVariants.{Byte0, Byte1, Byte2, Byte3, Bytes01, Bytes23, Bytes03, Bytes02, Bytes13, Bytes12}
 use Rattle.vme_lanes.specs.Rows.{row_of}
-use Rattle.vme_memory.specs.Boards.{bytes_after_write}
-use Rattle.vme_memory.specs.Words.{word_bytes, bytes_of_words, part_of, enables_of}
-use Rattle.vme_memory.proofs.Words.{read_at, written_at}
+use Rattle.vme_word.specs.Words.{bytes_after_write, word_bytes, part_of, enables_of}
 
 -- the bytes of a number that has some bits of another
 byte_or : (a b k : ℕ) → bit_or a b / 2 ^ k % 2 ^ 8 ≡ bit_or (a / 2 ^ k % 2 ^ 8) (b / 2 ^ k % 2 ^ 8)
@@ -98,7 +96,7 @@ merged_bytes Bytes12 word new =
     (put_byte word new (enables_of Bytes12) 8 refl refl) (kept_low word new (enables_of Bytes12) refl refl)
 
 -- a location has some bytes of a word, and no more than are there
-row_within : (l : Location) → (0 < (row_of l).len) × ((row_of l).first + (row_of l).len ≤ 4)
+pub row_within : (l : Location) → (0 < (row_of l).len) × ((row_of l).first + (row_of l).len ≤ 4)
 row_within Byte0 = (omega arith, omega arith)
 row_within Byte1 = (omega arith, omega arith)
 row_within Byte2 = (omega arith, omega arith)
@@ -123,29 +121,3 @@ part_len Bytes03 word = refl
 part_len Bytes02 word = refl
 part_len Bytes13 word = refl
 part_len Bytes12 word = refl
-
--- a word that is merged, among its words
-pub merged_at :
-    (words : List ℕ) (l : Location) (at old word new : ℕ) → old ≡ get_or words (at / 4) old
-    → (row_of l).first ≡ at % 4 → at + (row_of l).len ≤ length (bytes_of_words words)
-    → word_bytes word
-    ≡ bytes_after_write (word_bytes old) (row_of l).first (part_of l new)
-    → bytes_of_words (set words (at / 4) word)
-    ≡ bytes_after_write (bytes_of_words words) at (part_of l new)
-merged_at words l at old word new own place within changed =
-    let part = part_of l new in
-    let few : at % 4 + length part ≤ 4 = omega (arith, part_len l new, (row_within l).1, place) in
-    let there : at < length (bytes_of_words words) = omega (arith, (row_within l).0, within) in
-    written_at words part at old word own there few (changed ∙ ap (λ p. bytes_after_write (word_bytes old) p part) place)
-
--- the part of a location in its word, among its words
-pub part_at :
-    (words : List ℕ) (l : Location) (at word : ℕ) → word ≡ get_or words (at / 4) word
-    → (row_of l).first ≡ at % 4 → at + (row_of l).len ≤ length (bytes_of_words words)
-    → slice_range (bytes_of_words words) at (at + (row_of l).len)
-    ≡ part_of l word
-part_at words l at word own place within =
-    let few : at % 4 + (row_of l).len ≤ 4 = omega (arith, (row_within l).1, place) in
-    let there : at < length (bytes_of_words words) = omega (arith, (row_within l).0, within) in
-    read_at words at (row_of l).len word own there few
-    ∙ ap (λ p. slice_range (word_bytes word) p (p + (row_of l).len)) (sym place)

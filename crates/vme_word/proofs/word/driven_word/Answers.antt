@@ -2,9 +2,9 @@
 use Rattle.std.proofs.Common.{◌≡◌, length, ap, sym, ◌∙◌, arith}
 use Rattle.std.proofs.lemmas.Grind.{common_steps}
 use Rattle.vme_lanes.specs.Lanes.{bytes_on}
-use Rattle.vme_memory.specs.Words.{part_of}
-use Rattle.vme_memory.proofs.Enables.{part_len}
-use Rattle.vme_memory.proofs.word.driven_word.Goals as goal
+use Rattle.vme_word.specs.Words.{part_of}
+use Rattle.vme_word.proofs.Enables.{part_len}
+use Rattle.vme_word.proofs.word.driven_word.Goals as goal
 
 pub returns-else-of-clause-len : goal.returns-else-of-clause-len
 returns-else-of-clause-len c =

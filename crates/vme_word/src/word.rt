@@ -1,8 +1,7 @@
 ghost use Rattle.std.specs.Prelude.{◌≡◌, ◌+◌, ◌≤◌, ◌<◌, Some, IsTrue, length, take, ◌++◌, slice_get, slice_range};
 ghost use Rattle.vme_lanes.specs.Rows.{row_of};
 ghost use Rattle.vme_lanes.specs.Lanes.{carries, bytes_on};
-ghost use Rattle.vme_memory.specs.Boards.{bytes_after_write};
-ghost use Rattle.vme_memory.specs.Words.{word_bytes, part_of, enables_of};
+ghost use Rattle.vme_word.specs.Words.{bytes_after_write, word_bytes, part_of, enables_of};
 
 use vme_lanes::{DataLines, Datum, Location, Strobes};
 
@@ -25,7 +24,7 @@ fn enables(location: Location) -> u32
 }
 
 /// The word with the bytes of a location from another one; its other bytes stay.
-pub(crate) fn merge(word: u32, location: Location, new: u32) -> u32
+pub fn merge(word: u32, location: Location, new: u32) -> u32
     ensures { word_bytes result ≡ bytes_after_write (word_bytes word) (row_of location).first (part_of location new) }
 {
     let mask = enables(location);
@@ -33,7 +32,7 @@ pub(crate) fn merge(word: u32, location: Location, new: u32) -> u32
 }
 
 /// The word with the first `len` bytes of another one from a place on; its other bytes stay.
-pub(crate) fn merge_from(word: u32, place: u32, len: u32, new: u32) -> u32
+pub fn merge_from(word: u32, place: u32, len: u32, new: u32) -> u32
     requires some { 0 < len }
     requires within { place + len ≤ 4 }
     ensures { word_bytes result ≡ bytes_after_write (word_bytes word) place (take len (word_bytes new)) }
@@ -43,7 +42,7 @@ pub(crate) fn merge_from(word: u32, place: u32, len: u32, new: u32) -> u32
 }
 
 /// The word of the four bytes from a place on in two words, one behind the other.
-pub(crate) fn word_across(here: u32, next: u32, place: u32) -> u32
+pub fn word_across(here: u32, next: u32, place: u32) -> u32
     requires { place < 4 }
     ensures { word_bytes result ≡ slice_range (word_bytes here ++ word_bytes next) place (place + 4) }
 {
@@ -53,14 +52,14 @@ pub(crate) fn word_across(here: u32, next: u32, place: u32) -> u32
 
 /// The four bytes of a word.
 #[tactic(auto, unfolding(crate::specs::Words::word_bytes))]
-pub(crate) fn bytes_of(word: u32) -> [u8; 4]
+pub fn bytes_of(word: u32) -> [u8; 4]
     ensures { result ≡ word_bytes word }
 {
     word.to_be_bytes()
 }
 
 /// The word of four bytes.
-pub(crate) fn word_of(bytes: [u8; 4]) -> u32
+pub fn word_of(bytes: [u8; 4]) -> u32
     ensures { word_bytes result ≡ bytes }
 {
     u32::from_be_bytes(bytes)
@@ -68,7 +67,7 @@ pub(crate) fn word_of(bytes: [u8; 4]) -> u32
 
 /// The word that the data lines carry for a location: where LWORD* is low each lane is the byte of
 /// its own place, else both halves of the word are on D15-D00.
-pub(crate) fn driven_word(location: Location, lines: DataLines) -> u32
+pub fn driven_word(location: Location, lines: DataLines) -> u32
     requires { IsTrue (carries location lines.lanes) }
     ensures bytes { part_of location result ≡ bytes_on location lines.lanes }
     ensures len { length (bytes_on location lines.lanes) ≡ (row_of location).len }
@@ -82,7 +81,7 @@ pub(crate) fn driven_word(location: Location, lines: DataLines) -> u32
 }
 
 /// A word with these bytes at the place of a location, and zeros elsewhere.
-pub(crate) fn placed_word(location: Location, bytes: &[u8]) -> u32
+pub fn placed_word(location: Location, bytes: &[u8]) -> u32
     requires { length bytes.now ≡ (row_of location).len }
     ensures { part_of location result ≡ bytes.now }
 {
@@ -102,7 +101,7 @@ pub(crate) fn placed_word(location: Location, bytes: &[u8]) -> u32
 }
 
 /// The word that begins with some bytes, with zeros behind them.
-pub(crate) fn leading_word(bytes: &[u8]) -> u32
+pub fn leading_word(bytes: &[u8]) -> u32
     requires some { 0 < length bytes.now }
     requires short { length bytes.now ≤ 4 }
     ensures { take (length bytes.now) (word_bytes result) ≡ bytes.now }
@@ -118,7 +117,7 @@ pub(crate) fn leading_word(bytes: &[u8]) -> u32
 
 /// The first `len` bytes of a word.
 #[tactic(auto, unfolding(crate::specs::Words::word_bytes))]
-pub(crate) fn first_bytes(word: u32, len: u8) -> Datum
+pub fn first_bytes(word: u32, len: u8) -> Datum
     requires some { 0 < len }
     requires short { len ≤ 4 }
     ensures value { result.items ≡ take len (word_bytes word) }
@@ -136,7 +135,7 @@ pub(crate) fn first_bytes(word: u32, len: u8) -> Datum
 
 /// The bytes of a location in a word, in order of address.
 #[tactic(auto, unfolding(crate::specs::Words::word_bytes))]
-pub(crate) fn bytes_at(location: Location, word: u32) -> Datum
+pub fn bytes_at(location: Location, word: u32) -> Datum
     ensures value { result.items ≡ part_of location word }
     ensures len { length result.items ≡ (row_of location).len }
 {
@@ -163,7 +162,7 @@ fn datum<const N: usize>(bytes: &[u8; N]) -> Datum
 }
 
 /// The byte of a word at a place.
-pub(crate) fn byte_in(word: u32, place: u8) -> u8
+pub fn byte_in(word: u32, place: u8) -> u8
     requires { place < 4 }
     ensures { Some result ≡ slice_get (word_bytes word) place }
 {

@@ -1,9 +1,13 @@
--- How a board's bytes lie in words of 32 bits, and which bytes of a word a cycle reaches.
-use Rattle.std.specs.Prelude.{ℕ, ◌+◌, nat_le, nat_lt, Bool, ◌&&◌, if◌then◌else◌, List, [], ◌∷◌, map, slice_range}
+-- How bytes lie in words of 32 bits, and which bytes of a word a cycle reaches.
+use Rattle.std.specs.Prelude.{ℕ, ◌+◌, nat_le, nat_lt, Bool, ◌&&◌, if◌then◌else◌, List, [], ◌∷◌, ◌++◌, length, take, drop, map, slice_range}
 use Rattle.std.specs.Int.{w32, to_be_bytes, from_be_bytes}
 use Rattle.std.specs.List.{flat_map}
 use Rattle.vme_lanes.specs.declared.location.Location.{Location}
 use Rattle.vme_lanes.specs.Rows.{row_of}
+
+-- the bytes with new ones in the place of those from at on (this project's own)
+abbrev pub bytes_after_write : List ℕ → ℕ → List ℕ → List ℕ
+bytes_after_write bytes at new = take at bytes ++ new ++ drop (at + length new) bytes
 
 -- the four bytes of a word, the lowest address most significant (IEEE 1014, section 2.2.3: the lowest address on the highest
 -- lane)

@@ -1,0 +1,2 @@
+pub mod Enables
+pub mod Shifts
