@@ -1,7 +1,6 @@
 //! Requests of a master, single or of a block, the plan of a lawful one, and the signals that the
-//! plan drives. Which
-//! requests are lawful, and which refusal the others get, is this project's profile of the data
-//! transfer bus of ANSI/IEEE Std 1014-1987, chapter 2.
+//! plan drives. Which requests are lawful, and which refusal the others get, is this project's
+//! profile of the data transfer bus of ANSI/IEEE Std 1014-1987, chapter 2.
 #![tactic(auto)]
 
 mod fault;
@@ -16,6 +15,7 @@ pub use fault::CycleFault;
 pub use laws::{bytes_are_their_number, sums_are_modulo};
 pub use modify::Modify;
 pub use plan::Plan;
-pub use request::{Block, Request};
+pub use request::Request;
 pub use signals::Signals;
 pub use transfer::Transfer;
+pub use vme_block::Block;

@@ -2,7 +2,7 @@ ghost use Rattle.std.specs.Prelude.{◌≡◌, ◌<◌, ◌≤◌, ◌+◌, ◌*
 ghost use Rattle.vme_lanes.specs.Rows.{row_of, location_at};
 ghost use Rattle.std.specs.Option.{option_map};
 ghost use Rattle.vme_cycle.specs.Functions.{has_len};
-ghost use Rattle.vme_cycle.specs.Requests.{addr_of, function_of, reads, datum_len, count_of, address_of};
+ghost use Rattle.vme_cycle.specs.Requests.{addr_of, function_of, reads, datum_len, count_of, address_of, reply_room};
 ghost use Rattle.vme_cycle.specs.Lawful.{first_refusal, transfer_of, IsLawfulTransfer};
 ghost use Rattle.vme_cycle.specs.Parts.{IsLawful};
 ghost use Rattle.vme_cycle.specs.SignalLines.{row_len, first_byte, sensed_at, len_at};
@@ -99,6 +99,13 @@ impl<'a> Plan<'a> {
         ensures size { (1 ≤ result) × (result ≤ 4) }
     {
         self.request().datum_len()
+    }
+
+    /// How many bytes it reads in all.
+    pub fn reply_room(&self) -> usize
+        ensures { result ≡ reply_room self.now.request }
+    {
+        self.request().reply_room()
     }
 
     /// The function of a read-modify-write, and `None` of another request.

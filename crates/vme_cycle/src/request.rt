@@ -2,18 +2,15 @@ ghost use Rattle.std.specs.Prelude.{◌≡◌, ◌+◌, ◌<◌, length, IfSome,
 ghost use Rattle.vme_cycle.specs.Counts.{is_block_len, is_block_count};
 
 use crate::modify::Modify;
-use arrayvec::ArrayVec;
-use vme_lanes::{Datum, Location, copy_bytes};
-
-/// The bytes of a block, in order of address.
-pub type Block = ArrayVec<u8, 256>;
+use vme_block::Block;
+use vme_lanes::{Datum, Location};
 
 /// How many addresses lie between the boundaries that no block crosses.
 const BOUNDARY: u64 = 256;
 
 /// What a master asks of the bus. `am` is the address modifier code, `addr` the address of the
 /// first byte, `n` the number of bytes of each datum.
-#[derive(Debug, Drop, PartialEq, Eq)]
+#[derive(Debug, Drop)]
 pub enum Request {
     /// A read of `n` bytes.
     Read {
@@ -74,57 +71,8 @@ fn is_block_count(count: usize) -> bool
 
 impl Request {
     ghost use Rattle.std.specs.Option.{option_map};
-    ghost use Rattle.vme_cycle.specs.Requests.{code_of, addr_of, is_block_request, function_of, reads, datum_len, count_of, is_counted, datum_of, span_of};
+    ghost use Rattle.vme_cycle.specs.Requests.{code_of, addr_of, is_block_request, function_of, reads, datum_len, count_of, is_counted, datum_of, span_of, reply_room};
     ghost use Rattle.vme_cycle.specs.Lawful.{first_location, crosses_boundary};
-
-    /// The same request once more. It takes no memory.
-    pub fn copy(&self) -> Request
-        ensures { result ≡ self.now }
-    {
-        match self {
-            Request::Read { am, addr, n } => Request::Read {
-                am: *am,
-                addr: *addr,
-                n: *n,
-            },
-            Request::Write { am, addr, bytes } => Request::Write {
-                am: *am,
-                addr: *addr,
-                bytes: copy_bytes(bytes),
-            },
-            Request::BlockRead { am, addr, n, count } => Request::BlockRead {
-                am: *am,
-                addr: *addr,
-                n: *n,
-                count: *count,
-            },
-            Request::BlockWrite { am, addr, n, bytes } => Request::BlockWrite {
-                am: *am,
-                addr: *addr,
-                n: *n,
-                bytes: copy_bytes(bytes),
-            },
-            Request::BlockFill {
-                am,
-                addr,
-                n,
-                count,
-                bytes,
-            } => Request::BlockFill {
-                am: *am,
-                addr: *addr,
-                n: *n,
-                count: *count,
-                bytes: copy_bytes(bytes),
-            },
-            Request::Modify { am, addr, n, f } => Request::Modify {
-                am: *am,
-                addr: *addr,
-                n: *n,
-                f: f.copy(),
-            },
-        }
-    }
 
     pub(crate) fn code(&self) -> u8
         ensures { result ≡ code_of self.now }
@@ -263,6 +211,17 @@ impl Request {
                 let start = usize::from(i) * usize::from(*n);
                 Some(&bytes.as_slice()[start..start + usize::from(*n)])
             }
+        }
+    }
+
+    /// How many bytes it reads in all.
+    pub(crate) fn reply_room(&self) -> usize
+        ensures { result ≡ reply_room self.now }
+    {
+        match self {
+            Request::Read { n, .. } | Request::Modify { n, .. } => usize::from(*n),
+            Request::BlockRead { n, count, .. } => usize::from(*n) * usize::from(*count),
+            Request::Write { .. } | Request::BlockWrite { .. } | Request::BlockFill { .. } => 0,
         }
     }
 

@@ -9,14 +9,18 @@ ghost use Rattle.vme_engine.specs.Answers.{outcome_of, final_signals, offset_of,
 
 use crate::bus::Bus;
 use crate::request::request_of;
+use arrayvec::ArrayVec;
 use std::alloc::AllocError;
-use vme_cycle::{Block, Plan, Request, Signals};
+use vme_cycle::{Plan, Request, Signals};
 use vme_lanes::Datum;
 use vme_lines::{
     print_berr, print_done, print_line_refusal, print_old, print_read, print_refusal, print_signals,
 };
 use vme_memory::Reply;
 use vme_shared::Status;
+
+/// What the data of a transfer replied, in order.
+type Replied = ArrayVec<u8, 256>;
 
 /// Answers a line: appends its text, and leaves the board as the line's cycle does.
 #[tactic(auto, unfolding(crate::specs::Answers::answer))]
@@ -67,7 +71,7 @@ fn answer_data(bus: &mut Bus, plan: &Plan<'_>, text: &mut Vec<u8>) -> Result<Sta
 {
     let count = plan.len();
     let offset = offset_of(bus, plan);
-    let mut replied = Block::new();
+    let mut replied = Replied::new();
     for i in 0..count {
         match answer_datum(bus, plan, i, offset, text)? {
             Reply::Bytes(datum) => append(&mut replied, &datum),
@@ -133,11 +137,11 @@ fn print_write_half(text: &mut Vec<u8>, plan: &Plan<'_>, reply: &Reply) -> Resul
     }
 }
 
-fn append(block: &mut Block, datum: &Datum)
-    requires { length block.old.items + length datum.now.items ≤ 256 }
-    ensures { block.new.items ≡ block.old.items ++ datum.now.items }
+fn append(replied: &mut Replied, datum: &Datum)
+    requires { length replied.old.items + length datum.now.items ≤ 256 }
+    ensures { replied.new.items ≡ replied.old.items ++ datum.now.items }
 {
-    block.try_extend_from_slice(datum.as_slice()).unwrap();
+    replied.try_extend_from_slice(datum.as_slice()).unwrap();
 }
 
 /// Appends the outcome of a transfer whose data were all answered, with what they replied.

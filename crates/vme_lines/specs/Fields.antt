@@ -27,7 +27,8 @@ pub data Field : Type 0 where
   Mailbox : Field
   FourBytes : Field
 
--- what fields give, with that of one more, if a word spells it: AM, ADDR, OFF, N, COUNT, HEX and BOX (this project's own)
+-- what fields give, with that of one more, if a word spells it: AM, ADDR, OFF, N, COUNT, HEX and BOX; a block has at most as
+-- many bytes as a line of 80 bytes can spell (this project's own)
 unfoldable pub with_field : Field → List ℕ → Operands → Option Operands
 with_field Name word o = Some o
 with_field Code word o = option_map (λ am. record o { am = am }) (hex_number 2 word)
@@ -38,7 +39,7 @@ with_field LocalLength word o = option_map (λ n. record o { n = n }) (local_num
 with_field Count word o = option_map (λ count. record o { count = count }) (decimal_number 4 word)
 with_field Bytes word o = option_map (λ bytes. record o { bytes = bytes }) (hex_bytes 8 word)
 with_field LocalBytes word o = option_map (λ bytes. record o { bytes = bytes }) (local_bytes word)
-with_field BlockBytes word o = option_map (λ bytes. record o { block = bytes }) (hex_bytes 256 word)
+with_field BlockBytes word o = option_map (λ bytes. record o { block = bytes }) (hex_bytes 40 word)
 with_field Expected word o = option_map (λ bytes. record o { expected = bytes }) (exact_bytes o.n word)
 with_field Datum word o = option_map (λ bytes. record o { bytes = bytes }) (exact_bytes o.n word)
 with_field Mailbox word o = option_map (λ mailbox. record o { mailbox = mailbox }) (decimal_number 2 word)

@@ -9,7 +9,7 @@ use crate::counted::{five_words, four_and_more, four_words, three_words};
 use crate::fault::LineFault;
 use crate::function::Function;
 use crate::line::Line;
-use vme_cycle::Request;
+use vme_cycle::{Block, Request};
 use vme_numbers::{decimal_number, exact_bytes, hex_bytes, hex_number, small_number};
 use vme_words::Words;
 
@@ -65,7 +65,7 @@ pub(crate) fn block_write(operands: Words<'_>) -> Result<Line, LineFault>
     let (am, addr, n, bytes) = four_words(operands).ok_or(LineFault::WordCount)?;
     let (am, addr) = place_of(am, addr)?;
     let n = small_number(n).ok_or(LineFault::BadNumber)?;
-    let bytes = hex_bytes(bytes).ok_or(LineFault::BadBytes)?;
+    let bytes = Block::of_short(hex_bytes(bytes).ok_or(LineFault::BadBytes)?);
     Ok(Line::Bus(Request::BlockWrite { am, addr, n, bytes }))
 }
 

@@ -1,12 +1,12 @@
--- A copy of a lawful request is lawful.
-use Rattle.std.proofs.Common.{◌∙◌, sym, ap}
-use Rattle.vme_cycle.specs.Lawful.{transfer_of}
+-- A lawful request that is lent stays lawful.
+use Rattle.std.proofs.Common.{sym, refl}
 use Rattle.vme_cycle.proofs.Transfers.{same_transfer}
 use Rattle.vme_cycle.proofs.transfer.Transfer.of.Goals as goal
 
 pub invariant_of-result : goal.invariant_of-result
 invariant_of-result c =
-    same_transfer c.args.request.now c.copy.result c.am.result c.in_ok-plan.plan (sym (c.in_ok-plan.ensures).plan) c.am.ensures c.copy.ensures
+    same_transfer c.args.request.now c.args.request.now c.am.result c.in_ok-plan.plan (sym (c.in_ok-plan.ensures).plan) c.am.ensures refl
 
 pub returns : goal.returns
-returns c = sym (same_transfer _ _ _ _ (sym (c.in_ok-plan.ensures).plan) c.am.ensures c.copy.ensures) ∙ ap transfer_of c.copy.ensures
+returns c =
+    sym (same_transfer c.args.request.now c.args.request.now c.am.result c.in_ok-plan.plan (sym (c.in_ok-plan.ensures).plan) c.am.ensures refl)

@@ -1,0 +1,12 @@
+-- A lawful request stays lawful as a transfer's own.
+use Rattle.std.proofs.Common.{sym, refl}
+use Rattle.vme_cycle.proofs.Transfers.{same_transfer}
+use Rattle.vme_cycle.proofs.transfer.Transfer.of_own.Goals as goal
+
+pub invariant_of-result : goal.invariant_of-result
+invariant_of-result c =
+    same_transfer c.args.request c.args.request c.am-am.result c.in_ok-of.field-0 (sym (c.in_ok-of.ensures).plan) c.am-am.ensures refl
+
+pub returns : goal.returns
+returns c =
+    sym (same_transfer c.args.request c.args.request c.am-am.result c.in_ok-of.field-0 (sym (c.in_ok-of.ensures).plan) c.am-am.ensures refl)
