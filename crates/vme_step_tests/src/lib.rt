@@ -10,3 +10,5 @@ mod devices;
 mod rows;
 #[cfg(test)]
 mod shared;
+#[cfg(test)]
+mod wide;
