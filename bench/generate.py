@@ -34,10 +34,13 @@ PROGRAM = [0x0A, 0x0E, 0x3A, 0x3E]
 A24_BLOCK = [0x3B, 0x3F]
 A32_BLOCK = [0x0B, 0x0F]
 BLOCK = A24_BLOCK + A32_BLOCK
+A24_WIDE = [0x38, 0x3C]
+A32_WIDE = [0x08, 0x0C]
+WIDE = A24_WIDE + A32_WIDE
 USER = list(range(0x10, 0x20))
 TOO_LARGE = list(range(0x40, 0x100))
 RESERVED = [
-    code for code in range(0x40) if code not in A16 + A24 + A32 + BLOCK + USER
+    code for code in range(0x40) if code not in A16 + A24 + A32 + BLOCK + WIDE + USER
 ]
 
 
@@ -88,6 +91,12 @@ def block_in(codes, first, size):
     count = 1 + below(16)
     address = first + UNIT * below((size - first) // UNIT) + within_unit(length, count)
     return block(pick(codes), address, length, count)
+
+
+def wide_block():
+    """Now and then of another length, misaligned, over a unit, or with nobody to answer."""
+    address = 8 * below(2 * BOARD_SIZE // 8) + pick([0, 0, 0, 0, 4])
+    return block(pick(A32_WIDE + WIDE), address, pick([8] * 7 + [4]), pick([1, 2, 3, 16, 256, 257]))
 
 
 def block_on_board():
@@ -232,7 +241,7 @@ def crossing_block():
 
 def any_block():
     """Often wrong in several ways, of which one is told."""
-    code = pick(BLOCK + BLOCK + [below(256)])
+    code = pick(BLOCK + BLOCK + WIDE + [below(256)])
     end = pick([1 << 32, 1 << 24, BOARD_SIZE, UNIT])
     address = min(end - 16 + below(20), 0xFFFFFFFF)
     return block(code, address, pick([1, 1, 2, 2, 4, 4, 3, 8]), pick([1, 2, 3, 4, 8, 16, 0, 257]))
@@ -307,6 +316,9 @@ OTHERS = [
     lambda: with_code(RESERVED),
     lambda: with_code(USER),
     lambda: with_code(BLOCK),
+    lambda: with_code(WIDE),
+    wide_block,
+    lambda: modify_in(WIDE, 0, BOARD_SIZE),
     lambda: with_code(TOO_LARGE),
     lambda: block_in(RESERVED + USER + TOO_LARGE, 0, BOARD_SIZE),
     lambda: block_in(A16 + A24 + A32, 0, BOARD_SIZE),

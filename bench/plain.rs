@@ -13,12 +13,16 @@ const LINE_LIMIT: usize = 80;
 const BYTES_LIMIT: usize = LINE_LIMIT / 2;
 const OUTPUT_CHUNK: usize = 64 * 1024;
 /// Room for the longest answer, that to a block of 256 data.
-const ANSWER_LIMIT: usize = 20 * 1024;
+const ANSWER_LIMIT: usize = 32 * 1024;
 const BOARD_SIZE: usize = 4096;
-const LANES: usize = 4;
+/// The address lines' four, which carry data of eight bytes alone, and the data lines' four.
+const LANES: usize = 8;
+const DATA_LANES: usize = 4;
 const SINGLE_BYTES: usize = 8;
+const WIDE_LENGTH: usize = 8;
 const BLOCK_DATA: usize = 256;
 const BLOCK_UNIT: u64 = 256;
+const WIDE_UNIT: u64 = 2048;
 
 /// Why a line is no request; the values are the digits printed.
 #[derive(Clone, Copy)]
@@ -69,6 +73,13 @@ enum Purpose {
     Data,
     Program,
     Block,
+    WideBlock,
+}
+
+impl Purpose {
+    fn is_block(&self) -> bool {
+        matches!(self, Purpose::Block | Purpose::WideBlock)
+    }
 }
 
 fn modifier(code: u8) -> Result<(Space, Purpose), Refusal> {
@@ -76,9 +87,11 @@ fn modifier(code: u8) -> Result<(Space, Purpose), Refusal> {
         0x09 | 0x0d => Ok((Space::A32, Purpose::Data)),
         0x0a | 0x0e => Ok((Space::A32, Purpose::Program)),
         0x0b | 0x0f => Ok((Space::A32, Purpose::Block)),
+        0x08 | 0x0c => Ok((Space::A32, Purpose::WideBlock)),
         0x39 | 0x3d => Ok((Space::A24, Purpose::Data)),
         0x3a | 0x3e => Ok((Space::A24, Purpose::Program)),
         0x3b | 0x3f => Ok((Space::A24, Purpose::Block)),
+        0x38 | 0x3c => Ok((Space::A24, Purpose::WideBlock)),
         0x29 | 0x2d => Ok((Space::A16, Purpose::Data)),
         0x10..=0x1f => Err(Refusal::UserCode),
         0x40.. => Err(Refusal::CodeTooLarge),
@@ -375,9 +388,10 @@ impl Request {
         self.length * self.count
     }
 
-    fn is_countable(&self) -> bool {
+    fn is_countable(&self, purpose: &Purpose) -> bool {
         let length_fits = match self.kind {
-            Kind::Single => self.length <= LANES,
+            Kind::Single => self.length <= DATA_LANES,
+            Kind::Block if *purpose == Purpose::WideBlock => self.length == WIDE_LENGTH,
             Kind::Block | Kind::Modify => matches!(self.length, 1 | 2 | 4),
         };
         let bytes_fit = match &self.access {
@@ -415,22 +429,28 @@ const fn location(offset: u32, length: usize, pins: [u8; 4], first_lane: usize) 
     }
 }
 
-// Lane 0 is D31-D24, lane 3 is D07-D00.
+// Lane 4 is D31-D24, lane 7 is D07-D00.
 static LOCATIONS: &[Location] = &[
-    location(0, 1, [L, H, L, H], 2),
-    location(1, 1, [H, L, L, H], 3),
-    location(2, 1, [L, H, H, H], 2),
-    location(3, 1, [H, L, H, H], 3),
-    location(0, 2, [L, L, L, H], 2),
-    location(2, 2, [L, L, H, H], 2),
-    location(0, 4, [L, L, L, L], 0),
-    location(0, 3, [L, H, L, L], 0),
-    location(1, 3, [H, L, L, L], 1),
-    location(1, 2, [L, L, H, L], 1),
+    location(0, 1, [L, H, L, H], 6),
+    location(1, 1, [H, L, L, H], 7),
+    location(2, 1, [L, H, H, H], 6),
+    location(3, 1, [H, L, H, H], 7),
+    location(0, 2, [L, L, L, H], 6),
+    location(2, 2, [L, L, H, H], 6),
+    location(0, 4, [L, L, L, L], 4),
+    location(0, 3, [L, H, L, L], 4),
+    location(1, 3, [H, L, L, L], 5),
+    location(1, 2, [L, L, H, L], 5),
 ];
+
+/// All lanes, under the strobes of four bytes.
+static WIDE: Location = location(0, WIDE_LENGTH, [L, L, L, L], 0);
 
 impl Location {
     fn find(address: u32, length: usize) -> Option<&'static Location> {
+        if length == WIDE_LENGTH {
+            return Some(&WIDE);
+        }
         LOCATIONS
             .iter()
             .find(|location| location.offset == address % 4 && location.length == length)
@@ -453,6 +473,8 @@ struct Signals {
     a01: u8,
     lword: u8,
     write: u8,
+    /// Those of eight bytes, or the data lines' alone.
+    first_lane: usize,
     lanes: [Option<u8>; LANES],
 }
 
@@ -473,13 +495,13 @@ struct Plan<'a> {
 impl<'a> Plan<'a> {
     fn of(request: &'a Request) -> Result<Self, Refusal> {
         let (space, purpose) = modifier(request.target.code)?;
-        if (purpose == Purpose::Block) != (request.kind == Kind::Block) {
+        if purpose.is_block() != (request.kind == Kind::Block) {
             return Err(Refusal::WrongKind);
         }
         if purpose == Purpose::Program && request.kind == Kind::Modify {
             return Err(Refusal::ProgramModify);
         }
-        if !request.is_countable() {
+        if !request.is_countable(&purpose) {
             return Err(Refusal::Count);
         }
         let address = request.target.address;
@@ -491,8 +513,12 @@ impl<'a> Plan<'a> {
         if request.kind != Kind::Single && address % request.length as u32 != 0 {
             return Err(Refusal::NoCycle);
         }
+        let unit = match purpose {
+            Purpose::WideBlock => WIDE_UNIT,
+            _ => BLOCK_UNIT,
+        };
         // Nothing but a block is long enough for this.
-        if u64::from(address) / BLOCK_UNIT != (end - 1) / BLOCK_UNIT {
+        if u64::from(address) / unit != (end - 1) / unit {
             return Err(Refusal::CrossesUnit);
         }
         Ok(Plan {
@@ -513,6 +539,7 @@ impl<'a> Plan<'a> {
             a01: self.first.a01,
             lword: self.first.lword,
             write,
+            first_lane: if location.length == WIDE_LENGTH { 0 } else { LANES - DATA_LANES },
             lanes,
         }
     }
@@ -622,7 +649,7 @@ mod print {
             signals.lword,
             signals.write,
         )?;
-        for lane in signals.lanes {
+        for lane in &signals.lanes[signals.first_lane..] {
             match lane {
                 Some(byte) => write!(buffer, "{byte:02x}")?,
                 None => buffer.push_str("--"),
@@ -694,7 +721,7 @@ mod print {
         push(buffer, b" lword=", signals.lword);
         push(buffer, b" write=", signals.write);
         buffer.extend_from_slice(b" data=");
-        for lane in signals.lanes {
+        for lane in &signals.lanes[signals.first_lane..] {
             buffer.extend_from_slice(&lane.map_or(*b"--", hex));
         }
         buffer.push(b'\n');
