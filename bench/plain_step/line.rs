@@ -4,6 +4,7 @@ use crate::memory::{Bytes, Function, Space};
 
 const LINE_LIMIT: usize = 80;
 const BLOCK_UNIT: u64 = 256;
+const WIDE_UNIT: u64 = 2048;
 
 pub enum Line {
     Bus(Transfer),
@@ -238,6 +239,7 @@ enum Use {
     Data,
     Program,
     Block,
+    WideBlock,
 }
 
 fn modifier(code: u8) -> Result<(Space, Use), u8> {
@@ -249,7 +251,7 @@ fn modifier(code: u8) -> Result<(Space, Use), u8> {
             1 => Use::Data,
             2 => Use::Program,
             3 => Use::Block,
-            _ => return Err(1),
+            _ => Use::WideBlock,
         },
     };
     match code >> 3 {
@@ -265,7 +267,7 @@ pub fn has_location(address: u32, length: usize) -> bool {
         1 => true,
         2 => address % 4 != 3,
         3 => address % 4 < 2,
-        4 => address % 4 == 0,
+        4 | 8 => address % 4 == 0,
         _ => false,
     }
 }
@@ -279,13 +281,18 @@ fn plan(
     access: Access,
 ) -> Result<Transfer, u8> {
     let (space, purpose) = modifier(code)?;
-    if (purpose == Use::Block) != (kind == Kind::Block) {
+    let is_wide = purpose == Use::WideBlock;
+    if (is_wide || purpose == Use::Block) != (kind == Kind::Block) {
         return Err(5);
     }
     if purpose == Use::Program && kind == Kind::Modify {
         return Err(7);
     }
-    let lengths: &[usize] = if kind == Kind::Single { &[1, 2, 3, 4] } else { LOCAL_LENGTH };
+    let lengths: &[usize] = match kind {
+        Kind::Single => &[1, 2, 3, 4],
+        Kind::Block if is_wide => &[8],
+        _ => LOCAL_LENGTH,
+    };
     if !lengths.contains(&length) || !(1..=256).contains(&count) {
         return Err(8);
     }
@@ -296,7 +303,8 @@ fn plan(
     if !has_location(address, length) || kind != Kind::Single && address as usize % length != 0 {
         return Err(3);
     }
-    if u64::from(address) / BLOCK_UNIT != (end - 1) / BLOCK_UNIT {
+    let unit = if is_wide { WIDE_UNIT } else { BLOCK_UNIT };
+    if u64::from(address) / unit != (end - 1) / unit {
         return Err(6);
     }
     let supervisory = code & 4 != 0;
