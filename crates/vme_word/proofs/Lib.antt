@@ -1,2 +1,3 @@
 pub mod Enables
 pub mod Shifts
+mod Lanes

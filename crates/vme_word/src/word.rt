@@ -1,4 +1,4 @@
-ghost use Rattle.std.specs.Prelude.{◌≡◌, ◌+◌, ◌≤◌, ◌<◌, Some, IsTrue, length, take, ◌++◌, slice_get, slice_range};
+ghost use Rattle.std.specs.Prelude.{◌≡◌, ◌+◌, ◌≤◌, ◌<◌, Some, unwrap_or, IsTrue, length, take, ◌++◌, slice_get, slice_range};
 ghost use Rattle.vme_lanes.specs.Rows.{row_of};
 ghost use Rattle.vme_lanes.specs.Lanes.{carries, bytes_on};
 ghost use Rattle.vme_word.specs.Words.{bytes_after_write, word_bytes, part_of, enables_of};
@@ -72,12 +72,18 @@ pub fn driven_word(location: Location, lines: DataLines) -> u32
     ensures bytes { part_of location result ≡ bytes_on location lines.lanes }
     ensures len { length (bytes_on location lines.lanes) ≡ (row_of location).len }
 {
-    let [d31, d23, d15, d07] = lines.lanes.map(|lane| lane.unwrap_or(0));
+    let [.., d31, d23, d15, d07] = lines.lanes;
     if Strobes::of(location).lword {
-        word_of([d15, d07, d15, d07])
+        word_of([byte(d15), byte(d07), byte(d15), byte(d07)])
     } else {
-        word_of([d31, d23, d15, d07])
+        word_of([byte(d31), byte(d23), byte(d15), byte(d07)])
     }
+}
+
+fn byte(lane: Option<u8>) -> u8
+    ensures { result ≡ unwrap_or lane 0 }
+{
+    lane.unwrap_or(0)
 }
 
 /// A word with these bytes at the place of a location, and zeros elsewhere.
@@ -151,6 +157,28 @@ pub fn bytes_at(location: Location, word: u32) -> Datum
         Location::Bytes02 => datum(&[a, b, c]),
         Location::Bytes13 => datum(&[b, c, d]),
         Location::Bytes12 => datum(&[b, c]),
+    }
+}
+
+/// The eight bytes of two words, one behind the other.
+#[tactic(auto, unfolding(crate::specs::Words::word_bytes))]
+pub fn bytes_of_pair(here: u32, next: u32) -> Datum
+    ensures value { result.items ≡ word_bytes here ++ word_bytes next }
+    ensures len { length result.items ≡ 8 }
+{
+    let [a, b, c, d] = bytes_of(here);
+    let [e, f, g, h] = bytes_of(next);
+    datum(&[a, b, c, d, e, f, g, h])
+}
+
+/// The two words of eight bytes, one behind the other.
+pub fn pair_of(bytes: &[u8]) -> (u32, u32)
+    requires { length bytes.now ≡ 8 }
+    ensures { word_bytes result.0 ++ word_bytes result.1 ≡ bytes.now }
+{
+    match bytes {
+        [a, b, c, d, e, f, g, h] => (word_of([*a, *b, *c, *d]), word_of([*e, *f, *g, *h])),
+        _ => unreachable!(),
     }
 }
 
