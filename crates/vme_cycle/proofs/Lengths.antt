@@ -1,5 +1,6 @@
--- What a slave senses of a datum, wherever it has counted to, is as long as the datum.
-use Rattle.std.proofs.Common.{◌≡◌, ℕ, ◌%◌, ◌<◌, zero, Bool, true, false, not, Some, option_map, ap, sym, ◌∙◌, arith, refl, inl, inr}
+-- What a slave senses of a datum, wherever it has counted to, is with the code as long as the datum.
+use Rattle.std.proofs.Common.{◌≡◌, ℕ, ◌%◌, ◌<◌, zero, Bool, true, false, not, Some, ap, sym, ◌∙◌, arith, refl, inl, inr}
+use Rattle.std.specs.Option.{option_and_then}
 use Rattle.std.specs.Prelude.{◌==◌, nat_le}
 use Rattle.std.proofs.lemmas.Bool.{cases_Bool, eqb-true}
 use Rattle.vme_am.specs.Kinds.{is_block}
@@ -7,14 +8,14 @@ use Rattle.vme_lanes.specs.declared.location.Location.{Location}
 use Rattle.vme_lanes.specs.declared.location.Location.TheVariants.{Byte0, Byte1, Byte2, Byte3, Bytes01, Bytes23, Bytes03, Bytes02, Bytes13, Bytes12}
 use Rattle.vme_lanes.specs.declared.location.Strobes.{Strobes}
 use Rattle.vme_lanes.specs.Rows.{row_of, location_sensed}
-use Rattle.vme_lanes.proofs.Tables.{own_sensed, found_row}
-use Rattle.vme_cycle.specs.Requests.{datum_len, count_of, is_block_request, address_of}
+use Rattle.vme_lanes.proofs.Tables.{own_sensed}
+use Rattle.vme_cycle.specs.Requests.{datum_len, count_of, is_block_request}
 use Rattle.vme_cycle.specs.Lawful.{Transfer}
 use Rattle.vme_cycle.specs.Parts.{IsLawful}
-use Rattle.vme_cycle.specs.SignalLines.{row_len, sensed_at}
+use Rattle.vme_cycle.specs.SignalLines.{len_with, chosen_len, row_len, sensed_at}
 use Rattle.vme_cycle.specs.Plans.{signals_of}
 use Rattle.vme_cycle.proofs.Lawful.{single}
-use Rattle.vme_cycle.proofs.Blocks.{block_datum_row, datum_found, same_lword}
+use Rattle.vme_cycle.proofs.Blocks.{block_datum_row, datum_found, datum_placed, same_lword}
 use Rattle.vme_cycle.proofs.Transfers.{own_is}
 
 -- the strobes of a location, with A01 at a level
@@ -22,7 +23,7 @@ abbrev counted_strobes : Location → Bool → Strobes
 counted_strobes own high = record (row_of own).strobes { a01 = high }
 
 -- where LWORD* is high, A01 moves the bytes and does not change their number
-moved_len : (own : Location) (high : Bool) → (row_of own).strobes.lword ≡ true → row_len (counted_strobes own high) ≡ Some (row_of own).len
+moved_len : (own : Location) (high : Bool) → (row_of own).strobes.lword ≡ true → row_len false (counted_strobes own high) ≡ Some (row_of own).len
 unfolding location_sensed
 moved_len Byte0 true h = refl
 moved_len Byte0 false h = refl
@@ -59,27 +60,26 @@ quad_len Bytes02 l r high four is sensed first = absurd cc
 quad_len Bytes13 l r high four is sensed first = absurd cc
 quad_len Bytes12 l r high four is sensed first = absurd cc
 
--- what is sensed in a block is as long as the datum
+-- what is sensed in a block is as long as the datum's own location
 block_len :
-    (own l : Location) (n r : ℕ) → (row_of own).len ≡ n → (row_of own).strobes.lword ≡ not (n == 4)
-    → location_sensed (counted_strobes own (nat_le 2 r)) ≡ Some l → (row_of l).first ≡ r → (row_of l).len ≡ n
-block_len own l n r long lword sensed first =
-    elim (cases_Bool (n == 4)) [
+    (own l : Location) (r : ℕ) → (row_of own).strobes.lword ≡ not ((row_of own).len == 4)
+    → location_sensed (counted_strobes own (nat_le 2 r)) ≡ Some l → (row_of l).first ≡ r → (row_of l).len ≡ (row_of own).len
+block_len own l r lword sensed first =
+    elim (cases_Bool ((row_of own).len == 4)) [
       | inl four ↦
-          let is : n ≡ 4 = eqb-true n 4 four in
-          quad_len own l r (nat_le 2 r) (long ∙ is) refl sensed first ∙ sym is
+          let long : (row_of own).len ≡ 4 = eqb-true _ 4 four in
+          quad_len own l r (nat_le 2 r) long refl sensed first ∙ sym long
       | inr other ↦
           let high : (row_of own).strobes.lword ≡ true = rw other at lword in
           let moved = moved_len own (nat_le 2 r) high in
-          let found : row_len (counted_strobes own (nat_le 2 r)) ≡ Some (row_of l).len = ap (option_map (λ m. (row_of m).len)) sensed in
-          let same : (row_of l).len ≡ (row_of own).len = cc in
-          same ∙ long
+          let found : row_len false (counted_strobes own (nat_le 2 r)) ≡ Some (row_of l).len = ap (option_and_then (chosen_len false)) sensed in
+          cc
     ]
 
 -- wherever a slave has counted to, what it senses there at its own place is as long as the datum
 pub sensed_len :
     (t : Transfer) (i at : ℕ) (l : Location) → IsLawful t.am t.request → i < count_of t.request → sensed_at (signals_of t i) at ≡ Some l
-    → (row_of l).first ≡ at % 4 → (row_of l).len ≡ datum_len t.request
+    → (row_of l).first ≡ at % 4 → chosen_len t.am.wide l ≡ Some (datum_len t.request)
 unfolding signals_of
 sensed_len t i at l is less sensed place =
     elim (cases_Bool (is_block_request t.request)) [
@@ -92,7 +92,8 @@ sensed_len t i at l is less sensed place =
           let here = own_is t i own.0 own.1.at.found in
           let lword = same_lword t.am t.request i first.0 own.0 is less first.1 own.1.at.found in
           let shown : location_sensed (counted_strobes own.0 (nat_le 2 (at % 4))) ≡ Some l = rw (kind, first_is, here, lword) at sensed in
-          block_len own.0 l (datum_len t.request) (at % 4) own.1.at.len own.1.lword shown place
+          let placed = datum_placed t.am t.request i own.0 is less own.1.at.found in
+          ap (len_with t.am.wide) (block_len own.0 l (at % 4) own.1.quad shown place) ∙ placed.1
       | inr alone ↦
           let kind : is_block t.am.kind ≡ false = is.kind ∙ alone in
           let one = single t.request alone in
@@ -101,5 +102,5 @@ sensed_len t i at l is less sensed place =
           let here = own_is t i own.0 own.1 in
           let shown : location_sensed (row_of own.0).strobes ≡ Some l = rw (kind, ← none, here) at sensed in
           let same : own.0 ≡ l = let mine = own_sensed own.0 in cc in
-          ap (λ m. (row_of m).len) (sym same) ∙ (found_row (address_of t.request i) (datum_len t.request) own.0 own.1).1
+          ap (λ m. chosen_len t.am.wide m) (sym same) ∙ (datum_placed t.am t.request i own.0 is less own.1).1
     ]

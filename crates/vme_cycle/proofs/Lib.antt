@@ -1,4 +1,5 @@
 mod Ands
+pub mod Wide
 mod Lawful
 mod Blocks
 pub mod Transfers

@@ -6,17 +6,16 @@ use Rattle.vme_am.specs.Codes.{CodeRow, read_code}
 use Rattle.vme_am.specs.Kinds.{is_block}
 use Rattle.vme_lanes.specs.declared.location.Location.{Location}
 use Rattle.vme_lanes.specs.declared.location.Location.TheVariants.{Byte0}
-use Rattle.vme_lanes.specs.Rows.{row_of, location_at, location_sensed}
-use Rattle.vme_lanes.proofs.Tables.{found_row}
+use Rattle.vme_lanes.specs.Rows.{row_of, location_sensed}
 use Rattle.vme_cycle.specs.declared.request.Request.{Request}
 use Rattle.vme_cycle.specs.declared.fault.CycleFault.{CycleFault}
 use Rattle.vme_cycle.specs.Requests.{code_of, datum_len, count_of, address_of}
-use Rattle.vme_cycle.specs.Lawful.{Transfer, first_refusal, transfer_with, refusal_or, transfer_of, IsLawfulTransfer}
+use Rattle.vme_cycle.specs.Lawful.{Transfer, location_for, first_refusal, transfer_with, refusal_or, transfer_of, IsLawfulTransfer}
 use Rattle.vme_cycle.specs.Parts.{IsLawful}
-use Rattle.vme_cycle.specs.SignalLines.{SignalLines, sensed_at}
+use Rattle.vme_cycle.specs.SignalLines.{SignalLines, chosen_len, sensed_at}
 use Rattle.vme_cycle.specs.Plans.{location_from, own_location, signals_of}
 use Rattle.vme_cycle.proofs.Lawful.{lawful}
-use Rattle.vme_cycle.proofs.Blocks.{datum_found, counts_on}
+use Rattle.vme_cycle.proofs.Blocks.{datum_found, datum_placed, counts_on}
 
 -- what a transfer comes from
 pub record ComesFrom (request : Request) (t : Transfer) : Type 0 where
@@ -63,7 +62,7 @@ pub lawful_parts : (t : Transfer) → IsLawfulTransfer t → IsLawful t.am t.req
 lawful_parts t h = let from = comes_from t.request t h in lawful t.am t.request from.row from.none
 
 -- the location of a datum that is found
-pub own_is : (t : Transfer) (i : ℕ) (l : Location) → location_at (address_of t.request i) (datum_len t.request) ≡ Some l → own_location t i ≡ l
+pub own_is : (t : Transfer) (i : ℕ) (l : Location) → location_for (address_of t.request i) (datum_len t.request) ≡ Some l → own_location t i ≡ l
 unfolding location_from
 own_is t i l found = ap (λ at. unwrap_or at Byte0) found
 
@@ -87,11 +86,11 @@ own_sensed_at t i at is less same =
     ∙ counts_on t.am t.request i first.0 own.0 (signals_of t i) is less first.1 own.1 refl (rw (← first_is, ← here) refl)
     ∙ ap Some (sym here)
 
--- that location has the place and the length of the datum
+-- that location has the place of the datum, and with the code its length
 pub own_row :
     (t : Transfer) (i : ℕ) → IsLawful t.am t.request → i < count_of t.request
-    → ((row_of (own_location t i)).first ≡ address_of t.request i % 4) × ((row_of (own_location t i)).len ≡ datum_len t.request)
+    → ((row_of (own_location t i)).first ≡ address_of t.request i % 4) × (chosen_len t.am.wide (own_location t i) ≡ Some (datum_len t.request))
 own_row t i is less =
     let own = datum_found t.am t.request i is less in
-    let row = found_row (address_of t.request i) (datum_len t.request) own.0 own.1 in
+    let row = datum_placed t.am t.request i own.0 is less own.1 in
     rw (own_is t i own.0 own.1) row

@@ -1,15 +1,17 @@
 -- Lawful requests: the refusals in their order, and the transfer of a request that has none.
-use Rattle.std.specs.Prelude.{◌≡◌, ◌+◌, ◌-◌, ◌/◌, ◌%◌, nat_lt, Bool, false, not, ◌==◌, ◌&&◌, ◌||◌, if◌then◌else◌, List, [], ◌∷◌, is_none, is_some, Option, Some, None, Result, Ok, Err}
+use Rattle.std.specs.Prelude.{ℕ, ◌≡◌, ◌+◌, ◌-◌, ◌%◌, nat_lt, Bool, false, not, ◌==◌, ◌&&◌, ◌||◌, if◌then◌else◌, List, [], ◌∷◌, is_none, is_some, Option, Some, None, Result, Ok, Err}
 use Rattle.std.specs.Bool.{beq}
 use Rattle.vme_am.specs.declared.code.AmFault.{AmFault}
 use Rattle.vme_am.specs.Spaces.{addresses_of}
 use Rattle.vme_am.specs.Kinds.{is_block, is_program}
 use Rattle.vme_am.specs.Codes.{CodeRow, read_code}
 use Rattle.vme_lanes.specs.declared.location.Location.{Location}
+use Rattle.vme_lanes.specs.declared.location.Location.TheVariants.{Bytes03}
 use Rattle.vme_lanes.specs.Rows.{location_at}
 use Rattle.vme_cycle.specs.declared.request.Request.{Request}
 use Rattle.vme_cycle.specs.declared.fault.CycleFault.{CycleFault}
 use Rattle.vme_cycle.specs.declared.fault.CycleFault.TheVariants.{Code, WrongKindOfCode, ProgramModify, BadCount, OutsideSpace, NoCycle, CrossesBoundary}
+use Rattle.vme_cycle.specs.Counts.{is_wide_len, unit_of}
 use Rattle.vme_cycle.specs.Refusals.{where_true, first_of}
 use Rattle.vme_cycle.specs.Requests.{code_of, addr_of, datum_len, span_of, is_block_request, function_of, is_counted}
 
@@ -33,17 +35,23 @@ row_passes test (Err fault) = false
 abbrev pub is_aligned_kind : Request → Bool
 is_aligned_kind request = is_block_request request || is_some (function_of request)
 
+-- the byte location of n bytes from an address on (IEEE 1014, section 2.2.1); eight bytes go with the strobes of BYTE(0-3)
+-- (this project's own)
+abbrev pub location_for : ℕ → ℕ → Option Location
+location_for addr n = if is_wide_len n then Some Bytes03 else location_at addr n
+
 -- the byte location of the first datum (IEEE 1014, section 2.2.1)
 abbrev pub first_location : Request → Option Location
 first_location request =
     if is_aligned_kind request && not (addr_of request % datum_len request == 0) then None
-    else location_at (addr_of request) (datum_len request)
+    else location_for (addr_of request) (datum_len request)
 
 -- whether a block's first and last byte lie in different units of 256 bytes (IEEE 1014, section 2.3.6: a block crosses no
--- 256-byte boundary)
+-- 256-byte boundary), or of 2,048 where its data have eight (this project's own)
 abbrev pub crosses_boundary : Request → Bool
 crosses_boundary request =
-    is_block_request request && not (addr_of request / 256 == (addr_of request + span_of request - 1) / 256)
+    is_block_request request
+    && not (unit_of (datum_len request) (addr_of request) == unit_of (datum_len request) (addr_of request + span_of request - 1))
 
 -- the refusals that hold of a request, in the order in which they are told: a code without a row; a block without a block
 -- code, or a block code without a block; a read-modify-write with a program code; numbers or bytes that do not agree; a byte

@@ -1,18 +1,18 @@
 -- The signals of the data of a lawful request.
-use Rattle.std.specs.Prelude.{ℕ, ◌-◌, ◌%◌, false, List, Option, Some, None, is_none, unwrap_or}
+use Rattle.std.specs.Prelude.{ℕ, ◌-◌, ◌%◌, Bool, false, List, Option, Some, None, is_none, unwrap_or}
 use Rattle.vme_lanes.specs.declared.location.Location.{Location}
 use Rattle.vme_lanes.specs.declared.location.Location.TheVariants.{Byte0}
 use Rattle.vme_lanes.specs.declared.location.Strobes.{Strobes}
-use Rattle.vme_lanes.specs.Rows.{row_of, location_at}
+use Rattle.vme_lanes.specs.Rows.{row_of}
 use Rattle.vme_lanes.specs.Lanes.{lanes_with, idle_lanes}
 use Rattle.vme_cycle.specs.Requests.{addr_of, datum_len, datum_of, address_of}
-use Rattle.vme_cycle.specs.Lawful.{Transfer}
-use Rattle.vme_cycle.specs.SignalLines.{SignalLines}
+use Rattle.vme_cycle.specs.Lawful.{Transfer, location_for}
+use Rattle.vme_cycle.specs.SignalLines.{SignalLines, placed_lanes}
 
 -- the location of n bytes from an address on; that of a lawful request's datum is in the table, and the first row stands
 -- for none (IEEE 1014, section 2.2.1)
 unfoldable pub location_from : ℕ → ℕ → Location
-location_from addr n = unwrap_or (location_at addr n) Byte0
+location_from addr n = unwrap_or (location_for addr n) Byte0
 
 -- the location of datum i by itself (IEEE 1014, section 2.2.1)
 abbrev pub own_location : Transfer → ℕ → Location
@@ -22,10 +22,10 @@ own_location t i = location_from (address_of t.request i) (datum_len t.request)
 abbrev pub shown_strobes : Strobes → Strobes → Strobes
 shown_strobes first own = record { ds1 = own.ds1; ds0 = own.ds0; a01 = first.a01; lword = first.lword }
 
--- the master drives the lanes in a write alone (IEEE 1014, section 2.2.3)
-abbrev pub driven_lanes : Location → Option (List ℕ) → List (Option ℕ)
-driven_lanes location (Some bytes) = lanes_with location bytes
-driven_lanes location None = idle_lanes
+-- the master drives the lanes in a write alone: those that code and location choose (IEEE 1014, section 2.2.3)
+abbrev pub driven_lanes : Bool → Location → Option (List ℕ) → List (Option ℕ)
+driven_lanes wide location (Some bytes) = placed_lanes wide location bytes
+driven_lanes wide location None = idle_lanes
 
 -- what the lines show of datum i before a slave answers: the address lines are those of the first datum and leave out the
 -- last two bits, and WRITE* is low for a write (IEEE 1014, sections 2.2.1 and 2.2.4)
@@ -35,7 +35,7 @@ signals_of t i = record {
   addr = addr_of t.request - addr_of t.request % 4;
   strobes = shown_strobes (row_of (own_location t 0)).strobes (row_of (own_location t i)).strobes;
   write = is_none (datum_of t.request i);
-  lanes = driven_lanes (own_location t i) (datum_of t.request i);
+  lanes = driven_lanes t.am.wide (own_location t i) (datum_of t.request i);
 }
 
 -- what the lines show in the write half of a read-modify-write: those of its read half, but WRITE* low and the bytes driven

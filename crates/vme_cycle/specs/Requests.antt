@@ -4,7 +4,7 @@ use Rattle.vme_cycle.specs.declared.request.Request.{Request}
 use Rattle.vme_cycle.specs.declared.request.Request.TheVariants.{Read, Write, BlockRead, BlockWrite, BlockFill, Modify}
 use Rattle.vme_cycle.specs.declared.modify.Modify as functions
 use Rattle.vme_cycle.specs.Functions.{has_len}
-use Rattle.vme_cycle.specs.Counts.{is_single_len, is_block_len, is_modify_len, is_block_count}
+use Rattle.vme_cycle.specs.Counts.{is_single_len, is_datum_len, is_modify_len, is_block_count, is_wide_code}
 
 -- the address modifier code of a request (this project's own)
 abbrev pub code_of : Request → ℕ
@@ -79,13 +79,15 @@ datum_of (BlockWrite am addr n bytes) i = Some (slice_range bytes.items (i * n) 
 datum_of (BlockFill am addr n count bytes) i = Some bytes.items
 datum_of (Modify am addr n f) i = None
 
--- whether its numbers and its bytes agree (this project's own)
+-- whether its numbers and its bytes agree; the length of a block's data goes by its code (this project's own)
 abbrev pub is_counted : Request → Bool
 is_counted (Read am addr n) = is_single_len n
 is_counted (Write am addr bytes) = is_single_len (length bytes.items)
-is_counted (BlockRead am addr n count) = is_block_len n && is_block_count count
-is_counted (BlockWrite am addr n bytes) = is_block_len n && is_block_count (length bytes.items / n) && length bytes.items % n == 0
-is_counted (BlockFill am addr n count bytes) = is_block_len n && is_block_count count && length bytes.items == n
+is_counted (BlockRead am addr n count) = is_datum_len (is_wide_code am) n && is_block_count count
+is_counted (BlockWrite am addr n bytes) =
+    is_datum_len (is_wide_code am) n && is_block_count (length bytes.items / n) && length bytes.items % n == 0
+is_counted (BlockFill am addr n count bytes) =
+    is_datum_len (is_wide_code am) n && is_block_count count && length bytes.items == n
 is_counted (Modify am addr n f) = is_modify_len n && has_len f n
 
 -- how many bytes it reads or writes in all (this project's own)

@@ -20,7 +20,8 @@ pub enum CycleFault {
     /// K3: no byte location has these bytes, or a block or a read-modify-write begins at
     /// no multiple of its data's length.
     NoCycle,
-    /// K6: a block's first and last byte lie in different units of 256 bytes.
+    /// K6: a block's first and last byte lie in different units of 256 bytes, or of 2,048 where its
+    /// data have eight.
     CrossesBoundary,
 }
 

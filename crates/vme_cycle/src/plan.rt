@@ -1,23 +1,23 @@
 ghost use Rattle.std.specs.Prelude.{◌≡◌, ◌<◌, ◌≤◌, ◌+◌, ◌*◌, ◌^◌, ◌%◌, ◌↔◌, length, Some, None, IsSome, IsTrue, IsOk, IfErr, IfSome};
-ghost use Rattle.vme_lanes.specs.Rows.{row_of, location_at};
+ghost use Rattle.vme_lanes.specs.Rows.{row_of};
 ghost use Rattle.std.specs.Option.{option_map};
 ghost use Rattle.vme_cycle.specs.Functions.{has_len};
 ghost use Rattle.vme_cycle.specs.Requests.{addr_of, function_of, reads, datum_len, count_of, address_of, reply_room};
-ghost use Rattle.vme_cycle.specs.Lawful.{first_refusal, transfer_of, IsLawfulTransfer};
+ghost use Rattle.vme_cycle.specs.Lawful.{location_for, first_refusal, transfer_of, IsLawfulTransfer};
 ghost use Rattle.vme_cycle.specs.Parts.{IsLawful};
-ghost use Rattle.vme_cycle.specs.SignalLines.{row_len, first_byte, sensed_at, len_at};
+ghost use Rattle.vme_cycle.specs.SignalLines.{chosen_len, row_len, first_byte, sensed_at, len_at};
 ghost use Rattle.vme_cycle.specs.Plans.{shown_strobes, own_location, signals_of, write_half_of};
 
 use crate::fault::CycleFault;
 use crate::modify::Modify;
-use crate::request::Request;
-use crate::signals::Signals;
+use crate::request::{Request, location_for};
+use crate::signals::{Signals, placed};
 use std::marker::Model;
 use vme_am::Am;
 use vme_lanes::{DataLines, Datum, Location, place};
 
 /// How a lawful request goes over the bus: the cycle that each of its data is.
-#[derive(Debug, Drop)]
+#[derive(Drop)]
 pub struct Plan<'a> {
     am: Am,
     request: &'a Request,
@@ -51,7 +51,7 @@ impl<'a> Plan<'a> {
         if request.function().is_some() && am.kind().is_program() {
             return Err(CycleFault::ProgramModify);
         }
-        if !request.is_counted() {
+        if !request.is_counted(am.wide()) {
             return Err(CycleFault::BadCount);
         }
         if request.end() > am.space().addresses() {
@@ -87,7 +87,7 @@ impl<'a> Plan<'a> {
     pub fn len(&self) -> u16
         ensures value { result ≡ count_of self.now.request }
         ensures some { 0 < result }
-        ensures unit { datum_len self.now.request * result ≤ 256 }
+        ensures unit { datum_len self.now.request * result ≤ 2048 }
         ensures end { addr_of self.now.request + datum_len self.now.request * result ≤ 2 ^ 32 }
     {
         self.request().count()
@@ -96,7 +96,7 @@ impl<'a> Plan<'a> {
     /// The number of bytes of each datum.
     pub fn datum_len(&self) -> u8
         ensures value { result ≡ datum_len self.now.request }
-        ensures size { (1 ≤ result) × (result ≤ 4) }
+        ensures size { (1 ≤ result) × (result ≤ 8) }
     {
         self.request().datum_len()
     }
@@ -147,9 +147,9 @@ impl<'a> Plan<'a> {
         requires { i < count_of self.now.request }
         ensures value { result ≡ signals_of self.now i }
         ensures sensed { sensed_at result (address_of self.now.request i)
-            ≡ location_at (address_of self.now.request i) (datum_len self.now.request) }
+            ≡ location_for (address_of self.now.request i) (datum_len self.now.request) }
         ensures first { i ≡ 0 → first_byte result ≡ Some (addr_of self.now.request) }
-        ensures len { (row_len result.strobes ≡ Some (datum_len self.now.request))
+        ensures len { (row_len result.am.wide result.strobes ≡ Some (datum_len self.now.request))
             × (len_at result (address_of self.now.request i) ≡ Some (datum_len self.now.request)) }
     {
         let request = self.request();
@@ -157,7 +157,7 @@ impl<'a> Plan<'a> {
         let location = shown_location(self.location(0), self.location(i));
         let read = bytes.is_none();
         let lines = match bytes {
-            Some(bytes) => place(location, bytes),
+            Some(bytes) => placed(self.am().wide(), location, bytes),
             None => DataLines::IDLE,
         };
         Signals::new(self.am(), request.addr(), location, read, lines)
@@ -182,15 +182,15 @@ impl<'a> Plan<'a> {
     fn location(&self, i: u16) -> Location
         requires { i < count_of self.now.request }
         ensures value { result ≡ own_location self.now i }
-        ensures found { location_at (address_of self.now.request i) (datum_len self.now.request)
+        ensures found { location_for (address_of self.now.request i) (datum_len self.now.request)
             ≡ Some result }
         ensures first { (row_of result).first ≡ address_of self.now.request i % 4 }
-        ensures len { (row_of result).len ≡ datum_len self.now.request }
+        ensures len { chosen_len self.now.am.wide result ≡ Some (datum_len self.now.request) }
     {
         let request = self.request();
         let n = request.datum_len();
         let address = request.addr() + u32::from(i) * u32::from(n);
-        Location::of(address, n).unwrap()
+        location_for(address, n).unwrap()
     }
 }
 

@@ -1,5 +1,6 @@
 ghost use Rattle.std.specs.Prelude.{◌≡◌, ◌+◌, ◌<◌, length, IfSome, IsTrue};
-ghost use Rattle.vme_cycle.specs.Counts.{is_block_len, is_block_count};
+ghost use Rattle.vme_cycle.specs.Counts.{is_datum_len, is_block_count, is_wide_code};
+ghost use Rattle.vme_cycle.specs.Lawful.{location_for};
 
 use crate::modify::Modify;
 use vme_block::Block;
@@ -7,6 +8,12 @@ use vme_lanes::{Datum, Location};
 
 /// How many addresses lie between the boundaries that no block crosses.
 const BOUNDARY: u64 = 256;
+
+/// As many where its data have eight bytes.
+const WIDE_BOUNDARY: u64 = 2048;
+
+/// How many bytes a datum has with a code of eight-byte data.
+const WIDE_LEN: u8 = 8;
 
 /// What a master asks of the bus. `am` is the address modifier code, `addr` the address of the
 /// first byte, `n` the number of bytes of each datum.
@@ -55,11 +62,27 @@ pub enum Request {
     },
 }
 
-/// The lengths of the data of a block, which are those of a read-modify-write.
-fn is_block_len(n: u8) -> bool
-    ensures { result ≡ is_block_len n }
+/// The lengths of the data of a block, by whether its code is one of eight-byte data; without, they
+/// are those of a read-modify-write.
+fn is_datum_len(wide: bool, n: u8) -> bool
+    ensures { result ≡ is_datum_len wide n }
 {
-    n == 1 || n == 2 || n == 4
+    if wide {
+        n == WIDE_LEN
+    } else {
+        n == 1 || n == 2 || n == 4
+    }
+}
+
+/// The location of `n` bytes from an address on: eight bytes go with the strobes of BYTE(0-3).
+pub(crate) fn location_for(addr: u32, n: u8) -> Option<Location>
+    ensures { result ≡ location_for addr n }
+{
+    if n == WIDE_LEN {
+        Some(Location::Bytes03)
+    } else {
+        Location::of(addr, n)
+    }
 }
 
 /// The numbers of data of a block.
@@ -165,19 +188,20 @@ impl Request {
         }
     }
 
-    /// Whether its numbers and its bytes agree.
-    pub(crate) fn is_counted(&self) -> bool
+    /// Whether its numbers and its bytes agree, where its code is one of eight-byte data or not.
+    pub(crate) fn is_counted(&self, wide: bool) -> bool
+        requires { is_wide_code (code_of self.now) ≡ wide }
         ensures { result ≡ is_counted self.now }
     {
         match self {
             Request::Read { n, .. } => (1..=4).contains(n),
             Request::Write { bytes, .. } => (1..=4).contains(&bytes.len()),
             Request::BlockRead { n, count, .. } => {
-                is_block_len(*n) && is_block_count(usize::from(*count))
+                is_datum_len(wide, *n) && is_block_count(usize::from(*count))
             }
             Request::BlockWrite { n, bytes, .. } => {
                 let len = bytes.len();
-                is_block_len(*n)
+                is_datum_len(wide, *n)
                     && is_block_count(len / usize::from(*n))
                     && len % usize::from(*n) == 0
             }
@@ -187,11 +211,11 @@ impl Request {
                 bytes,
                 ..
             } => {
-                is_block_len(*n)
+                is_datum_len(wide, *n)
                     && is_block_count(usize::from(*count))
                     && bytes.len() == usize::from(*n)
             }
-            Request::Modify { n, f, .. } => is_block_len(*n) && f.has_len(*n),
+            Request::Modify { n, f, .. } => is_datum_len(false, *n) && f.has_len(*n),
         }
     }
 
@@ -242,14 +266,20 @@ impl Request {
         if is_aligned_kind && self.addr() % u32::from(self.datum_len()) != 0 {
             return None;
         }
-        Location::of(self.addr(), self.datum_len())
+        location_for(self.addr(), self.datum_len())
     }
 
-    /// Whether a block's first and last byte lie in different units of 256 bytes.
+    /// Whether a block's first and last byte lie in different units of 256 bytes, or of 2,048 where
+    /// its data have eight.
     pub(crate) fn crosses_boundary(&self) -> bool
         requires { IsTrue (is_counted self.now) }
         ensures { result ≡ crosses_boundary self.now }
     {
-        self.is_block() && u64::from(self.addr()) / BOUNDARY != (self.end() - 1) / BOUNDARY
+        let unit = if self.datum_len() == WIDE_LEN {
+            WIDE_BOUNDARY
+        } else {
+            BOUNDARY
+        };
+        self.is_block() && u64::from(self.addr()) / unit != (self.end() - 1) / unit
     }
 }

@@ -1,10 +1,11 @@
 ghost use Rattle.std.specs.Prelude.{◌≡◌, ◌-◌, ◌%◌, ◌<◌, Some, IfSome, IsNone, ◌↔◌, length};
 ghost use Rattle.vme_am.specs.Spaces.{addresses_of};
 ghost use Rattle.vme_lanes.specs.Rows.{row_of, location_sensed};
+ghost use Rattle.vme_cycle.specs.SignalLines.{chosen_len, placed_lanes};
 
 use std::marker::Model;
 use vme_am::Am;
-use vme_lanes::{DataLines, Location, Strobes, place};
+use vme_lanes::{DataLines, Location, Strobes, place, place_wide};
 
 /// The lines of one cycle: the address modifier, the address lines from A02 up, the strobes with
 /// A01 and LWORD*, WRITE*, and the data lines. The strobes are always those of a byte location.
@@ -167,12 +168,25 @@ impl Signals {
         self.lines
     }
 
-    /// The signals once a slave has answered a read: the bytes on the lanes of the location.
+    /// The signals once a slave has answered a read: the bytes on the lanes that code and strobes
+    /// choose.
     pub fn answered(self, bytes: &[u8]) -> Signals
-        requires { row_len self.strobes ≡ Some (length bytes.now) }
+        requires { row_len self.am.wide self.strobes ≡ Some (length bytes.now) }
         ensures { result ≡ answered_lines self bytes.now }
     {
-        let lines = place(self.location(), bytes);
+        let lines = placed(self.am.wide(), self.location(), bytes);
         Signals { lines, ..self }
+    }
+}
+
+/// Puts bytes on the lanes that code and location choose: on all with a code of eight-byte data.
+pub(crate) fn placed(wide: bool, location: Location, bytes: &[u8]) -> DataLines
+    requires { chosen_len wide location ≡ Some (length bytes.now) }
+    ensures { result.lanes ≡ placed_lanes wide location bytes.now }
+{
+    if wide {
+        place_wide(bytes)
+    } else {
+        place(location, bytes)
     }
 }

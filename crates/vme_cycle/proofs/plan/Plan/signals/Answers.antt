@@ -1,8 +1,9 @@
 -- The signals of each datum of a lawful request.
-use Rattle.std.proofs.Common.{◌%◌, ◌≡◌, sym, ◌∙◌, rules}
+use Rattle.std.proofs.Common.{◌%◌, ◌≡◌, ap, sym, ◌∙◌, rules}
 use Rattle.vme_lanes.specs.Rows.{row_of}
 use Rattle.vme_lanes.proofs.Tables.{own_sensed}
-use Rattle.vme_cycle.specs.Requests.{addr_of}
+use Rattle.vme_cycle.specs.Requests.{addr_of, address_of}
+use Rattle.vme_cycle.specs.SignalLines.{len_with, row_len, strobes_at}
 use Rattle.vme_cycle.proofs.Blocks.{same_lword, counts_on, len_of_strobes, first_shown, held_by_itself}
 use Rattle.vme_cycle.proofs.plan.Plan.signals.Goals as goal
 
@@ -33,8 +34,12 @@ returns-clause-len c =
     let own = c.location-2 in
     let shown = c.shown_location-location in
     let at = counts_on t.am t.request c.args.i c.location.result own.result c.new.result c.request-request.ensures.lawful
-    c.requires c.location.ensures.found own.ensures.found (search rules) (search rules) in (
-      rw c.new.ensures
-          (len_of_strobes _ shown.result _ (own_sensed shown.result) (shown.ensures.len ∙ own.ensures.len)),
-      len_of_strobes _ own.result _ at own.ensures.len,
+    c.requires c.location.ensures.found own.ensures.found (search rules) (search rules) in
+    let wide : c.new.result.am.wide ≡ t.am.wide = search rules in
+    let strobes : c.new.result.strobes ≡ (row_of shown.result).strobes = search rules in
+    let shown_len = ap (len_with t.am.wide) shown.ensures.len ∙ own.ensures.len in (
+      ap (λ w. row_len w c.new.result.strobes) wide
+          ∙ (ap (row_len t.am.wide) strobes ∙ len_of_strobes t.am.wide _ shown.result _ (own_sensed shown.result) shown_len),
+      ap (λ w. row_len w (strobes_at c.new.result (address_of t.request c.args.i))) wide
+          ∙ len_of_strobes t.am.wide _ own.result _ at own.ensures.len,
     )
