@@ -71,7 +71,8 @@ impl Room {
 
     /// Lets all bytes go, and keeps the room.
     pub fn clear(&mut self)
-        ensures { self.new ≡ record self.old { items = [] } }
+        ensures room { self.new ≡ record self.old { items = [] } }
+        ensures least { short_room ≤ self.old.room }
     {
         self.held.clear();
     }

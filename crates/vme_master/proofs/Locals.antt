@@ -11,7 +11,7 @@ use Rattle.vme_memory.specs.Steps.{Command}
 use Rattle.vme_memory.proofs.Data.{reply_form}
 use Rattle.vme_arbiter.specs.declared.command.ArbCmd.{ArbCmd}
 use Rattle.vme_arbiter.specs.declared.command.ArbCmd.TheVariants as turns
-use Rattle.vme_arbiter.specs.Requests.{BusRequest, bus_request}
+use Rattle.vme_arbiter.specs.Requests.{bus_request}
 use Rattle.vme_arbiter.specs.Arbitration.{Arbitration, holds, pends, can_ask, lawful_ask, turn_step}
 use Rattle.vme_core.specs.declared.event.EventReply.{EventReply}
 use Rattle.vme_core.specs.declared.event.EventReply.TheVariants as told

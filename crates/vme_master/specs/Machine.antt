@@ -1,7 +1,7 @@
 -- A task as a machine, which keeps how far it has come in place of what it was given: for this crate's own functions.
-use Rattle.std.specs.Prelude.{ℕ, ◌≡◌, ◌+◌, ◌*◌, ◌%◌, ◌<◌, ◌≤◌, Bool, true, false, ◌==◌, if◌then◌else◌, nat_lt, List, [], ◌∷◌, ◌++◌, length, Option, Some, None, IfSome, Result, Ok, Err}
+use Rattle.std.specs.Prelude.{ℕ, ◌≡◌, ◌+◌, ◌*◌, ◌%◌, ◌<◌, ◌≤◌, Bool, true, false, ◌==◌, if◌then◌else◌, nat_lt, List, [], ◌∷◌, ◌++◌, length, Option, Some, None, unwrap_or, IfSome, Result, Ok, Err}
 use Rattle.vme_cycle.specs.declared.fault.CycleFault.{CycleFault}
-use Rattle.vme_cycle.specs.Requests.{addr_of, datum_len, count_of}
+use Rattle.vme_cycle.specs.Requests.{addr_of, count_of, reply_room}
 use Rattle.vme_cycle.specs.Lawful.{Transfer}
 use Rattle.vme_decode.specs.declared.entry.Entry.{Entry}
 use Rattle.vme_memory.specs.declared.reply.Reply.{Reply}
@@ -176,25 +176,36 @@ abbrev pub call_count : Job → ℕ
 call_count (Bus job) = count_of job.transfer.request
 call_count (Local job) = 1
 
--- how many bytes each of them reads at most (this project's own)
+-- how many bytes each of them reads at most: none where nothing is read (this project's own)
 abbrev pub most_bytes : Job → ℕ
-most_bytes (Bus job) = datum_len job.transfer.request
+most_bytes (Bus job) = unwrap_or (aim_len (request_aim job.transfer.request)) 0
 most_bytes (Local job) = 8
+
+-- how many bytes they read at most in all (this project's own)
+abbrev pub job_room : Job → ℕ
+job_room (Bus job) = reply_room job.transfer.request
+job_room (Local job) = 8
 
 -- a read-modify-write reads no more than a datum has room for (this project's own)
 abbrev pub IsShort : Aim → ℕ → Type 0
 IsShort (aims.Modify n) most = most ≤ 8
 IsShort aim most = Unit {0}
 
--- there is room for what is read yet (this project's own)
+-- no more was read than so many data have (this project's own)
 abbrev pub HasRoom : Job → Phase → List ℕ → Type 0
 HasRoom job (Moves i) read = (i < call_count job) × (length read ≤ most_bytes job * i)
-HasRoom job (Frees berr) read = length read ≤ most_bytes job * call_count job
-HasRoom job (Ended berr) read = length read ≤ most_bytes job * call_count job
+HasRoom job (Frees berr) read = length read ≤ job_room job
+HasRoom job (Ended berr) read = length read ≤ job_room job
 HasRoom job Denied read = Unit {0}
 HasRoom job phase read = length read ≡ 0
 
--- what a task keeps (this project's own)
-pub record IsSound (t : TaskView) : Type 0 where
+-- the room that it has is enough for all that it reads; after the end it may have been given out (this project's own)
+abbrev pub IsEnough : Job → Phase → ℕ → Type 0
+IsEnough job (Ended berr) room = Unit {0}
+IsEnough job phase room = job_room job ≤ room
+
+-- what a task keeps, with the room that it has (this project's own)
+pub record IsSound (t : TaskView) (room : ℕ) : Type 0 where
   pub placed : IsPlaced t.job
-  pub room : HasRoom t.job t.phase t.read
+  pub read : HasRoom t.job t.phase t.read
+  pub enough : IsEnough t.job t.phase room

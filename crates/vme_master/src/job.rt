@@ -1,29 +1,33 @@
-ghost use Rattle.std.specs.Prelude.{◌≡◌, ◌<◌, ◌≤◌, ◌*◌, ℕ, List, IsTrue, option_map};
+ghost use Rattle.std.specs.Prelude.{◌≡◌, ◌<◌, ◌≤◌, ℕ, List, length, IsTrue, option_map};
+ghost use Rattle.vme_block.specs.Rooms.{block_limit};
 ghost use Rattle.vme_cycle.specs.Requests.{count_of};
 ghost use Rattle.vme_core.specs.Calls.{call_of};
 ghost use Rattle.vme_master.specs.Jobs.{ask_call, look_call, done_call, datum_call, local_call};
-ghost use Rattle.vme_master.specs.Machine.{job_aim, datum_phase, phase_at, phase_broken, first_phase, phase_told, phase_replied, makes, bus_next, local_next, job_next, IsPlaced, IsShort, call_count, most_bytes};
+ghost use Rattle.vme_master.specs.Machine.{job_aim, datum_phase, phase_at, phase_broken, first_phase, phase_told, phase_replied, makes, bus_next, local_next, job_next, end_outcome, IsPlaced, IsShort, call_count, job_room};
 ghost use Rattle.vme_master.specs.declared.phase.Phase.TheVariants.{Moves};
 ghost use Rattle.vme_master.specs.Events.{call_in};
 
 use crate::aim::Aim;
+use crate::outcome::Outcome;
 use crate::phase::Phase;
 use vme_arbiter::{ArbCmd, ArbReply};
+use vme_block::Room;
 use vme_core::Event;
 use vme_cycle::{Modify, Transfer};
+use vme_lanes::Datum;
 use vme_memory::{BoardCmd, Reply};
 
 /// A transfer over the bus: whose it is, and where its first byte lies, by the place of a board in
 /// the map and the offset there, if a board is selected.
 #[derive(Debug, Drop)]
-pub struct BusJob {
+pub struct BusJob<'a> {
     pub(crate) slot: u16,
     pub(crate) level: u8,
-    pub(crate) transfer: Transfer,
+    pub(crate) transfer: Transfer<'a>,
     pub(crate) place: Option<(usize, u32)>,
 }
 
-impl BusJob {
+impl BusJob<'_> {
     pub(crate) fn ask(&self) -> Event
         ensures { call_of result ≡ ask_call self.now }
     {
@@ -129,17 +133,17 @@ impl LocalJob {
 
 /// What a task is for.
 #[derive(Debug, Drop)]
-pub enum Job {
+pub enum Job<'a> {
     /// A transfer over the bus.
-    Bus(BusJob),
+    Bus(BusJob<'a>),
     /// A command to a board's local port.
     Local(LocalJob),
 }
 
-impl Job {
+impl Job<'_> {
     pub(crate) fn aim(&self) -> Aim
         ensures value { result ≡ job_aim self.now }
-        ensures short { IsShort result (most_bytes self.now * call_count self.now) }
+        ensures short { IsShort result (job_room self.now) }
     {
         match self {
             Job::Bus(job) => Aim::of_plan(&job.transfer.plan()),
@@ -173,7 +177,8 @@ impl Job {
     /// The number of its calls on a board.
     pub(crate) fn count(&self) -> u16
         ensures value { result ≡ call_count self.now }
-        ensures room { most_bytes self.now * result ≤ 256 }
+        ensures some { 0 < result }
+        ensures room { job_room self.now ≤ block_limit }
     {
         match self {
             Job::Bus(job) => job.transfer.plan().len(),
@@ -223,6 +228,24 @@ impl Job {
             (_, Reply::Bytes(_) | Reply::Done) => self.at(i + 1),
             (Job::Bus(_), Reply::Berr) => Phase::Frees { berr: Some(i) },
             (Job::Local(_), Reply::Berr) => Phase::Ended { berr: Some(i) },
+        }
+    }
+
+    /// What comes of it in the end, with what was read, and perhaps a bus error that came after so
+    /// many data.
+    pub(crate) fn end(&self, berr: Option<u16>, read: Room) -> Outcome
+        requires { length read.items ≤ job_room self.now }
+        ensures { result ≡ end_outcome (job_aim self.now) berr read.items }
+    {
+        prove!(0 < self.count());
+        match (berr, self.aim()) {
+            (Some(count), _) => Outcome::Berr {
+                count,
+                bytes: read.into_block(),
+            },
+            (None, Aim::Read { .. }) => Outcome::Read(read.into_block()),
+            (None, Aim::Modify { .. }) => Outcome::Old(Datum::try_from(read.as_slice()).unwrap()),
+            (None, Aim::Write) => Outcome::Done,
         }
     }
 }

@@ -1,12 +1,14 @@
-ghost use Rattle.std.specs.Prelude.{◌≡◌, ◌≢◌, ◌≤◌, ◌+◌, ◌∷◌, ◌++◌, length, Some, None, IsTrue, option_map, option_copied, is_some};
-ghost use Rattle.vme_cycle.specs.Lawful.{transfer_of};
+ghost use Rattle.std.specs.Prelude.{◌≡◌, ◌≢◌, ◌≤◌, ◌+◌, [], ◌∷◌, ◌++◌, length, Ok, Some, None, IsTrue, option_map, option_copied, is_some};
+ghost use Rattle.vme_block.specs.Rooms.{short_room};
+ghost use Rattle.vme_cycle.specs.Requests.{reply_room};
+ghost use Rattle.vme_cycle.specs.Lawful.{Transfer as LawfulRequest, transfer_of};
 ghost use Rattle.vme_core.specs.declared.event.EventReply.TheVariants as told;
 ghost use Rattle.vme_master.specs.declared.job.Job.{Job as AnyJob};
-ghost use Rattle.vme_master.specs.Jobs.{local_job};
+ghost use Rattle.vme_master.specs.Jobs.{bus_job, local_job};
 ghost use Rattle.vme_core.specs.Calls.{call_of};
 ghost use Rattle.vme_master.specs.Tables.{Given, Rests, next_of};
-ghost use Rattle.vme_master.specs.Machine.{job_aim, end_outcome, bytes_of, fresh_task, bus_task, advance, task_given, to_do, is_called, IsPlaced};
-ghost use Rattle.vme_master.specs.Events.{next_in, call_in, outcome_in};
+ghost use Rattle.vme_master.specs.Machine.{bytes_of, fresh_task, bus_task, advance, task_given, to_do, is_called, job_room, IsPlaced};
+ghost use Rattle.vme_master.specs.Events.{next_in, call_in, outcome_in, read_in, given_out};
 
 use crate::aim::Aim;
 use crate::job::{BusJob, Job, LocalJob};
@@ -14,44 +16,81 @@ use crate::outcome::Outcome;
 use crate::phase::Phase;
 use crate::todo::Todo;
 use std::marker::Model;
+use std::mem;
 use vme_arbiter::ArbReply;
+use vme_block::Room;
 use vme_core::{Event, EventReply};
-use vme_cycle::{Block, CycleFault, Request, Transfer};
+use vme_cycle::{CycleFault, Request, Transfer};
 use vme_decode::AddressMap;
-use vme_lanes::Datum;
 use vme_memory::{BoardCmd, Reply};
 
 /// What a master asks of the bus, call by call: a transfer over it, or a command to a board's local
-/// port. It takes no memory, and a call of it does the same amount of work whatever was before.
+/// port. It reads into a room that it is given, and so takes no memory; a call of it does the same
+/// amount of work whatever was before.
 #[derive(Debug, Drop)]
-pub struct Task {
-    job: Job,
+pub struct Task<'a> {
+    job: Job<'a>,
     phase: Phase,
-    read: Block,
+    read: Room,
 }
 
-impl Model for Task {
+impl<'a> Model for Task<'a> {
     ghost use Rattle.vme_master.specs.Machine.{TaskView, IsSound};
 
     ghost Value = { TaskView };
 
     ghost view = { λ t. record { job = t.job; phase = t.phase; read = t.read.items } };
 
-    ghost invariant = { λ t. IsSound (record { job = t.job; phase = t.phase; read = t.read.items }) };
+    ghost invariant = { λ t. IsSound (record { job = t.job; phase = t.phase; read = t.read.items }) t.read.room };
 }
 
-impl Task {
+impl<'a> Task<'a> {
     /// The task of a slot's request for a transfer over the bus, for which it asks on a level; or
-    /// else the first refusal of the request.
+    /// else the first refusal of the request. What is read goes into a room that is enough for it.
     pub fn start(
         map: &AddressMap,
         slot: u16,
         level: u8,
-        request: &Request,
-    ) -> Result<Task, CycleFault>
+        request: &'a Request,
+        room: Room,
+    ) -> Result<Task<'a>, CycleFault>
+        requires empty { room.items ≡ [] }
+        requires enough { (t : LawfulRequest) → transfer_of request.now ≡ Ok t →
+            reply_room t.request ≤ room.room }
         ensures { result ≡ bus_task map.now slot level (transfer_of request.now) }
     {
         let transfer = Transfer::of(request)?;
+        Ok(Task::bus(map, slot, level, transfer, room))
+    }
+
+    /// The same of a request that is the task's own from then on, and reads no more than has room
+    /// in the task itself.
+    pub fn start_own(
+        map: &AddressMap,
+        slot: u16,
+        level: u8,
+        request: Request,
+    ) -> Result<Task<'a>, CycleFault>
+        requires { (t : LawfulRequest) → transfer_of request ≡ Ok t →
+            reply_room t.request ≤ short_room }
+        ensures { result ≡ bus_task map.now slot level (transfer_of request) }
+    {
+        let transfer = Transfer::of_own(request)?;
+        Ok(Task::bus(map, slot, level, transfer, Room::new()))
+    }
+
+    /// The task of a command to the local port of the board at a place.
+    pub fn local(board: usize, cmd: BoardCmd) -> Task<'a>
+        ensures { result ≡ fresh_task (local_job board cmd) }
+    {
+        Task::of(Job::Local(LocalJob { board, cmd }), Room::new())
+    }
+
+    fn bus(map: &AddressMap, slot: u16, level: u8, transfer: Transfer<'a>, room: Room) -> Task<'a>
+        requires empty { room.items ≡ [] }
+        requires enough { reply_room transfer.request ≤ room.room }
+        ensures { result ≡ fresh_task (bus_job map.now slot level transfer.entry) }
+    {
         let place = {
             let plan = transfer.plan();
             map.select_at(plan.am(), plan.addr())
@@ -62,32 +101,27 @@ impl Task {
             transfer,
             place,
         };
-        Ok(Task::of(Job::Bus(job)))
+        Task::of(Job::Bus(job), room)
     }
 
-    /// The task of a command to the local port of the board at a place.
-    pub fn local(board: usize, cmd: BoardCmd) -> Task
-        ensures { result ≡ fresh_task (local_job board cmd) }
-    {
-        Task::of(Job::Local(LocalJob { board, cmd }))
-    }
-
-    fn of(job: Job) -> Task
-        requires { IsPlaced job }
-        ensures { result ≡ fresh_task job }
+    fn of(job: Job<'a>, room: Room) -> Task<'a>
+        requires placed { IsPlaced job }
+        requires empty { room.items ≡ [] }
+        requires enough { job_room job ≤ room.room }
+        ensures { result ≡ fresh_task job.entry }
     {
         Task {
             job,
             phase: Phase::Fresh,
-            read: Block::new(),
+            read: room,
         }
     }
 
     /// What the task does next. The first call is given nothing, and each later one the reply to the
-    /// event that the call before it gave out.
+    /// event that the call before it gave out. Its end is given out with the bytes that were read.
     pub fn next(&mut self, reply: Option<EventReply>) -> Todo
-        ensures task { self.new ≡ advance self.old reply }
-        ensures todo { next_in result ≡ to_do self.new }
+        ensures task { self.new ≡ given_out (advance self.old reply) }
+        ensures todo { next_in result ≡ to_do (advance self.old reply) }
         ensures table { (job : AnyJob) (before : Given) → self.old ≡ task_given job before →
             next_in result ≡ next_of job (reply ∷ before) }
     {
@@ -126,24 +160,44 @@ impl Task {
         }
     }
 
-    /// What came of it, where it has ended.
-    pub fn outcome(&self) -> Option<Outcome>
-        ensures { result ≡ outcome_in (to_do self.now) }
+    /// All bytes that it was to read, where it has ended with them. They stay with it.
+    pub fn read(&self) -> Option<&[u8]>
+        ensures { option_map (λ bytes. bytes.now) result ≡ read_in (to_do self.now) }
     {
-        match self.phase {
-            Phase::Fresh => None,
-            Phase::Ended { berr } => Some(self.end(berr)),
-            phase if self.job.is_at_work(phase) => None,
-            _ => Some(Outcome::Denied),
+        match (self.phase, self.job.aim()) {
+            (Phase::Ended { berr: None }, Aim::Read { .. }) => Some(self.read.as_slice()),
+            _ => None,
         }
     }
 
-    /// The same task before its first call, to be done once more.
+    /// What came of it, where it has ended, with the bytes that were read: the task has none of them
+    /// then.
+    pub fn take_outcome(&mut self) -> Option<Outcome>
+        ensures outcome { result ≡ outcome_in (to_do self.old) }
+        ensures task { self.new ≡ given_out self.old }
+    {
+        match self.phase {
+            Phase::Fresh => None,
+            Phase::Ended { berr } => {
+                let read = mem::replace(&mut self.read, Room::new());
+                Some(self.job.end(berr, read))
+            }
+            phase if self.job.is_at_work(phase) => None,
+            _ => {
+                self.read.clear();
+                Some(Outcome::Denied)
+            }
+        }
+    }
+
+    /// The same task before its first call, to be done once more. Its room may have been given out,
+    /// so what it reads has room in the task itself.
     pub fn again(&mut self)
+        requires { job_room self.old.job ≤ short_room }
         ensures { self.new ≡ fresh_task self.old.job }
     {
         self.phase = Phase::Fresh;
-        self.read = Block::new();
+        self.read.clear();
     }
 
     /// The first call, and any later one without a reply.
@@ -187,48 +241,24 @@ impl Task {
         }
     }
 
-    fn todo(&self) -> Todo
-        requires { to_do self.now ≢ Rests }
-        ensures { next_in result ≡ to_do self.now }
+    fn todo(&mut self) -> Todo
+        requires { to_do self.old ≢ Rests }
+        ensures todo { next_in result ≡ to_do self.old }
+        ensures task { self.new ≡ given_out self.old }
     {
         match self.event() {
             Some(event) => Todo::Call(event),
-            None => Todo::Finished(self.outcome().unwrap()),
+            None => Todo::Finished(self.take_outcome().unwrap()),
         }
-    }
-
-    /// What comes of it, with perhaps a bus error that came after so many data.
-    fn end(&self, berr: Option<u16>) -> Outcome
-        requires { self.now.phase ≡ Phase.Ended berr }
-        ensures { result ≡ end_outcome (job_aim self.now.job) berr self.now.read }
-    {
-        match (berr, self.job.aim()) {
-            (Some(count), _) => Outcome::Berr {
-                count,
-                bytes: self.bytes(),
-            },
-            (None, Aim::Read { .. }) => Outcome::Read(self.bytes()),
-            (None, Aim::Modify { .. }) => {
-                Outcome::Old(Datum::try_from(self.read.as_slice()).unwrap())
-            }
-            (None, Aim::Write) => Outcome::Done,
-        }
-    }
-
-    /// The bytes that were read so far.
-    fn bytes(&self) -> Block
-        ensures { result.items ≡ self.now.read }
-    {
-        Block::try_from(self.read.as_slice()).unwrap()
     }
 }
 
 /// The bytes of a reply are appended to those that were read.
-fn append(read: &mut Block, reply: &Reply)
-    requires { length read.old.items + length (bytes_of reply.now) ≤ 256 }
-    ensures { read.new.items ≡ read.old.items ++ bytes_of reply.now }
+fn append(read: &mut Room, reply: &Reply)
+    requires { length read.old.items + length (bytes_of reply.now) ≤ read.old.room }
+    ensures { read.new ≡ record read.old { items = read.old.items ++ bytes_of reply.now } }
 {
     if let Reply::Bytes(datum) = reply {
-        read.try_extend_from_slice(datum.as_slice()).unwrap();
+        read.push_all(datum.as_slice());
     }
 }

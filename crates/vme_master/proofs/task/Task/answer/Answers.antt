@@ -2,7 +2,7 @@ use Rattle.std.proofs.Common.{◌≡◌, true, ap, sym, ◌∙◌}
 use Rattle.vme_memory.specs.Data.{has_form}
 use Rattle.vme_master.specs.declared.aim.Aim.{Aim}
 use Rattle.vme_master.specs.declared.phase.Phase.TheVariants.{Moves}
-use Rattle.vme_master.specs.Machine.{job_aim, aim_len, HasRoom}
+use Rattle.vme_master.specs.Machine.{job_aim, aim_len, HasRoom, IsEnough}
 use Rattle.vme_master.proofs.Rooms.{room_before, sound_after}
 use Rattle.vme_master.proofs.task.Task.answer.Goals as goal
 use Rattle.vme_master.proofs.task.Task.answer.Goals.{After-accepts}
@@ -16,14 +16,16 @@ form c accepted =
 pub append-requires : goal.append-requires
 append-requires c =
     let at = (goal.at.append-requires c).After-accepts in
-    let room : HasRoom c.self.inside.job (Moves c.in-Moves.i) c.self.inside.read.items = rw c.in-Moves.is at c.self.invariant.room in
-    let all = rw c.count.ensures.value at c.count.ensures.room in
-    room_before c.self.inside.job c.in-Moves.i c.self.inside.read.items c.args.reply.now room (form at c.if-accepts.true) c.accepts.ensures.small all
+    let had : HasRoom c.self.inside.job (Moves c.in-Moves.i) c.self.inside.read.items = rw c.in-Moves.is at c.self.invariant.read in
+    let enough : IsEnough c.self.inside.job (Moves c.in-Moves.i) c.self.inside.read.room = rw c.in-Moves.is at c.self.invariant.enough in
+    room_before c.self.inside.job c.in-Moves.i c.self.inside.read.room c.self.inside.read.items c.args.reply.now had (form at c.if-accepts.true)
+    c.accepts.ensures.small enough
 
 -- and the task is sound after it
 pub invariant_of-self : goal.invariant_of-self
 invariant_of-self c =
     let at = (goal.at.invariant_of-self c).After-accepts in
-    let room : HasRoom c.self.inside.job (Moves c.in-Moves.i) c.self.inside.read.items = rw c.in-Moves.is at c.self.invariant.room in
-    rw (c.phase_replied-self-inside.ensures, c.append.ensures) (sound_after c.self.inside.job c.in-Moves.i c.self.inside.read.items
-    c.args.reply.now c.self.invariant.placed room (form at c.if-accepts.true) c.accepts.ensures.small)
+    let had : HasRoom c.self.inside.job (Moves c.in-Moves.i) c.self.inside.read.items = rw c.in-Moves.is at c.self.invariant.read in
+    let enough : IsEnough c.self.inside.job (Moves c.in-Moves.i) c.self.inside.read.room = rw c.in-Moves.is at c.self.invariant.enough in
+    rw (c.phase_replied-self-inside.ensures, c.append.ensures) (sound_after c.self.inside.job c.in-Moves.i c.self.inside.read.room
+    c.self.inside.read.items c.args.reply.now c.self.invariant.placed had (form at c.if-accepts.true) c.accepts.ensures.small enough)
