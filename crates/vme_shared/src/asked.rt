@@ -59,7 +59,7 @@ impl<'a> Asked<'a> {
     }
 
     /// The transfer that comes first, before its first call.
-    pub(crate) fn first_work(&self) -> Work
+    pub(crate) fn first_work(&self) -> Work<'a>
         ensures work { result ≡ first_work self.now }
         ensures going { IsGoing result }
     {
@@ -71,7 +71,7 @@ impl<'a> Asked<'a> {
     }
 
     /// Where a step leads: the next transfer begins at once.
-    pub(crate) fn stepped(&self, step: Step) -> Work
+    pub(crate) fn stepped(&self, step: Step) -> Work<'a>
         ensures work { result ≡ work_stepped self.now step }
         ensures going { IsGoing result }
         ensures begun { work_to_do result ≢ Rests }
@@ -83,7 +83,7 @@ impl<'a> Asked<'a> {
     }
 
     /// The transfer of a stage after its first call.
-    fn called(&self, stage: Stage) -> Work
+    fn called(&self, stage: Stage) -> Work<'a>
         ensures work { result ≡ stage_called stage (stage_job self.now stage) }
         ensures going { IsGoing result }
         ensures begun { work_to_do result ≢ Rests }
@@ -98,14 +98,14 @@ impl<'a> Asked<'a> {
     }
 
     /// The bus task of a stage.
-    fn task(&self, stage: Stage) -> Result<Task, CycleFault>
+    fn task(&self, stage: Stage) -> Result<Task<'a>, CycleFault>
         ensures { result ≡ stage_task (stage_job self.now stage) }
     {
-        Task::start(
+        Task::start_own(
             self.map,
             self.slot,
             self.level,
-            &self.request.transfer(stage),
+            self.request.transfer(stage),
         )
     }
 }

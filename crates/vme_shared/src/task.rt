@@ -22,7 +22,7 @@ use vme_decode::AddressMap;
 #[derive(Debug, Drop)]
 pub struct SharedTask<'a> {
     asked: Asked<'a>,
-    work: Work,
+    work: Work<'a>,
 }
 
 impl<'a> Model for SharedTask<'a> {

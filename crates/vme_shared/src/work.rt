@@ -10,14 +10,14 @@ use vme_master::Task;
 
 /// The transfer at work, or the end.
 #[derive(Debug, Drop)]
-pub enum Work {
+pub enum Work<'a> {
     /// The bus task of this stage.
-    Moves { stage: Stage, task: Task },
+    Moves { stage: Stage, task: Task<'a> },
     /// It has ended so.
     Over(SharedOutcome),
 }
 
-impl Work {
+impl Work<'_> {
     /// The transfer at work is given the reply to its event, or nothing. Where it has ended by that,
     /// this is where its outcome leads.
     #[tactic(auto, using(crate::proofs::Stands::by_outcome))]
@@ -31,14 +31,18 @@ impl Work {
         ensures going { result ≡ None → IsGoing self.old → IsGoing self.new }
         ensures begun { result ≡ None → work_to_do self.new ≢ Rests }
     {
-        let Work::Moves { stage, task } = self else {
+        let Work::Moves { stage, .. } = self else {
+            return None;
+        };
+        let stage = *stage;
+        let Work::Moves { task, .. } = self else {
             return None;
         };
         task.give(reply);
         if !task.is_over() {
             return None;
         }
-        let outcome = task.outcome()?;
-        Some(request.step_after(*stage, &outcome))
+        let outcome = task.take_outcome()?;
+        Some(request.step_after(stage, &outcome))
     }
 }
