@@ -4,7 +4,7 @@ ghost use Rattle.vme_cycle.specs.Functions.{number_from, bytes_onto};
 use vme_lanes::{Datum, copy_bytes};
 
 /// The function of a read-modify-write cycle: what is written in the place of what was read.
-#[derive(Debug, Drop)]
+#[derive(Debug, Drop, PartialEq, Eq)]
 pub enum Modify {
     /// Bit 7 of the byte at the lowest address is set.
     Set,

@@ -105,7 +105,11 @@ impl<'a> Plan<'a> {
     pub fn reply_room(&self) -> usize
         ensures { result ≡ reply_room self.now.request }
     {
-        self.request().reply_room()
+        match self.request() {
+            Request::Read { n, .. } | Request::Modify { n, .. } => usize::from(*n),
+            Request::BlockRead { n, count, .. } => usize::from(*n) * usize::from(*count),
+            Request::Write { .. } | Request::BlockWrite { .. } | Request::BlockFill { .. } => 0,
+        }
     }
 
     /// The function of a read-modify-write, and `None` of another request.

@@ -94,7 +94,7 @@ fn is_block_count(count: usize) -> bool
 
 impl Request {
     ghost use Rattle.std.specs.Option.{option_map};
-    ghost use Rattle.vme_cycle.specs.Requests.{code_of, addr_of, is_block_request, function_of, reads, datum_len, count_of, is_counted, datum_of, span_of, reply_room};
+    ghost use Rattle.vme_cycle.specs.Requests.{code_of, addr_of, is_block_request, function_of, reads, datum_len, count_of, is_counted, datum_of, span_of};
     ghost use Rattle.vme_cycle.specs.Lawful.{first_location, crosses_boundary};
 
     pub(crate) fn code(&self) -> u8
@@ -235,17 +235,6 @@ impl Request {
                 let start = usize::from(i) * usize::from(*n);
                 Some(&bytes.as_slice()[start..start + usize::from(*n)])
             }
-        }
-    }
-
-    /// How many bytes it reads in all.
-    pub(crate) fn reply_room(&self) -> usize
-        ensures { result ≡ reply_room self.now }
-    {
-        match self {
-            Request::Read { n, .. } | Request::Modify { n, .. } => usize::from(*n),
-            Request::BlockRead { n, count, .. } => usize::from(*n) * usize::from(*count),
-            Request::Write { .. } | Request::BlockWrite { .. } | Request::BlockFill { .. } => 0,
         }
     }
 
