@@ -31,18 +31,20 @@ module _ (config : Configuration) (board : ℕ) where
 
   -- an answer is recorded
   answered_is : (lane : LaneView) (ended : List LineReply) (answer : LineReply) (line : Line) (lines : List Line)
-      → drop (length ended) (lines_at config board) ≡ line ∷ lines → lane.lines ≡ told_lines (script_at config board) ended → lane.ended ≡ length ended
+      → drop (length ended) (lines_at config board) ≡ line ∷ lines → lane.script ≡ script_at config board
+      → lane.lines ≡ told_lines (script_at config board) ended → lane.ended ≡ length ended
       → lane_answered lane answer ≡ lane_of config board (course (ended ++ answer ∷ []) [])
-  answered_is lane ended answer line lines left told count =
-      rw (told, count, told_more (script_at config board) ended answer (within (length ended) line lines left), length_push ended answer) refl
+  answered_is lane ended answer line lines left script told count =
+      rw (script, told, count, told_more (script_at config board) ended answer (within (length ended) line lines left), length_push ended answer) refl
 
   -- a task goes on by a reply
   settled_is : (lane : LaneView) (ended : List LineReply) (reply : EventReply) (replies : List EventReply) (line : Line) (lines : List Line) (next : LineNext)
-      → drop (length ended) (lines_at config board) ≡ line ∷ lines → lane.lines ≡ told_lines (script_at config board) ended → lane.ended ≡ length ended
+      → drop (length ended) (lines_at config board) ≡ line ∷ lines → lane.script ≡ script_at config board
+      → lane.lines ≡ told_lines (script_at config board) ended → lane.ended ≡ length ended
       → lane_settled lane (line_after config board line (reply ∷ replies)) next ≡ lane_of config board (settled ended (reply ∷ replies) next)
-  settled_is lane ended reply replies line lines (Ends answer) left told count = answered_is lane ended answer line lines left told count
-  settled_is lane ended reply replies line lines (Makes call) left told count = rw (told, count, left) refl
-  settled_is lane ended reply replies line lines Rests left told count = rw (told, count, left) refl
+  settled_is lane ended reply replies line lines (Ends answer) left script told count = answered_is lane ended answer line lines left script told count
+  settled_is lane ended reply replies line lines (Makes call) left script told count = rw (script, told, count, left) refl
+  settled_is lane ended reply replies line lines Rests left script told count = rw (script, told, count, left) refl
 
   -- the machine and the lane of a course
   abbrev with_lane : Machine × Course → Machine × LaneView
@@ -65,12 +67,12 @@ module _ (config : Configuration) (board : ℕ) where
       ≡ with_lane (turn_by config board line machine c next course_after)
   next_is machine c line lines Rests lane_after course_after left same = refl
   next_is machine c line lines (Ends answer) lane_after course_after left same =
-      ap lane_after (answered_is (lane_of config board c) c.ended answer line lines left refl refl) ∙ same answer
+      ap lane_after (answered_is (lane_of config board c) c.ended answer line lines left refl refl refl) ∙ same answer
   next_is machine c line lines (Makes call) lane_after course_after left same =
       let step = machine_step machine board call in
       rw (by_the_replies config board line (step.1 ∷ c.replies))
       (ap (λ lane. (step.0, lane))
-      (settled_is (lane_of config board c) c.ended step.1 c.replies line lines (line_next config board line (step.1 ∷ c.replies)) left refl refl))
+      (settled_is (lane_of config board c) c.ended step.1 c.replies line lines (line_next config board line (step.1 ∷ c.replies)) left refl refl refl))
 
   pub lines_is : (lines : List Line) (machine : Machine) (c : Course) → lines_left config board c ≡ lines
       → lines_turn config board lines machine (lane_of config board c) ≡ with_lane (course_turn config board lines machine c)

@@ -36,15 +36,15 @@ module _ (config : Configuration) where
 
   -- the lane of a script of which no line has ended
   fresh_lane : (board : ℕ) (script : List ScriptLine) → slice_get config.scripts board ≡ Some script
-      → record { lines = map unfinished script; ended = 0; at = None } ≡ lane_of config board (course [] [])
+      → record { script = script; lines = map unfinished script; ended = 0; at = None } ≡ lane_of config board (course [] [])
   fresh_lane board script found =
-      let lane : List ScriptLine → LaneView = λ s. record { lines = told_lines s []; ended = 0; at = None } in
-      let untold : LaneView = record { lines = map unfinished script; ended = 0; at = None } in
+      let lane : List ScriptLine → LaneView = λ s. record { script = s; lines = told_lines s []; ended = 0; at = None } in
+      let untold : LaneView = record { script = script; lines = map unfinished script; ended = 0; at = None } in
       let at_none : untold ≡ lane script = rw (told_none script) refl in
       at_none ∙ ap lane (sym (get_or_from_slice_get config.scripts board script [] found))
 
   pub lanes_next : (board : ℕ) (script : List ScriptLine) → slice_get config.scripts board ≡ Some script
-      → lanes_from config 0 (map fresh_course (take board config.scripts)) ++ record { lines = map unfinished script; ended = 0; at = None } ∷ []
+      → lanes_from config 0 (map fresh_course (take board config.scripts)) ++ record { script = script; lines = map unfinished script; ended = 0; at = None } ∷ []
       ≡ lanes_from config 0 (map fresh_course (take (board + 1) config.scripts))
   lanes_next board script found =
       let within = slice_get_within config.scripts board script found in
@@ -66,6 +66,7 @@ module _ (config : Configuration) where
   by_script b lane (Some script) is at =
       subst (IsLaneOf config b) (same_Some _ _ at)
       (record {
+        script = refl;
         lines = told_length (script_at config b) [] ∙ sym (length-map (script_at config b) (λ (one : ScriptLine). one.line));
         below = tt;
       })

@@ -8,6 +8,7 @@ use Rattle.vme_core.specs.declared.event.EventReply.{EventReply}
 use Rattle.vme_core.specs.Calls.{Call, machine_step}
 use Rattle.vme_shared.specs.declared.reply.LineReply.{LineReply}
 use Rattle.vme_lines.specs.declared.line.Line.{Line}
+use Rattle.vme_script.specs.declared.script.ScriptLine.{ScriptLine}
 use Rattle.vme_script.specs.Configurations.{Configuration}
 use Rattle.vme_course.specs.declared.task.LineTask.{LineTask}
 use Rattle.vme_course.specs.Scripts.{lines_at}
@@ -17,7 +18,7 @@ use Rattle.vme_runner.specs.Drivers.{LaneView, lane_answered, lane_settled, lane
 
 -- a lane by its parts
 abbrev pub lane_at : LaneView → LineTask → LaneView
-lane_at lane task = record { lines = lane.lines; ended = lane.ended; at = Some task }
+lane_at lane task = record { script = lane.script; lines = lane.lines; ended = lane.ended; at = Some task }
 
 -- the next line is the first that is left
 pub next_first : {A : Type 0} → (lines : List A) (n : ℕ) (line : A) → slice_get lines n ≡ Some line → drop n lines ≡ line ∷ drop (n + 1) lines
@@ -62,27 +63,27 @@ module _ (config : Configuration) (board : ℕ) (machine : Machine) where
       ∙ sym (turn_called lane found.0 task call at found.1 makes)
 
   -- and makes another next
-  pub turn_goes_on : (after : Machine) (lane : LaneView) (lines : List (ℕ × LineReply)) (ended : ℕ) (task next : LineTask) (call then : Call) (reply : EventReply)
-      → record { lines = lines; ended = ended; at = Some task } ≡ lane → length lane.lines ≡ length (lines_at config board) → ended < length lines
+  pub turn_goes_on : (after : Machine) (lane : LaneView) (script : List ScriptLine) (lines : List (ℕ × LineReply)) (ended : ℕ) (task next : LineTask) (call then : Call) (reply : EventReply)
+      → record { script = script; lines = lines; ended = ended; at = Some task } ≡ lane → length lane.lines ≡ length (lines_at config board) → ended < length lines
       → line_to_do task ≡ Makes call → (after, reply) ≡ machine_step machine board call → next ≡ line_advance task (Some reply) → Makes then ≡ line_to_do next
-      → (after, record { lines = lines; ended = ended; at = Some next }) ≡ lane_turn config board machine lane
-  turn_goes_on after lane lines ended task next call then reply is count within makes step goes todo =
-      let own : LaneView = record { lines = lines; ended = ended; at = Some task } in
+      → (after, record { script = script; lines = lines; ended = ended; at = Some next }) ≡ lane_turn config board machine lane
+  turn_goes_on after lane script lines ended task next call then reply is count within makes step goes todo =
+      let own : LaneView = record { script = script; lines = lines; ended = ended; at = Some task } in
       let all : length own.lines ≡ length (lines_at config board) = subst (λ (l : LaneView). length l.lines ≡ length (lines_at config board)) (sym is) count in
-      let settles : lane_settled own (line_advance task (Some reply)) (line_to_do (line_advance task (Some reply))) ≡ record { lines = lines; ended = ended; at = Some next }
+      let settles : lane_settled own (line_advance task (Some reply)) (line_to_do (line_advance task (Some reply))) ≡ record { script = script; lines = lines; ended = ended; at = Some next }
       = rw (← goes) (rw (← todo) refl) in
       ap (λ (l : LaneView). (after, l)) (sym settles) ∙ turn_made after own task call reply refl (omega (arith, all)) makes step
       ∙ ap (λ (l : LaneView). lane_turn config board machine l) is
 
   -- or has come to its end
-  pub turn_ends : (after : Machine) (lane : LaneView) (lines : List (ℕ × LineReply)) (ended : ℕ) (task next : LineTask) (call : Call) (answer : LineReply)
-      (reply : EventReply) → record { lines = lines; ended = ended; at = Some task } ≡ lane → length lane.lines ≡ length (lines_at config board)
+  pub turn_ends : (after : Machine) (lane : LaneView) (script : List ScriptLine) (lines : List (ℕ × LineReply)) (ended : ℕ) (task next : LineTask) (call : Call) (answer : LineReply)
+      (reply : EventReply) → record { script = script; lines = lines; ended = ended; at = Some task } ≡ lane → length lane.lines ≡ length (lines_at config board)
       → ended < length lines → line_to_do task ≡ Makes call → (after, reply) ≡ machine_step machine board call → next ≡ line_advance task (Some reply)
       → Ends answer ≡ line_to_do next
-      → (after, record { lines = slice_set lines ended ((slice_index_or lines ended (0, answer)).0, answer); ended = ended + 1; at = None })
+      → (after, record { script = script; lines = slice_set lines ended ((slice_index_or lines ended (0, answer)).0, answer); ended = ended + 1; at = None })
       ≡ lane_turn config board machine lane
-  turn_ends after lane lines ended task next call answer reply is count within makes step goes todo =
-      let own : LaneView = record { lines = lines; ended = ended; at = Some task } in
+  turn_ends after lane script lines ended task next call answer reply is count within makes step goes todo =
+      let own : LaneView = record { script = script; lines = lines; ended = ended; at = Some task } in
       let all : length own.lines ≡ length (lines_at config board) = subst (λ (l : LaneView). length l.lines ≡ length (lines_at config board)) (sym is) count in
       let settles : lane_settled own (line_advance task (Some reply)) (line_to_do (line_advance task (Some reply))) ≡ lane_answered own answer
       = rw (← goes) (rw (← todo) refl) in
@@ -90,26 +91,26 @@ module _ (config : Configuration) (board : ℕ) (machine : Machine) where
       ∙ ap (λ (l : LaneView). lane_turn config board machine l) is
 
   -- a line that is begun and makes a call is at work
-  pub turn_begins : (lines : List (ℕ × LineReply)) (ended : ℕ) (started task : LineTask) (call : Call) → ended < length (lines_at config board)
+  pub turn_begins : (script : List ScriptLine) (lines : List (ℕ × LineReply)) (ended : ℕ) (started task : LineTask) (call : Call) → ended < length (lines_at config board)
       → ((one : Line) → slice_get (lines_at config board) ended ≡ Some one → started ≡ line_started config board one)
       → task ≡ line_advance started None → Makes call ≡ line_to_do task
-      → lane_turn config board machine (record { lines = lines; ended = ended; at = Some task })
-      ≡ lane_turn config board machine (record { lines = lines; ended = ended; at = None })
-  turn_begins lines ended started task call within starts goes todo =
+      → lane_turn config board machine (record { script = script; lines = lines; ended = ended; at = Some task })
+      ≡ lane_turn config board machine (record { script = script; lines = lines; ended = ended; at = None })
+  turn_begins script lines ended started task call within starts goes todo =
       let found = place_found ended (lines_at config board) within in
       let begun : task ≡ line_begun config board found.0 = goes ∙ ap (λ (t : LineTask). line_advance t None) (starts found.0 found.1) in
-      let idle : LaneView = record { lines = lines; ended = ended; at = None } in
+      let idle : LaneView = record { script = script; lines = lines; ended = ended; at = None } in
       ap (λ (t : LineTask). lane_turn config board machine (lane_at idle t)) begun
       ∙ sym (turn_begun idle found.0 call refl found.1 (ap line_to_do (sym begun) ∙ sym todo))
 
   -- and one that has ended without a call is answered
-  pub turn_passes : (lines : List (ℕ × LineReply)) (ended : ℕ) (started task : LineTask) (answer : LineReply) → ended < length (lines_at config board)
+  pub turn_passes : (script : List ScriptLine) (lines : List (ℕ × LineReply)) (ended : ℕ) (started task : LineTask) (answer : LineReply) → ended < length (lines_at config board)
       → ((one : Line) → slice_get (lines_at config board) ended ≡ Some one → started ≡ line_started config board one)
       → task ≡ line_advance started None → Ends answer ≡ line_to_do task
       → lane_turn config board machine
-      (record { lines = slice_set lines ended ((slice_index_or lines ended (0, answer)).0, answer); ended = ended + 1; at = None })
-      ≡ lane_turn config board machine (record { lines = lines; ended = ended; at = None })
-  turn_passes lines ended started task answer within starts goes todo =
+      (record { script = script; lines = slice_set lines ended ((slice_index_or lines ended (0, answer)).0, answer); ended = ended + 1; at = None })
+      ≡ lane_turn config board machine (record { script = script; lines = lines; ended = ended; at = None })
+  turn_passes script lines ended started task answer within starts goes todo =
       let found = place_found ended (lines_at config board) within in
       let begun : task ≡ line_begun config board found.0 = goes ∙ ap (λ (t : LineTask). line_advance t None) (starts found.0 found.1) in
-      sym (turn_answered (record { lines = lines; ended = ended; at = None }) found.0 answer refl found.1 (ap line_to_do (sym begun) ∙ sym todo))
+      sym (turn_answered (record { script = script; lines = lines; ended = ended; at = None }) found.0 answer refl found.1 (ap line_to_do (sym begun) ∙ sym todo))

@@ -10,6 +10,7 @@ use Rattle.vme_shared.specs.declared.reply.LineReply.{LineReply}
 use Rattle.vme_lines.specs.declared.line.Line.{Line}
 use Rattle.vme_report.specs.Boards.{BoardText}
 use Rattle.vme_script.specs.declared.board.BoardConfig.{BoardConfig}
+use Rattle.vme_script.specs.declared.script.ScriptLine.{ScriptLine}
 use Rattle.vme_script.specs.Configurations.{Configuration}
 use Rattle.vme_course.specs.declared.task.LineTask.{LineTask}
 use Rattle.vme_course.specs.Scripts.{lines_at, script_at}
@@ -19,9 +20,10 @@ use Rattle.vme_course.specs.Courses.{Course}
 use Rattle.vme_runner.specs.Reports.{told_lines}
 use Rattle.vme_runner.specs.Turns.{World, lines_left}
 
--- the lines of a script as they are told, how many have ended, and the task of the one at work, if one is
+-- a script, its lines as they are told, how many have ended, and the task of the one at work, if one is
 -- (this project's own)
 pub record LaneView : Type 0 where
+  pub script : List ScriptLine
   pub lines : List (ℕ × LineReply)
   pub ended : ℕ
   pub at : Option LineTask
@@ -34,6 +36,7 @@ pub record DriverView : Type 0 where
 -- the answer of the next line is recorded (this project's own)
 abbrev pub lane_answered : LaneView → LineReply → LaneView
 lane_answered lane answer = record {
+  script = lane.script;
   lines = slice_set lane.lines lane.ended ((slice_index_or lane.lines lane.ended (0, answer)).0, answer);
   ended = lane.ended + 1;
   at = None;
@@ -42,7 +45,7 @@ lane_answered lane answer = record {
 -- a task of the next line: at its end the answer is recorded, and else it is at work (this project's own)
 abbrev pub lane_settled : LaneView → LineTask → LineNext → LaneView
 lane_settled lane task (Ends answer) = lane_answered lane answer
-lane_settled lane task next = record { lines = lane.lines; ended = lane.ended; at = Some task }
+lane_settled lane task next = record { script = lane.script; lines = lane.lines; ended = lane.ended; at = Some task }
 
 -- a task of the next line makes its call, and goes on by the reply (this project's own)
 abbrev pub lane_called : Machine → ℕ → LaneView → LineTask → Call → Machine × LaneView
@@ -110,6 +113,7 @@ task_at config board (reply ∷ replies) (line ∷ lines) = Some (line_after con
 -- the lane of a course (this project's own)
 abbrev pub lane_of : Configuration → ℕ → Course → LaneView
 lane_of config board c = record {
+  script = script_at config board;
   lines = told_lines (script_at config board) c.ended;
   ended = length c.ended;
   at = task_at config board c.replies (lines_left config board c);
@@ -124,8 +128,9 @@ lanes_from config board (c ∷ courses) = lane_of config board c ∷ lanes_from 
 abbrev pub driver_of : Configuration → World → DriverView
 driver_of config world = record { machine = world.machine; lanes = lanes_from config 0 world.courses }
 
--- a lane of a board's processor: it has the script's lines, and calls boards that are there (this project's own)
+-- a lane of a board's processor: it has its script and a line for each of the script's, and calls boards that are there (this project's own)
 pub record IsLaneOf (config : Configuration) (board : ℕ) (lane : LaneView) : Type 0 where
+  pub script : lane.script ≡ script_at config board
   pub lines : length lane.lines ≡ length (lines_at config board)
   pub below : IfSome lane.at (IsLineBelow (length config.boards))
 

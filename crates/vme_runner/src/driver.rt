@@ -200,7 +200,7 @@ fn zero_memories(alloc: Global, config: &Config) -> Result<Vec<ByteMemory>, OutO
 }
 
 /// The ways of the processors, of which no line has ended.
-fn fresh_lanes<'a>(alloc: Global, config: &Config) -> Result<Vec<Lane<'a>>, AllocError>
+fn fresh_lanes<'a>(alloc: Global, config: &'a Config) -> Result<Vec<Lane<'a>>, AllocError>
     ensures { IfOk result (λ lanes. lanes.items
         ≡ lanes_from config.now 0 (opening_world config.now).courses) }
 {

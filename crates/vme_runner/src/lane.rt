@@ -18,6 +18,7 @@ use vme_shared::LineReply;
 /// if one is. All room is taken when it is made, and a task stays in its place.
 #[derive(Drop)]
 pub(crate) struct Lane<'a> {
+    script: &'a Script,
     lines: Vec<(u16, LineReply)>,
     ended: usize,
     task: Option<LineTask<'a>>,
@@ -31,7 +32,12 @@ impl<'a> Model for Lane<'a> {
 
     ghost Value = { LaneView };
 
-    ghost view = { λ l. record { lines = l.lines.items; ended = l.ended; at = l.task } };
+    ghost view = { λ l. record {
+      script = l.script.now;
+      lines = l.lines.items;
+      ended = l.ended;
+      at = l.task;
+    } };
 
     ghost invariant = { λ l. IfSome l.task (λ task.
         (l.ended < length l.lines.items) × MakesCall (line_to_do task)) };
@@ -39,8 +45,9 @@ impl<'a> Model for Lane<'a> {
 
 impl<'a> Lane<'a> {
     /// A script of which no line has ended.
-    pub(crate) fn new(alloc: Global, script: &Script) -> Result<Lane<'a>, AllocError>
+    pub(crate) fn new(alloc: Global, script: &'a Script) -> Result<Lane<'a>, AllocError>
         ensures { IfOk result (λ lane. lane ≡ record {
+          script = script.now;
           lines = map (λ line. (line.number, Unfinished)) script.now;
           ended = 0;
           at = None;
@@ -51,6 +58,7 @@ impl<'a> Lane<'a> {
             lines.push((script.number(j), LineReply::Unfinished))?;
         }
         Ok(Lane {
+            script,
             lines,
             ended: 0,
             task: None,
@@ -128,6 +136,7 @@ impl<'a> Lane<'a> {
             (self.old.at ≡ None → length self.old.lines ≤ self.old.ended) →
             (core.new, self.new) ≡ lane_turn config board core.old self.old }
         ensures below { IfSome self.new.at (IsLineBelow (length core.old.boards)) }
+        ensures script { self.new.script ≡ self.old.script }
         ensures lines { length self.new.lines ≡ length self.old.lines }
         ensures whos { whos core.new ≡ whos core.old }
         ensures boards { length core.new.boards ≡ length core.old.boards }

@@ -3,6 +3,7 @@ use Rattle.std.specs.Vec.{with_items}
 use Rattle.std.proofs.lemmas.List.{with_items_is, length-set}
 use Rattle.vme_core.specs.Calls.{call_of}
 use Rattle.vme_shared.specs.declared.reply.LineReply.{LineReply}
+use Rattle.vme_script.specs.declared.script.ScriptLine.{ScriptLine}
 use Rattle.vme_course.specs.declared.task.LineTask.{LineTask}
 use Rattle.vme_course.specs.Tables.{Makes}
 use Rattle.vme_course.specs.Machine.{line_to_do}
@@ -12,21 +13,21 @@ use Rattle.vme_runner.proofs.Turning.{turn_goes_on, turn_ends}
 use Rattle.vme_runner.proofs.lane.Lane.make.Goals as goal
 
 -- a lane by the parts of its fields
-abbrev lane_with : List (ℕ × LineReply) → ℕ → Option LineTask → LaneView
-lane_with lines ended at = record { lines = lines; ended = ended; at = at }
+abbrev lane_with : List ScriptLine → List (ℕ × LineReply) → ℕ → Option LineTask → LaneView
+lane_with script lines ended at = record { script = script; lines = lines; ended = ended; at = at }
 
 pub returns-else-is_over-clause-turn : goal.returns-else-is_over-clause-turn
 returns-else-is_over-clause-turn c =
     let event = c.unwrap-event.result in
     let sound = rw c.in-Some.is at c.self.invariant in
-    let is = ap (lane_with c.self.inside.lines.items c.self.inside.ended) (sym c.in-Some.is) ∙ c.self.view_is in
+    let is = ap (lane_with c.self.inside.script.now c.self.inside.lines.items c.self.inside.ended) (sym c.in-Some.is) ∙ c.self.view_is in
     let makes : line_to_do c.in-Some.task ≡ Makes (call_of event)
     = makes_event (line_to_do c.in-Some.task) event (rw c.unwrap-event.ensures at c.event.ensures.event) in
     let step = rw c.unwrap-reply.ensures at c.apply.ensures.step in
     let next = its_call (line_to_do c.give.new.self)
     (at_work (line_to_do c.give.new.self) c.give.ensures.begun (sym c.is_over.ensures ∙ c.if-is_over.false)) in
     λ config lane over.
-    turn_goes_on config c.args.board c.args.core.now c.apply.new.self c.args.self.now c.self.inside.lines.items c.self.inside.ended c.in-Some.task
+    turn_goes_on config c.args.board c.args.core.now c.apply.new.self c.args.self.now c.self.inside.script.now c.self.inside.lines.items c.self.inside.ended c.in-Some.task
     c.give.new.self (call_of event) next.0 c.unwrap-reply.result is lane.lines sound.0 makes step c.give.ensures.task next.1
 
 pub returns-then-is_over-clause-turn : goal.returns-then-is_over-clause-turn
@@ -34,7 +35,7 @@ returns-then-is_over-clause-turn c =
     let event = c.unwrap-event.result in
     let answer = c.unwrap-answer.result in
     let sound = rw c.in-Some.is at c.self.invariant in
-    let is = ap (lane_with c.self.inside.lines.items c.self.inside.ended) (sym c.in-Some.is) ∙ c.self.view_is in
+    let is = ap (lane_with c.self.inside.script.now c.self.inside.lines.items c.self.inside.ended) (sym c.in-Some.is) ∙ c.self.view_is in
     let makes : line_to_do c.in-Some.task ≡ Makes (call_of event)
     = makes_event (line_to_do c.in-Some.task) event (rw c.unwrap-event.ensures at c.event.ensures.event) in
     let step = rw c.unwrap-reply.ensures at c.apply.ensures.step in
@@ -45,6 +46,6 @@ returns-then-is_over-clause-turn c =
     = with_items_is c.self.inside.lines c.put_answer.new.lines (ap length c.put_answer.ensures ∙ length-set _ _ _ ∙ c.deref_mut.ensures.len) in
     λ config lane over.
     rw (lines, put)
-    (turn_ends config c.args.board c.args.core.now c.apply.new.self c.args.self.now c.self.inside.lines.items c.self.inside.ended c.in-Some.task
+    (turn_ends config c.args.board c.args.core.now c.apply.new.self c.args.self.now c.self.inside.script.now c.self.inside.lines.items c.self.inside.ended c.in-Some.task
     c.give.new.self (call_of event) answer c.unwrap-reply.result is lane.lines sound.0 makes step c.give.ensures.task
     (ends_so (line_to_do c.give.new.self) answer (rw c.unwrap-answer.ensures at c.answer.ensures)))

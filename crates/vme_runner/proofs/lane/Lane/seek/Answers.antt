@@ -13,7 +13,7 @@ returns-in-None-clause-turn c =
     = omega (arith, c.loop-self-test.true, c.len.ensures, c.loop-self.invariant.lines, c.loop-self.self-inside.lines.ok.0) in
     let next = its_call (line_to_do c.give.new.self) (goes_on (line_to_do c.give.new.self) c.give.ensures.begun c.in-None.ensures) in
     λ machine.
-    turn_begins c.args.config.now c.args.board machine c.loop-self.self-inside.lines.items c.loop-self.self-inside.ended c.start-task.result c.give.new.self
+    turn_begins c.args.config.now c.args.board machine c.loop-self.self-inside.script.now c.loop-self.self-inside.lines.items c.loop-self.self-inside.ended c.start-task.result c.give.new.self
     next.0 within c.start-task.ensures.line c.give.ensures.task next.1
     ∙ c.loop-self.invariant.turn machine
 
@@ -27,11 +27,12 @@ loop-self-preserved c =
     ((slice_index_or c.loop-self.self-inside.lines.items c.loop-self.self-inside.ended (0, c.in-Some.answer)).0, c.in-Some.answer)
     = rw c.deref_mut.ensures.value at c.put_answer.ensures in
     record {
+      script = c.loop-self.invariant.script;
       idle = c.loop-self.invariant.idle;
       lines = ap length (lines ∙ put) ∙ length-set _ _ _ ∙ c.loop-self.invariant.lines;
       turn = λ machine.
           rw (lines, put)
-          (turn_passes c.args.config.now c.args.board machine c.loop-self.self-inside.lines.items c.loop-self.self-inside.ended c.start-task.result
+          (turn_passes c.args.config.now c.args.board machine c.loop-self.self-inside.script.now c.loop-self.self-inside.lines.items c.loop-self.self-inside.ended c.start-task.result
           c.give.new.self c.in-Some.answer within c.start-task.ensures.line c.give.ensures.task
           (ends_so (line_to_do c.give.new.self) c.in-Some.answer c.in-Some.ensures)
           ∙ c.loop-self.invariant.turn machine);

@@ -1,16 +1,17 @@
 use Rattle.std.proofs.Common.{◌≡◌, ◌-◌, length, None}
 use Rattle.vme_core.specs.Runs.{Machine}
-use Rattle.vme_course.specs.Scripts.{lines_at}
+use Rattle.vme_course.specs.Scripts.{script_at, lines_at}
 use Rattle.vme_runner.specs.Drivers.{lane_turn}
 use Rattle.vme_runner.proofs.lane.Lane.seek.Given as goal
 
 -- the lines so far were answered without a call, so that the turn is the same
 abbrev pub invariant-loop-self : goal.invariant-loop-self
 invariant-loop-self l = record {
+  script : l.self-inside.script.now ≡ script_at l.config l.board;
   idle : l.self-inside.task ≡ None;
   lines : length l.self-inside.lines.items ≡ length (lines_at l.config l.board);
   turn : (machine : Machine)
-      → lane_turn l.config l.board machine (record { lines = l.self-inside.lines.items; ended = l.self-inside.ended; at = None })
+      → lane_turn l.config l.board machine (record { script = l.self-inside.script.now; lines = l.self-inside.lines.items; ended = l.self-inside.ended; at = None })
       ≡ lane_turn l.config l.board machine l.fn.self;
 }
 
