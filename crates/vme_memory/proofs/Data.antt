@@ -5,23 +5,27 @@ use Rattle.std.specs.Option.{option_and_then}
 use Rattle.std.proofs.Math.Nat.{mul-le-mul_left}
 use Rattle.std.proofs.lemmas.Bool.{cases_Bool, and_parts, leb-true, eqb-true, eq-eqb}
 use Rattle.std.proofs.lemmas.Grind.{common_steps}
+use Rattle.vme_am.specs.Codes.{CodeRow}
 use Rattle.vme_am.specs.Kinds.{is_block}
 use Rattle.vme_lanes.specs.declared.location.Location.{Location}
+use Rattle.vme_lanes.specs.declared.location.Location.TheVariants.{Bytes03}
 use Rattle.vme_lanes.specs.Rows.{row_of}
-use Rattle.vme_lanes.specs.Lanes.{lanes_with, carries, bytes_on}
+use Rattle.vme_lanes.specs.Lanes.{lanes_with, carries, bytes_on, carries_all, bytes_of}
 use Rattle.vme_lanes.proofs.Placing.{lanes_carry, bytes_again}
+use Rattle.vme_lanes.proofs.Wide.{all_carry, all_again}
 use Rattle.vme_cycle.specs.declared.request.Request.{Request}
 use Rattle.vme_cycle.specs.declared.request.Request.TheVariants as requests
-use Rattle.vme_cycle.specs.Counts.{is_block_len}
+use Rattle.vme_cycle.specs.Counts.{is_datum_len, is_modify_len, is_wide_code}
 use Rattle.vme_cycle.specs.Requests.{datum_len, count_of, datum_of, function_of, is_block_request, is_counted, address_of}
 use Rattle.vme_cycle.specs.Lawful.{Transfer, IsLawfulTransfer}
-use Rattle.vme_cycle.specs.SignalLines.{sensed_at}
+use Rattle.vme_cycle.specs.SignalLines.{chosen_len, sensed_at}
+use Rattle.vme_cycle.specs.Parts.{IsLawful}
 use Rattle.vme_cycle.specs.Plans.{own_location, driven_lanes, signals_of}
 use Rattle.vme_cycle.proofs.Transfers.{lawful_parts, own_row, own_sensed_at}
 use Rattle.vme_cycle.proofs.Lengths.{sensed_len}
 use Rattle.vme_memory.specs.declared.reply.Reply.TheVariants.{Bytes}
 use Rattle.vme_memory.specs.Boards.{Board}
-use Rattle.vme_memory.specs.Steps.{Command, LocalRead, LocalWrite, LocalModify, Read, Write, Modify, BlockRead, BlockWrite, fits, can_answer, bytes_at, effect_of, driven_bytes, read_command, write_command, driven_write, command_at, command_of, step, answer, cycle}
+use Rattle.vme_memory.specs.Steps.{Command, LocalRead, LocalWrite, LocalModify, Read, Write, Modify, BlockRead, BlockWrite, fits, can_answer, bytes_at, effect_of, driven_bytes, read_command, write_command, driven_write, narrow_command, wide_write, wide_command, command_at, command_of, step, answer, cycle}
 use Rattle.vme_memory.specs.Data.{datum_command, reply_len, datum_reply_len, has_form}
 
 -- lanes with the bytes of a location carry these bytes
@@ -37,24 +41,68 @@ cut_len bytes i n some less =
     grind (arith, common_steps)
 
 -- a block's datum has a byte
-some_byte : (n : ℕ) → is_block_len n ≡ true → 0 < n
-some_byte zero h = absurd cc
-some_byte (suc n) h = omega arith
+some_byte : (wide : Bool) (n : ℕ) → is_datum_len wide n ≡ true → 0 < n
+some_byte true zero h = absurd cc
+some_byte false zero h = absurd cc
+some_byte wide (suc n) h = omega arith
+
+-- what a location is where code and location choose so many bytes
+wide_chosen : (l : Location) (n : ℕ) → chosen_len true l ≡ Some n → ((row_of l).len ≡ 4) × (n ≡ 8)
+wide_chosen Bytes03 n h = (refl, cc)
+wide_chosen l n h = absurd cc
+
+narrow_chosen : (l : Location) (n : ℕ) → chosen_len false l ≡ Some n → (row_of l).len ≡ n
+narrow_chosen l n h = cc
 
 -- a request's datum at a location of its length
-command_by :
+narrow_by :
     (request : Request) (i at : ℕ) (l : Location) → is_counted request ≡ true → i < count_of request → (row_of l).len ≡ datum_len request
-    → command_at (is_block_request request) (is_none (datum_of request i)) (function_of request) at l (driven_lanes l (datum_of request i))
+    → narrow_command (is_block_request request) (is_none (datum_of request i)) (function_of request) at l (driven_lanes false l (datum_of request i))
     ≡ Some (datum_command request i at)
-command_by (requests.Read am addr n) i at l counted less long = ap (λ len. Some (Read at len)) long
-command_by (requests.Write am addr bytes) i at l counted less long = ap (option_map (Write at)) (driven_again l bytes.items (sym long))
-command_by (requests.BlockRead am addr n count) i at l counted less long = ap (λ len. Some (BlockRead at len)) long
-command_by (requests.BlockWrite am addr n bytes) i at l counted less long =
-    let some = some_byte n (and_parts _ _ (and_parts _ _ counted).0).0 in
+narrow_by (requests.Read am addr n) i at l counted less long = ap (λ len. Some (Read at len)) long
+narrow_by (requests.Write am addr bytes) i at l counted less long = ap (option_map (Write at)) (driven_again l bytes.items (sym long))
+narrow_by (requests.BlockRead am addr n count) i at l counted less long = ap (λ len. Some (BlockRead at len)) long
+narrow_by (requests.BlockWrite am addr n bytes) i at l counted less long =
+    let some = some_byte (is_wide_code am) n (and_parts _ _ (and_parts _ _ counted).0).0 in
     ap (option_map (BlockWrite at)) (driven_again l (slice_range bytes.items (i * n) (i * n + n)) (cut_len bytes.items i n some less ∙ sym long))
-command_by (requests.BlockFill am addr n count bytes) i at l counted less long =
+narrow_by (requests.BlockFill am addr n count bytes) i at l counted less long =
     ap (option_map (BlockWrite at)) (driven_again l bytes.items (eqb-true _ _ (and_parts _ _ counted).1 ∙ sym long))
-command_by (requests.Modify am addr n f) i at l counted less long = ap (λ len. Some (Modify at len f)) long
+narrow_by (requests.Modify am addr n f) i at l counted less long = ap (λ len. Some (Modify at len f)) long
+
+-- a datum of eight bytes
+wide_by :
+    (request : Request) (i at : ℕ) (l : Location) → is_counted request ≡ true → (row_of l).len ≡ 4 → datum_len request ≡ 8
+    → wide_command (is_none (datum_of request i)) (function_of request) at l (driven_lanes true l (datum_of request i))
+    ≡ Some (datum_command request i at)
+wide_by (requests.Read am addr n) i at l counted quad eight = absurd (omega (arith, leb-true n 4 (and_parts _ _ counted).1, eight))
+wide_by (requests.Write am addr bytes) i at l counted quad eight =
+    absurd (omega (arith, leb-true (length bytes.items) 4 (and_parts _ _ counted).1, eight))
+wide_by (requests.BlockRead am addr n count) i at l counted quad eight = rw (eq-eqb _ _ quad) (ap (λ len. Some (BlockRead at len)) (sym eight))
+wide_by (requests.BlockWrite am addr n bytes) i at l counted quad eight =
+    rw (eq-eqb _ _ quad, all_carry (slice_range bytes.items (i * n) (i * n + n)))
+    (ap (λ new. Some (BlockWrite at new)) (all_again (slice_range bytes.items (i * n) (i * n + n))))
+wide_by (requests.BlockFill am addr n count bytes) i at l counted quad eight =
+    rw (eq-eqb _ _ quad, all_carry bytes.items) (ap (λ new. Some (BlockWrite at new)) (all_again bytes.items))
+wide_by (requests.Modify am addr n f) i at l counted quad eight =
+    let allowed : is_modify_len n ≡ true = (and_parts _ _ counted).0 in
+    let bad : is_modify_len 8 ≡ true = ap is_modify_len (sym eight) ∙ allowed in
+    absurd cc
+
+-- a datum with any code
+command_by :
+    (t : Transfer) (i at : ℕ) (l : Location) → IsLawful t.am t.request → i < count_of t.request
+    → chosen_len t.am.wide l ≡ Some (datum_len t.request)
+    → command_at t.am (is_none (datum_of t.request i)) (function_of t.request) at l (driven_lanes t.am.wide l (datum_of t.request i))
+    ≡ Some (datum_command t.request i at)
+command_by t i at l is less chosen =
+    elim (cases_Bool t.am.wide) [
+      | inl wide ↦
+          let both = wide_chosen l (datum_len t.request) (ap (λ w. chosen_len w l) (sym wide) ∙ chosen) in
+          rw wide (wide_by t.request i at l is.counted both.0 both.1)
+      | inr narrow ↦
+          let long = narrow_chosen l (datum_len t.request) (ap (λ w. chosen_len w l) (sym narrow) ∙ chosen) in
+          rw (narrow, is.kind) (narrow_by t.request i at l is.counted less long)
+    ]
 
 -- the cycle of a datum, where it is at its own place in the group of four, stands for the request's own command
 pub own_command :
@@ -65,8 +113,7 @@ own_command t i at lawful less place =
     let is = lawful_parts t lawful in
     let row = own_row t i is less in
     let here : ((row_of (own_location t i)).first == at % 4) ≡ true = eq-eqb _ _ (row.0 ∙ sym place) in
-    rw (own_sensed_at t i at is less place, here, is.kind)
-    (command_by t.request i at (own_location t i) is.counted less row.1)
+    rw (own_sensed_at t i at is less place, here) (command_by t i at (own_location t i) is less row.1)
 
 -- and does what that command does
 pub own_cycle :
@@ -124,31 +171,63 @@ driven_form board block l at lanes =
       | inr some ↦ rw some refl
     ]
 
--- a cycle at a location that is as long as the datum
-form_at :
+narrow_form :
     (board : Board) (request : Request) (i at : ℕ) (block : Bool) (l : Location) (lanes : List (Option ℕ)) → (row_of l).len ≡ datum_len request
-    → has_form (datum_reply_len request) (answer board (command_at block (is_none (datum_of request i)) (function_of request) at l lanes)).0 ≡ true
-form_at board (requests.Read am addr n) i at block l lanes long = rw long (read_form board block at n)
-form_at board (requests.Write am addr bytes) i at block l lanes long = driven_form board block l at lanes
-form_at board (requests.BlockRead am addr n count) i at block l lanes long = rw long (read_form board block at n)
-form_at board (requests.BlockWrite am addr n bytes) i at block l lanes long = driven_form board block l at lanes
-form_at board (requests.BlockFill am addr n count bytes) i at block l lanes long = driven_form board block l at lanes
-form_at board (requests.Modify am addr n f) i at true l lanes long = refl
-form_at board (requests.Modify am addr n f) i at false l lanes long = rw long (reply_form board (Modify at n f))
+    → has_form (datum_reply_len request) (answer board (narrow_command block (is_none (datum_of request i)) (function_of request) at l lanes)).0 ≡ true
+narrow_form board (requests.Read am addr n) i at block l lanes long = rw long (read_form board block at n)
+narrow_form board (requests.Write am addr bytes) i at block l lanes long = driven_form board block l at lanes
+narrow_form board (requests.BlockRead am addr n count) i at block l lanes long = rw long (read_form board block at n)
+narrow_form board (requests.BlockWrite am addr n bytes) i at block l lanes long = driven_form board block l at lanes
+narrow_form board (requests.BlockFill am addr n count bytes) i at block l lanes long = driven_form board block l at lanes
+narrow_form board (requests.Modify am addr n f) i at true l lanes long = refl
+narrow_form board (requests.Modify am addr n f) i at false l lanes long = rw long (reply_form board (Modify at n f))
+
+-- whatever all lanes carry
+wide_write_form : (board : Board) (at : ℕ) (lanes : List (Option ℕ)) → has_form None (answer board (wide_write at lanes)).0 ≡ true
+wide_write_form board at lanes =
+    elim (cases_Bool (carries_all lanes)) [
+      | inl all ↦ rw all (reply_form board (BlockWrite at (bytes_of lanes)))
+      | inr some ↦ rw some refl
+    ]
+
+wide_form :
+    (board : Board) (request : Request) (i at : ℕ) (l : Location) (lanes : List (Option ℕ)) → (row_of l).len ≡ 4 → datum_len request ≡ 8
+    → has_form (datum_reply_len request) (answer board (wide_command (is_none (datum_of request i)) (function_of request) at l lanes)).0 ≡ true
+wide_form board (requests.Read am addr n) i at l lanes quad eight = rw (eq-eqb _ _ quad, eight) (reply_form board (BlockRead at 8))
+wide_form board (requests.Write am addr bytes) i at l lanes quad eight = rw (eq-eqb _ _ quad) (wide_write_form board at lanes)
+wide_form board (requests.BlockRead am addr n count) i at l lanes quad eight = rw (eq-eqb _ _ quad, eight) (reply_form board (BlockRead at 8))
+wide_form board (requests.BlockWrite am addr n bytes) i at l lanes quad eight = rw (eq-eqb _ _ quad) (wide_write_form board at lanes)
+wide_form board (requests.BlockFill am addr n count bytes) i at l lanes quad eight = rw (eq-eqb _ _ quad) (wide_write_form board at lanes)
+wide_form board (requests.Modify am addr n f) i at l lanes quad eight = refl
+
+-- a cycle at a location with which as many bytes go as the datum has
+form_at :
+    (board : Board) (request : Request) (i at : ℕ) (am : CodeRow) (l : Location) (lanes : List (Option ℕ))
+    → chosen_len am.wide l ≡ Some (datum_len request)
+    → has_form (datum_reply_len request) (answer board (command_at am (is_none (datum_of request i)) (function_of request) at l lanes)).0 ≡ true
+form_at board request i at am l lanes chosen =
+    elim (cases_Bool am.wide) [
+      | inl wide ↦
+          let both = wide_chosen l (datum_len request) (ap (λ w. chosen_len w l) (sym wide) ∙ chosen) in
+          rw wide (wide_form board request i at l lanes both.0 both.1)
+      | inr narrow ↦
+          let long = narrow_chosen l (datum_len request) (ap (λ w. chosen_len w l) (sym narrow) ∙ chosen) in
+          rw narrow (narrow_form board request i at (is_block am.kind) l lanes long)
+    ]
 
 -- a cycle at what is sensed, if anything is, at its own place
 sensed_form :
-    (board : Board) (request : Request) (i at : ℕ) (block : Bool) (lanes : List (Option ℕ)) (sensed : Option Location)
-    → ((l : Location) → sensed ≡ Some l → (row_of l).first ≡ at % 4 → (row_of l).len ≡ datum_len request)
+    (board : Board) (request : Request) (i at : ℕ) (am : CodeRow) (lanes : List (Option ℕ)) (sensed : Option Location)
+    → ((l : Location) → sensed ≡ Some l → (row_of l).first ≡ at % 4 → chosen_len am.wide l ≡ Some (datum_len request))
     → has_form (datum_reply_len request)
     (answer board (option_and_then
-    (λ l. if (row_of l).first == at % 4 then command_at block (is_none (datum_of request i)) (function_of request) at l lanes else None)
+    (λ l. if (row_of l).first == at % 4 then command_at am (is_none (datum_of request i)) (function_of request) at l lanes else None)
     sensed)).0
     ≡ true
-sensed_form board request i at block lanes None long = refl
-sensed_form board request i at block lanes (Some l) long =
+sensed_form board request i at am lanes None chosen = refl
+sensed_form board request i at am lanes (Some l) chosen =
     elim (cases_Bool ((row_of l).first == at % 4)) [
-      | inl here ↦ rw here (form_at board request i at block l lanes (long l refl (eqb-true _ _ here)))
+      | inl here ↦ rw here (form_at board request i at am l lanes (chosen l refl (eqb-true _ _ here)))
       | inr away ↦ rw away refl
     ]
 
@@ -158,5 +237,5 @@ pub datum_form :
     → has_form (datum_reply_len t.request) (cycle board (signals_of t i) at (function_of t.request)).0 ≡ true
 unfolding cycle signals_of
 datum_form t board i at lawful less =
-    sensed_form board t.request i at (is_block t.am.kind) (driven_lanes (own_location t i) (datum_of t.request i)) (sensed_at (signals_of t i) at)
+    sensed_form board t.request i at t.am (driven_lanes t.am.wide (own_location t i) (datum_of t.request i)) (sensed_at (signals_of t i) at)
     (λ l sensed place. sensed_len t i at l (lawful_parts t lawful) less sensed place)

@@ -1,8 +1,8 @@
 -- What a slave of each width is able to answer.
-use Rattle.std.specs.Prelude.{ℕ, ◌%◌, Bool, true, false, ◌==◌, ◌&&◌, ◌||◌}
+use Rattle.std.specs.Prelude.{ℕ, ◌%◌, Bool, true, false, ◌==◌, ◌&&◌, ◌||◌, if◌then◌else◌}
 use Rattle.vme_lanes.specs.declared.location.Location.{Location}
 use Rattle.vme_lanes.specs.declared.location.Location.TheVariants.{Byte0, Byte1, Byte2, Byte3, Bytes01, Bytes23, Bytes03, Bytes02, Bytes13, Bytes12}
-use Rattle.vme_cycle.specs.Counts.{is_block_len, is_modify_len}
+use Rattle.vme_cycle.specs.Counts.{is_block_len, is_modify_len, is_wide_len}
 use Rattle.vme_memory.specs.declared.class.Class.{Class}
 use Rattle.vme_memory.specs.declared.class.Width8To32.{Width8To32}
 use Rattle.vme_memory.specs.declared.class.Width8To32.TheVariants.{D08, D16, D32}
@@ -33,9 +33,9 @@ answers class Bytes13 = answers_quads class.width && class.uat
 answers class Bytes12 = answers_quads class.width && class.uat
 
 -- where one datum of a block may be: one, two or four bytes at a multiple of their number (IEEE 1014, section 2.3.6: block
--- transfer cycles)
+-- transfer cycles), eight at a multiple of four (this project's own)
 abbrev pub is_block_place : ℕ → ℕ → Bool
-is_block_place at len = is_block_len len && at % len == 0
+is_block_place at len = if is_wide_len len then at % 4 == 0 else is_block_len len && at % len == 0
 
 -- where a read-modify-write may be: one, two or four bytes at a multiple of their number (IEEE 1014, section 2.3.6:
 -- read-modify-write cycles)

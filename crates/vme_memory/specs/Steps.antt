@@ -3,14 +3,16 @@ use Rattle.std.specs.Prelude.{◌≡◌, ℕ, ◌+◌, ◌%◌, nat_le, Bool, tr
 use Rattle.std.specs.Option.{option_map, option_map_or, option_and_then}
 use Rattle.vme_lanes.specs.declared.location.Location.{Location}
 use Rattle.vme_lanes.specs.Rows.{row_of, location_at}
-use Rattle.vme_lanes.specs.Lanes.{carries, bytes_on}
+use Rattle.vme_lanes.specs.Lanes.{carries, bytes_on, carries_all, bytes_of}
+use Rattle.vme_am.specs.Codes.{CodeRow}
 use Rattle.vme_am.specs.Kinds.{is_block}
 use Rattle.vme_cycle.specs.declared.modify.Modify as functions
+use Rattle.vme_cycle.specs.Counts.{is_wide_len}
 use Rattle.vme_cycle.specs.Functions.{value, has_len}
 use Rattle.vme_cycle.specs.SignalLines.{SignalLines, sensed_at}
 use Rattle.vme_memory.specs.declared.reply.Reply.{Reply}
 use Rattle.vme_memory.specs.declared.reply.Reply.TheVariants.{Bytes, Done, Berr}
-use Rattle.vme_memory.specs.Classes.{answers, is_block_place, is_modify_place, is_local_len}
+use Rattle.vme_memory.specs.Classes.{answers, answers_quads, is_block_place, is_modify_place, is_local_len}
 use Rattle.vme_memory.specs.Boards.{Board, bytes_after_write}
 
 -- a command, with the offset of its first byte: a read of so many bytes, a write of these, or a read-modify-write of so
@@ -33,6 +35,10 @@ fits board at len = nat_le (at + len) (length board.bytes)
 abbrev pub has_cycle : Board → ℕ → ℕ → Bool
 has_cycle board at len = option_map_or (answers board.class) (location_at at len) false
 
+-- the same of one datum of a block; eight bytes want a class that answers quad bytes (this project's own)
+abbrev pub has_block_cycle : Board → ℕ → ℕ → Bool
+has_block_cycle board at len = if is_wide_len len then answers_quads board.class.width else has_cycle board at len
+
 -- whether a board answers a command: all bytes lie within it; the length is allowed there; its class has the cycle, for
 -- which the local port does not ask; and the data of a function have that length (this project's own)
 abbrev pub can_answer : Board → Command → Bool
@@ -43,9 +49,10 @@ can_answer board (Read at len) = fits board at len && has_cycle board at len
 can_answer board (Write at new) = fits board at (length new) && has_cycle board at (length new)
 can_answer board (Modify at len f) =
     fits board at len && has_cycle board at len && is_modify_place at len && board.class.rmw && has_len f len
-can_answer board (BlockRead at len) = fits board at len && has_cycle board at len && is_block_place at len && board.class.blt
+can_answer board (BlockRead at len) =
+    fits board at len && has_block_cycle board at len && is_block_place at len && board.class.blt
 can_answer board (BlockWrite at new) =
-    fits board at (length new) && has_cycle board at (length new) && is_block_place at (length new) && board.class.blt
+    fits board at (length new) && has_block_cycle board at (length new) && is_block_place at (length new) && board.class.blt
 
 -- the bytes from an offset on (this project's own)
 abbrev pub bytes_at : Board → ℕ → ℕ → List ℕ
@@ -101,17 +108,32 @@ driven_write block l at lanes = option_map (write_command block at) (driven_byte
 
 -- the command of a cycle at a location's own place, by whether its code is a block code, the level of WRITE*, and whether
 -- it comes with a function, which only the read half of a cycle by itself does (IEEE 1014, section 2.2.4)
-abbrev pub command_at : Bool → Bool → Option functions.Modify → ℕ → Location → List (Option ℕ) → Option Command
-command_at block write None at l lanes =
+abbrev pub narrow_command : Bool → Bool → Option functions.Modify → ℕ → Location → List (Option ℕ) → Option Command
+narrow_command block write None at l lanes =
     if write then Some (read_command block at (row_of l).len) else driven_write block l at lanes
-command_at block write (Some f) at l lanes = if write && not block then Some (Modify at (row_of l).len f) else None
+narrow_command block write (Some f) at l lanes = if write && not block then Some (Modify at (row_of l).len f) else None
+
+-- the write of the eight bytes that the lanes carry, if each of them carries one (this project's own)
+abbrev pub wide_write : ℕ → List (Option ℕ) → Option Command
+wide_write at lanes = if carries_all lanes then Some (BlockWrite at (bytes_of lanes)) else None
+
+-- the same with a code of eight-byte data: a datum of a block at BYTE(0-3), and nothing else (this project's own)
+abbrev pub wide_command : Bool → Option functions.Modify → ℕ → Location → List (Option ℕ) → Option Command
+wide_command write None at l lanes =
+    if (row_of l).len == 4 then if write then Some (BlockRead at 8) else wide_write at lanes else None
+wide_command write (Some f) at l lanes = None
+
+-- the same with any code (this project's own)
+abbrev pub command_at : CodeRow → Bool → Option functions.Modify → ℕ → Location → List (Option ℕ) → Option Command
+command_at am write f at l lanes =
+    if am.wide then wide_command write f at l lanes else narrow_command (is_block am.kind) write f at l lanes
 
 -- the command that a cycle at an offset stands for, if any: by the location that the board senses there, at that location's
 -- place in the group of four (IEEE 1014, sections 2.2.1 and 2.2.4)
 abbrev pub command_of : SignalLines → ℕ → Option functions.Modify → Option Command
 command_of s at f =
     option_and_then
-    (λ l. if (row_of l).first == at % 4 then command_at (is_block s.am.kind) s.write f at l s.lanes else None)
+    (λ l. if (row_of l).first == at % 4 then command_at s.am s.write f at l s.lanes else None)
     (sensed_at s at)
 
 -- what stands for no command is answered by a bus error (this project's own)

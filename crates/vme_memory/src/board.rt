@@ -1,17 +1,17 @@
 ghost use Rattle.std.specs.Prelude.{ℕ, ◌≡◌, ◌↔◌, ◌+◌, ◌%◌, ◌≤◌, length, take, drop, slice_get, true, false, Some, IsTrue, ◌&&◌, IfOk, OnOk, IsErrOf};
 ghost use Rattle.vme_lanes.specs.Rows.{row_of};
 ghost use Rattle.vme_cycle.specs.SignalLines.{len_at};
-ghost use Rattle.vme_memory.specs.Classes.{is_block_place, is_modify_place, is_local_len};
+ghost use Rattle.vme_memory.specs.Classes.{answers_quads, is_block_place, is_modify_place, is_local_len};
 ghost use Rattle.vme_memory.specs.Boards.{is_board_size, zeros};
 
-use crate::class::Class;
+use crate::class::{Class, Width8To32};
 use crate::command::BoardCmd;
 use crate::reply::Reply;
 use crate::storage::{Row, Storage};
 use std::alloc::Global;
 use std::marker::Model;
 use vme_cycle::{Modify, Signals};
-use vme_lanes::{DataLines, Datum, Location};
+use vme_lanes::{DataLines, Datum, Location, pick_wide};
 use vme_word::{driven_word, placed_word};
 
 /// Why there is no memory of a size.
@@ -42,7 +42,7 @@ impl ByteMemory {
     ghost use Rattle.std.specs.Option.{option_map};
     ghost use Rattle.vme_cycle.specs.Functions.{has_len};
     ghost use Rattle.vme_memory.specs.Steps as Steps;
-    ghost use Rattle.vme_memory.specs.Steps.{fits, has_cycle, bytes_at, modify_at, step, answer, read_command, driven_write, cycle, HasLen};
+    ghost use Rattle.vme_memory.specs.Steps.{fits, has_cycle, bytes_at, modify_at, step, answer, read_command, driven_write, wide_write, wide_command, cycle, HasLen};
     ghost use Rattle.vme_memory.specs.Locals.{answer_given};
 
     /// A memory of `size` bytes, all zero.
@@ -104,6 +104,9 @@ impl ByteMemory {
         if u32::from(location.first()) != at % 4 {
             return Reply::Berr;
         }
+        if signals.am().wide() {
+            return self.wide_cycle(signals, location, at, f);
+        }
         let block = signals.am().kind().is_block();
         match (block, signals.write(), f) {
             (_, true, None) => self.read(block, location, at),
@@ -131,6 +134,68 @@ impl ByteMemory {
         }
     }
 
+    /// A cycle with a code of eight-byte data: BYTE(0-3) stands for all eight.
+    #[tactic(auto, using(crate::proofs::Places::quad_first))]
+    fn wide_cycle(
+        &mut self,
+        signals: &Signals,
+        location: Location,
+        at: u32,
+        f: Option<&Modify>,
+    ) -> Reply
+        requires { (row_of location).first ≡ at % 4 }
+        ensures reply { result ≡ (answer self.old
+            (wide_command signals.now.write (option_map (λ f. f.now) f.entry) at location signals.now.lanes)).0 }
+        ensures memory { self.new ≡ (answer self.old
+            (wide_command signals.now.write (option_map (λ f. f.now) f.entry) at location signals.now.lanes)).1 }
+        ensures len { HasLen result 8 }
+    {
+        if f.is_some() || location.len() != 4 {
+            return Reply::Berr;
+        }
+        if signals.write() {
+            self.read_wide(at)
+        } else {
+            self.write_wide(at, signals.lines())
+        }
+    }
+
+    fn read_wide(&self, at: u32) -> Reply
+        requires { at % 4 ≡ 0 }
+        ensures reply { result ≡ (step self.now (Steps.BlockRead at 8)).0 }
+        ensures memory { self.now ≡ (step self.now (Steps.BlockRead at 8)).1 }
+        ensures len { HasLen result 8 }
+    {
+        if !self.reaches_wide(at) {
+            return Reply::Berr;
+        }
+        Reply::Bytes(self.storage.read_wide(at))
+    }
+
+    fn write_wide(&mut self, at: u32, lines: DataLines) -> Reply
+        requires { at % 4 ≡ 0 }
+        ensures reply { result ≡ (answer self.old (wide_write at lines.lanes)).0 }
+        ensures memory { self.new ≡ (answer self.old (wide_write at lines.lanes)).1 }
+        ensures len { HasLen result 8 }
+    {
+        if !lines.carries_all() {
+            return Reply::Berr;
+        }
+        let bytes = pick_wide(lines);
+        if !self.reaches_wide(at) {
+            return Reply::Berr;
+        }
+        self.storage.write_wide(at, bytes.as_slice());
+        Reply::Done
+    }
+
+    /// Whether eight bytes from `at` on lie within the board and its class has the cycle.
+    fn reaches_wide(&self, at: u32) -> bool
+        ensures { result ≡ (fits self.now at 8 && answers_quads self.now.class.width && self.now.class.blt) }
+    {
+        self.fits(at, 8) && self.class.width == Width8To32::D32 && self.class.blt
+    }
+
     /// Whether the bytes of a location, from `at` on, lie within the board and its class has the
     /// cycle.
     #[tactic(auto, using(crate::proofs::Places::place_found))]
@@ -148,6 +213,7 @@ impl ByteMemory {
         u64::from(at) + u64::from(len) <= u64::from(self.storage.len())
     }
 
+    #[tactic(auto, using(crate::proofs::Places::not_wide))]
     fn read(&self, block: bool, location: Location, at: u32) -> Reply
         requires { (row_of location).first ≡ at % 4 }
         ensures reply { result ≡ (step self.now (read_command block at (row_of location).len)).0 }
@@ -166,9 +232,10 @@ impl ByteMemory {
     fn has_block(&self, location: Location, at: u32) -> bool
         ensures { result ≡ (is_block_place at (row_of location).len && self.now.class.blt) }
     {
-        is_whole_place(location.len(), at) && self.class.blt
+        is_whole_place(location, at) && self.class.blt
     }
 
+    #[tactic(auto, using(crate::proofs::Places::not_wide))]
     fn write(&mut self, block: bool, location: Location, at: u32, lines: DataLines) -> Reply
         requires { (row_of location).first ≡ at % 4 }
         ensures reply { result ≡ (answer self.old (driven_write block location at lines.lanes)).0 }
@@ -198,7 +265,7 @@ impl ByteMemory {
         if !self.reaches(location, at) {
             return Reply::Berr;
         }
-        let has_place = is_whole_place(location.len(), at);
+        let has_place = is_whole_place(location, at);
         if !(has_place && self.class.rmw && f.has_len(location.len())) {
             return Reply::Berr;
         }
@@ -254,12 +321,13 @@ impl ByteMemory {
     }
 }
 
-/// Where one datum of a block, or a read-modify-write, may be: `len` bytes from `at` on.
-fn is_whole_place(len: u8, at: u32) -> bool
-    ensures block { result ≡ is_block_place at len }
-    ensures modify { result ≡ is_modify_place at len }
+/// Where one datum of a block, or a read-modify-write, may be, of as many bytes as a location has.
+#[tactic(auto, using(crate::proofs::Places::not_wide))]
+fn is_whole_place(location: Location, at: u32) -> bool
+    ensures block { result ≡ is_block_place at (row_of location).len }
+    ensures modify { result ≡ is_modify_place at (row_of location).len }
 {
-    match len {
+    match location.len() {
         1 => true,
         2 => at % 2 == 0,
         4 => at % 4 == 0,

@@ -9,7 +9,8 @@ use std::cmp::min;
 use std::marker::Model;
 use vme_lanes::{Datum, Location};
 use vme_word::{
-    byte_in, bytes_at, bytes_of, first_bytes, leading_word, merge, merge_from, word_across, word_of,
+    byte_in, bytes_at, bytes_of, bytes_of_pair, first_bytes, leading_word, merge, merge_from,
+    pair_of, word_across, word_of,
 };
 
 /// Sixteen bytes of a memory, or those that are left.
@@ -101,6 +102,33 @@ impl Storage {
     {
         let i = (at / 4) as usize;
         self.words[i] = merge(self.words[i], location, new);
+    }
+
+    /// Reads eight bytes at a multiple of four: two words.
+    #[tactic(auto, using(crate::proofs::Words::words_len, crate::proofs::Wide::wide_there, crate::proofs::Wide::wide_read))]
+    pub(crate) fn read_wide(&self, at: u32) -> Datum
+        requires place { at % 4 ≡ 0 }
+        requires within { at + 8 ≤ length self.now }
+        ensures value { result.items ≡ slice_range self.now at (at + 8) }
+        ensures len { length result.items ≡ 8 }
+    {
+        let i = (at / 4) as usize;
+        bytes_of_pair(self.words[i], self.words[i + 1])
+    }
+
+    /// Changes eight bytes at a multiple of four to others: two words.
+    #[tactic(auto, using(crate::proofs::Words::words_len, crate::proofs::Wide::wide_there, crate::proofs::Wide::wide_written))]
+    pub(crate) fn write_wide(&mut self, at: u32, new: &[u8])
+        requires place { at % 4 ≡ 0 }
+        requires within { at + 8 ≤ length self.old }
+        requires wide { length new.now ≡ 8 }
+        ensures bytes { self.new ≡ bytes_after_write self.old at new.now }
+        ensures small { length self.old ≤ 1048576 }
+    {
+        let i = (at / 4) as usize;
+        let (here, next) = pair_of(new);
+        self.words[i] = here;
+        self.words[i + 1] = next;
     }
 
     /// Reads `len` bytes from any offset on: from one word or two.

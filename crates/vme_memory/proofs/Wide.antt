@@ -1,0 +1,65 @@
+-- Eight bytes at a multiple of four: two words, one behind the other.
+use Rattle.std.proofs.Common.{◌≡◌, ℕ, ◌+◌, ◌-◌, ◌*◌, ◌/◌, ◌%◌, ◌<◌, ◌≤◌, List, ◌++◌, length, get_or, set, slice_range, refl, ap, sym, ◌∙◌, arith}
+use Rattle.std.proofs.lemmas.List.{length-set}
+use Rattle.vme_word.specs.Words.{bytes_after_write, word_bytes, bytes_of_words}
+use Rattle.vme_memory.proofs.Words.{word_len, words_len, read_in_word, read_on, word_changed, written_on}
+
+-- a word is its four bytes
+whole_word : (word : ℕ) → slice_range (word_bytes word) 0 (0 + 4) ≡ word_bytes word
+unfolding word_bytes
+whole_word word = refl
+
+whole_read :
+    (words : List ℕ) (i word : ℕ) → i < length words → word ≡ get_or words i word
+    → slice_range (bytes_of_words words) (4 * i + 0) (4 * i + 0 + 4) ≡ word_bytes word
+whole_read words i word less own =
+    read_in_word words i 0 4 word less (omega arith) ∙ ap (λ w. slice_range (word_bytes w) 0 (0 + 4)) (sym own) ∙ whole_word word
+
+-- the word behind it is there
+pub wide_there : (words : List ℕ) (at : ℕ) → at + 8 ≤ length (bytes_of_words words) → at % 4 ≡ 0 → at / 4 + 1 < length words
+wide_there words at within place = omega (arith, words_len words)
+
+-- what two words have is read
+pub wide_read :
+    (words : List ℕ) (at here next : ℕ) → here ≡ get_or words (at / 4) here → next ≡ get_or words (at / 4 + 1) next
+    → at + 8 ≤ length (bytes_of_words words) → at % 4 ≡ 0
+    → word_bytes here ++ word_bytes next ≡ slice_range (bytes_of_words words) at (at + 8)
+wide_read words at here next own own_next within place =
+    let there = wide_there words at within place in
+    let first : 4 * (at / 4) + 0 ≡ at = omega arith in
+    let second : 4 * (at / 4 + 1) + 0 ≡ at + 4 = omega arith in
+    let front : slice_range (bytes_of_words words) at (at + 4) ≡ word_bytes here =
+    ap (λ j. slice_range (bytes_of_words words) j (j + 4)) (sym first) ∙ whole_read words (at / 4) here (omega (arith, there)) own in
+    let back : slice_range (bytes_of_words words) (at + 4) (at + 4 + (8 - 4)) ≡ word_bytes next =
+    ap (λ j. slice_range (bytes_of_words words) j (j + 4)) (sym second) ∙ whole_read words (at / 4 + 1) next there own_next in
+    ap (λ bytes. bytes ++ word_bytes next) (sym front)
+    ∙ ap (λ bytes. slice_range (bytes_of_words words) at (at + 4) ++ bytes) (sym back)
+    ∙ read_on (bytes_of_words words) at 4 8 (omega arith)
+
+-- a word that is put in the place of another
+whole_put : (old word : ℕ) → word_bytes word ≡ bytes_after_write (word_bytes old) 0 (word_bytes word)
+unfolding word_bytes
+whole_put old word = refl
+
+whole_written :
+    (words : List ℕ) (i word : ℕ) → i < length words
+    → bytes_of_words (set words i word) ≡ bytes_after_write (bytes_of_words words) (4 * i + 0) (word_bytes word)
+whole_written words i word less = word_changed words (word_bytes word) i 0 0 word less (omega (arith, word_len word)) (whole_put (get_or words i 0) word)
+
+-- what is put in both is written
+pub wide_written :
+    (words : List ℕ) (at here next : ℕ) → at + 8 ≤ length (bytes_of_words words) → at % 4 ≡ 0
+    → bytes_of_words (set (set words (at / 4) here) (at / 4 + 1) next)
+    ≡ bytes_after_write (bytes_of_words words) at (word_bytes here ++ word_bytes next)
+wide_written words at here next within place =
+    let there = wide_there words at within place in
+    let first : 4 * (at / 4) + 0 ≡ at = omega arith in
+    let second : 4 * (at / 4 + 1) + 0 ≡ at + length (word_bytes here) = omega (arith, word_len here) in
+    let one = set words (at / 4) here in
+    let up : at / 4 + 1 < length one = omega (arith, there, length-set words (at / 4) here) in
+    let front : bytes_of_words one ≡ bytes_after_write (bytes_of_words words) at (word_bytes here) =
+    whole_written words (at / 4) here (omega (arith, there)) ∙ ap (λ j. bytes_after_write (bytes_of_words words) j (word_bytes here)) first in
+    whole_written one (at / 4 + 1) next up
+    ∙ ap (λ j. bytes_after_write (bytes_of_words one) j (word_bytes next)) second
+    ∙ ap (λ bytes. bytes_after_write bytes (at + length (word_bytes here)) (word_bytes next)) front
+    ∙ written_on (bytes_of_words words) (word_bytes here) (word_bytes next) at (omega (arith, word_len here, word_len next))
