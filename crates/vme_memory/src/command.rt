@@ -5,7 +5,7 @@ use vme_cycle::{Modify, Signals};
 use vme_lanes::{Datum, copy_bytes};
 
 /// A command to a board, by one of its two ports.
-#[derive(Debug, Drop)]
+#[derive(Debug, Drop, PartialEq, Eq)]
 pub enum BoardCmd {
     /// A read of `n` bytes from `offset` on, by the local port: one, two or four.
     LocalRead {
