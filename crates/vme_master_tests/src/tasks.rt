@@ -1,10 +1,13 @@
 //! What tasks do next, call by call, in worked orders of replies.
+use arrayvec::ArrayVec;
+use std::alloc::Global;
 use std::process::Abort;
 use std::test::Fail;
 use vme_am::Space;
 use vme_arbiter::{ArbCmd, ArbReply};
+use vme_block::Room;
 use vme_core::{Event, EventReply};
-use vme_cycle::{Block, CycleFault, Modify, Request};
+use vme_cycle::{Block, CycleFault, Modify, Plan, Request};
 use vme_decode::{AddressMap, Entry};
 use vme_lanes::Datum;
 use vme_master::{Outcome, Task, Todo};
@@ -77,38 +80,65 @@ fn reply(given: Given) -> Option<EventReply> {
 /// What is given and what it leads to, call by call.
 type Course = &'static [(Given, Step)];
 
-/// Calls a task as in a course, and once more after its end with each reply: its outcome.
-fn outcome(rt: &impl Abort, task: &mut Task, course: Course) -> Outcome {
+/// Calls a task as in a course, and once more after its end: its outcome. The end stays, and the
+/// bytes are given out once.
+fn outcome(rt: &impl Abort, task: &mut Task<'_>, course: Course) -> Outcome {
+    let mut end = None;
     for (given, wanted) in course {
         let todo = task.next(reply(*given));
         assert_eq!(rt; step_of(&todo), *wanted, "{given:?}");
+        if let Todo::Finished(outcome) = todo {
+            end = Some(outcome);
+        }
     }
-    let Todo::Finished(first) = task.next(None) else {
+    let Some(outcome) = end else {
         panic!(rt; "not ended")
     };
     let Todo::Finished(again) = task.next(reply(GRANTED)) else {
         panic!(rt; "not ended")
     };
-    assert_eq!(rt; first, again);
-    first
+    assert_eq!(rt; again, emptied(&outcome));
+    outcome
+}
+
+/// The same outcome without its bytes.
+fn emptied(outcome: &Outcome) -> Outcome {
+    match outcome {
+        Outcome::Read(_) => Outcome::Read(Block::new()),
+        Outcome::Done => Outcome::Done,
+        Outcome::Old(_) => Outcome::Old(datum(&[])),
+        Outcome::Berr { count, .. } => Outcome::Berr {
+            count: *count,
+            bytes: Block::new(),
+        },
+        Outcome::Denied => Outcome::Denied,
+    }
 }
 
 fn block(bytes: &[u8]) -> Block {
-    Block::try_from(bytes).unwrap_or_default()
+    Block::of_short(ArrayVec::try_from(bytes).unwrap_or_default())
 }
 
 fn datum(bytes: &[u8]) -> Datum {
     Datum::try_from(bytes).unwrap_or_default()
 }
 
-/// Runs a request of slot 2 on level 3 through a course.
+/// The task of a request of slot 2 on level 3, with a room for what it reads.
+fn start<'a>(alloc: Global, map: &AddressMap, request: &'a Request) -> Result<Task<'a>, Fail> {
+    let plan = Plan::of(request)?;
+    let room = Room::with_room(alloc, plan.reply_room())?;
+    Ok(Task::start(map, 2, 3, request, room)?)
+}
+
+/// Runs a request through a course.
 fn run(
     rt: &impl Abort,
+    alloc: Global,
     map: &AddressMap,
     request: &Request,
     course: Course,
-) -> Result<Outcome, CycleFault> {
-    let mut task = Task::start(map, 2, 3, request)?;
+) -> Result<Outcome, Fail> {
+    let mut task = start(alloc, map, request)?;
     Ok(outcome(rt, &mut task, course))
 }
 
@@ -166,12 +196,12 @@ fn reads_two_data_in_order(rt: HostRuntime) -> Result<(), Fail> {
         count: 2,
     };
     let read = Outcome::Read(block(&[1, 2, 3, 4, 5, 6, 7, 8]));
-    assert_eq!(&rt; run(&rt, &map, &request, &TWO_READ)?, read);
+    assert_eq!(&rt; run(&rt, rt.alloc(), &map, &request, &TWO_READ)?, read);
     let berr = Outcome::Berr {
         count: 1,
         bytes: block(&[1, 2, 3, 4]),
     };
-    assert_eq!(&rt; run(&rt, &map, &request, &SECOND_BERR)?, berr);
+    assert_eq!(&rt; run(&rt, rt.alloc(), &map, &request, &SECOND_BERR)?, berr);
     for course in [
         &WRONG_LENGTH[..],
         &WRONG_KIND[..],
@@ -181,7 +211,7 @@ fn reads_two_data_in_order(rt: HostRuntime) -> Result<(), Fail> {
         &EARLY[..],
     ] {
         assert_eq!(&rt;
-            run(&rt, &map, &request, course)?,
+            run(&rt, rt.alloc(), &map, &request, course)?,
             Outcome::Denied,
             "{course:?}"
         );
@@ -203,7 +233,7 @@ fn no_board_selected_is_a_bus_error(rt: HostRuntime) -> Result<(), Fail> {
         count: 0,
         bytes: block(&[]),
     };
-    assert_eq!(&rt; run(&rt, &map, &request, &NOWHERE)?, berr);
+    assert_eq!(&rt; run(&rt, rt.alloc(), &map, &request, &NOWHERE)?, berr);
     Ok(())
 }
 
@@ -231,7 +261,7 @@ fn a_modify_is_one_call_and_a_write_too(rt: HostRuntime) -> Result<(), Fail> {
         f: Modify::Set,
     };
     assert_eq!(&rt;
-        run(&rt, &map, &modify, &MODIFIED)?,
+        run(&rt, rt.alloc(), &map, &modify, &MODIFIED)?,
         Outcome::Old(datum(&[0x7f]))
     );
     let write = Request::Write {
@@ -239,7 +269,10 @@ fn a_modify_is_one_call_and_a_write_too(rt: HostRuntime) -> Result<(), Fail> {
         addr: 0x1006,
         bytes: datum(&[1, 2]),
     };
-    assert_eq!(&rt; run(&rt, &map, &write, &WRITTEN)?, Outcome::Done);
+    assert_eq!(&rt;
+        run(&rt, rt.alloc(), &map, &write, &WRITTEN)?,
+        Outcome::Done
+    );
     Ok(())
 }
 
@@ -253,7 +286,7 @@ fn a_fill_of_256_data_calls_the_board_256_times(rt: HostRuntime) -> Result<(), F
         count: 256,
         bytes: datum(&[7]),
     };
-    let mut task = Task::start(&map, 2, 3, &request)?;
+    let mut task = start(rt.alloc(), &map, &request)?;
     assert_eq!(&rt; step_of(&task.next(None)), ASK);
     let mut given = GRANTED;
     let mut calls = 0u32;
@@ -288,12 +321,29 @@ fn a_local_command_is_one_call(rt: HostRuntime) {
         outcome(&rt, &mut task, &LOCAL_READ),
         Outcome::Read(block(&[1, 2]))
     );
-    task.again();
+    let mut task = Task::local(3, BoardCmd::LocalRead { offset: 1, n: 2 });
     let berr = Outcome::Berr {
         count: 0,
         bytes: block(&[]),
     };
     assert_eq!(&rt; outcome(&rt, &mut task, &LOCAL_BERR), berr);
+}
+
+#[test]
+fn a_task_is_done_once_more_after_its_bytes_were_given_out(rt: HostRuntime) {
+    let mut task = Task::local(3, BoardCmd::LocalRead { offset: 1, n: 2 });
+    task.give(None);
+    task.give(reply(Given::Bytes(&[1, 2])).as_ref());
+    assert!(&rt; task.is_over());
+    assert_eq!(&rt; task.read(), Some(&[1, 2][..]));
+    assert_eq!(&rt; task.take_outcome(), Some(Outcome::Read(block(&[1, 2]))));
+    assert_eq!(&rt; task.read(), Some(&[][..]));
+    task.again();
+    assert_eq!(&rt; task.take_outcome(), None);
+    assert_eq!(&rt;
+        outcome(&rt, &mut task, &LOCAL_READ),
+        Outcome::Read(block(&[1, 2]))
+    );
 }
 
 #[test]
@@ -304,7 +354,24 @@ fn a_refused_request_has_no_task(rt: HostRuntime) -> Result<(), Fail> {
         addr: 0x1000,
         n: 4,
     };
-    let task = Task::start(&map, 2, 3, &request);
+    let task = Task::start(&map, 2, 3, &request, Room::new());
     assert!(&rt; matches!(task, Err(CycleFault::WrongKindOfCode)));
+    Ok(())
+}
+
+#[test]
+fn a_request_of_its_own_goes_the_same_way(rt: HostRuntime) -> Result<(), Fail> {
+    let map = AddressMap::new(rt.alloc(), &BOARDS)?;
+    let request = Request::Modify {
+        am: 0x09,
+        addr: 0x1008,
+        n: 1,
+        f: Modify::Set,
+    };
+    let mut task = Task::start_own(&map, 2, 3, request)?;
+    assert_eq!(&rt;
+        outcome(&rt, &mut task, &MODIFIED),
+        Outcome::Old(datum(&[0x7f]))
+    );
     Ok(())
 }
