@@ -1,5 +1,5 @@
 -- The text of signals, replies and refusals.
-use Rattle.std.specs.Prelude.{ℕ, ◌/◌, ◌%◌, Bool, true, false, List, [], ◌∷◌, ◌++◌, flat_map, slice_index, Option, Some, None, codes}
+use Rattle.std.specs.Prelude.{ℕ, ◌/◌, ◌%◌, Bool, true, false, List, [], ◌∷◌, ◌++◌, flat_map, drop, slice_index, Option, Some, None, codes}
 use Rattle.std.specs.Fmt.{decimal}
 use Rattle.std.specs.Int.{w32, to_be_bytes}
 use Rattle.vme_am.specs.declared.code.AmFault.TheVariants.{TooLarge, UserDefined, Reserved}
@@ -35,9 +35,14 @@ abbrev pub lane_text : Option ℕ → List ℕ
 lane_text None = codes "--"
 lane_text (Some byte) = hex_byte byte
 
--- the lanes from D31-D24 to D07-D00 (this project's own)
+-- some lanes, from the most significant (this project's own)
 abbrev pub lanes_text : List (Option ℕ) → List ℕ
 lanes_text lanes = flat_map lane_text lanes
+
+-- the lanes that are told: all eight with a code of eight-byte data, else the last four, D31-D24 to D07-D00 (this project's own)
+abbrev pub told_lanes : Bool → List (Option ℕ) → List (Option ℕ)
+told_lanes true lanes = lanes
+told_lanes false lanes = drop 4 lanes
 
 -- the code, and the address lines as an address of eight digits (this project's own)
 unfoldable pub address_text : ℕ → ℕ → List ℕ
@@ -50,13 +55,13 @@ levels_text s =
     ++ (level_text (codes " a01=") s.strobes.a01 ++ (level_text (codes " lword=") s.strobes.lword
     ++ level_text (codes " write=") s.write)))
 
--- the data lines (this project's own)
-unfoldable pub data_text : List (Option ℕ) → List ℕ
-data_text lanes = codes " data=" ++ lanes_text lanes
+-- the data lines, by whether the code is one of eight-byte data (this project's own)
+unfoldable pub data_text : Bool → List (Option ℕ) → List ℕ
+data_text wide lanes = codes " data=" ++ lanes_text (told_lanes wide lanes)
 
 -- the signals of a cycle (this project's own)
 unfoldable pub signals_text : SignalLines → List ℕ
-signals_text s = address_text s.am.code s.addr ++ (levels_text s ++ data_text s.lanes)
+signals_text s = address_text s.am.code s.addr ++ (levels_text s ++ data_text s.am.wide s.lanes)
 
 -- how a transfer ends: with all bytes that were read, with all data written, with the old bytes of a read-modify-write, or
 -- with a bus error after so many data, and what was read by then (this project's own)

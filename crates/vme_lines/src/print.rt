@@ -1,6 +1,6 @@
 //! The text of signals, outcomes and refusals, appended to a buffer: a whole line, or nothing where
 //! there is no memory for it.
-ghost use Rattle.std.specs.Prelude.{◌≡◌, ◌+◌, ◌*◌, ◌<◌, ◌≤◌, ◌++◌, length, vec_len, vec_capacity, OnOk, OnErr, codes};
+ghost use Rattle.std.specs.Prelude.{◌≡◌, ◌+◌, ◌*◌, ◌<◌, ◌≤◌, ◌++◌, length, true, false, vec_len, vec_capacity, OnOk, OnErr, codes};
 ghost use Rattle.vme_lines.specs.Texts.{digit, hex_byte, hex_text, level, lane_text, address_text, levels_text, data_text, signals_text, Read, Done, Old, Berr, more_bytes, outcome_text, cycle_fault_text, line_fault_text, output_line};
 
 use crate::fault::LineFault;
@@ -112,24 +112,41 @@ fn lane_digits(lane: Option<u8>) -> [u8; 2]
     }
 }
 
-/// The data lines, in one piece.
+/// The last four lanes, in one piece.
 #[rattlefmt::skip]
 #[tactic(auto, unfolding(crate::specs::Texts::data_text))]
 fn lines_text(lines: DataLines) -> [u8; 14]
-    ensures { result ≡ data_text lines.lanes }
+    ensures { result ≡ data_text false lines.lanes }
 {
-    let first = lane_digits(lines.lanes[0]);
-    let second = lane_digits(lines.lanes[1]);
-    let third = lane_digits(lines.lanes[2]);
-    let last = lane_digits(lines.lanes[3]);
+    let [_, _, _, _, first, second, third, last] = lines.lanes;
+    let (first, second) = (lane_digits(first), lane_digits(second));
+    let (third, last) = (lane_digits(third), lane_digits(last));
     [
         b' ', b'd', b'a', b't', b'a', b'=', first[0], first[1],
         second[0], second[1], third[0], third[1], last[0], last[1],
     ]
 }
 
-/// The length of the line of the signals of a cycle.
-const SIGNALS_LEN: usize = 65;
+/// All lanes, in one piece.
+#[rattlefmt::skip]
+#[tactic(auto, unfolding(crate::specs::Texts::data_text))]
+fn wide_text(lines: DataLines) -> [u8; 22]
+    ensures { result ≡ data_text true lines.lanes }
+{
+    let [first, second, third, fourth, fifth, sixth, seventh, last] = lines.lanes;
+    let (first, second) = (lane_digits(first), lane_digits(second));
+    let (third, fourth) = (lane_digits(third), lane_digits(fourth));
+    let (fifth, sixth) = (lane_digits(fifth), lane_digits(sixth));
+    let (seventh, last) = (lane_digits(seventh), lane_digits(last));
+    [
+        b' ', b'd', b'a', b't', b'a', b'=', first[0], first[1],
+        second[0], second[1], third[0], third[1], fourth[0], fourth[1],
+        fifth[0], fifth[1], sixth[0], sixth[1], seventh[0], seventh[1], last[0], last[1],
+    ]
+}
+
+/// The greatest length of the line of the signals of a cycle.
+const SIGNALS_LEN: usize = 73;
 
 /// Appends the line of the signals of a cycle.
 #[tactic(auto, unfolding(crate::specs::Texts::signals_text))]
@@ -141,7 +158,11 @@ pub fn print_signals(text: &mut Vec<u8>, signals: &Signals) -> Result<(), AllocE
     text.reserve(SIGNALS_LEN)?;
     push_text(text, &address(signals.am().code(), signals.addr()));
     push_text(text, &levels(signals));
-    push_text(text, &lines_text(signals.lines()));
+    if signals.am().wide() {
+        push_text(text, &wide_text(signals.lines()));
+    } else {
+        push_text(text, &lines_text(signals.lines()));
+    }
     push_text(text, b"\n");
     Ok(())
 }
