@@ -27,11 +27,12 @@ use Rattle.vme_lines.specs.declared.line.Line.TheVariants as lines
 use Rattle.vme_script.specs.Boards.{entries_of}
 use Rattle.vme_script.specs.Configurations.{Configuration}
 use Rattle.vme_course.specs.declared.task.LineTask.{LineTask}
+use Rattle.vme_course.specs.declared.task.LineTask.TheVariants.{Refused, Tries, Over}
 use Rattle.vme_course.specs.declared.todo.LineTodo.{LineTodo}
 use Rattle.vme_course.specs.declared.todo.LineTodo.TheVariants as todos
 use Rattle.vme_course.specs.Scripts.{Attempt, Moves, Waits, Shares, slot_at, level_at, mailbox_at, transfer_job, request_attempt, unless_refused, shared_job, shared_attempt, line_attempt}
 use Rattle.vme_course.specs.Tables.{LineNext, Rests, Makes, Ends, moves_next, waits_next, shares_next, attempts_of, lawful_next, next_given}
-use Rattle.vme_course.specs.Machine.{line_started, line_advance, line_to_do, line_advanced, IsLineBelow}
+use Rattle.vme_course.specs.Machine.{line_started, line_advance, line_to_do, line_taken, attempt_to_do, attempts_taken, line_advanced, IsLineBelow}
 use Rattle.vme_course.specs.Events.{next_in, call_in, IsCallBelow, IsEventBelow, IsTodoBelow}
 use Rattle.vme_course.proofs.Lines.{by_the_given}
 
@@ -158,3 +159,22 @@ pub todo_below : (n : ℕ) (task : LineTask) (todo : LineTodo) → IsLineBelow n
 todo_below n task (todos.Call (asked.Board board cmd)) below next = calls_below n task (OnBoard board _) below (sym next)
 todo_below n task (todos.Call (asked.Bus cmd)) below next = tt
 todo_below n task (todos.Ended answer) below next = tt
+
+-- a line whose answer was taken calls none
+over_given : (given : Given) → line_advanced Over given ≡ Over
+over_given [] = refl
+over_given (last ∷ before) = ap (λ (t : LineTask). line_advance t last) (over_given before)
+
+over_below : (n : ℕ) → IsLineBelow n Over
+unfolding IsLineBelow
+over_below n = λ given call made. absurd (cc (sym (ap line_to_do (over_given given)) ∙ made))
+
+pub taken_below : (n : ℕ) (task : LineTask) → IsLineBelow n task → IsLineBelow n (line_taken task)
+taken_below n (Refused fault) below = below
+taken_below n (Tries a) below = by_next (attempt_to_do a.attempt)
+  where
+    by_next : (next : LineNext) → IsLineBelow n (attempts_taken a next)
+    by_next Rests = below
+    by_next (Makes call) = below
+    by_next (Ends answer) = over_below n
+taken_below n Over below = below

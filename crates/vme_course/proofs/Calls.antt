@@ -1,10 +1,14 @@
 -- What a line does next, by the event and the answer that it gives.
-use Rattle.std.proofs.Common.{◌≡◌, ◌≢◌, false, is_some, Option, Some, None, refl}
+use Rattle.std.proofs.Common.{◌≡◌, ◌≢◌, false, true, is_some, Option, Some, None, refl, sym}
 use Rattle.std.specs.Option.{IsSome, option_map}
 use Rattle.vme_core.specs.declared.event.Event.{Event}
 use Rattle.vme_core.specs.Calls.{Call, call_of}
 use Rattle.vme_shared.specs.declared.reply.LineReply.{LineReply}
+use Rattle.vme_course.specs.declared.task.LineTask.{LineTask}
+use Rattle.vme_course.specs.declared.task.LineTask.TheVariants.{Refused, Tries, Over}
+use Rattle.vme_course.specs.declared.attempt.Attempts.{Attempts}
 use Rattle.vme_course.specs.Tables.{LineNext, Rests, Makes, Ends}
+use Rattle.vme_course.specs.Machine.{line_to_do, line_taken, attempt_to_do, attempts_taken}
 use Rattle.vme_course.specs.Events.{call_in, answer_in, MakesCall}
 
 -- its event is that of its call
@@ -49,3 +53,32 @@ has_answer Rests answer called none is = absurd (called refl)
 has_answer (Makes call) answer called none is = absurd cc
 has_answer (Ends end) None called none is = absurd cc
 has_answer (Ends end) (Some answer) called none is = refl
+
+-- a line that makes a call has no answer that could be taken
+attempts_stay : (a : Attempts) (next : LineNext) (event : Event) → Some (call_of event) ≡ call_in next → attempts_taken a next ≡ Tries a
+attempts_stay a Rests event is = refl
+attempts_stay a (Makes call) event is = refl
+attempts_stay a (Ends answer) event is = absurd cc
+
+pub stays : (task : LineTask) (event : Event) → Some (call_of event) ≡ call_in (line_to_do task) → task ≡ line_taken task
+stays (Refused fault) event is = refl
+stays (Tries a) event is = sym (attempts_stay a (attempt_to_do a.attempt) event is)
+stays Over event is = refl
+
+-- nor has one that is not over
+attempts_on : (a : Attempts) (next : LineNext) → is_some (answer_in next) ≡ false → attempts_taken a next ≡ Tries a
+attempts_on a Rests is = refl
+attempts_on a (Makes call) is = refl
+attempts_on a (Ends answer) is = absurd cc
+
+pub goes_untaken : (a : Attempts) → is_some (answer_in (attempt_to_do a.attempt)) ≡ false → Tries a ≡ line_taken (Tries a)
+goes_untaken a is = sym (attempts_on a (attempt_to_do a.attempt) is)
+
+-- attempts that are over have their answer taken
+attempts_end : (a : Attempts) (next : LineNext) → is_some (answer_in next) ≡ true → attempts_taken a next ≡ Over
+attempts_end a Rests is = absurd cc
+attempts_end a (Makes call) is = absurd cc
+attempts_end a (Ends answer) is = refl
+
+pub is_taken : (a : Attempts) → is_some (answer_in (attempt_to_do a.attempt)) ≡ true → Over ≡ line_taken (Tries a)
+is_taken a is = sym (attempts_end a (attempt_to_do a.attempt) is)

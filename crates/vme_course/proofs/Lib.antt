@@ -1,4 +1,6 @@
 pub mod Lines
+pub mod LineRooms
+pub mod Waits
 pub mod Below
 pub mod Ends
 pub mod Courses

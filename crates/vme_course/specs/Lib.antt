@@ -1,4 +1,6 @@
 pub mod Scripts
+pub mod Rooms
+pub mod Waits
 pub mod Tables
 pub mod Machine
 pub mod Events

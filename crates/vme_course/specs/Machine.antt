@@ -5,12 +5,13 @@ use Rattle.vme_core.specs.declared.event.EventReply.{EventReply}
 use Rattle.vme_core.specs.Calls.{Call}
 use Rattle.vme_master.specs.Tables.{Given}
 use Rattle.vme_master.specs.Machine.{fresh_task, advance, to_do}
+use Rattle.vme_master.specs.declared.outcome.Outcome.TheVariants as outcomes
 use Rattle.vme_shared.specs.declared.reply.LineReply.TheVariants as replies
 use Rattle.vme_shared.specs.Machine.{shared_fresh, shared_advance, shared_to_do}
 use Rattle.vme_lines.specs.declared.line.Line.{Line}
 use Rattle.vme_script.specs.Configurations.{Configuration}
 use Rattle.vme_course.specs.declared.task.LineTask.{LineTask}
-use Rattle.vme_course.specs.declared.task.LineTask.TheVariants.{Refused, Tries}
+use Rattle.vme_course.specs.declared.task.LineTask.TheVariants.{Refused, Tries, Over}
 use Rattle.vme_course.specs.declared.attempt.Attempts.{Attempts}
 use Rattle.vme_course.specs.declared.attempt.AttemptTask.{AttemptTask}
 use Rattle.vme_course.specs.declared.attempt.AttemptTask.TheVariants as tries
@@ -74,17 +75,30 @@ line_started config board line = line_fresh config.tries (line_attempt config bo
 abbrev pub line_advance : LineTask → Option EventReply → LineTask
 line_advance (Refused fault) given = Refused fault
 line_advance (Tries a) given = Tries (attempts_advance a given)
+line_advance Over given = Over
 
--- what a line does next (this project's own)
+-- what a line does next; one whose answer was taken is denied any other (this project's own)
 abbrev pub line_to_do : LineTask → LineNext
 line_to_do (Refused fault) = Ends (replies.Refused fault)
 line_to_do (Tries a) = attempt_to_do a.attempt
+line_to_do Over = Ends (replies.Transfer outcomes.Denied)
 
--- how many attempts at a line there may be yet, the one at work among them; at one that is refused there is none
--- (this project's own)
+-- how many attempts at a line there may be yet, the one at work among them; there is none at one that is refused or
+-- answered (this project's own)
 abbrev pub attempts_left : LineTask → ℕ
 attempts_left (Refused fault) = 0
 attempts_left (Tries a) = a.left
+attempts_left Over = 0
+
+-- attempts of which this is next: where the answer was taken they are over (this project's own)
+abbrev pub attempts_taken : Attempts → LineNext → LineTask
+attempts_taken a (Ends answer) = Over
+attempts_taken a next = Tries a
+
+-- a line after its answer was taken, if it has one: a refusal stays as it is (this project's own)
+abbrev pub line_taken : LineTask → LineTask
+line_taken (Tries a) = attempts_taken a (attempt_to_do a.attempt)
+line_taken task = task
 
 -- a line after calls with what it was given (this project's own)
 abbrev pub line_advanced : LineTask → Given → LineTask

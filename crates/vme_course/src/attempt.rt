@@ -1,16 +1,13 @@
 //! Attempts at a line, one after another.
-ghost use Rattle.std.specs.Prelude.{◌≡◌, ◌≢◌, if◌then◌else◌, option_map, option_copied, is_some};
-ghost use Rattle.std.specs.Str.{bytes_eq};
+ghost use Rattle.std.specs.Prelude.{◌≡◌, ◌≢◌, option_map, option_copied, is_some, true};
 ghost use Rattle.vme_core.specs.Calls.{call_of};
-ghost use Rattle.vme_master.specs.Machine.{to_do};
-ghost use Rattle.vme_shared.specs.declared.reply.LineReply.TheVariants.{Met, Timeout};
-ghost use Rattle.vme_course.specs.Tables.{Rests, waits_next, next_asks_again};
+ghost use Rattle.vme_course.specs.Tables.{Rests, next_asks_again};
 ghost use Rattle.vme_course.specs.Machine.{attempt_anew, attempt_advance, attempt_to_do, attempts_advance};
 ghost use Rattle.vme_course.specs.Events.{call_in, answer_in};
 
+use crate::wait::WaitTask;
 use vme_core::{Event, EventReply};
-use vme_lanes::Datum;
-use vme_master::{Outcome, Task};
+use vme_master::Task;
 use vme_shared::{LineReply, SharedOutcome, SharedTask};
 
 /// Attempts at a line, of which one is at work.
@@ -25,18 +22,11 @@ pub struct Attempts<'a> {
 #[derive(Debug, Drop)]
 pub enum AttemptTask<'a> {
     /// A transfer over the bus, or a command to the local port.
-    Moves(Task),
+    Moves(Task<'a>),
     /// A read that is to find bytes.
-    Waits(WaitTask),
+    Waits(WaitTask<'a>),
     /// What is asked of a lock or a mailbox.
     Shares(SharedTask<'a>),
-}
-
-/// A read that is to find bytes.
-#[derive(Debug, Drop)]
-pub struct WaitTask {
-    pub(crate) task: Task,
-    pub(crate) want: Datum,
 }
 
 impl Attempts<'_> {
@@ -62,7 +52,7 @@ impl AttemptTask<'_> {
     {
         match self {
             AttemptTask::Moves(task) => task.give(given),
-            AttemptTask::Waits(wait) => wait.task.give(given),
+            AttemptTask::Waits(wait) => wait.give(given),
             AttemptTask::Shares(task) => task.give(given),
         }
     }
@@ -73,7 +63,7 @@ impl AttemptTask<'_> {
     {
         match self {
             AttemptTask::Moves(task) => task.event(),
-            AttemptTask::Waits(wait) => wait.task.event(),
+            AttemptTask::Waits(wait) => wait.event(),
             AttemptTask::Shares(task) => task.event(),
         }
     }
@@ -84,18 +74,18 @@ impl AttemptTask<'_> {
     {
         match self {
             AttemptTask::Moves(task) => task.is_over(),
-            AttemptTask::Waits(wait) => wait.task.is_over(),
+            AttemptTask::Waits(wait) => wait.is_over(),
             AttemptTask::Shares(task) => task.outcome().is_some(),
         }
     }
 
-    /// Its answer, where it has ended.
-    pub(crate) fn answer(&self) -> Option<LineReply>
-        ensures { result ≡ answer_in (attempt_to_do self.now) }
+    /// Its answer, where it has ended. The bytes that were read go with it.
+    pub(crate) fn take_answer(&mut self) -> Option<LineReply>
+        ensures { result ≡ answer_in (attempt_to_do self.old) }
     {
         match self {
-            AttemptTask::Moves(task) => Some(LineReply::Transfer(task.outcome()?)),
-            AttemptTask::Waits(wait) => wait.answer(),
+            AttemptTask::Moves(task) => Some(LineReply::Transfer(task.take_outcome()?)),
+            AttemptTask::Waits(wait) => wait.take_answer(),
             AttemptTask::Shares(task) => Some(LineReply::Shared(task.outcome()?)),
         }
     }
@@ -114,44 +104,16 @@ impl AttemptTask<'_> {
         }
     }
 
-    /// The same before its first call, to be done once more.
+    /// The same before its first call, to be done once more. A transfer or a command never asks for
+    /// this.
     fn again(&mut self)
+        requires { next_asks_again (attempt_to_do self.old) ≡ true }
         ensures { self.new ≡ attempt_anew self.old }
     {
         match self {
-            AttemptTask::Moves(task) => task.again(),
-            AttemptTask::Waits(wait) => wait.task.again(),
+            AttemptTask::Moves(_) => {}
+            AttemptTask::Waits(wait) => wait.again(),
             AttemptTask::Shares(task) => task.again(),
-        }
-    }
-}
-
-impl WaitTask {
-    /// Whether it has ended with other bytes than it is to find.
-    fn asks_again(&self) -> bool
-        ensures { result ≡ next_asks_again (waits_next self.now.want.items (to_do self.now.task)) }
-    {
-        self.task.is_over() && matches!(self.answer(), Some(LineReply::Timeout))
-    }
-
-    /// Its answer, where it has ended: whether the bytes are those that it is to find.
-    fn answer(&self) -> Option<LineReply>
-        ensures { result ≡ answer_in (waits_next self.now.want.items (to_do self.now.task)) }
-    {
-        match self.task.outcome()? {
-            Outcome::Read(bytes) => Some(self.found(bytes.as_slice())),
-            outcome => Some(LineReply::Transfer(outcome)),
-        }
-    }
-
-    /// The answer of a read of these bytes.
-    fn found(&self, bytes: &[u8]) -> LineReply
-        ensures { result ≡ (if bytes_eq bytes.now self.now.want.items then Met else Timeout) }
-    {
-        if bytes == self.want.as_slice() {
-            LineReply::Met
-        } else {
-            LineReply::Timeout
         }
     }
 }

@@ -5,14 +5,18 @@
 
 mod attempt;
 mod laws;
+mod room;
 mod start;
 mod task;
 mod todo;
+mod wait;
 
-pub use attempt::{AttemptTask, Attempts, WaitTask};
+pub use attempt::{AttemptTask, Attempts};
 pub use laws::{
     courses_go_line_by_line, lines_call_boards_that_are_there, lines_go_by_the_table,
     lines_keep_their_tenure,
 };
+pub use room::{Rooms, line_room};
 pub use task::{LineTask, line_count};
 pub use todo::LineTodo;
+pub use wait::WaitTask;

@@ -1,14 +1,19 @@
 //! What is attempted for a line, before its first call.
-ghost use Rattle.std.specs.Prelude.{◌≡◌, ◌<◌, length};
+ghost use Rattle.std.specs.Prelude.{◌≡◌, ◌<◌, ◌≤◌, [], length, Ok};
+ghost use Rattle.vme_block.specs.Rooms.{short_room};
 ghost use Rattle.vme_cycle.specs.declared.request.Request.TheVariants.{Read};
-ghost use Rattle.vme_cycle.specs.Lawful.{transfer_of};
+ghost use Rattle.vme_cycle.specs.Requests.{reply_room};
+ghost use Rattle.vme_cycle.specs.Lawful.{Transfer as LawfulRequest, transfer_of};
 ghost use Rattle.vme_script.specs.Boards.{entries_of};
 ghost use Rattle.vme_master.specs.Machine.{bus_task};
 ghost use Rattle.vme_shared.specs.Mailboxes.{IsAsked};
 ghost use Rattle.vme_course.specs.Scripts.{slot_at, level_at, mailbox_at, HasMailbox, HasItsMailbox, Moves, Waits, transfer_job, request_attempt, shared_attempt, line_attempt};
+ghost use Rattle.vme_course.specs.Rooms.{room_of_request, line_room};
 ghost use Rattle.vme_course.specs.Machine.{fresh_of};
 
-use crate::attempt::{AttemptTask, WaitTask};
+use crate::attempt::AttemptTask;
+use crate::wait::WaitTask;
+use vme_block::Room;
 use vme_cycle::{CycleFault, Request};
 use vme_lanes::{Datum, copy_bytes};
 use vme_lines::Line;
@@ -16,18 +21,22 @@ use vme_master::Task;
 use vme_script::Config;
 use vme_shared::{Mailbox, SharedRequest, SharedTask};
 
-/// What is attempted for a line of a board's processor, or the refusal of its request.
+/// What is attempted for a line of a board's processor, or the refusal of its request. What a request
+/// over the bus reads goes into the room.
 pub(crate) fn attempt_of<'a>(
     config: &'a Config,
     board: usize,
-    line: &Line,
+    line: &'a Line,
+    room: Room,
 ) -> Result<AttemptTask<'a>, CycleFault>
     requires board { board < length config.now.boards }
     requires mailbox { HasItsMailbox config.now line.now }
+    requires none { room.items ≡ [] }
+    requires room { line_room line.now ≤ room.room }
     ensures { result ≡ fresh_of (line_attempt config.now board line.now) }
 {
     match line {
-        Line::Bus(request) => moves(config, board, request),
+        Line::Bus(request) => moves(config, board, request, room),
         Line::Local(cmd) => Ok(AttemptTask::Moves(Task::local(board, cmd.copy()))),
         Line::Await { am, addr, bytes } => waits(config, board, *am, *addr, bytes),
         Line::Lock { am, addr } => shares(
@@ -68,13 +77,19 @@ pub(crate) fn attempt_of<'a>(
 fn moves<'a>(
     config: &Config,
     board: usize,
-    request: &Request,
+    request: &'a Request,
+    room: Room,
 ) -> Result<AttemptTask<'a>, CycleFault>
-    requires { board < length config.now.boards }
+    requires board { board < length config.now.boards }
+    requires none { room.items ≡ [] }
+    requires room { room_of_request (transfer_of request.now) ≤ room.room }
     ensures { result ≡ fresh_of (request_attempt (λ t. Moves (transfer_job config.now board t))
         (transfer_of request.now)) }
 {
-    Ok(AttemptTask::Moves(transfer(config, board, request)?))
+    let slot = config.slot(board);
+    let level = config.level(board);
+    let task = Task::start(config.map(), slot, level, request, room)?;
+    Ok(AttemptTask::Moves(task))
 }
 
 /// A read over the bus that is to find these bytes.
@@ -91,9 +106,28 @@ fn waits<'a>(
         (transfer_of (Read am addr (length bytes.now.items)))) }
 {
     let n = bytes.as_slice().len() as u8;
-    let task = transfer(config, board, &Request::Read { am, addr, n })?;
+    let task = short_transfer(config, board, Request::Read { am, addr, n })?;
     let want = copy_bytes(bytes);
-    Ok(AttemptTask::Waits(WaitTask { task, want }))
+    Ok(AttemptTask::Waits(WaitTask::of(task, want)))
+}
+
+/// The task of a request of a board's processor that reads few bytes, or the refusal of the request.
+fn short_transfer<'a>(
+    config: &Config,
+    board: usize,
+    request: Request,
+) -> Result<Task<'a>, CycleFault>
+    requires board { board < length config.now.boards }
+    requires room { (t : LawfulRequest) → transfer_of request ≡ Ok t → reply_room t.request ≤ short_room }
+    ensures { result ≡ bus_task (entries_of config.now.boards) (slot_at config.now board)
+        (level_at config.now board) (transfer_of request) }
+{
+    Task::start_own(
+        config.map(),
+        config.slot(board),
+        config.level(board),
+        request,
+    )
 }
 
 /// What is asked of a lock or a mailbox.
@@ -110,20 +144,6 @@ fn shares<'a>(
     let level = config.level(board);
     let task = SharedTask::start(config.map(), slot, level, request)?;
     Ok(AttemptTask::Shares(task))
-}
-
-/// The task of a request of a board's processor, or the refusal of the request.
-fn transfer(config: &Config, board: usize, request: &Request) -> Result<Task, CycleFault>
-    requires { board < length config.now.boards }
-    ensures { result ≡ bus_task (entries_of config.now.boards) (slot_at config.now board)
-        (level_at config.now board) (transfer_of request.now) }
-{
-    Task::start(
-        config.map(),
-        config.slot(board),
-        config.level(board),
-        request,
-    )
 }
 
 /// The mailbox with a number, counted from 1 on.

@@ -1,19 +1,22 @@
-ghost use Rattle.std.specs.Prelude.{◌≡◌, ◌≢◌, ◌<◌, ◌∷◌, ℕ, length, option_map, option_copied, is_some, slice_get, Some, IfSome};
+ghost use Rattle.std.specs.Prelude.{◌≡◌, ◌≢◌, ◌<◌, ◌≤◌, ◌∷◌, [], ℕ, length, option_map, option_copied, is_some, slice_get, Some, IfSome};
 ghost use Rattle.vme_core.specs.Calls.{call_of};
 ghost use Rattle.vme_lines.specs.declared.line.Line.{Line as AnyLine};
 ghost use Rattle.vme_script.specs.Configurations.{Configuration};
 ghost use Rattle.vme_master.specs.Tables.{Given};
 ghost use Rattle.vme_course.specs.Scripts.{HasItsMailbox, lines_at};
+ghost use Rattle.vme_course.specs.Rooms.{line_room};
 ghost use Rattle.vme_course.specs.Tables.{Rests, next_given};
-ghost use Rattle.vme_course.specs.Machine.{line_started, line_advance, line_to_do, line_given, attempts_left, IsLineBelow};
+ghost use Rattle.vme_course.specs.Machine.{line_started, line_advance, line_to_do, line_taken, line_given, attempts_left, IsLineBelow};
 ghost use Rattle.vme_course.specs.Events.{next_in, call_in, answer_in, IsEventBelow, IsTodoBelow};
 
 use crate::attempt::Attempts;
 use crate::start::attempt_of;
 use crate::todo::LineTodo;
+use vme_block::Room;
 use vme_core::{Event, EventReply};
 use vme_cycle::CycleFault;
 use vme_lines::Line;
+use vme_master::Outcome;
 use vme_script::Config;
 use vme_shared::LineReply;
 
@@ -24,29 +27,34 @@ pub enum LineTask<'a> {
     Refused(CycleFault),
     /// Attempts at it, one after another.
     Tries(Attempts<'a>),
+    /// Its answer was taken.
+    Over,
 }
 
 impl<'a> LineTask<'a> {
     /// A line of the script of a board's processor, by its place among those that ask for something,
-    /// before its first call.
+    /// before its first call. What it reads by a request over the bus goes into the room.
     #[tactic(auto, using(crate::proofs::Below::started_below))]
-    pub fn start(config: &'a Config, board: usize, line: usize) -> LineTask<'a>
+    pub fn start(config: &'a Config, board: usize, line: usize, room: Room) -> LineTask<'a>
         requires board { board < length config.now.boards }
         requires line { line < length (lines_at config.now board) }
+        requires none { room.items ≡ [] }
+        requires room { (one : AnyLine) → slice_get (lines_at config.now board) line ≡ Some one →
+            line_room one ≤ room.room }
         ensures line { (one : AnyLine) → slice_get (lines_at config.now board) line ≡ Some one →
             result ≡ line_started config.now board one }
         ensures there { IsLineBelow (length config.now.boards) result }
     {
         let boards = config.boards();
         prove!(board < boards);
-        LineTask::of(config, board, config.script(board).line(line))
+        LineTask::of(config, board, config.script(board).line(line), room)
     }
 
     /// What the line does next. The first call is given nothing, and each later one the reply to the
-    /// event that the call before it gave out.
+    /// event that the call before it gave out. Where the line has ended, its answer is taken.
     pub fn next(&mut self, given: Option<EventReply>) -> LineTodo
-        ensures task { self.new ≡ line_advance self.old given }
-        ensures todo { next_in result ≡ line_to_do self.new }
+        ensures task { self.new ≡ line_taken (line_advance self.old given) }
+        ensures todo { next_in result ≡ line_to_do (line_advance self.old given) }
         ensures table { (config : Configuration) (board : ℕ) (line : AnyLine) (before : Given) →
             self.old ≡ line_given config board line before →
             next_in result ≡ next_given config board line (given ∷ before) }
@@ -75,7 +83,7 @@ impl<'a> LineTask<'a> {
         ensures there { (n : ℕ) → IsLineBelow n self.now → IfSome result (IsEventBelow n) }
     {
         match self {
-            LineTask::Refused(_) => None,
+            LineTask::Refused(_) | LineTask::Over => None,
             LineTask::Tries(attempts) => attempts.attempt.event(),
         }
     }
@@ -85,7 +93,7 @@ impl<'a> LineTask<'a> {
         ensures { result ≡ is_some (answer_in (line_to_do self.now)) }
     {
         match self {
-            LineTask::Refused(_) => true,
+            LineTask::Refused(_) | LineTask::Over => true,
             LineTask::Tries(attempts) => attempts.attempt.is_over(),
         }
     }
@@ -96,39 +104,49 @@ impl<'a> LineTask<'a> {
         ensures { result ≡ attempts_left self.now }
     {
         match self {
-            LineTask::Refused(_) => 0,
+            LineTask::Refused(_) | LineTask::Over => 0,
             LineTask::Tries(attempts) => attempts.left,
         }
     }
 
-    /// Its answer, where it has ended.
-    pub fn answer(&self) -> Option<LineReply>
-        ensures { result ≡ answer_in (line_to_do self.now) }
+    /// Takes its answer, where it has ended. A line is denied any further answer, unless it is refused.
+    pub fn take_answer(&mut self) -> Option<LineReply>
+        ensures answer { result ≡ answer_in (line_to_do self.old) }
+        ensures task { self.new ≡ line_taken self.old }
     {
         match self {
             LineTask::Refused(fault) => Some(LineReply::Refused(*fault)),
-            LineTask::Tries(attempts) => attempts.attempt.answer(),
+            LineTask::Tries(attempts) if attempts.attempt.is_over() => {
+                let answer = attempts.attempt.take_answer();
+                *self = LineTask::Over;
+                answer
+            }
+            LineTask::Tries(_) => None,
+            LineTask::Over => Some(LineReply::Transfer(Outcome::Denied)),
         }
     }
 
-    fn todo(&self) -> LineTodo
-        requires { line_to_do self.now ≢ Rests }
-        ensures { next_in result ≡ line_to_do self.now }
+    fn todo(&mut self) -> LineTodo
+        requires { line_to_do self.old ≢ Rests }
+        ensures todo { next_in result ≡ line_to_do self.old }
+        ensures task { self.new ≡ line_taken self.old }
     {
         match self.event() {
             Some(event) => LineTodo::Call(event),
-            None => LineTodo::Ended(self.answer().unwrap()),
+            None => LineTodo::Ended(self.take_answer().unwrap()),
         }
     }
 
     /// A line of a board's processor before its first call.
     #[tactic(auto, unfolding(crate::specs::Machine::line_started))]
-    fn of(config: &'a Config, board: usize, line: &Line) -> LineTask<'a>
+    fn of(config: &'a Config, board: usize, line: &'a Line, room: Room) -> LineTask<'a>
         requires board { board < length config.now.boards }
         requires mailbox { HasItsMailbox config.now line.now }
+        requires none { room.items ≡ [] }
+        requires room { line_room line.now ≤ room.room }
         ensures { result ≡ line_started config.now board line.now }
     {
-        match attempt_of(config, board, line) {
+        match attempt_of(config, board, line, room) {
             Ok(attempt) => LineTask::Tries(Attempts {
                 attempt,
                 left: config.tries(),

@@ -1,0 +1,65 @@
+-- The rooms of the lines of a script, in order.
+use Rattle.std.proofs.Common.{◌≡◌, ℕ, zero, suc, ◌+◌, ◌<◌, ◌≤◌, List, [], ◌∷◌, ◌++◌, length, map, take, drop, get_or, max, Some, refl, ap, sym, ◌∙◌, arith, add-one}
+use Rattle.std.specs.Prelude.{slice_get}
+use Rattle.std.proofs.lemmas.List.{drop_more, length-drop, length-map}
+use Rattle.std.proofs.lemmas.Option.{same_Some, get_or_from_slice_get}
+use Rattle.vme_block.specs.Rooms.{RoomView, short_room}
+use Rattle.vme_lines.specs.declared.line.Line.{Line}
+use Rattle.vme_script.specs.declared.script.ScriptLine.{ScriptLine}
+use Rattle.vme_course.specs.Rooms.{line_room, room_of, rooms_of}
+
+-- the room at the place of a line
+room_found : (script : List ScriptLine) (n : ℕ) (line : Line) → slice_get (map (λ one. one.line) script) n ≡ Some line
+    → slice_get (rooms_of script) n ≡ Some (room_of line)
+room_found [] n line is = absurd (cc is)
+room_found (one ∷ script) zero line is = ap (λ (l : Line). Some (room_of l)) (same_Some one.line line is)
+room_found (one ∷ script) (suc n) line is = room_found script n line is
+
+-- the room of one line more
+rooms_on : (script : List ScriptLine) (n : ℕ) (line : Line) → slice_get (map (λ one. one.line) script) n ≡ Some line
+    → rooms_of (take (suc n) script) ≡ rooms_of (take n script) ++ room_of line ∷ []
+rooms_on [] n line is = absurd (cc is)
+rooms_on (one ∷ script) zero line is = ap (λ (l : Line). room_of l ∷ []) (same_Some one.line line is)
+rooms_on (one ∷ script) (suc n) line is = ap (λ rooms. room_of one.line ∷ rooms) (rooms_on script n line is)
+
+pub rooms_more : (script : List ScriptLine) (n : ℕ) (line : Line) → slice_get (map (λ one. one.line) script) n ≡ Some line
+    → rooms_of (take (n + 1) script) ≡ rooms_of (take n script) ++ room_of line ∷ []
+rooms_more script n line is = rw (add-one n) (rooms_on script n line is)
+
+-- the next room is that of the line at a place: it is empty and has room for what the line reads; and the others are those of
+-- the lines after it
+pub record IsNextRoom (script : List ScriptLine) (n : ℕ) (room : RoomView) (rest : List RoomView) : Type 0 where
+  pub none : room.items ≡ []
+  pub enough : (line : Line) → slice_get (map (λ one. one.line) script) n ≡ Some line → line_room line ≤ room.room
+  pub after : rest ≡ drop (n + 1) (rooms_of script)
+
+most : (n m : ℕ) → m ≤ max n m
+most n m = omega arith
+
+-- there are rooms for the lines from a place on
+pub rooms_left : (script : List ScriptLine) (n : ℕ) (rooms : List RoomView) → n < length script → rooms ≡ drop n (rooms_of script) → 0 < length rooms
+rooms_left script n rooms within are =
+    omega (arith, ap length are, length-drop n (rooms_of script), length-map script (λ (one : ScriptLine). room_of one.line))
+
+-- the first of them
+pub next_room : (script : List ScriptLine) (n : ℕ) (rooms rest : List RoomView) (room : RoomView) → n < length script
+    → rooms ≡ drop n (rooms_of script) → rooms ≡ room ∷ rest → IsNextRoom script n room rest
+next_room script n rooms rest room within are is =
+    let all : List RoomView = rooms_of script in
+    let there : n < length all = omega (arith, length-map script (λ (one : ScriptLine). room_of one.line)) in
+    let step : room ∷ rest ≡ get_or all n room ∷ drop (n + 1) all = sym is ∙ are ∙ drop_more all n room there in
+    let own : (line : Line) → slice_get (map (λ (one : ScriptLine). one.line) script) n ≡ Some line → room ≡ room_of line =
+    λ line found. ap (λ rooms. get_or rooms 0 room) step ∙ get_or_from_slice_get all n (room_of line) room (room_found script n line found)
+    in
+    let one = line_there script n within in
+    record {
+      none = ap (λ (r : RoomView). r.items) (own one.0 one.1);
+      enough = λ line found. let size = ap (λ (r : RoomView). r.room) (own line found) in omega (arith, size, most short_room (line_room line));
+      after = ap (λ rooms. drop 1 rooms) step;
+    }
+  where
+    line_there : (script : List ScriptLine) (n : ℕ) → n < length script
+        → (line : Line) × (slice_get (map (λ one. one.line) script) n ≡ Some line)
+    line_there [] n n< = absurd (omega arith)
+    line_there (one ∷ script) zero n< = (one.line, refl)
+    line_there (one ∷ script) (suc n) n< = line_there script n (omega arith)

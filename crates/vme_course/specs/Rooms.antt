@@ -1,0 +1,28 @@
+-- Room for the bytes that the lines of a script read.
+use Rattle.std.specs.Prelude.{ℕ, List, [], map, max, Result, Ok, Err}
+use Rattle.vme_block.specs.Rooms.{RoomView, short_room}
+use Rattle.vme_cycle.specs.declared.fault.CycleFault.{CycleFault}
+use Rattle.vme_cycle.specs.Requests.{reply_room}
+use Rattle.vme_cycle.specs.Lawful.{Transfer, transfer_of}
+use Rattle.vme_lines.specs.declared.line.Line.{Line}
+use Rattle.vme_lines.specs.declared.line.Line.TheVariants.{Bus}
+use Rattle.vme_script.specs.declared.script.ScriptLine.{ScriptLine}
+
+-- how many bytes a request reads in all: none if it is refused (this project's own)
+abbrev pub room_of_request : Result Transfer CycleFault → ℕ
+room_of_request (Ok t) = reply_room t.request
+room_of_request (Err fault) = 0
+
+-- how many bytes a line reads by a request over the bus; all other lines read no more than lie in a room itself
+-- (this project's own)
+abbrev pub line_room : Line → ℕ
+line_room (Bus request) = room_of_request (transfer_of request)
+line_room line = 0
+
+-- an empty room for the bytes of a line (this project's own)
+abbrev pub room_of : Line → RoomView
+room_of line = record { items = []; room = max short_room (line_room line) }
+
+-- an empty room for each line of a script, in order (this project's own)
+abbrev pub rooms_of : List ScriptLine → List RoomView
+rooms_of script = map (λ one. room_of one.line) script
