@@ -61,6 +61,13 @@ impl Aim {
             return Aim::Write;
         }
         let n = location.len();
+        if signals.am().wide() {
+            return if n == 4 && !modifies {
+                Aim::Read { n: 8 }
+            } else {
+                Aim::Write
+            };
+        }
         match (modifies, signals.am().kind().is_block()) {
             (false, _) => Aim::Read { n },
             (true, false) => Aim::Modify { n },
