@@ -12,3 +12,5 @@ mod counters;
 mod maps;
 #[cfg(test)]
 mod memories;
+#[cfg(test)]
+mod wide;

@@ -5,7 +5,7 @@ use vme_cycle::{Block, Modify, Plan, Request};
 use vme_lanes::Datum;
 use vme_memory::{BoardCmd, ByteMemory, Class, MemoryFault, Reply, Width8To32};
 
-const WHOLE: Class = Class {
+pub const WHOLE: Class = Class {
     width: Width8To32::D32,
     uat: true,
     blt: true,
@@ -43,8 +43,8 @@ fn block_read(addr: u32, n: u8, count: u16) -> Request {
 
 /// How a board at address 0 answers each datum of a request, until the first bus error: `r`, `w`
 /// or `b` a datum.
-fn answers(rt: &impl Abort, memory: &mut ByteMemory, request: &Request) -> Block {
-    let mut letters = Block::new();
+fn answers(rt: &impl Abort, memory: &mut ByteMemory, request: &Request) -> Datum {
+    let mut letters = Datum::new();
     let Ok(plan) = Plan::of(request) else {
         panic!(rt; "refused")
     };
@@ -101,7 +101,9 @@ fn a_block_ends_at_the_end_of_a_board(rt: HostRuntime) -> Result<(), Fail> {
         answers(&rt, &mut memory, &block_read(15, 1, 9)).as_slice(),
         b"rrrrrb".as_slice()
     );
-    let bytes = Block::try_from([1u8, 2, 3, 4, 5, 6].as_slice()).unwrap_or_default();
+    let Ok(bytes) = Block::from_slice(rt.alloc(), &[1u8, 2, 3, 4, 5, 6]) else {
+        panic!(&rt; "no memory")
+    };
     let block = Request::BlockWrite {
         am: 0x0f,
         addr: 18,
@@ -144,7 +146,7 @@ fn answer(memory: &mut ByteMemory, command: &BoardCmd) -> Option<Datum> {
     }
 }
 
-fn datum(bytes: &[u8]) -> Datum {
+pub fn datum(bytes: &[u8]) -> Datum {
     Datum::try_from(bytes).unwrap_or_default()
 }
 
