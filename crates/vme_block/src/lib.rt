@@ -7,6 +7,8 @@ mod block;
 mod fault;
 mod held;
 mod room;
+#[cfg(test)]
+mod tests;
 
 pub use block::{BLOCK_LIMIT, Block};
 pub use fault::BlockFault;

@@ -1,0 +1,42 @@
+//! Rooms and blocks of a few bytes and of many, each once.
+use crate::{BLOCK_LIMIT, Block, BlockFault, Room};
+use std::test::Fail;
+
+#[test]
+fn a_room_keeps_what_is_pushed(rt: HostRuntime) -> Result<(), Fail> {
+    let mut short = Room::new();
+    short.push_all(&[1, 2, 3]);
+    short.push_all(&[4]);
+    assert_eq!(&rt; short.as_slice(), [1, 2, 3, 4].as_slice());
+    assert_eq!(&rt; short.into_block().as_slice(), [1, 2, 3, 4].as_slice());
+    let mut long = Room::with_room(rt.alloc(), 48)?;
+    long.push_all(&[6; 40]);
+    long.push_all(&[7; 8]);
+    assert_eq!(&rt; long.as_slice().len(), 48);
+    long.clear();
+    long.push_all(&[5; 48]);
+    let block = long.into_block();
+    assert_eq!(&rt; block.as_slice(), [5; 48].as_slice());
+    assert_eq!(&rt; block.len(), 48);
+    Ok(())
+}
+
+#[test]
+fn blocks_are_equal_by_their_bytes(rt: HostRuntime) {
+    let bytes = [7; 100];
+    let one = Block::from_slice(rt.alloc(), &bytes);
+    let other = Block::from_slice(rt.alloc(), &bytes);
+    assert_eq!(&rt; one, other);
+    assert_ne!(&rt; one, Block::from_slice(rt.alloc(), &bytes[1..]));
+    assert_eq!(&rt; Block::from_slice(rt.alloc(), &[]), Ok(Block::new()));
+}
+
+#[test]
+fn a_block_has_at_most_2048_bytes(rt: HostRuntime) {
+    let bytes = [0; BLOCK_LIMIT + 1];
+    assert!(&rt; Block::from_slice(rt.alloc(), &bytes[1..]).is_ok());
+    assert_eq!(&rt;
+        Block::from_slice(rt.alloc(), &bytes),
+        Err(BlockFault::TooLong)
+    );
+}
