@@ -8,3 +8,5 @@ mod engine;
 mod lines;
 #[cfg(test)]
 mod rows;
+#[cfg(test)]
+mod wide;

@@ -214,8 +214,8 @@ read 00
 
 /// Lines that are refused, as requests or as lines.
 static REFUSED: [(&str, &str); 71] = [
-    ("r 08 00000000 1", "refused K1\n"),
-    ("r 0c 00000000 1", "refused K1\n"),
+    ("r 08 00000000 1", "refused K5\n"),
+    ("r 0c 00000000 1", "refused K5\n"),
     ("r 10 00000000 1", "refused K2\n"),
     ("r 2f 00000000 1", "refused K1\n"),
     ("r 40 00000000 1", "refused K9\n"),
@@ -255,7 +255,7 @@ static REFUSED: [(&str, &str); 71] = [
     ("br 0d 00000000 4 1", "refused K5\n"),
     ("br 3b 01000000 4 1", "refused K4\n"),
     ("br 0b fffffffc 4 2", "refused K4\n"),
-    ("br 08 00000000 4 1", "refused K1\n"),
+    ("br 08 00000000 4 1", "refused K8\n"),
     ("br 0b 00000000 4", "line refused S3\n"),
     ("bf 0b 00000000 4 1", "line refused S3\n"),
     ("bf 0b 00000000 4 1 01020304 05", "line refused S3\n"),
@@ -265,7 +265,7 @@ static REFUSED: [(&str, &str); 71] = [
     ("bf 0b 00000000 4 1 010203", "line refused S7\n"),
     ("bw 0b 00000000 1 0", "line refused S7\n"),
     ("bf 0b 0000 9 a 0", "line refused S5\n"),
-    ("m 08 00000000 1 set", "refused K1\n"),
+    ("m 08 00000000 1 set", "refused K5\n"),
     ("m 0b 00000000 1 set", "refused K5\n"),
     ("m 0a 00000000 1 set", "refused K7\n"),
     ("m 3e 00000000 3 set", "refused K7\n"),
@@ -326,10 +326,10 @@ fn fills_a_whole_unit(rt: HostRuntime) -> Result<(), Fail> {
 
 /// How a read of one byte ends with each of the codes from one to another.
 static CODES: [(u8, u8, &str); 18] = [
-    (0x00, 0x08, "refused K1"),
+    (0x00, 0x07, "refused K1"),
+    (0x08, 0x08, "refused K5"),
     (0x09, 0x0a, "read 00"),
-    (0x0b, 0x0b, "refused K5"),
-    (0x0c, 0x0c, "refused K1"),
+    (0x0b, 0x0c, "refused K5"),
     (0x0d, 0x0e, "read 00"),
     (0x0f, 0x0f, "refused K5"),
     (0x10, 0x1f, "refused K2"),
@@ -337,17 +337,17 @@ static CODES: [(u8, u8, &str); 18] = [
     (0x29, 0x29, "berr 0"),
     (0x2a, 0x2c, "refused K1"),
     (0x2d, 0x2d, "berr 0"),
-    (0x2e, 0x38, "refused K1"),
+    (0x2e, 0x37, "refused K1"),
+    (0x38, 0x38, "refused K5"),
     (0x39, 0x3a, "berr 0"),
-    (0x3b, 0x3b, "refused K5"),
-    (0x3c, 0x3c, "refused K1"),
+    (0x3b, 0x3c, "refused K5"),
     (0x3d, 0x3e, "berr 0"),
     (0x3f, 0x3f, "refused K5"),
     (0x40, 0xff, "refused K9"),
 ];
 
 #[test]
-fn knows_fourteen_codes(rt: HostRuntime) -> Result<(), Fail> {
+fn knows_eighteen_codes(rt: HostRuntime) -> Result<(), Fail> {
     let lines = "a=00000000 ds1=1 ds0=0 a01=0 lword=1 write=1 data=------";
     for (first, last, end) in &CODES {
         for code in *first..=*last {

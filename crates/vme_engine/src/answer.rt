@@ -1,5 +1,6 @@
 //! What a line is answered, and what it does to the board.
 ghost use Rattle.std.specs.Prelude.{ℕ, ◌≡◌, ◌+◌, ◌++◌, ◌<◌, ◌≤◌, length, Some, IfOk, IfSome, OnOk};
+ghost use Rattle.vme_block.specs.Rooms.{block_limit};
 ghost use Rattle.vme_cycle.specs.Requests.{addr_of, function_of, datum_len, count_of, address_of};
 ghost use Rattle.vme_cycle.specs.SignalLines.{row_len, len_at};
 ghost use Rattle.vme_cycle.specs.Plans.{signals_of};
@@ -9,33 +10,33 @@ ghost use Rattle.vme_engine.specs.Answers.{outcome_of, final_signals, offset_of,
 
 use crate::bus::Bus;
 use crate::request::request_of;
-use arrayvec::ArrayVec;
 use std::alloc::AllocError;
+use vme_block::Room;
 use vme_cycle::{Plan, Request, Signals};
-use vme_lanes::Datum;
 use vme_lines::{
     print_berr, print_done, print_line_refusal, print_old, print_read, print_refusal, print_signals,
 };
 use vme_memory::Reply;
 use vme_shared::Status;
 
-/// What the data of a transfer replied, in order.
-type Replied = ArrayVec<u8, 256>;
-
-/// Answers a line: appends its text, and leaves the board as the line's cycle does.
+/// Answers a line: appends its text, and leaves the board as the line's cycle does. What the data
+/// of its transfer reply is gathered in a room that is used again for each line.
 #[tactic(auto, unfolding(crate::specs::Answers::answer))]
 pub(crate) fn answer_line(
     bus: &mut Bus,
     line: &[u8],
+    replied: &mut Room,
     text: &mut Vec<u8>,
 ) -> Result<Status, AllocError>
+    requires { block_limit ≤ replied.old.room }
+    ensures room { replied.new.room ≡ replied.old.room }
     ensures text { OnOk result (text.new.items ≡ text.old.items ++ (answer bus.old line.now).text) }
     ensures board { OnOk result (bus.new ≡ (answer bus.old line.now).board) }
     ensures status { IfOk result (λ status. status ≡ (answer bus.old line.now).status) }
 {
     match request_of(line) {
         Ok(None) => Ok(Status::Clean),
-        Ok(Some(request)) => answer_request(bus, &request, text),
+        Ok(Some(request)) => answer_request(bus, &request, replied, text),
         Err(fault) => {
             print_line_refusal(text, fault)?;
             Ok(Status::Marked)
@@ -46,15 +47,18 @@ pub(crate) fn answer_line(
 fn answer_request(
     bus: &mut Bus,
     request: &Request,
+    replied: &mut Room,
     text: &mut Vec<u8>,
 ) -> Result<Status, AllocError>
+    requires { block_limit ≤ replied.old.room }
+    ensures room { replied.new.room ≡ replied.old.room }
     ensures text { OnOk result
         (text.new.items ≡ text.old.items ++ (request_answer bus.old request.now).text) }
     ensures board { OnOk result (bus.new ≡ (request_answer bus.old request.now).board) }
     ensures status { IfOk result (λ status. status ≡ (request_answer bus.old request.now).status) }
 {
     match Plan::of(request) {
-        Ok(plan) => answer_data(bus, &plan, text),
+        Ok(plan) => answer_data(bus, &plan, replied, text),
         Err(fault) => {
             print_refusal(text, fault)?;
             Ok(Status::Marked)
@@ -64,17 +68,24 @@ fn answer_request(
 
 /// Answers each datum in turn, until the last or the first that is answered by a bus error.
 #[tactic(auto, unfolding(crate::specs::Answers::transfer_answer))]
-fn answer_data(bus: &mut Bus, plan: &Plan<'_>, text: &mut Vec<u8>) -> Result<Status, AllocError>
+fn answer_data(
+    bus: &mut Bus,
+    plan: &Plan<'_>,
+    replied: &mut Room,
+    text: &mut Vec<u8>,
+) -> Result<Status, AllocError>
+    requires { block_limit ≤ replied.old.room }
+    ensures room { replied.new.room ≡ replied.old.room }
     ensures text { OnOk result (text.new.items ≡ text.old.items ++ (transfer_answer bus.old plan.now).text) }
     ensures board { OnOk result (bus.new ≡ (transfer_answer bus.old plan.now).board) }
     ensures status { IfOk result (λ status. status ≡ (transfer_answer bus.old plan.now).status) }
 {
     let count = plan.len();
     let offset = offset_of(bus, plan);
-    let mut replied = Replied::new();
+    replied.clear();
     for i in 0..count {
         match answer_datum(bus, plan, i, offset, text)? {
-            Reply::Bytes(datum) => append(&mut replied, &datum),
+            Reply::Bytes(datum) => replied.push_all(datum.as_slice()),
             Reply::Done => {}
             Reply::Berr => {
                 print_berr(text, i, replied.as_slice())?;
@@ -137,13 +148,6 @@ fn print_write_half(text: &mut Vec<u8>, plan: &Plan<'_>, reply: &Reply) -> Resul
     }
 }
 
-fn append(replied: &mut Replied, datum: &Datum)
-    requires { length replied.old.items + length datum.now.items ≤ 256 }
-    ensures { replied.new.items ≡ replied.old.items ++ datum.now.items }
-{
-    replied.try_extend_from_slice(datum.as_slice()).unwrap();
-}
-
 /// Appends the outcome of a transfer whose data were all answered, with what they replied.
 fn print_outcome(text: &mut Vec<u8>, plan: &Plan<'_>, replied: &[u8]) -> Result<(), AllocError>
     ensures { OnOk result
@@ -160,7 +164,7 @@ fn print_outcome(text: &mut Vec<u8>, plan: &Plan<'_>, replied: &[u8]) -> Result<
 
 /// What the lines show in the end: in a read what the board drives.
 fn final_signals(signals: Signals, reply: &Reply) -> Signals
-    requires { (len : ℕ) × (row_len signals.strobes ≡ Some len) × HasLen reply.now len }
+    requires { (len : ℕ) × (row_len signals.am.wide signals.strobes ≡ Some len) × HasLen reply.now len }
     ensures { result ≡ final_signals signals reply.now }
 {
     match reply {

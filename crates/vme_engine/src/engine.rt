@@ -9,6 +9,7 @@ ghost use Rattle.vme_program.specs.Ends.{IsReadingFault, ReadsPastLimit, is_read
 use crate::answer::answer_line;
 use crate::bus::Bus;
 use std::alloc::Global;
+use vme_block::{BLOCK_LIMIT, Room};
 use vme_io::{Sink, Source, write_all};
 use vme_program::{ProgramFault, read_input};
 use vme_shared::Status;
@@ -68,10 +69,11 @@ fn answer_all<W: Sink>(alloc: Global, input: &[u8], writer: &mut W) -> Result<St
     ensures faults { IfErr result IsAnswerFault }
 {
     let mut bus = Bus::new(alloc)?;
+    let mut replied = Room::with_room(alloc, BLOCK_LIMIT)?;
     let mut text = Vec::with_capacity(alloc, WRITE_SIZE)?;
     let mut status = Status::Clean;
     for line in Lines::new(input) {
-        status = status.worse(answer_line(&mut bus, line, &mut text)?);
+        status = status.worse(answer_line(&mut bus, line, &mut replied, &mut text)?);
         if WRITE_SIZE <= text.len() {
             write_text(writer, text.as_slice())?;
             text.clear();

@@ -14,8 +14,9 @@ returns-in-Berr c =
     c.in_ok-datum.ensures.board in
     let all = rw c.in-Berr.is at more in
     record {
+      room = c.loop-i.invariant.size;
       text = c.in_ok-print_berr-in-Berr.ensures.text
-          ∙ ap (λ read. c.answer_datum.new.text.items ++ output_line (outcome_text (Berr c.loop-i.i read))) c.as_slice.ensures.value
+          ∙ ap (λ read. c.answer_datum.new.text.items ++ output_line (outcome_text (Berr c.loop-i.i read))) c.as_slice-in-Berr.ensures.value
           ∙ ap (λ answer. answer.text) all;
       board = ap (λ answer. answer.board) all;
       status = ap (λ answer. answer.status) all;
@@ -33,12 +34,12 @@ loop-i-preserved c =
     elim c.match-branch-2.branch [
       | in-Bytes w ↦
           let bytes = w.in-Bytes.datum.items in
-          let grown : new ≡ old ++ bytes = ap (λ read. read.items) w.replied-is ∙ w.append.ensures in
+          let grown : new ≡ old ++ bytes = ap (λ read. read.items) w.replied-is ∙ ap (λ read. read.items) w.push_all.ensures ∙ ap (λ more. old ++ more) w.as_slice.ensures.value in
           let long : length bytes ≡ datum_len c.args.plan.now.request = rw w.in-Bytes.is at c.in_ok-datum.ensures.len in
           let joined : length new ≡ length old + length bytes = ap length grown ∙ length-append old bytes in
-          record { answer = rw grown (rw w.in-Bytes.is at more); room = omega (arith, joined, long, room) }
+          record { answer = rw grown (rw w.in-Bytes.is at more); room = omega (arith, joined, long, room); size = ap (λ read. read.room) w.replied-is ∙ ap (λ read. read.room) w.push_all.ensures ∙ c.loop-i.invariant.size }
       | in-Done w ↦
           let same : new ≡ old ++ [] = ap (λ read. read.items) w.replied-is ∙ sym (append-nil old) in
           let as_long : length new ≡ length old = ap (λ read. length read.items) w.replied-is in
-          record { answer = rw same (rw w.in-Done.is at more); room = omega (arith, as_long, room) }
+          record { answer = rw same (rw w.in-Done.is at more); room = omega (arith, as_long, room); size = ap (λ read. read.room) w.replied-is ∙ c.loop-i.invariant.size }
     ]

@@ -1,5 +1,5 @@
 -- Where a piece of text is written: a front of the whole on a fault, and else that much more.
-use Rattle.std.proofs.Common.{◌≡◌, [], ◌∷◌, ◌++◌, rules}
+use Rattle.std.proofs.Common.{◌≡◌, [], ◌∷◌, ◌++◌, arith, rules}
 use Rattle.std.specs.Str.Lines.{lines}
 use Rattle.vme_io.specs.Fronts.{AppendsFront}
 use Rattle.vme_io.proofs.Appending.{Appends-more, AppendsFront-more}
@@ -31,6 +31,7 @@ loop-line-preserved-then-len-ge-WRITE_SIZE g c =
       );
       status = status_more c.loop-line.bus _ c.loop-line.status _ c.in_ok-answer_line.field-0 _ c.in-Some.line.now c.loop-line.line-iterator.rest.now
           c.next.new.self.rest.now c.loop-line.invariant.status first c.worse-status.ensures c.in_ok-answer_line.ensures.status c.in_ok-answer_line.ensures.board;
+      room = omega (arith, c.answer_line.ensures.room, c.loop-line.invariant.room);
       mark = cc (c.in_ok-write_text.ensures.unmarked, c.loop-line.invariant.mark);
     }
 

@@ -1,6 +1,7 @@
-use Rattle.std.proofs.Common.{◌≡◌, ◌++◌, List, ℕ}
+use Rattle.std.proofs.Common.{◌≡◌, ◌≤◌, ◌++◌, List, ℕ}
 use Rattle.std.specs.Io.KnownBytes.{Appends}
 use Rattle.std.specs.Str.Lines.{lines}
+use Rattle.vme_block.specs.Rooms.{block_limit}
 use Rattle.vme_engine.specs.Engine.{text_of, status_after, cycles_text, cycles_status}
 use Rattle.vme_shared.specs.Statuses.{worse_of}
 use Rattle.vme_engine.proofs.engine.answer_all.Given as goal
@@ -11,5 +12,6 @@ invariant-loop-line g l = record {
   text : (front : List ℕ) × Appends (g.W.Sink.contents l.fn.writer) (g.W.Sink.contents l.writer) front
       × ((front ++ l.text.items) ++ text_of l.bus (lines l.line-iterator.rest.now) ≡ cycles_text l.fn.input);
   status : worse_of l.status (status_after l.bus (lines l.line-iterator.rest.now)) ≡ cycles_status l.fn.input;
+  room : block_limit ≤ l.replied.room;
   mark : g.W.Sink.is_marked l.writer ≡ g.W.Sink.is_marked l.fn.writer;
 }
