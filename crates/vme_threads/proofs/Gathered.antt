@@ -1,5 +1,5 @@
 -- One history of each object, from the passes of all rans.
-use Rattle.std.proofs.Common.{◌≡◌, ℕ, zero, suc, ◌+◌, ◌<◌, ◌≤◌, List, [], ◌∷◌, ◌++◌, length, map, slice_index_or, vec_capacity, All, refl, ap, sym, subst, ◌∙◌, arith}
+use Rattle.std.proofs.Common.{◌≡◌, ℕ, zero, suc, ◌<◌, ◌≤◌, List, [], ◌∷◌, ◌++◌, length, map, slice_index_or, vec_capacity, All, refl, ap, sym, subst, ◌∙◌, arith}
 use Rattle.std.specs.Global.{Vec}
 use Rattle.vme_object.specs.declared.history.Entry.{Entry}
 use Rattle.vme_object.specs.History.{own}
@@ -28,7 +28,7 @@ use Rattle.vme_threads.specs.declared.ports.Ports.{Ports}
 use Rattle.vme_threads.specs.declared.report.BoardEnd.{BoardEnd}
 use Rattle.vme_threads.specs.declared.report.Report.{Report}
 use Rattle.vme_threads.specs.Columns.{Column}
-use Rattle.vme_threads.specs.Gathers.{AreSquare, AreDealt, CanClose, CanAllClose, AreClosed}
+use Rattle.vme_threads.specs.Gathers.{AreSquare, AreDealt, CanAllClose, AreClosed}
 use Rattle.vme_threads.specs.Rans.{IsRanOf, HasRun, numbers_in, answers_in}
 use Rattle.vme_threads.specs.Reports.{HasHistory, IsEndOf, IsReportOf, HaveRun, CanGather}
 use Rattle.vme_threads.proofs.Lines.{line_there}

@@ -13,6 +13,7 @@ use Rattle.vme_port.specs.Ports.{port_id}
 use Rattle.vme_script.specs.declared.board.BoardConfig.{BoardConfig}
 use Rattle.vme_script.specs.Configurations.{Configuration}
 use Rattle.vme_course.specs.Scripts.{script_at}
+use Rattle.vme_course.specs.Rooms.{rooms_of}
 use Rattle.vme_threads.specs.declared.worker.Worker.{Worker}
 use Rattle.vme_threads.specs.declared.ports.BoardPort.{BoardPort}
 use Rattle.vme_threads.specs.Ports.{IsPortOf, IsHired, AreHired}
@@ -22,13 +23,14 @@ use Rattle.vme_threads.specs.Dealings.{Gets, HaveRoom}
 pub hired_first :
     (config : Configuration) (arbiter : Port Arbitration ArbCmd ArbReply) (i : ℕ) (w : Worker) (p : PassView ArbCmd ArbReply)
     → IsUnused (port_id arbiter) i p → w.desk.who ≡ p.who → w.desk.bus ≡ p → w.desk.boards.items ≡ []
-    → length config.boards ≤ vec_capacity w.desk.boards → vec_len w.lines ≡ 0 → length (script_at config i) ≤ vec_capacity w.lines
-    → IsHired config [] arbiter i w
-hired_first config arbiter i w p unused who bus none room lines lines_room = record {
+    → length config.boards ≤ vec_capacity w.desk.boards → w.rooms ≡ rooms_of (script_at config i) → vec_len w.lines ≡ 0
+    → length (script_at config i) ≤ vec_capacity w.lines → IsHired config [] arbiter i w
+hired_first config arbiter i w p unused who bus none room rooms lines lines_room = record {
   who = who ∙ unused.who;
   boards = record { count = ap length none; each = λ k a b k<. absurd (omega arith) };
   bus = subst (IsUnused (port_id arbiter) i) (sym bus) unused;
   room = room;
+  rooms = rooms;
   lines = lines;
   lines_room = lines_room;
 }
@@ -45,6 +47,7 @@ hired_more config opened o arbiter i w v p hired unused gets =
       boards = subst (AllAt P (opened ++ o ∷ [])) (sym gets.boards) (AllAt-push P opened w.desk.boards.items o p hired.boards unused);
       bus = subst (IsUnused (port_id arbiter) i) (sym gets.bus) hired.bus;
       room = subst (λ n. length config.boards ≤ n) (sym gets.room) hired.room;
+      rooms = gets.rooms ∙ hired.rooms;
       lines = subst (λ ls. vec_len ls ≡ 0) (sym gets.lines) hired.lines;
       lines_room = subst (λ ls. length (script_at config i) ≤ vec_capacity ls) (sym gets.lines) hired.lines_room;
     }

@@ -1,5 +1,5 @@
 -- A script, line by line.
-use Rattle.std.proofs.Common.{◌≡◌, ℕ, zero, suc, ◌+◌, ◌<◌, ◌≤◌, List, [], ◌∷◌, ◌++◌, length, map, take, Some, refl, ap, sym, subst, ◌∙◌, arith}
+use Rattle.std.proofs.Common.{◌≡◌, ℕ, zero, suc, ◌+◌, ◌<◌, ◌≤◌, List, [], ◌∷◌, ◌++◌, length, map, take, drop, Some, refl, ap, sym, subst, ◌∙◌, arith}
 use Rattle.std.specs.List.{slice_get}
 use Rattle.std.proofs.lemmas.List.{map-append}
 use Rattle.std.proofs.lemmas.Option.{none-some, same_Some, get_or_from_slice_get}
@@ -8,9 +8,12 @@ use Rattle.vme_shared.specs.declared.reply.LineReply.{LineReply}
 use Rattle.vme_lines.specs.declared.line.Line.{Line}
 use Rattle.vme_script.specs.declared.script.ScriptLine.{ScriptLine}
 use Rattle.vme_script.specs.Configurations.{Configuration}
+use Rattle.vme_block.specs.Rooms.{RoomView}
 use Rattle.vme_course.specs.Scripts.{script_at, lines_at}
+use Rattle.vme_course.specs.Rooms.{line_room, rooms_of}
 use Rattle.vme_course.specs.Courses.{LineCourse, IsCourse}
 use Rattle.vme_course.proofs.Courses.{course-snoc}
+use Rattle.vme_course.proofs.LineRooms.{IsNextRoom, rooms_left, next_room}
 use Rattle.vme_threads.specs.declared.desk.Desk.{Desk}
 use Rattle.vme_threads.specs.declared.worker.Worker.{Worker}
 use Rattle.vme_threads.specs.declared.worker.Ran.{Ran}
@@ -90,6 +93,27 @@ take_whole (x ∷ xs) (suc k) all = ap (λ ys. x ∷ ys) (take_whole xs k (omega
 pub same_count : {A B : Type 0} (f : A → B) (xs : List A) → length (map f xs) ≡ length xs
 same_count f [] = refl
 same_count f (x ∷ xs) = ap suc (same_count f xs)
+
+-- there is a room for each line that is left
+pub some_room :
+    (config : Configuration) (who n : ℕ) (rooms : List RoomView) → n < length (lines_at config who) → rooms ≡ drop n (rooms_of (script_at config who))
+    → 0 < length rooms
+some_room config who n rooms n< are =
+    rooms_left (script_at config who) n rooms (omega (arith, n<, same_count (λ (one : ScriptLine). one.line) (script_at config who))) are
+
+-- the first of them is the next line's
+pub room_taken :
+    (config : Configuration) (who n : ℕ) (rooms rest : List RoomView) (room : RoomView) → n < length (lines_at config who)
+    → rooms ≡ drop n (rooms_of (script_at config who)) → rooms ≡ room ∷ rest → IsNextRoom (script_at config who) n room rest
+room_taken config who n rooms rest room n< are is =
+    next_room (script_at config who) n rooms rest room (omega (arith, n<, same_count (λ (one : ScriptLine). one.line) (script_at config who))) are is
+
+-- and has room for what that line reads
+pub room_serves :
+    (config : Configuration) (who other n : ℕ) (room : RoomView) (rest : List RoomView) → IsNextRoom (script_at config who) n room rest → other ≡ who
+    → (line : Line) → slice_get (lines_at config other) n ≡ Some line → line_room line ≤ room.room
+room_serves config who other n room rest next same line there =
+    next.enough line (subst (λ w. slice_get (lines_at config w) n ≡ Some line) same there)
 
 -- all lines were answered
 pub way_end :

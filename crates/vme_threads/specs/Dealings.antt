@@ -11,6 +11,7 @@ pub record Gets (p : PassView BoardCmd Reply) (w v : Worker) : Type 0 where
   pub boards : v.desk.boards.items ≡ w.desk.boards.items ++ p ∷ []
   pub bus : v.desk.bus ≡ w.desk.bus
   pub room : vec_capacity v.desk.boards ≡ vec_capacity w.desk.boards
+  pub rooms : v.rooms ≡ w.rooms
   pub lines : v.lines ≡ w.lines
 
 -- each worker has room for one more pass (this project's own)

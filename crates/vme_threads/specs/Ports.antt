@@ -13,6 +13,7 @@ use Rattle.vme_script.specs.declared.board.BoardConfig.{BoardConfig}
 use Rattle.vme_script.specs.Configurations.{Configuration, opening_memory}
 use Rattle.vme_script.specs.Lawful.{IsLawful}
 use Rattle.vme_course.specs.Scripts.{script_at}
+use Rattle.vme_course.specs.Rooms.{rooms_of}
 use Rattle.vme_threads.specs.declared.worker.Worker.{Worker}
 use Rattle.vme_threads.specs.declared.ports.BoardPort.{BoardPort}
 use Rattle.vme_threads.specs.declared.ports.Ports.{Ports}
@@ -28,7 +29,7 @@ pub record IsPortOf (k : ℕ) (own : BoardConfig) (o : BoardPort) : Type 0 where
   pub made_room : k ≤ vec_capacity o.made
 
 -- a worker has the i-th pass of each of these ports of boards and of the arbiter's, none of which has made a call; it has room
--- for passes of all boards, and for the replies to the i-th script (this project's own)
+-- for passes of all boards, for what each line of the i-th script reads, and for the replies to it (this project's own)
 pub record IsHired (config : Configuration) (opened : List BoardPort) (arbiter : Port Arbitration ArbCmd ArbReply) (i : ℕ)
     (w : Worker) : Type 0 where
   pub who : w.desk.who ≡ i
@@ -36,6 +37,7 @@ pub record IsHired (config : Configuration) (opened : List BoardPort) (arbiter :
       AllAt (λ x (o : BoardPort) (p : PassView BoardCmd Reply). IsUnused (port_id o.port) i p) opened w.desk.boards.items
   pub bus : IsUnused (port_id arbiter) i w.desk.bus
   pub room : length config.boards ≤ vec_capacity w.desk.boards
+  pub rooms : w.rooms ≡ rooms_of (script_at config i)
   pub lines : vec_len w.lines ≡ 0
   pub lines_room : length (script_at config i) ≤ vec_capacity w.lines
 

@@ -1,6 +1,8 @@
-ghost use Rattle.std.specs.Prelude.{◌≡◌, ◌<◌, ◌∷◌, [], length, IfOk};
+ghost use Rattle.std.specs.Prelude.{◌≡◌, ◌<◌, ◌≤◌, ◌∷◌, [], length, slice_get, Some, IfOk};
 ghost use Rattle.vme_core.specs.Runs.{move};
+ghost use Rattle.vme_lines.specs.declared.line.Line.{Line};
 ghost use Rattle.vme_course.specs.Events.{IsEventBelow};
+ghost use Rattle.vme_course.specs.Rooms.{line_room};
 ghost use Rattle.vme_course.specs.Scripts.{lines_at};
 ghost use Rattle.vme_threads.specs.Desks.{Fits, HasMade};
 ghost use Rattle.vme_threads.specs.Rans.{HasAnswered};
@@ -10,6 +12,7 @@ use crossbeam_utils::Backoff;
 use std::sync::Wait;
 use std::sync::atomic::Ordering;
 use vme_arbiter::{ArbReply, Arbiter};
+use vme_block::Room;
 use vme_core::{Event, EventReply};
 use vme_course::LineTask;
 use vme_memory::ByteMemory;
@@ -52,7 +55,7 @@ impl Desk {
     }
 
     /// Makes the events of a line of the script, by its place among those that ask for something,
-    /// until it is answered. It snoozes before it looks again whether it has the bus, and before each
+    /// until it is answered; what it reads over the bus goes into the room. It snoozes before it looks again whether it has the bus, and before each
     /// further attempt at the line.
     ///
     /// # Errors
@@ -63,19 +66,23 @@ impl Desk {
         config: &Config,
         ports: &Ports,
         line: usize,
+        room: Room,
     ) -> Result<LineReply, Spent>
         requires fits { Fits ports.now self.old }
         requires ports { length ports.now.boards.items ≡ length config.now.boards }
         requires board { self.old.who < length config.now.boards }
         requires line { line < length (lines_at config.now self.old.who) }
+        requires none { room.items ≡ [] }
+        requires room { (one : Line) → slice_get (lines_at config.now self.old.who) line ≡ Some one →
+            line_room one ≤ room.room }
         ensures { IfOk result (λ answer. HasAnswered config.now line answer self.old self.new) }
     {
         let backoff = Backoff::new();
-        let mut task = LineTask::start(config, self.who, line);
+        let mut task = LineTask::start(config, self.who, line, room);
         task.give(None);
         for _ in rt.forever() {
             let Some(event) = task.event() else {
-                return Ok(task.answer().unwrap());
+                return Ok(task.take_answer().unwrap());
             };
             if ports.stop.load(Ordering::SeqCst) {
                 return Err(Spent);

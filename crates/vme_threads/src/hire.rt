@@ -15,8 +15,8 @@ use vme_memory::ByteMemory;
 use vme_port::{Pass, Port};
 use vme_script::Config;
 
-/// A worker for each pass of the arbiter's port, with room for the passes of the boards and for the
-/// replies to its script.
+/// A worker for each pass of the arbiter's port, with room for the passes of the boards, for what its
+/// script reads and for the replies to it.
 pub(crate) fn hire(
     alloc: Global,
     config: &Config,
@@ -30,8 +30,8 @@ pub(crate) fn hire(
     let count = config.boards();
     let mut workers = Vec::with_capacity(alloc, count)?;
     for pass in passes {
-        let lines = config.script(workers.len()).len();
-        workers.push_reserved(Worker::new(alloc, count, lines, pass)?);
+        let script = config.script(workers.len());
+        workers.push_reserved(Worker::new(alloc, count, script, pass)?);
     }
     Ok(workers)
 }

@@ -1,4 +1,5 @@
 ghost use Rattle.std.specs.Prelude.{◌≡◌, ◌<◌, ◌≤◌, IfOk, [], length, vec_len, vec_capacity};
+ghost use Rattle.vme_course.specs.Rooms.{rooms_of};
 
 use crate::desk::Desk;
 use crate::gate::Gate;
@@ -7,16 +8,18 @@ use std::alloc::{AllocError, Global};
 use std::sync::Wait;
 use std::sync::atomic::Ordering;
 use vme_arbiter::Arbiter;
-use vme_course::line_count;
+use vme_course::{Rooms, line_count};
 use vme_port::Pass;
 use vme_report::RunFault;
-use vme_script::Config;
+use vme_script::{Config, Script};
 use vme_shared::LineReply;
 
-/// A processor that has not begun its script: its passes, and room for the replies.
+/// A processor that has not begun its script: its passes, a room for what each line reads, and room
+/// for the replies.
 #[derive(Drop)]
 pub struct Worker {
     pub(crate) desk: Desk,
+    pub(crate) rooms: Rooms,
     pub(crate) lines: Vec<(u16, LineReply)>,
 }
 
@@ -32,12 +35,12 @@ impl Worker {
     ghost use Rattle.vme_threads.specs.Ports.{IsBuilt, IsWorkerOf};
     ghost use Rattle.vme_threads.specs.Rans.{IsEndOfRun};
 
-    /// A worker with the arbiter's pass of its number, and with room for the passes of so many boards
-    /// and the replies to so many lines.
+    /// A worker with the arbiter's pass of its number, and with room for the passes of so many boards,
+    /// for what each line of a script reads and for the replies to its lines.
     pub(crate) fn new(
         alloc: Global,
         boards: usize,
-        lines: usize,
+        script: &Script,
         bus: Pass<Arbiter>,
     ) -> Result<Worker, AllocError>
         ensures who { IfOk result (λ w. w.desk.who ≡ bus.who) }
@@ -45,16 +48,18 @@ impl Worker {
         ensures boards { IfOk result (λ w. w.desk.boards.items ≡ []) }
         ensures room { IfOk result (λ w. boards ≤ vec_capacity w.desk.boards) }
         ensures lines { IfOk result (λ w. vec_len w.lines ≡ 0) }
-        ensures lines_room { IfOk result (λ w. lines ≤ vec_capacity w.lines) }
+        ensures lines_room { IfOk result (λ w. length script.now ≤ vec_capacity w.lines) }
+        ensures rooms { IfOk result (λ w. w.rooms ≡ rooms_of script.now) }
     {
         let boards = Vec::with_capacity(alloc, boards)?;
-        let lines = Vec::with_capacity(alloc, lines)?;
+        let lines = Vec::with_capacity(alloc, script.len())?;
+        let rooms = Rooms::new(alloc, script)?;
         let desk = Desk {
             who: bus.who(),
             boards,
             bus,
         };
-        Ok(Worker { desk, lines })
+        Ok(Worker { desk, rooms, lines })
     }
 
     /// Goes through the script of the processor on the caller's own thread, line by line, and calls
@@ -77,13 +82,15 @@ impl Worker {
     {
         let Worker {
             mut desk,
+            mut rooms,
             mut lines,
         } = self;
         let slot = config.slot(desk.who);
         for line in 0..line_count(config, desk.who) {
             let number = config.script(desk.who).number(line);
+            let room = rooms.take();
             gate.before(slot, number);
-            let Ok(answer) = desk.line(rt, config, ports, line) else {
+            let Ok(answer) = desk.line(rt, config, ports, line, room) else {
                 ports.stop.store(true, Ordering::SeqCst);
                 return Err(RunFault::Spent);
             };

@@ -1,4 +1,4 @@
-use Rattle.std.proofs.Common.{◌≡◌, ◌≤◌, List, length, set, sym, subst, ◌∙◌, rules, arith}
+use Rattle.std.proofs.Common.{◌≡◌, ◌≤◌, List, length, set, sym, subst, rules, arith}
 use Rattle.std.specs.Vec.Iter.{into_iter_items}
 use Rattle.vme_threads.specs.declared.report.BoardEnd.{BoardEnd}
 use Rattle.vme_threads.specs.Columns.{Column}

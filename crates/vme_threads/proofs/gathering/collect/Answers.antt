@@ -1,4 +1,4 @@
-use Rattle.std.proofs.Common.{◌≡◌, ◌≤◌, length, map, slice_index_or, ◌++◌, ap, ◌∙◌, rules, arith}
+use Rattle.std.proofs.Common.{◌≡◌, length, map, slice_index_or, ◌++◌, ap, ◌∙◌, rules, arith}
 use Rattle.std.specs.Vec.Iter.{into_iter_items}
 use Rattle.vme_threads.specs.declared.worker.Ran.{Ran}
 use Rattle.vme_threads.proofs.Collects.{gathering_begins, square_here, column_has_room, gathering_more, all_taken}

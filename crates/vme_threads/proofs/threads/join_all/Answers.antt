@@ -1,4 +1,4 @@
-use Rattle.std.proofs.Common.{◌≡◌, ℕ, length, Result, sym, subst, rules}
+use Rattle.std.proofs.Common.{ℕ, Result, sym, subst, rules}
 use Rattle.std.specs.declared.thread.PromisedHandle.{PromisedHandle}
 use Rattle.vme_report.specs.declared.fault.RunFault.{RunFault}
 use Rattle.vme_script.specs.Configurations.{Configuration}

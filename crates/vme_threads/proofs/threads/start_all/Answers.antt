@@ -1,4 +1,4 @@
-use Rattle.std.proofs.Common.{◌≡◌, ℕ, length, Result, ap, sym, subst, ◌∙◌, rules, arith}
+use Rattle.std.proofs.Common.{ℕ, length, Result, ap, sym, subst, ◌∙◌, rules, arith}
 use Rattle.std.specs.declared.thread.PromisedHandle.{PromisedHandle}
 use Rattle.vme_object.specs.Each.{Each}
 use Rattle.vme_object.proofs.Eachs.{Each-push}

@@ -31,7 +31,7 @@ loop-preserved-in-loop g c =
 pub returns-in_default : goal.returns-in_default
 returns-in_default g c =
     at_end c.args.config.now c.args.line c.args.self.now c.loop.self c.loop.task c.unwrap.result c.loop.invariant
-    (rw c.unwrap.ensures at c.answer.ensures)
+    (rw c.unwrap.ensures at c.take_answer.ensures.answer)
 
 pub unwrap-requires : goal.unwrap-requires
-unwrap-requires g c = has_answer (line_to_do c.loop.task) c.answer.result c.loop.invariant.begun c.in_default.ensures.event c.answer.ensures
+unwrap-requires g c = has_answer (line_to_do c.loop.task) c.take_answer.result c.loop.invariant.begun c.in_default.ensures.event c.take_answer.ensures.answer

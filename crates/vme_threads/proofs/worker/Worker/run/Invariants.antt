@@ -1,12 +1,14 @@
-use Rattle.std.proofs.Common.{◌≡◌, ◌≤◌, length, vec_len, vec_capacity}
-use Rattle.vme_course.specs.Scripts.{lines_at}
+use Rattle.std.proofs.Common.{◌≡◌, ◌≤◌, drop, length, vec_len, vec_capacity}
+use Rattle.vme_course.specs.Scripts.{script_at, lines_at}
+use Rattle.vme_course.specs.Rooms.{rooms_of}
 use Rattle.vme_threads.proofs.Runs.{IsUnderWay}
 use Rattle.vme_threads.proofs.worker.Worker.run.Given as goal
 
--- the lines so far were answered
+-- the lines so far were answered, and the rooms of the others are left
 abbrev pub invariant-loop-line : goal.invariant-loop-line
 invariant-loop-line g l = record {
   count : vec_len l.lines ≡ l.line;
   room : length (lines_at l.config l.fn.self.desk.who) ≤ vec_capacity l.lines;
+  rooms : l.rooms ≡ drop l.line (rooms_of (script_at l.config l.fn.self.desk.who));
   way : IsUnderWay l.config l.line l.fn.self.desk l.desk l.lines.items;
 }
