@@ -1,6 +1,7 @@
 pub mod Told
 pub mod Lanes
 pub mod Turning
+pub mod Drawing
 pub mod Worlds
 pub mod Steps
 pub mod Calls

@@ -10,25 +10,24 @@ ghost use Rattle.vme_runner.specs.Drivers.{lane_turn, IsLaneOf, StepsWithin};
 use std::alloc::{AllocError, Global};
 use std::marker::Model;
 use vme_core::Core;
-use vme_course::LineTask;
+use vme_course::{LineTask, Rooms};
 use vme_script::{Config, Script};
 use vme_shared::LineReply;
 
 /// The lines of a script with their answers, of which the first have ended, and the line at work
-/// if one is. All room is taken when it is made, and a task stays in its place.
+/// if one is. All room is taken when it is made, that of the bytes of its lines too, and a task stays
+/// in its place.
 #[derive(Drop)]
 pub(crate) struct Lane<'a> {
     script: &'a Script,
+    rooms: Rooms,
     lines: Vec<(u16, LineReply)>,
     ended: usize,
     task: Option<LineTask<'a>>,
 }
 
 impl<'a> Model for Lane<'a> {
-    ghost use Rattle.std.specs.Prelude.{◌<◌, length, IfSome};
-    ghost use Rattle.vme_course.specs.Machine.{line_to_do};
-    ghost use Rattle.vme_course.specs.Events.{MakesCall};
-    ghost use Rattle.vme_runner.specs.Drivers.{LaneView};
+    ghost use Rattle.vme_runner.specs.Drivers.{LaneView, IsSoundLane};
 
     ghost Value = { LaneView };
 
@@ -39,8 +38,7 @@ impl<'a> Model for Lane<'a> {
       at = l.task;
     } };
 
-    ghost invariant = { λ l. IfSome l.task (λ task.
-        (l.ended < length l.lines.items) × MakesCall (line_to_do task)) };
+    ghost invariant = { λ l. IsSoundLane l.script.now l.lines.items l.ended l.task l.rooms };
 }
 
 impl<'a> Lane<'a> {
@@ -53,12 +51,14 @@ impl<'a> Lane<'a> {
           at = None;
         }) }
     {
+        let rooms = Rooms::new(alloc, script)?;
         let mut lines = Vec::with_capacity(alloc, script.len())?;
         for j in 0..script.len() {
             lines.push((script.number(j), LineReply::Unfinished))?;
         }
         Ok(Lane {
             script,
+            rooms,
             lines,
             ended: 0,
             task: None,
@@ -111,18 +111,16 @@ impl<'a> Lane<'a> {
         ensures over { self.new.at ≡ None → length self.new.lines ≤ self.new.ended }
     {
         while self.ended < self.lines.len() {
-            let mut task = LineTask::start(config, board, self.ended);
+            let room = self.rooms.take();
+            let mut task = LineTask::start(config, board, self.ended, room);
             task.give(None);
-            match task.answer() {
-                None => {
-                    self.task = Some(task);
-                    return;
-                }
-                Some(answer) => {
-                    put_answer(&mut self.lines, self.ended, answer);
-                    self.ended += 1;
-                }
+            if !task.is_over() {
+                self.task = Some(task);
+                return;
             }
+            let answer = task.take_answer().unwrap();
+            put_answer(&mut self.lines, self.ended, answer);
+            self.ended += 1;
         }
     }
 
@@ -148,12 +146,19 @@ impl<'a> Lane<'a> {
         let reply = core.apply(board, &event).unwrap();
         task.give(Some(&reply));
         if task.is_over() {
-            let answer = task.answer().unwrap();
+            let answer = task.take_answer().unwrap();
             put_answer(&mut self.lines, self.ended, answer);
             self.ended += 1;
-            self.task = None;
+            let_go(&mut self.task);
         }
     }
+}
+
+/// Lets the task of a line go, in its place.
+fn let_go(task: &mut Option<LineTask<'_>>)
+    ensures { task.new ≡ None }
+{
+    *task = None;
 }
 
 /// Puts the answer of the line at a place.

@@ -19,7 +19,7 @@ lane_with script lines ended at = record { script = script; lines = lines; ended
 pub returns-else-is_over-clause-turn : goal.returns-else-is_over-clause-turn
 returns-else-is_over-clause-turn c =
     let event = c.unwrap-event.result in
-    let sound = rw c.in-Some.is at c.self.invariant in
+    let sound = rw c.in-Some.is at c.self.invariant.work in
     let is = ap (lane_with c.self.inside.script.now c.self.inside.lines.items c.self.inside.ended) (sym c.in-Some.is) ∙ c.self.view_is in
     let makes : line_to_do c.in-Some.task ≡ Makes (call_of event)
     = makes_event (line_to_do c.in-Some.task) event (rw c.unwrap-event.ensures at c.event.ensures.event) in
@@ -34,7 +34,7 @@ pub returns-then-is_over-clause-turn : goal.returns-then-is_over-clause-turn
 returns-then-is_over-clause-turn c =
     let event = c.unwrap-event.result in
     let answer = c.unwrap-answer.result in
-    let sound = rw c.in-Some.is at c.self.invariant in
+    let sound = rw c.in-Some.is at c.self.invariant.work in
     let is = ap (lane_with c.self.inside.script.now c.self.inside.lines.items c.self.inside.ended) (sym c.in-Some.is) ∙ c.self.view_is in
     let makes : line_to_do c.in-Some.task ≡ Makes (call_of event)
     = makes_event (line_to_do c.in-Some.task) event (rw c.unwrap-event.ensures at c.event.ensures.event) in
@@ -45,7 +45,7 @@ returns-then-is_over-clause-turn c =
     let lines : (with_items c.self.inside.lines c.put_answer.new.lines).items ≡ c.put_answer.new.lines
     = with_items_is c.self.inside.lines c.put_answer.new.lines (ap length c.put_answer.ensures ∙ length-set _ _ _ ∙ c.deref_mut.ensures.len) in
     λ config lane over.
-    rw (lines, put)
+    rw (lines, put, c.let_go.ensures)
     (turn_ends config c.args.board c.args.core.now c.apply.new.self c.args.self.now c.self.inside.script.now c.self.inside.lines.items c.self.inside.ended c.in-Some.task
     c.give.new.self (call_of event) answer c.unwrap-reply.result is lane.lines sound.0 makes step c.give.ensures.task
-    (ends_so (line_to_do c.give.new.self) answer (rw c.unwrap-answer.ensures at c.answer.ensures)))
+    (ends_so (line_to_do c.give.new.self) answer (rw c.unwrap-answer.ensures at c.take_answer.ensures.answer)))
