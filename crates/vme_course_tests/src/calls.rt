@@ -1,9 +1,11 @@
 //! Lines by replies given by hand: what each is given, and what it does next.
 use std::process::Abort;
 use vme_arbiter::{ArbCmd, ArbReply};
+use vme_block::{Room, SHORT};
 use vme_core::{Event, EventReply};
-use vme_course::{LineTask, LineTodo, line_count};
+use vme_course::{LineTask, LineTodo, line_count, line_room};
 use vme_lanes::Datum;
+use vme_master::Outcome;
 use vme_memory::{BoardCmd, Reply};
 use vme_script::Config;
 use vme_shared::LineReply;
@@ -72,22 +74,37 @@ fn reply(given: Given) -> Option<EventReply> {
 
 pub type Course = &'static [(Given, Step)];
 
-/// Calls a line of the first board as in a course, and once more after its end: its answer.
+/// Calls a line of the first board as in a course, and twice more after its end: its answer, which
+/// comes once unless it is a refusal.
 pub fn answer(rt: &impl Abort, config: &Config, line: usize, course: Course) -> LineReply {
     if config.boards() == 0 || line_count(config, 0) <= line {
         panic!(rt; "no such line");
     }
-    let mut task = LineTask::start(config, 0, line);
+    let room = Room::new();
+    if line_room(config.script(0).line(line)) > SHORT {
+        panic!(rt; "a long line");
+    }
+    let mut task = LineTask::start(config, 0, line, room);
+    let mut end = None;
     for (given, wanted) in course {
         let todo = task.next(reply(*given));
         assert_eq!(rt; step_of(&todo), *wanted, "{given:?}");
+        if let LineTodo::Ended(answer) = todo {
+            end = Some(answer);
+        }
     }
-    let LineTodo::Ended(first) = task.next(None) else {
+    let Some(first) = end else {
         panic!(rt; "not ended")
     };
-    let LineTodo::Ended(again) = task.next(reply(GRANTED)) else {
-        panic!(rt; "not ended")
+    let wanted = match &first {
+        LineReply::Refused(fault) => LineReply::Refused(*fault),
+        _ => LineReply::Transfer(Outcome::Denied),
     };
-    assert_eq!(rt; first, again);
+    for given in [Given::Nothing, GRANTED] {
+        let LineTodo::Ended(again) = task.next(reply(given)) else {
+            panic!(rt; "not ended")
+        };
+        assert_eq!(rt; again, wanted);
+    }
     first
 }

@@ -6,4 +6,6 @@ mod calls;
 #[cfg(test)]
 mod lines;
 #[cfg(test)]
+mod rooms;
+#[cfg(test)]
 mod shared;

@@ -142,7 +142,8 @@ lanes_from config board (c ∷ courses) = lane_of config board c ∷ lanes_from 
 abbrev pub driver_of : Configuration → World → DriverView
 driver_of config world = record { machine = world.machine; lanes = lanes_from config 0 world.courses }
 
--- a lane of a board's processor: it has its script and a line for each of the script's, and calls boards that are there (this project's own)
+-- a lane of a board's processor: it has its script and a line for each of the script's, and calls boards that are there
+-- (this project's own)
 pub record IsLaneOf (config : Configuration) (board : ℕ) (lane : LaneView) : Type 0 where
   pub script : lane.script ≡ script_at config board
   pub lines : length lane.lines ≡ length (lines_at config board)

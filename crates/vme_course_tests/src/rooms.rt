@@ -1,0 +1,40 @@
+//! How many bytes lines read by their requests over the bus, and the rooms for them.
+use std::test::Fail;
+use vme_course::{Rooms, line_room};
+use vme_script::Script;
+
+#[test]
+fn lines_read_so_many_bytes(rt: HostRuntime) -> Result<(), Fail> {
+    let text = "r 09 00001000 4
+w 09 00001000 aabb
+br 0b 00001000 4 64
+br 0b 00001000 4 65
+bw 0b 00001000 2 00010002
+m 09 00001000 2 add 0001
+await 09 00001000 01
+lr 00000000 4
+";
+    let script = Script::read(rt.alloc(), text.as_bytes())?;
+    let wanted = [4, 0, 256, 0, 0, 2, 0, 0];
+    assert_eq!(&rt; script.len(), wanted.len());
+    for line in 0..script.len() {
+        assert_eq!(&rt;
+            Some(&line_room(script.line(line))),
+            wanted.get(line),
+            "{line}"
+        );
+    }
+    Ok(())
+}
+
+#[test]
+fn each_line_takes_its_room(rt: HostRuntime) -> Result<(), Fail> {
+    let script = Script::read(rt.alloc(), b"r 09 00001000 4\nbr 0b 00001000 4 64\n")?;
+    let mut rooms = Rooms::new(rt.alloc(), &script)?;
+    if script.len() != 2 {
+        return Err(Fail::new("two lines"));
+    }
+    assert!(&rt; rooms.take().as_slice().is_empty());
+    assert!(&rt; rooms.take().as_slice().is_empty());
+    Ok(())
+}
