@@ -29,16 +29,16 @@ fn reads_requests(rt: HostRuntime) -> Result<(), Fail> {
             })))
         )
     );
-    match parse_line(b"w 0d 00000004 5aA5") {
+    match &parse_line(b"w 0d 00000004 5aA5") {
         Ok(Some(Line::Bus(Request::Write { bytes, .. }))) => assert_eq!(rt;
             bytes.as_slice(),
             [0x5a, 0xa5].as_slice()
         ),
         _ => assert!(rt; false),
     }
-    match parse_line(b"bw 0b 00000009 1 070809") {
+    match &parse_line(b"bw 0b 00000009 1 070809") {
         Ok(Some(Line::Bus(Request::BlockWrite { n, bytes, .. }))) => {
-            assert_eq!(rt; n, 1);
+            assert_eq!(rt; *n, 1);
             assert_eq!(rt; bytes.as_slice(), [7, 8, 9].as_slice());
         }
         _ => assert!(rt; false),
@@ -56,14 +56,14 @@ fn reads_lines_of_scripts(rt: HostRuntime) {
             Ok(Some(Line::Local(BoardCmd::LocalRead { offset: 0x0c, n: 4 })))
         )
     );
-    match parse_line(b"lw 0000000f aabb") {
+    match &parse_line(b"lw 0000000f aabb") {
         Ok(Some(Line::Local(BoardCmd::LocalWrite { offset, bytes }))) => {
-            assert_eq!(rt; offset, 15);
+            assert_eq!(rt; *offset, 15);
             assert_eq!(rt; bytes.as_slice(), [0xaa, 0xbb].as_slice());
         }
         _ => assert!(rt; false),
     }
-    match parse_line(b"lm 00000008 1 cas 01 02") {
+    match &parse_line(b"lm 00000008 1 cas 01 02") {
         Ok(
             Some(
                 Line::Local(
@@ -80,10 +80,10 @@ fn reads_lines_of_scripts(rt: HostRuntime) {
         }
         _ => assert!(rt; false),
     }
-    match parse_line(b"await 09 00001000 0102030405060708") {
+    match &parse_line(b"await 09 00001000 0102030405060708") {
         Ok(Some(Line::Await { am, addr, bytes })) => {
-            assert_eq!(rt; am, 9);
-            assert_eq!(rt; addr, 0x1000);
+            assert_eq!(rt; *am, 9);
+            assert_eq!(rt; *addr, 0x1000);
             assert_eq!(rt; bytes.len(), 8);
         }
         _ => assert!(rt; false),
