@@ -1,7 +1,9 @@
-//! Tests of scripts on threads: processors that wait for each other, and that are held at a line.
-//! They stand apart so that `vme_threads` is not proved twice.
+//! Tests of scripts on threads: processors that wait for each other, that are held at a line, and that
+//! read blocks. They stand apart so that `vme_threads` is not proved twice.
 #![tactic(auto)]
 
+#[cfg(test)]
+mod blocks;
 #[cfg(test)]
 mod holds;
 #[cfg(test)]
