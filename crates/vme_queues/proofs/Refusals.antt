@@ -51,12 +51,12 @@ reached_at row code alone data_or_short = record { row = row; code = code; alone
 all_reached : EachReached (0x09 ∷ 0x0d ∷ 0x29 ∷ 0x2d ∷ 0x39 ∷ 0x3d ∷ [])
 unfolding read_code
 all_reached =
-    let short = reached_at (row 0x29 A16 ShortAccess false) refl refl refl in
-    let short_high = reached_at (row 0x2d A16 ShortAccess true) refl refl refl in
-    let standard = reached_at (row 0x39 A24 DataAccess false) refl refl refl in
-    let standard_high = reached_at (row 0x3d A24 DataAccess true) refl refl refl in
-    let extended = reached_at (row 0x09 A32 DataAccess false) refl refl refl in
-    let extended_high = reached_at (row 0x0d A32 DataAccess true) refl refl refl in
+    let short = reached_at (row 0x29 A16 ShortAccess false false) refl refl refl in
+    let short_high = reached_at (row 0x2d A16 ShortAccess true false) refl refl refl in
+    let standard = reached_at (row 0x39 A24 DataAccess false false) refl refl refl in
+    let standard_high = reached_at (row 0x3d A24 DataAccess true false) refl refl refl in
+    let extended = reached_at (row 0x09 A32 DataAccess false false) refl refl refl in
+    let extended_high = reached_at (row 0x0d A32 DataAccess true false) refl refl refl in
     (extended, (extended_high, (short, (short_high, (standard, (standard_high, tt))))))
 
 one_of : (am : ℕ) (codes : List ℕ) → EachReached codes → list_any (λ code. code == am) codes ≡ true → IsReached am

@@ -6,7 +6,7 @@ use Rattle.std.proofs.lemmas.Bool.{and_parts, eqb-true}
 use Rattle.std.proofs.lemmas.Grind.{common_steps}
 use Rattle.vme_cycle.specs.declared.request.Request.{Request}
 use Rattle.vme_cycle.specs.declared.request.Request.TheVariants as requests
-use Rattle.vme_cycle.specs.Counts.{is_block_len, is_block_count}
+use Rattle.vme_cycle.specs.Counts.{is_datum_len, is_wide_code, is_block_count}
 use Rattle.vme_cycle.specs.Requests.{addr_of, datum_len, count_of, span_of, is_counted}
 use Rattle.vme_cycle.specs.Lawful.{Transfer, transfer_of}
 use Rattle.vme_cycle.proofs.Transfers.{transfer_is_lawful, lawful_parts}
@@ -44,7 +44,7 @@ at_most (requests.Write am addr bytes) i at counted = omega arith
 at_most (requests.BlockRead am addr n count) i at counted = omega arith
 at_most (requests.BlockWrite am addr n bytes) i at counted = cut_most bytes.items (i * n) n
 at_most (requests.BlockFill am addr n count bytes) i at counted =
-    let parts = and_parts (is_block_len n && is_block_count count) (length bytes.items == n) counted in
+    let parts = and_parts (is_datum_len (is_wide_code am) n && is_block_count count) (length bytes.items == n) counted in
     let long : length bytes.items ≡ n = eqb-true (length bytes.items) n parts.1 in
     omega arith
 at_most (requests.Modify am addr n f) i at counted = omega arith
