@@ -1,4 +1,5 @@
 //! What each reply is told as.
+use arrayvec::ArrayVec;
 use std::process::Abort;
 use std::test::Fail;
 use vme_cycle::{Block, CycleFault};
@@ -31,7 +32,7 @@ static REPLIES: &str = "21:1000 read 00ff
 ";
 
 fn block(bytes: &[u8]) -> Block {
-    Block::try_from(bytes).unwrap_or_default()
+    Block::of_short(ArrayVec::try_from(bytes).unwrap_or_default())
 }
 
 fn berr(count: u16, bytes: &[u8]) -> LineReply {

@@ -100,11 +100,11 @@ fn the_longest_block_is_read_back(rt: HostRuntime) -> Result<(), Fail> {
     let mut sink = RoomSink::new(rt.alloc(), usize::MAX, 65_536)?;
     let end = step_engine(rt.alloc(), &mut source, &mut sink);
     assert_eq!(&rt; end, Ok(Status::Clean));
-    let replies = b"1:1 done\n1:2 read ";
-    assert_eq!(&rt; &sink.bytes()[..replies.len()], replies);
-    for i in 0..256 {
-        let datum = &sink.bytes()[replies.len() + 16 * i..][..16];
-        assert_eq!(&rt; datum, b"0102030405060708", "{i}");
+    let mut replies = Vec::new(rt.alloc());
+    replies.extend_from_slice(b"1:1 done\n1:2 read ")?;
+    for _datum in 0..256 {
+        replies.extend_from_slice(b"0102030405060708")?;
     }
+    assert!(&rt; sink.bytes().starts_with(replies.as_slice()));
     Ok(())
 }
