@@ -1,9 +1,13 @@
 -- Words that are shifted: bytes from any place on in two words, one behind the other, and bytes put from a place on.
-use Rattle.std.proofs.Common.{◌≡◌, ℕ, zero, suc, ◌+◌, ◌-◌, ◌*◌, ◌/◌, ◌%◌, ◌^◌, ◌<◌, ◌≤◌, [], ◌∷◌, ◌++◌, take, slice_range, refl, ap, ◌∙◌, arith}
+use Rattle.std.proofs.Common.{◌≡◌, ℕ, zero, suc, ◌+◌, ◌-◌, ◌*◌, ◌/◌, ◌%◌, ◌^◌, ◌<◌, ◌≤◌, List, [], ◌∷◌, ◌++◌, take, drop, slice_range, refl, ap, ◌∙◌, arith}
+use Rattle.std.specs.Prelude.{bit_or}
+use Rattle.std.specs.Int.{w32, rotate_right}
+use Rattle.std.specs.Int.Bits.{or_self}
+use Rattle.std.proofs.lemmas.Nat.{or_comm, or_shifted}
 use Rattle.vme_lanes.specs.declared.location.Location.{Location}
 use Rattle.vme_lanes.specs.declared.location.Location.TheVariants.{Byte0, Byte1, Byte2, Byte3, Bytes01, Bytes23, Bytes03, Bytes02, Bytes13, Bytes12}
 use Rattle.vme_lanes.specs.Rows.{row_of}
-use Rattle.vme_word.specs.Words.{bytes_after_write, word_bytes, part_of}
+use Rattle.vme_word.specs.Words.{bytes_after_write, word_bytes, part_of, enables_of}
 use Rattle.vme_word.proofs.Enables.{merged, merged_bytes, four}
 
 -- lists that agree place by place
@@ -88,6 +92,72 @@ merged_from word new (suc (suc zero)) (suc zero) some few = merged_at_row Byte2 
 merged_from word new (suc (suc zero)) (suc (suc zero)) some few = merged_at_row Bytes23 word new
 merged_from word new (suc (suc (suc zero))) (suc zero) some few = merged_at_row Byte3 word new
 merged_from word new place len some few = absurd (omega arith)
+
+-- a word that is turned right by so many bytes
+abbrev pub turned : ℕ → ℕ → ℕ
+turned new place = rotate_right w32 new (8 * place)
+
+-- it has the low bits in front of the others
+turned_at :
+    (new low high : ℕ) → new / 2 ^ low < 2 ^ high → new * 2 ^ high % 2 ^ 32 ≡ new % 2 ^ low * 2 ^ high
+    → bit_or (new / 2 ^ low) (new * 2 ^ high % 2 ^ 32) ≡ new % 2 ^ low * 2 ^ high + new / 2 ^ low
+turned_at new low high fits last =
+    ap (bit_or (new / 2 ^ low)) last ∙ or_comm (new / 2 ^ low) (new % 2 ^ low * 2 ^ high) ∙ or_shifted (new % 2 ^ low) high (new / 2 ^ low) fits
+
+-- so it has its last bytes in front of the others
+turned_bytes :
+    (new place : ℕ) → new < 2 ^ 32 → place < 4
+    → word_bytes (turned new place) ≡ drop (4 - place) (word_bytes new) ++ take (4 - place) (word_bytes new)
+unfolding word_bytes
+turned_bytes new zero small less =
+    let same : turned new 0 ≡ new = ap (bit_or (new / 1)) (omega arith) ∙ or_self (new / 1) ∙ omega arith in
+    rw same refl
+turned_bytes new (suc zero) small less =
+    let same : turned new 1 ≡ new % 2 ^ 8 * 2 ^ 24 + new / 2 ^ 8 = turned_at new 8 24 (omega arith) (omega arith) in
+    rw same (four _ _ _ _ _ _ _ _ (omega arith) (omega arith) (omega arith) (omega arith))
+turned_bytes new (suc (suc zero)) small less =
+    let same : turned new 2 ≡ new % 2 ^ 16 * 2 ^ 16 + new / 2 ^ 16 = turned_at new 16 16 (omega arith) (omega arith) in
+    rw same (four _ _ _ _ _ _ _ _ (omega arith) (omega arith) (omega arith) (omega arith))
+turned_bytes new (suc (suc (suc zero))) small less =
+    let same : turned new 3 ≡ new % 2 ^ 24 * 2 ^ 8 + new / 2 ^ 24 = turned_at new 24 8 (omega arith) (omega arith) in
+    rw same (four _ _ _ _ _ _ _ _ (omega arith) (omega arith) (omega arith) (omega arith))
+turned_bytes new (suc (suc (suc (suc place)))) small less = absurd (omega arith)
+
+-- the bytes of two words that share a third one under the byte enables of a location: it gives its part to the first, and all
+-- others to the second
+shared :
+    (l : Location) (here next word : ℕ)
+    → word_bytes (merged here word (enables_of l)) ++ word_bytes (merged word next (enables_of l))
+    ≡ bytes_after_write (word_bytes here) (row_of l).first (part_of l word) ++ bytes_after_write (word_bytes word) (row_of l).first (part_of l next)
+shared l here next word =
+    ap (λ bytes. bytes ++ word_bytes (merged word next (enables_of l))) (merged_bytes l here word)
+    ∙ ap (λ bytes. bytes_after_write (word_bytes here) (row_of l).first (part_of l word) ++ bytes) (merged_bytes l word next)
+
+-- the same bytes at a location that ends the word
+abbrev pub shared_from : List ℕ → List ℕ → List ℕ → ℕ → List ℕ
+shared_from here next word place =
+    bytes_after_write here place (slice_range word place 4) ++ bytes_after_write word place (slice_range next place 4)
+
+-- under the mask of the bytes from a place on two words take a turned word's bytes, four from that place on
+pub merged_across :
+    (here next place new : ℕ) → new < 2 ^ 32 → place < 4
+    → word_bytes (merged here (turned new place) (4294967295 / 2 ^ (8 * place)))
+    ++ word_bytes (merged (turned new place) next (4294967295 / 2 ^ (8 * place)))
+    ≡ bytes_after_write (word_bytes here ++ word_bytes next) place (word_bytes new)
+unfolding word_bytes
+merged_across here next zero new small less =
+    shared Bytes03 here next (turned new 0)
+    ∙ ap (λ bytes. shared_from (word_bytes here) (word_bytes next) bytes 0) (turned_bytes new 0 small less)
+merged_across here next (suc zero) new small less =
+    shared Bytes13 here next (turned new 1)
+    ∙ ap (λ bytes. shared_from (word_bytes here) (word_bytes next) bytes 1) (turned_bytes new 1 small less)
+merged_across here next (suc (suc zero)) new small less =
+    shared Bytes23 here next (turned new 2)
+    ∙ ap (λ bytes. shared_from (word_bytes here) (word_bytes next) bytes 2) (turned_bytes new 2 small less)
+merged_across here next (suc (suc (suc zero))) new small less =
+    shared Byte3 here next (turned new 3)
+    ∙ ap (λ bytes. shared_from (word_bytes here) (word_bytes next) bytes 3) (turned_bytes new 3 small less)
+merged_across here next (suc (suc (suc (suc place)))) new small less = absurd (omega arith)
 
 -- what a word begins with, in two parts
 pub halves :

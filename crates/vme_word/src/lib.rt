@@ -6,5 +6,5 @@ mod word;
 
 pub use word::{
     byte_in, bytes_at, bytes_of, bytes_of_pair, driven_word, first_bytes, leading_word, merge,
-    merge_from, pair_of, placed_word, word_across, word_of,
+    merge_across, merge_from, pair_of, placed_word, word_across, word_of,
 };

@@ -50,6 +50,18 @@ pub fn word_across(here: u32, next: u32, place: u32) -> u32
     (pair << (8 * place) >> 32) as u32
 }
 
+/// Two words, one behind the other, with the four bytes of another one from a place on in the first.
+#[tactic(auto, using(crate::proofs::Shifts::merged_across))]
+pub fn merge_across(here: u32, next: u32, place: u32, new: u32) -> (u32, u32)
+    requires { place < 4 }
+    ensures { word_bytes result.0 ++ word_bytes result.1
+        ≡ bytes_after_write (word_bytes here ++ word_bytes next) place (word_bytes new) }
+{
+    let turned = new.rotate_right(8 * place);
+    let mask = u32::MAX >> (8 * place);
+    (here & !mask | turned & mask, turned & !mask | next & mask)
+}
+
 /// The four bytes of a word.
 #[tactic(auto, unfolding(crate::specs::Words::word_bytes))]
 pub fn bytes_of(word: u32) -> [u8; 4]
