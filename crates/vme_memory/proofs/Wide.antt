@@ -2,7 +2,7 @@
 use Rattle.std.proofs.Common.{◌≡◌, ℕ, ◌+◌, ◌-◌, ◌*◌, ◌/◌, ◌%◌, ◌<◌, ◌≤◌, List, ◌++◌, length, get_or, set, slice_range, refl, ap, sym, ◌∙◌, arith}
 use Rattle.std.proofs.lemmas.List.{length-set}
 use Rattle.vme_word.specs.Words.{bytes_after_write, word_bytes, bytes_of_words}
-use Rattle.vme_memory.proofs.Words.{word_len, words_len, read_in_word, read_on, word_changed, written_on}
+use Rattle.vme_memory.proofs.Words.{word_len, words_len, read_in_word, read_on, word_changed, written_on, written_inside}
 
 -- a word is its four bytes
 whole_word : (word : ℕ) → slice_range (word_bytes word) 0 (0 + 4) ≡ word_bytes word
@@ -63,3 +63,31 @@ wide_written words at here next within place =
     ∙ ap (λ j. bytes_after_write (bytes_of_words one) j (word_bytes next)) second
     ∙ ap (λ bytes. bytes_after_write bytes (at + length (word_bytes here)) (word_bytes next)) front
     ∙ written_on (bytes_of_words words) (word_bytes here) (word_bytes next) at (omega (arith, word_len here, word_len next))
+
+-- where four bytes lie over two words the second is there
+pub across_there : (words : List ℕ) (at : ℕ) → at + 4 ≤ length (bytes_of_words words) → 0 < at % 4 → at / 4 + 1 < length words
+across_there words at within over = omega (arith, words_len words)
+
+-- what is put in both across them is written
+pub across_written :
+    (words : List ℕ) (at here next put_here put_next new : ℕ) → here ≡ get_or words (at / 4) here → next ≡ get_or words (at / 4 + 1) next
+    → at + 4 ≤ length (bytes_of_words words) → 0 < at % 4
+    → word_bytes put_here ++ word_bytes put_next ≡ bytes_after_write (word_bytes here ++ word_bytes next) (at % 4) (word_bytes new)
+    → bytes_of_words (set (set words (at / 4) put_here) (at / 4 + 1) put_next)
+    ≡ bytes_after_write (bytes_of_words words) at (word_bytes new)
+across_written words at here next put_here put_next new own own_next within over put =
+    let bytes = bytes_of_words words in
+    let base = 4 * (at / 4) in
+    let there = across_there words at within over in
+    let inside : base + 8 ≤ length bytes = omega (arith, there, words_len words) in
+    let start : base % 4 ≡ 0 = omega arith in
+    let i : base / 4 ≡ at / 4 = omega arith in
+    let own_base : here ≡ get_or words (base / 4) here = own ∙ ap (λ i. get_or words i here) (sym i) in
+    let own_next_base : next ≡ get_or words (base / 4 + 1) next = own_next ∙ ap (λ i. get_or words (i + 1) next) (sym i) in
+    let place : base + at % 4 ≡ at = omega arith in
+    ap (λ i. bytes_of_words (set (set words i put_here) (i + 1) put_next)) (sym i)
+    ∙ wide_written words base put_here put_next inside start
+    ∙ ap (bytes_after_write bytes base) (put
+    ∙ ap (λ both. bytes_after_write both (at % 4) (word_bytes new)) (wide_read words base here next own_base own_next_base inside start))
+    ∙ written_inside bytes (word_bytes new) base (at % 4) 8 inside (omega (arith, word_len new))
+    ∙ ap (λ j. bytes_after_write bytes j (word_bytes new)) place

@@ -119,6 +119,27 @@ written_on bytes a b at fits =
     let long : at + length (a ++ b) ≡ at + length a + length b = omega (arith, length-append a b) in
     rw (front, back, long) (simp append_assoc)
 
+-- bytes that are written in some of those that are there
+pub written_inside :
+    (bytes new : List ℕ) (at p n : ℕ) → at + n ≤ length bytes → p + length new ≤ n
+    → bytes_after_write bytes at (bytes_after_write (slice_range bytes at (at + n)) p new) ≡ bytes_after_write bytes (at + p) new
+written_inside bytes new at p n within few =
+    let own = slice_range bytes at (at + n) in
+    let after = drop (at + n) bytes in
+    let own_len : length own ≡ n = grind (arith, common_steps) in
+    let whole : take at bytes ++ (own ++ after) ≡ bytes =
+    ap (λ part. take at bytes ++ (part ++ after)) (range_take bytes at n)
+    ∙ ap (λ rest. take at bytes ++ (take n (drop at bytes) ++ rest)) (sym (drop-drop n at bytes))
+    ∙ ap (λ rest. take at bytes ++ rest) (take-append-drop n (drop at bytes))
+    ∙ take-append-drop at bytes in
+    let written = bytes_after_write own p new in
+    let same : length written ≡ n = grind (arith, common_steps, own_len) in
+    let joined : take at bytes ++ written ++ after ≡ take at bytes ++ (written ++ after) = simp append_assoc in
+    ap (λ k. take at bytes ++ written ++ drop (at + k) bytes) same
+    ∙ joined
+    ∙ sym (middle_written (take at bytes) own after new at p (length-take-le at bytes (omega arith)) (omega (arith, own_len)))
+    ∙ ap (λ all. bytes_after_write all (at + p) new) whole
+
 -- words that are left out, or taken, are bytes
 pub drop_words : (words : List ℕ) (i : ℕ) → drop (4 * i) (bytes_of_words words) ≡ bytes_of_words (drop i words)
 unfolding word_bytes

@@ -91,6 +91,7 @@ impl ByteMemory {
     ///
     /// Of a block this is one datum: the board counts the address on, and takes A01 from `at`. A
     /// read-modify-write shows its read half, and is answered by the old bytes.
+    #[inline(never)]
     #[tactic(auto, unfolding(crate::specs::Steps::cycle))]
     pub fn cycle(&mut self, signals: &Signals, at: u32, f: Option<&Modify>) -> Reply
         ensures reply { result ≡ (cycle self.old signals.now at (option_map (λ f. f.now) f.entry)).0 }
@@ -110,8 +111,7 @@ impl ByteMemory {
         let block = signals.am().kind().is_block();
         match (block, signals.write(), f) {
             (_, true, None) => self.read(block, location, at),
-            (false, false, None) => self.write(false, location, at, signals.lines()),
-            (true, false, None) => self.write(true, location, at, signals.lines()),
+            (_, false, None) => self.write(block, location, at, signals.lines()),
             (false, true, Some(f)) => self.modify(location, at, f),
             (_, _, Some(_)) => Reply::Berr,
         }
@@ -276,6 +276,7 @@ impl ByteMemory {
         Reply::Bytes(old)
     }
 
+    #[inline(never)]
     fn local_read(&self, at: u32, n: u8) -> Reply
         ensures reply { result ≡ (step self.now (Steps.LocalRead at n)).0 }
         ensures memory { self.now ≡ (step self.now (Steps.LocalRead at n)).1 }
@@ -297,6 +298,7 @@ impl ByteMemory {
         Reply::Done
     }
 
+    #[inline(never)]
     fn local_modify(&mut self, at: u32, n: u8, f: &Modify) -> Reply
         ensures reply { result ≡ (step self.old (Steps.LocalModify at n f.now)).0 }
         ensures memory { self.new ≡ (step self.old (Steps.LocalModify at n f.now)).1 }

@@ -9,8 +9,8 @@ use std::cmp::min;
 use std::marker::Model;
 use vme_lanes::{Datum, Location};
 use vme_word::{
-    byte_in, bytes_at, bytes_of, bytes_of_pair, first_bytes, leading_word, merge, merge_from,
-    pair_of, word_across, word_of,
+    byte_in, bytes_at, bytes_of, bytes_of_pair, first_bytes, leading_word, merge, merge_across,
+    merge_from, pair_of, word_across, word_of,
 };
 
 /// Sixteen bytes of a memory, or those that are left.
@@ -172,8 +172,23 @@ impl Storage {
             [a] => self.put(at, 1, word_of([*a, 0, 0, 0])),
             [a, b] if at % 4 <= 2 => self.put(at, 2, word_of([*a, *b, 0, 0])),
             [a, b, c, d] if at % 4 == 0 => self.put_first(at, 4, word_of([*a, *b, *c, *d])),
+            [a, b, c, d] => self.put_across(at, word_of([*a, *b, *c, *d])),
             _ => self.put_over(at, new.len() as u32, leading_word(new)),
         }
+    }
+
+    /// Puts the four bytes of a word in the place of those from an offset on, over two words.
+    #[tactic(auto, using(crate::proofs::Words::words_len, crate::proofs::Wide::across_there, crate::proofs::Wide::across_written))]
+    fn put_across(&mut self, at: u32, new: u32)
+        requires within { at + 4 ≤ length self.old }
+        requires over { 0 < at % 4 }
+        ensures bytes { self.new ≡ bytes_after_write self.old at (word_bytes new) }
+        ensures small { length self.old ≤ 1048576 }
+    {
+        let i = (at / 4) as usize;
+        let (here, next) = merge_across(self.words[i], self.words[i + 1], at % 4, new);
+        self.words[i] = here;
+        self.words[i + 1] = next;
     }
 
     /// Puts the first `len` bytes of a word in the place of those from any offset on.
