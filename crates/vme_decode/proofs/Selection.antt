@@ -98,6 +98,14 @@ place_remainder entries code addr place offset lawful chosen =
     let facts = place_falls entries code addr place offset chosen in
     same_remainder facts.entry.base addr offset (lawful_entry entries place facts.entry lawful facts.there).aligned facts.distance
 
+-- where an entry that responds stands, the address leaves the same remainder by four from its base
+pub responding_remainder : (entries : List Entry) (code : CodeRow) (addr place : ℕ) (entry : Entry)
+    → first_refusal entries ≡ None → slice_get entries place ≡ Some entry → responds entry code addr ≡ true
+    → (addr - entry.base) % 4 ≡ addr % 4
+responding_remainder entries code addr place entry lawful there responds_is =
+    place_remainder entries code addr place (addr - entry.base) lawful
+    (selected_by entries code addr place entry lawful there responds_is)
+
 -- what is selected is what the cycle selects
 pub selected_facts : (entries : List Entry) (s : SignalLines) (place offset : ℕ)
     → selection entries s ≡ Some (place, offset) → IsSelected entries s place offset

@@ -69,15 +69,19 @@ impl AddressMap {
         ensures offset { IfSome result (λ found. found.1 ≤ addr) }
         ensures remainder { IfSome result (λ found. found.1 % 4 ≡ addr % 4) }
     {
-        // Where this one responds there is nothing to search, and with one entry there never is.
+        // Where this one responds there is nothing to search, and two are asked as fast as a search.
         let first = self.entries.first()?;
         if first.responds(am, addr) {
             return Some((0, addr - first.base));
         }
-        if self.entries.len() == 1 {
-            return None;
+        if self.entries.len() > 2 {
+            return self.table.find(am, addr);
         }
-        self.table.find(am, addr)
+        let second = self.entries.get(1)?;
+        if second.responds(am, addr) {
+            return Some((1, addr - second.base));
+        }
+        None
     }
 
     /// The entry that a cycle selects, as `select_at` of its code and of the address of its datum's
