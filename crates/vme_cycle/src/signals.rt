@@ -148,10 +148,7 @@ impl Signals {
         if !self.am.kind().is_block() {
             return Some(self.location());
         }
-        Location::sense(Strobes {
-            a01: at % 4 >= 2,
-            ..self.strobes()
-        })
+        self.location.with_a01(at % 4 >= 2)
     }
 
     /// The level of WRITE*: low, `false`, for a write.

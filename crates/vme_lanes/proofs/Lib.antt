@@ -1,4 +1,5 @@
 mod Full
 pub mod Tables
 pub mod Placing
+mod Narrow
 pub mod Wide

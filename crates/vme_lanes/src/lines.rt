@@ -51,16 +51,21 @@ impl DataLines {
 }
 
 /// Puts bytes on the lanes of a location, in order of address; the other lanes carry nothing.
+#[tactic(auto, using(crate::proofs::Narrow::data_lanes))]
 pub fn place(location: Location, bytes: &[u8]) -> DataLines
     requires { length bytes.now ≡ (row_of location).len }
     ensures { result.lanes ≡ lanes_with location bytes.now }
 {
+    let start = location.lane();
+    let [first, second, third, last] = [0, 1, 2, 3].map(|lane| byte_on(start, bytes, lane));
     DataLines {
-        lanes: lanes_from(UPPER + location.lane(), bytes),
+        lanes: [None, None, None, None, first, second, third, last],
     }
 }
 
 /// Puts a datum of eight bytes on all lanes, in order of address.
+// Not inlined, so that what places four bytes at most does not carry it.
+#[inline(never)]
 #[tactic(auto, using(crate::proofs::Wide::all_placed))]
 pub fn place_wide(bytes: &[u8]) -> DataLines
     requires { length bytes.now ≡ 8 }

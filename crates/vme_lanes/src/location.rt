@@ -68,6 +68,27 @@ impl Location {
         }
     }
 
+    /// The location that a slave reads off the strobes of this one with A01 at another level, or
+    /// `None` where they choose no bytes.
+    #[tactic(auto, unfolding(crate::specs::Rows::location_sensed))]
+    pub fn with_a01(self, a01: bool) -> Option<Location>
+        ensures { result ≡ location_sensed (record (row_of self).strobes { a01 = a01 }) }
+    {
+        match (self, a01) {
+            (Location::Byte0 | Location::Byte2, false) => Some(Location::Byte0),
+            (Location::Byte0 | Location::Byte2, true) => Some(Location::Byte2),
+            (Location::Byte1 | Location::Byte3, false) => Some(Location::Byte1),
+            (Location::Byte1 | Location::Byte3, true) => Some(Location::Byte3),
+            (Location::Bytes01 | Location::Bytes23, false) => Some(Location::Bytes01),
+            (Location::Bytes01 | Location::Bytes23, true) => Some(Location::Bytes23),
+            (Location::Bytes03 | Location::Bytes12, false) => Some(Location::Bytes03),
+            (Location::Bytes03 | Location::Bytes12, true) => Some(Location::Bytes12),
+            (Location::Bytes02, false) => Some(Location::Bytes02),
+            (Location::Bytes13, false) => Some(Location::Bytes13),
+            (Location::Bytes02 | Location::Bytes13, true) => None,
+        }
+    }
+
     /// The address of its first byte, modulo four.
     pub fn first(self) -> u8
         ensures { result ≡ (row_of self).first }
