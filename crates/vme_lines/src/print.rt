@@ -1,7 +1,7 @@
 //! The text of signals, outcomes and refusals, appended to a buffer: a whole line, or nothing where
 //! there is no memory for it.
 ghost use Rattle.std.specs.Prelude.{◌≡◌, ◌+◌, ◌*◌, ◌<◌, ◌≤◌, ◌++◌, length, true, false, vec_len, vec_capacity, OnOk, OnErr, codes};
-ghost use Rattle.vme_lines.specs.Texts.{digit, hex_byte, hex_text, level, lane_text, address_text, levels_text, data_text, signals_text, Read, Done, Old, Berr, more_bytes, outcome_text, cycle_fault_text, line_fault_text, output_line};
+ghost use Rattle.vme_lines.specs.Texts.{digit, hex_byte, hex_text, level, lane_text, lanes_text, told_lanes, address_text, levels_text, signals_text, Read, Done, Old, Berr, more_bytes, outcome_text, cycle_fault_text, line_fault_text, output_line};
 
 use crate::fault::LineFault;
 use std::alloc::AllocError;
@@ -112,26 +112,22 @@ fn lane_digits(lane: Option<u8>) -> [u8; 2]
     }
 }
 
-/// The last four lanes, in one piece.
+/// The digits of the last four lanes.
 #[rattlefmt::skip]
-#[tactic(auto, unfolding(crate::specs::Texts::data_text))]
-fn lines_text(lines: DataLines) -> [u8; 14]
-    ensures { result ≡ data_text false lines.lanes }
+fn last_lanes(lines: DataLines) -> [u8; 8]
+    ensures { result ≡ lanes_text (told_lanes false lines.lanes) }
 {
     let [_, _, _, _, first, second, third, last] = lines.lanes;
     let (first, second) = (lane_digits(first), lane_digits(second));
     let (third, last) = (lane_digits(third), lane_digits(last));
-    [
-        b' ', b'd', b'a', b't', b'a', b'=', first[0], first[1],
-        second[0], second[1], third[0], third[1], last[0], last[1],
-    ]
+    [first[0], first[1], second[0], second[1], third[0], third[1], last[0], last[1]]
 }
 
-/// All lanes, in one piece.
+/// The digits of all lanes.
 #[rattlefmt::skip]
-#[tactic(auto, unfolding(crate::specs::Texts::data_text))]
-fn wide_text(lines: DataLines) -> [u8; 22]
-    ensures { result ≡ data_text true lines.lanes }
+#[inline(never)]
+fn all_lanes(lines: DataLines) -> [u8; 16]
+    ensures { result ≡ lanes_text (told_lanes true lines.lanes) }
 {
     let [first, second, third, fourth, fifth, sixth, seventh, last] = lines.lanes;
     let (first, second) = (lane_digits(first), lane_digits(second));
@@ -139,8 +135,7 @@ fn wide_text(lines: DataLines) -> [u8; 22]
     let (fifth, sixth) = (lane_digits(fifth), lane_digits(sixth));
     let (seventh, last) = (lane_digits(seventh), lane_digits(last));
     [
-        b' ', b'd', b'a', b't', b'a', b'=', first[0], first[1],
-        second[0], second[1], third[0], third[1], fourth[0], fourth[1],
+        first[0], first[1], second[0], second[1], third[0], third[1], fourth[0], fourth[1],
         fifth[0], fifth[1], sixth[0], sixth[1], seventh[0], seventh[1], last[0], last[1],
     ]
 }
@@ -149,7 +144,7 @@ fn wide_text(lines: DataLines) -> [u8; 22]
 const SIGNALS_LEN: usize = 73;
 
 /// Appends the line of the signals of a cycle.
-#[tactic(auto, unfolding(crate::specs::Texts::signals_text))]
+#[tactic(auto, unfolding(crate::specs::Texts::signals_text, crate::specs::Texts::data_text))]
 pub fn print_signals(text: &mut Vec<u8>, signals: &Signals) -> Result<(), AllocError>
     ensures text { OnOk result
         (text.new.items ≡ text.old.items ++ output_line (signals_text signals.now)) }
@@ -158,10 +153,11 @@ pub fn print_signals(text: &mut Vec<u8>, signals: &Signals) -> Result<(), AllocE
     text.reserve(SIGNALS_LEN)?;
     push_text(text, &address(signals.am().code(), signals.addr()));
     push_text(text, &levels(signals));
+    push_text(text, b" data=");
     if signals.am().wide() {
-        push_text(text, &wide_text(signals.lines()));
+        push_text(text, &all_lanes(signals.lines()));
     } else {
-        push_text(text, &lines_text(signals.lines()));
+        push_text(text, &last_lanes(signals.lines()));
     }
     push_text(text, b"\n");
     Ok(())

@@ -1,7 +1,7 @@
 -- The digits of the last four lanes are their text.
 use Rattle.std.proofs.Common.{◌≡◌, length, rules}
 use Rattle.vme_lines.proofs.Lanes.{last_four}
-use Rattle.vme_lines.proofs.print.lines_text.Goals as goal
+use Rattle.vme_lines.proofs.print.last_lanes.Goals as goal
 
 pub returns : goal.returns
 returns c =

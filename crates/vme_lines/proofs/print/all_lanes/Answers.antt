@@ -1,7 +1,7 @@
 -- The digits of all lanes are their text.
 use Rattle.std.proofs.Common.{◌≡◌, length, rules}
 use Rattle.vme_lines.proofs.Lanes.{all_eight}
-use Rattle.vme_lines.proofs.print.wide_text.Goals as goal
+use Rattle.vme_lines.proofs.print.all_lanes.Goals as goal
 
 pub returns : goal.returns
 returns c =
