@@ -6,6 +6,7 @@ use Rattle.vme_am.specs.declared.code.AmFault.TheVariants.{TooLarge, UserDefined
 use Rattle.vme_cycle.specs.declared.fault.CycleFault.{CycleFault}
 use Rattle.vme_cycle.specs.declared.fault.CycleFault.TheVariants.{Code, WrongKindOfCode, ProgramModify, BadCount, OutsideSpace, NoCycle, CrossesBoundary}
 use Rattle.vme_cycle.specs.SignalLines.{SignalLines}
+use Rattle.vme_lanes.specs.declared.location.Strobes.{Strobes}
 use Rattle.vme_lines.specs.declared.fault.LineFault.{LineFault}
 use Rattle.vme_lines.specs.declared.fault.LineFault.TheVariants.{LineTooLong, UnknownWord, WordCount, BadCode, BadAddress, BadNumber, BadBytes, MailboxBytes}
 
@@ -48,12 +49,15 @@ told_lanes false lanes = drop 4 lanes
 unfoldable pub address_text : ℕ → ℕ → List ℕ
 address_text code addr = codes "am=" ++ (hex_byte code ++ (codes " a=" ++ hex_text (to_be_bytes w32 addr)))
 
+-- the levels of the data strobes, A01 and LWORD* (this project's own)
+unfoldable pub strobes_text : Strobes → List ℕ
+strobes_text s =
+    level_text (codes " ds1=") s.ds1 ++ (level_text (codes " ds0=") s.ds0
+    ++ (level_text (codes " a01=") s.a01 ++ level_text (codes " lword=") s.lword))
+
 -- the levels of the strobes, A01, LWORD* and WRITE* (this project's own)
 unfoldable pub levels_text : SignalLines → List ℕ
-levels_text s =
-    level_text (codes " ds1=") s.strobes.ds1 ++ (level_text (codes " ds0=") s.strobes.ds0
-    ++ (level_text (codes " a01=") s.strobes.a01 ++ (level_text (codes " lword=") s.strobes.lword
-    ++ level_text (codes " write=") s.write)))
+levels_text s = strobes_text s.strobes ++ level_text (codes " write=") s.write
 
 -- the data lines, by whether the code is one of eight-byte data (this project's own)
 unfoldable pub data_text : Bool → List (Option ℕ) → List ℕ

@@ -1,13 +1,13 @@
 //! The text of signals, outcomes and refusals, appended to a buffer: a whole line, or nothing where
 //! there is no memory for it.
 ghost use Rattle.std.specs.Prelude.{◌≡◌, ◌+◌, ◌*◌, ◌<◌, ◌≤◌, ◌++◌, length, true, false, vec_len, vec_capacity, OnOk, OnErr, codes};
-ghost use Rattle.vme_lines.specs.Texts.{digit, hex_byte, hex_text, level, lane_text, lanes_text, told_lanes, address_text, levels_text, signals_text, Read, Done, Old, Berr, more_bytes, outcome_text, cycle_fault_text, line_fault_text, output_line};
+ghost use Rattle.vme_lines.specs.Texts.{digit, hex_byte, hex_text, level_text, lane_text, lanes_text, told_lanes, address_text, strobes_text, signals_text, Read, Done, Old, Berr, more_bytes, outcome_text, cycle_fault_text, line_fault_text, output_line};
 
 use crate::fault::LineFault;
 use std::alloc::AllocError;
 use vme_am::AmFault;
 use vme_cycle::{CycleFault, Signals};
-use vme_lanes::DataLines;
+use vme_lanes::{DataLines, Strobes};
 
 const DIGITS: [u8; 16] = *b"0123456789abcdef";
 
@@ -67,12 +67,6 @@ fn hex_digits(byte: u8) -> [u8; 2]
     [digit(byte / 16), digit(byte % 16)]
 }
 
-fn level(high: bool) -> u8
-    ensures { result ≡ level high }
-{
-    if high { b'1' } else { b'0' }
-}
-
 /// The code, and the address lines as an address of eight digits, in one piece.
 #[rattlefmt::skip]
 #[tactic(auto, unfolding(crate::specs::Texts::address_text))]
@@ -87,20 +81,40 @@ fn address(code: u8, addr: u32) -> [u8; 16]
     ]
 }
 
-/// The levels of the strobes, A01, LWORD* and WRITE*, in one piece.
-#[rattlefmt::skip]
-#[tactic(auto, unfolding(crate::specs::Texts::levels_text))]
-fn levels(signals: &Signals) -> [u8; 34]
-    ensures { result ≡ levels_text signals.now }
+/// The levels of the data strobes, A01 and LWORD*, in one piece.
+#[tactic(auto, unfolding(crate::specs::Texts::strobes_text))]
+fn strobes_text(strobes: Strobes) -> &'static [u8; 26]
+    ensures { result.now ≡ strobes_text strobes }
 {
-    let strobes = signals.strobes();
-    [
-        b' ', b'd', b's', b'1', b'=', level(strobes.ds1),
-        b' ', b'd', b's', b'0', b'=', level(strobes.ds0),
-        b' ', b'a', b'0', b'1', b'=', level(strobes.a01),
-        b' ', b'l', b'w', b'o', b'r', b'd', b'=', level(strobes.lword),
-        b' ', b'w', b'r', b'i', b't', b'e', b'=', level(signals.write()),
-    ]
+    match (strobes.ds1, strobes.ds0, strobes.a01, strobes.lword) {
+        (false, false, false, false) => b" ds1=0 ds0=0 a01=0 lword=0",
+        (false, false, false, true) => b" ds1=0 ds0=0 a01=0 lword=1",
+        (false, false, true, false) => b" ds1=0 ds0=0 a01=1 lword=0",
+        (false, false, true, true) => b" ds1=0 ds0=0 a01=1 lword=1",
+        (false, true, false, false) => b" ds1=0 ds0=1 a01=0 lword=0",
+        (false, true, false, true) => b" ds1=0 ds0=1 a01=0 lword=1",
+        (false, true, true, false) => b" ds1=0 ds0=1 a01=1 lword=0",
+        (false, true, true, true) => b" ds1=0 ds0=1 a01=1 lword=1",
+        (true, false, false, false) => b" ds1=1 ds0=0 a01=0 lword=0",
+        (true, false, false, true) => b" ds1=1 ds0=0 a01=0 lword=1",
+        (true, false, true, false) => b" ds1=1 ds0=0 a01=1 lword=0",
+        (true, false, true, true) => b" ds1=1 ds0=0 a01=1 lword=1",
+        (true, true, false, false) => b" ds1=1 ds0=1 a01=0 lword=0",
+        (true, true, false, true) => b" ds1=1 ds0=1 a01=0 lword=1",
+        (true, true, true, false) => b" ds1=1 ds0=1 a01=1 lword=0",
+        (true, true, true, true) => b" ds1=1 ds0=1 a01=1 lword=1",
+    }
+}
+
+/// The level of WRITE*, and the name of the data lines behind it, in one piece.
+fn write_text(high: bool) -> &'static [u8; 14]
+    ensures { result.now ≡ level_text (codes " write=") high ++ codes " data=" }
+{
+    if high {
+        b" write=1 data="
+    } else {
+        b" write=0 data="
+    }
 }
 
 fn lane_digits(lane: Option<u8>) -> [u8; 2]
@@ -144,7 +158,7 @@ fn all_lanes(lines: DataLines) -> [u8; 16]
 const SIGNALS_LEN: usize = 73;
 
 /// Appends the line of the signals of a cycle.
-#[tactic(auto, unfolding(crate::specs::Texts::signals_text, crate::specs::Texts::data_text))]
+#[tactic(auto, unfolding(crate::specs::Texts::signals_text, crate::specs::Texts::levels_text, crate::specs::Texts::data_text))]
 pub fn print_signals(text: &mut Vec<u8>, signals: &Signals) -> Result<(), AllocError>
     ensures text { OnOk result
         (text.new.items ≡ text.old.items ++ output_line (signals_text signals.now)) }
@@ -152,8 +166,8 @@ pub fn print_signals(text: &mut Vec<u8>, signals: &Signals) -> Result<(), AllocE
 {
     text.reserve(SIGNALS_LEN)?;
     push_text(text, &address(signals.am().code(), signals.addr()));
-    push_text(text, &levels(signals));
-    push_text(text, b" data=");
+    push_text(text, strobes_text(signals.strobes()));
+    push_text(text, write_text(signals.write()));
     if signals.am().wide() {
         push_text(text, &all_lanes(signals.lines()));
     } else {
