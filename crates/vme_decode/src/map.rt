@@ -69,7 +69,7 @@ impl AddressMap {
         ensures offset { IfSome result (λ found. found.1 ≤ addr) }
         ensures remainder { IfSome result (λ found. found.1 % 4 ≡ addr % 4) }
     {
-        // Where this one responds there is nothing to search, and two are asked sooner than searched.
+        // Where it responds nothing is left to search, and asking two is faster than a search.
         let first = self.entries.first()?;
         if first.responds(am, addr) {
             return Some((0, addr - first.base));
