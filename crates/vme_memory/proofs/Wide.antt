@@ -1,4 +1,4 @@
--- Eight bytes at a multiple of four: two words, one behind the other.
+-- Two words, one behind the other: eight bytes at a multiple of four, and four bytes that lie over both.
 use Rattle.std.proofs.Common.{◌≡◌, ℕ, ◌+◌, ◌-◌, ◌*◌, ◌/◌, ◌%◌, ◌<◌, ◌≤◌, List, ◌++◌, length, get_or, set, slice_range, refl, ap, sym, ◌∙◌, arith}
 use Rattle.std.proofs.lemmas.List.{length-set}
 use Rattle.vme_word.specs.Words.{bytes_after_write, word_bytes, bytes_of_words}

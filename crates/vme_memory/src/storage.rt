@@ -178,6 +178,7 @@ impl Storage {
     }
 
     /// Puts the four bytes of a word in the place of those from an offset on, over two words.
+    #[inline(never)]
     #[tactic(auto, using(crate::proofs::Words::words_len, crate::proofs::Wide::across_there, crate::proofs::Wide::across_written))]
     fn put_across(&mut self, at: u32, new: u32)
         requires within { at + 4 ≤ length self.old }
