@@ -56,10 +56,18 @@ pub fn place(location: Location, bytes: &[u8]) -> DataLines
     requires { length bytes.now ≡ (row_of location).len }
     ensures { result.lanes ≡ lanes_with location bytes.now }
 {
-    let start = location.lane();
-    let [first, second, third, last] = [0, 1, 2, 3].map(|lane| byte_on(start, bytes, lane));
+    let first = location.lane();
     DataLines {
-        lanes: [None, None, None, None, first, second, third, last],
+        lanes: [
+            None,
+            None,
+            None,
+            None,
+            byte_on(first, bytes, 0),
+            byte_on(first, bytes, 1),
+            byte_on(first, bytes, 2),
+            byte_on(first, bytes, 3),
+        ],
     }
 }
 
