@@ -135,7 +135,8 @@ impl Signals {
     /// The byte location that the strobes choose.
     #[tactic(auto, unfolding(vme_lanes::specs::Rows::location_sensed))]
     pub fn location(&self) -> Location
-        ensures { location_sensed self.now.strobes ≡ Some result }
+        ensures sensed { location_sensed self.now.strobes ≡ Some result }
+        ensures strobes { self.now.strobes ≡ (row_of result).strobes }
     {
         self.location
     }

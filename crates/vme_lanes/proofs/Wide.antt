@@ -1,12 +1,6 @@
 -- A datum on all lanes is picked from them.
-use Rattle.std.proofs.Common.{◌≡◌, ℕ, true, List, [], ◌∷◌, length, map, refl, ap, arith}
-use Rattle.vme_lanes.specs.Lanes.{byte_on, wide_lanes, carries_all, bytes_of}
-
-pub all_placed :
-    (bytes : List ℕ) → length bytes ≡ 8
-    → map (byte_on 0 bytes) (0 ∷ 1 ∷ 2 ∷ 3 ∷ 4 ∷ 5 ∷ 6 ∷ 7 ∷ []) ≡ wide_lanes bytes
-all_placed (a ∷ b ∷ c ∷ d ∷ e ∷ f ∷ g ∷ h ∷ []) len = refl
-all_placed bytes len = absurd (omega (arith, len))
+use Rattle.std.proofs.Common.{◌≡◌, ℕ, true, List, [], ◌∷◌, refl, ap}
+use Rattle.vme_lanes.specs.Lanes.{wide_lanes, carries_all, bytes_of}
 
 pub all_carry : (bytes : List ℕ) → carries_all (wide_lanes bytes) ≡ true
 all_carry [] = refl

@@ -1,7 +1,7 @@
-ghost use Rattle.std.specs.Prelude.{◌≡◌, ◌≤◌, List, [], ◌∷◌, ℕ, length, map, IsTrue};
+ghost use Rattle.std.specs.Prelude.{◌≡◌, ◌≤◌, List, [], ◌∷◌, ℕ, None, length, IsTrue};
 ghost use Rattle.vme_lanes.specs.declared.location.Location.{Location};
 ghost use Rattle.vme_lanes.specs.Rows.{row_of};
-ghost use Rattle.vme_lanes.specs.Lanes.{byte_on, lanes_with, wide_lanes, carries, carries_all, bytes_of, bytes_on};
+ghost use Rattle.vme_lanes.specs.Lanes.{lanes_with, wide_lanes, carries, carries_all, bytes_of, bytes_on};
 
 use crate::location::Location;
 use arrayvec::ArrayVec;
@@ -51,54 +51,52 @@ impl DataLines {
 }
 
 /// Puts bytes on the lanes of a location, in order of address; the other lanes carry nothing.
-#[tactic(auto, using(crate::proofs::Narrow::data_lanes))]
 pub fn place(location: Location, bytes: &[u8]) -> DataLines
     requires { length bytes.now ≡ (row_of location).len }
     ensures { result.lanes ≡ lanes_with location bytes.now }
 {
-    let first = location.lane();
+    match (location, bytes) {
+        (Location::Byte0 | Location::Byte2, [a]) => narrow(None, None, Some(*a), None),
+        (Location::Byte1 | Location::Byte3, [a]) => narrow(None, None, None, Some(*a)),
+        (Location::Bytes01 | Location::Bytes23, [a, b]) => narrow(None, None, Some(*a), Some(*b)),
+        (Location::Bytes03, [a, b, c, d]) => narrow(Some(*a), Some(*b), Some(*c), Some(*d)),
+        (Location::Bytes02, [a, b, c]) => narrow(Some(*a), Some(*b), Some(*c), None),
+        (Location::Bytes13, [a, b, c]) => narrow(None, Some(*a), Some(*b), Some(*c)),
+        (Location::Bytes12, [a, b]) => narrow(None, Some(*a), Some(*b), None),
+        _ => unreachable!(),
+    }
+}
+
+/// These on the data lines' four lanes, and nothing on the address lines'.
+fn narrow(first: Option<u8>, second: Option<u8>, third: Option<u8>, last: Option<u8>) -> DataLines
+    ensures { result.lanes ≡ None ∷ None ∷ None ∷ None ∷ first ∷ second ∷ third ∷ last ∷ [] }
+{
     DataLines {
-        lanes: [
-            None,
-            None,
-            None,
-            None,
-            byte_on(first, bytes, 0),
-            byte_on(first, bytes, 1),
-            byte_on(first, bytes, 2),
-            byte_on(first, bytes, 3),
-        ],
+        lanes: [None, None, None, None, first, second, third, last],
     }
 }
 
 /// Puts a datum of eight bytes on all lanes, in order of address.
 // Not inlined, so that what places four bytes at most does not carry it.
 #[inline(never)]
-#[tactic(auto, using(crate::proofs::Wide::all_placed))]
 pub fn place_wide(bytes: &[u8]) -> DataLines
     requires { length bytes.now ≡ 8 }
     ensures { result.lanes ≡ wide_lanes bytes.now }
 {
-    DataLines {
-        lanes: lanes_from(0, bytes),
-    }
-}
-
-/// All lanes, where the bytes begin at lane `first`.
-fn lanes_from(first: usize, bytes: &[u8]) -> [Option<u8>; 8]
-    ensures { result ≡ map (byte_on first bytes.now) (0 ∷ 1 ∷ 2 ∷ 3 ∷ 4 ∷ 5 ∷ 6 ∷ 7 ∷ []) }
-{
-    [0, 1, 2, 3, 4, 5, 6, 7].map(|lane| byte_on(first, bytes, lane))
-}
-
-/// What a lane carries, where the bytes begin at lane `first`.
-fn byte_on(first: usize, bytes: &[u8], lane: usize) -> Option<u8>
-    ensures { result ≡ byte_on first bytes.now lane }
-{
-    if lane < first {
-        None
-    } else {
-        bytes.get(lane - first).copied()
+    match bytes {
+        [a, b, c, d, e, f, g, h] => DataLines {
+            lanes: [
+                Some(*a),
+                Some(*b),
+                Some(*c),
+                Some(*d),
+                Some(*e),
+                Some(*f),
+                Some(*g),
+                Some(*h),
+            ],
+        },
+        _ => unreachable!(),
     }
 }
 

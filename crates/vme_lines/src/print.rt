@@ -1,13 +1,15 @@
 //! The text of signals, outcomes and refusals, appended to a buffer: a whole line, or nothing where
 //! there is no memory for it.
 ghost use Rattle.std.specs.Prelude.{◌≡◌, ◌+◌, ◌*◌, ◌<◌, ◌≤◌, ◌++◌, length, true, false, vec_len, vec_capacity, OnOk, OnErr, codes};
+ghost use Rattle.std.specs.Int.{w32, to_be_bytes};
+ghost use Rattle.vme_lanes.specs.Rows.{row_of};
 ghost use Rattle.vme_lines.specs.Texts.{digit, hex_byte, hex_text, level_text, lane_text, lanes_text, told_lanes, address_text, strobes_text, signals_text, Read, Done, Old, Berr, more_bytes, outcome_text, cycle_fault_text, line_fault_text, output_line};
 
 use crate::fault::LineFault;
 use std::alloc::AllocError;
 use vme_am::AmFault;
 use vme_cycle::{CycleFault, Signals};
-use vme_lanes::{DataLines, Strobes};
+use vme_lanes::{DataLines, Location};
 
 const DIGITS: [u8; 16] = *b"0123456789abcdef";
 
@@ -67,42 +69,54 @@ fn hex_digits(byte: u8) -> [u8; 2]
     [digit(byte / 16), digit(byte % 16)]
 }
 
-/// The code, and the address lines as an address of eight digits, in one piece.
+/// The code, and the name of the address lines behind it, in one piece.
 #[rattlefmt::skip]
-#[tactic(auto, unfolding(crate::specs::Texts::address_text))]
-fn address(code: u8, addr: u32) -> [u8; 16]
-    ensures { result ≡ address_text code addr }
+fn code_text(code: u8) -> [u8; 8]
+    ensures { result ≡ codes "am=" ++ (hex_byte code ++ codes " a=") }
 {
-    let bytes = addr.to_be_bytes();
+    [b'a', b'm', b'=', digit(code / 16), digit(code % 16), b' ', b'a', b'=']
+}
+
+/// The address lines as an address of eight digits.
+#[rattlefmt::skip]
+fn address_digits(addr: u32) -> [u8; 8]
+    ensures { result ≡ hex_text (to_be_bytes w32 addr) }
+{
+    let [first, second, third, last] = addr.to_be_bytes();
     [
-        b'a', b'm', b'=', digit(code / 16), digit(code % 16), b' ', b'a', b'=',
-        digit(bytes[0] / 16), digit(bytes[0] % 16), digit(bytes[1] / 16), digit(bytes[1] % 16),
-        digit(bytes[2] / 16), digit(bytes[2] % 16), digit(bytes[3] / 16), digit(bytes[3] % 16),
+        digit(first / 16), digit(first % 16), digit(second / 16), digit(second % 16),
+        digit(third / 16), digit(third % 16), digit(last / 16), digit(last % 16),
     ]
 }
 
-/// The levels of the data strobes, A01 and LWORD*, in one piece.
-#[tactic(auto, unfolding(crate::specs::Texts::strobes_text))]
-fn strobes_text(strobes: Strobes) -> &'static [u8; 26]
-    ensures { result.now ≡ strobes_text strobes }
+/// Appends the code and the address lines, for which there is room.
+#[tactic(auto, unfolding(crate::specs::Texts::address_text))]
+fn push_address(text: &mut Vec<u8>, code: u8, addr: u32)
+    requires { vec_len text.old + 16 ≤ vec_capacity text.old }
+    ensures items { text.new.items ≡ text.old.items ++ address_text code addr }
+    ensures len { vec_len text.new ≡ vec_len text.old + 16 }
+    ensures capacity { vec_capacity text.old ≤ vec_capacity text.new }
 {
-    match (strobes.ds1, strobes.ds0, strobes.a01, strobes.lword) {
-        (false, false, false, false) => b" ds1=0 ds0=0 a01=0 lword=0",
-        (false, false, false, true) => b" ds1=0 ds0=0 a01=0 lword=1",
-        (false, false, true, false) => b" ds1=0 ds0=0 a01=1 lword=0",
-        (false, false, true, true) => b" ds1=0 ds0=0 a01=1 lword=1",
-        (false, true, false, false) => b" ds1=0 ds0=1 a01=0 lword=0",
-        (false, true, false, true) => b" ds1=0 ds0=1 a01=0 lword=1",
-        (false, true, true, false) => b" ds1=0 ds0=1 a01=1 lword=0",
-        (false, true, true, true) => b" ds1=0 ds0=1 a01=1 lword=1",
-        (true, false, false, false) => b" ds1=1 ds0=0 a01=0 lword=0",
-        (true, false, false, true) => b" ds1=1 ds0=0 a01=0 lword=1",
-        (true, false, true, false) => b" ds1=1 ds0=0 a01=1 lword=0",
-        (true, false, true, true) => b" ds1=1 ds0=0 a01=1 lword=1",
-        (true, true, false, false) => b" ds1=1 ds0=1 a01=0 lword=0",
-        (true, true, false, true) => b" ds1=1 ds0=1 a01=0 lword=1",
-        (true, true, true, false) => b" ds1=1 ds0=1 a01=1 lword=0",
-        (true, true, true, true) => b" ds1=1 ds0=1 a01=1 lword=1",
+    push_text(text, &code_text(code));
+    push_text(text, &address_digits(addr));
+}
+
+/// The levels of the data strobes, A01 and LWORD* of a location, in one piece.
+#[tactic(auto, unfolding(crate::specs::Texts::strobes_text))]
+fn strobes_text(location: Location) -> &'static [u8; 26]
+    ensures { result.now ≡ strobes_text (row_of location).strobes }
+{
+    match location {
+        Location::Byte0 => b" ds1=0 ds0=1 a01=0 lword=1",
+        Location::Byte1 => b" ds1=1 ds0=0 a01=0 lword=1",
+        Location::Byte2 => b" ds1=0 ds0=1 a01=1 lword=1",
+        Location::Byte3 => b" ds1=1 ds0=0 a01=1 lword=1",
+        Location::Bytes01 => b" ds1=0 ds0=0 a01=0 lword=1",
+        Location::Bytes23 => b" ds1=0 ds0=0 a01=1 lword=1",
+        Location::Bytes03 => b" ds1=0 ds0=0 a01=0 lword=0",
+        Location::Bytes02 => b" ds1=0 ds0=1 a01=0 lword=0",
+        Location::Bytes13 => b" ds1=1 ds0=0 a01=0 lword=0",
+        Location::Bytes12 => b" ds1=0 ds0=0 a01=1 lword=0",
     }
 }
 
@@ -165,8 +179,8 @@ pub fn print_signals(text: &mut Vec<u8>, signals: &Signals) -> Result<(), AllocE
     ensures kept { OnErr result (text.new.items ≡ text.old.items) }
 {
     text.reserve(SIGNALS_LEN)?;
-    push_text(text, &address(signals.am().code(), signals.addr()));
-    push_text(text, strobes_text(signals.strobes()));
+    push_address(text, signals.am().code(), signals.addr());
+    push_text(text, strobes_text(signals.location()));
     push_text(text, write_text(signals.write()));
     if signals.am().wide() {
         push_text(text, &all_lanes(signals.lines()));
