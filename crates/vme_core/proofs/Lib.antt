@@ -1,4 +1,5 @@
 pub mod Tallies
 pub mod Calls
+mod Deeds
 pub mod Dones
 pub mod Openings

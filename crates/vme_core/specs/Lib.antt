@@ -2,3 +2,4 @@ pub mod Tallies
 pub mod Runs
 pub mod Calls
 pub mod Machines
+pub mod Deeds

@@ -1,11 +1,13 @@
-ghost use Rattle.std.specs.Prelude.{◌≡◌, ◌<◌, ◌-◌, ◌^◌, ◌↔◌, ◌∷◌, [], length, slice_index_or, IsErr, IfOk, IfErr};
+ghost use Rattle.std.specs.Prelude.{◌≡◌, ◌+◌, ◌<◌, ◌-◌, ◌^◌, ◌↔◌, ◌∷◌, [], length, slice_set, slice_index_or, Some, IsErr, IfOk, IfErr};
 ghost use Rattle.vme_object.specs.History.{entry};
 ghost use Rattle.vme_core.specs.Tallies.{Went, fresh_tally};
-ghost use Rattle.vme_core.specs.Calls.{counted_step};
+ghost use Rattle.vme_memory.specs.Access.{accessed};
+ghost use Rattle.vme_core.specs.Calls.{command_step, counted_step};
 
 use crate::fault::{OutOfMemory, Spent};
 use std::alloc::Global;
 use std::marker::Model;
+use vme_memory::{Access, ByteMemory, Reply};
 use vme_object::{Object, next_count};
 
 /// An object, with the number of its steps and of those that each who made.
@@ -56,9 +58,22 @@ impl<O: Object> Counted<O> {
             return Err(Spent);
         };
         let reply = self.object.apply(cmd);
+        self.count(who, steps);
+        Ok(reply)
+    }
+
+    /// One more step is counted, of `who`.
+    fn count(&mut self, who: usize, steps: u64)
+        requires who { who < length self.old.made }
+        requires next { steps ≡ self.old.steps + 1 }
+        ensures { self.new ≡ record {
+          object = self.old.object;
+          steps = steps;
+          made = slice_set self.old.made who (slice_index_or self.old.made who 0 + 1);
+        } }
+    {
         self.steps = steps;
         self.made[who] += 1;
-        Ok(reply)
     }
 
     pub(crate) fn object(&self) -> &O
@@ -86,5 +101,24 @@ impl<O: Object> Counted<O> {
         ensures { result.now ≡ self.now.made }
     {
         self.made.as_slice()
+    }
+}
+
+impl Counted<ByteMemory> {
+    /// Answers one datum of a transfer and counts it. Where no further step can be counted, nothing
+    /// is done.
+    pub(crate) fn access(&mut self, who: usize, access: &Access<'_>) -> Result<Reply, Spent>
+        requires who { who < length self.old.made }
+        ensures step { IfOk result (λ reply. (self.new, reply)
+            ≡ counted_step command_step self.old who (Some (accessed access.now))) }
+        ensures spent { IsErr result ↔ (self.old.steps ≡ 2 ^ 64 - 1) }
+        ensures unchanged { IfErr result (λ _. self.new ≡ self.old) }
+    {
+        let Some(steps) = next_count(self.steps) else {
+            return Err(Spent);
+        };
+        let reply = self.object.access(access);
+        self.count(who, steps);
+        Ok(reply)
     }
 }

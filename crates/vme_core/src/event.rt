@@ -1,11 +1,22 @@
 use vme_arbiter::{ArbCmd, ArbReply};
-use vme_memory::{BoardCmd, Reply};
+use vme_memory::{Access, BoardCmd, Reply};
 
 /// A command to one of the boards, or to the arbiter of their bus.
 #[derive(Debug, Drop)]
 pub enum Event {
     /// To a board, by its place.
     Board { board: usize, cmd: BoardCmd },
+    /// To the arbiter.
+    Bus(ArbCmd),
+}
+
+/// What an event asks, apart from the lines of a cycle.
+#[derive(Debug, Drop)]
+pub enum Deed<'a> {
+    /// A command to one of the boards, by its place.
+    Board { board: usize, cmd: &'a BoardCmd },
+    /// A datum of a transfer, for one of the boards, by its place.
+    Datum { board: usize, access: Access<'a> },
     /// To the arbiter.
     Bus(ArbCmd),
 }

@@ -8,7 +8,7 @@ mod fault;
 mod laws;
 mod machine;
 
-pub use event::{Event, EventReply, Target};
+pub use event::{Deed, Event, EventReply, Target};
 pub use fault::{OutOfMemory, RunStop, Spent};
 pub use laws::{a_call_is_a_run_of_one, opening_is_replayed, runs_compose};
 pub use machine::Core;

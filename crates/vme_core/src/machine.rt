@@ -4,10 +4,11 @@ ghost use Rattle.vme_arbiter.specs.Arbitration.{opening_bus};
 ghost use Rattle.vme_core.specs.Tallies.{fresh_tally};
 ghost use Rattle.vme_core.specs.Runs.{Did, move, target_of};
 ghost use Rattle.vme_core.specs.Calls.{call_of, machine_step};
+ghost use Rattle.vme_core.specs.Deeds.{call_asked, target_of_deed};
 ghost use Rattle.vme_core.specs.Machines.{opening, whos, IsThere, steps_of, counts_of, made_of, HasRun};
 
 use crate::counted::Counted;
-use crate::event::{Event, EventReply, Target};
+use crate::event::{Deed, Event, EventReply, Target};
 use crate::fault::{OutOfMemory, RunStop, Spent};
 use std::alloc::Global;
 use std::marker::Model;
@@ -74,6 +75,28 @@ impl Core {
                 Ok(EventReply::Board(self.boards[*board].apply(who, cmd)?))
             }
             Event::Bus(cmd) => Ok(EventReply::Bus(self.bus.apply(who, cmd)?)),
+        }
+    }
+
+    /// One deed of `who`, and the reply to it: the same as to an event that asks the same. Where the
+    /// object can count no further step, nothing is done.
+    pub fn make(&mut self, who: usize, deed: &Deed<'_>) -> Result<EventReply, Spent>
+        requires who { who < whos self.old }
+        requires there { IsThere self.old (target_of_deed deed.now) }
+        ensures step { IfOk result (λ reply. (self.new, reply) ≡ machine_step self.old who (call_asked deed.now)) }
+        ensures spent { IsErr result ↔ (steps_of self.old (target_of_deed deed.now) ≡ Some (2 ^ 64 - 1)) }
+        ensures unchanged { IfErr result (λ _. self.new ≡ self.old) }
+        ensures boards { length self.new.boards ≡ length self.old.boards }
+        ensures whos { whos self.new ≡ whos self.old }
+    {
+        match deed {
+            Deed::Board { board, cmd } => {
+                Ok(EventReply::Board(self.boards[*board].apply(who, cmd)?))
+            }
+            Deed::Datum { board, access } => {
+                Ok(EventReply::Board(self.boards[*board].access(who, access)?))
+            }
+            Deed::Bus(cmd) => Ok(EventReply::Bus(self.bus.apply(who, cmd)?)),
         }
     }
 

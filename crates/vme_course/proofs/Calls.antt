@@ -2,7 +2,9 @@
 use Rattle.std.proofs.Common.{◌≡◌, ◌≢◌, false, true, is_some, Option, Some, None, refl, sym}
 use Rattle.std.specs.Option.{IsSome, option_map}
 use Rattle.vme_core.specs.declared.event.Event.{Event}
+use Rattle.vme_core.specs.declared.event.Deed.{Deed}
 use Rattle.vme_core.specs.Calls.{Call, call_of}
+use Rattle.vme_core.specs.Deeds.{call_asked}
 use Rattle.vme_shared.specs.declared.reply.LineReply.{LineReply}
 use Rattle.vme_course.specs.declared.task.LineTask.{LineTask}
 use Rattle.vme_course.specs.declared.task.LineTask.TheVariants.{Refused, Tries, Over}
@@ -16,6 +18,12 @@ pub makes_event : (next : LineNext) (event : Event) → Some (call_of event) ≡
 makes_event Rests event is = absurd cc
 makes_event (Makes call) event is = cc
 makes_event (Ends answer) event is = absurd cc
+
+-- and so is that of its deed
+pub makes_deed : (next : LineNext) (deed : Deed) → Some (call_asked deed) ≡ call_in next → next ≡ Makes (call_asked deed)
+makes_deed Rests deed is = absurd cc
+makes_deed (Makes call) deed is = cc
+makes_deed (Ends answer) deed is = absurd cc
 
 -- where it makes a call there is an event
 pub has_event : (next : LineNext) (event : Option Event) → MakesCall next → option_map call_of event ≡ call_in next → IsSome event

@@ -1,12 +1,13 @@
 //! Attempts at a line, one after another.
 ghost use Rattle.std.specs.Prelude.{◌≡◌, ◌≢◌, option_map, option_copied, is_some, true};
 ghost use Rattle.vme_core.specs.Calls.{call_of};
+ghost use Rattle.vme_core.specs.Deeds.{call_asked};
 ghost use Rattle.vme_course.specs.Tables.{Rests, next_asks_again};
 ghost use Rattle.vme_course.specs.Machine.{attempt_anew, attempt_advance, attempt_to_do, attempts_advance};
 ghost use Rattle.vme_course.specs.Events.{call_in, answer_in};
 
 use crate::wait::WaitTask;
-use vme_core::{Event, EventReply};
+use vme_core::{Deed, Event, EventReply};
 use vme_master::Task;
 use vme_shared::{LineReply, SharedOutcome, SharedTask};
 
@@ -65,6 +66,17 @@ impl AttemptTask<'_> {
             AttemptTask::Moves(task) => task.event(),
             AttemptTask::Waits(wait) => wait.event(),
             AttemptTask::Shares(task) => task.event(),
+        }
+    }
+
+    /// What that event asks, apart from the lines of a cycle.
+    pub(crate) fn deed(&self) -> Option<Deed<'_>>
+        ensures { option_map call_asked result ≡ call_in (attempt_to_do self.now) }
+    {
+        match self {
+            AttemptTask::Moves(task) => task.deed(),
+            AttemptTask::Waits(wait) => wait.deed(),
+            AttemptTask::Shares(task) => task.deed(),
         }
     }
 

@@ -1,5 +1,6 @@
 ghost use Rattle.std.specs.Prelude.{◌≡◌, ◌≢◌, ◌<◌, ◌≤◌, ◌∷◌, [], ℕ, length, option_map, option_copied, is_some, slice_get, Some, IfSome};
 ghost use Rattle.vme_core.specs.Calls.{call_of};
+ghost use Rattle.vme_core.specs.Deeds.{call_asked};
 ghost use Rattle.vme_lines.specs.declared.line.Line.{Line as AnyLine};
 ghost use Rattle.vme_script.specs.Configurations.{Configuration};
 ghost use Rattle.vme_master.specs.Tables.{Given};
@@ -13,7 +14,7 @@ use crate::attempt::Attempts;
 use crate::start::attempt_of;
 use crate::todo::LineTodo;
 use vme_block::Room;
-use vme_core::{Event, EventReply};
+use vme_core::{Deed, Event, EventReply};
 use vme_cycle::CycleFault;
 use vme_lines::Line;
 use vme_master::Outcome;
@@ -86,6 +87,16 @@ impl<'a> LineTask<'a> {
             LineTask::Refused(_) | LineTask::Over => None,
             LineTask::Tries(attempts) => attempts.attempt.event(),
         }
+    }
+
+    /// What that event asks, apart from the lines of a cycle.
+    pub fn deed(&self) -> Option<Deed<'_>>
+        ensures { option_map call_asked result ≡ call_in (line_to_do self.now) }
+    {
+        let LineTask::Tries(attempts) = self else {
+            return None;
+        };
+        attempts.attempt.deed()
     }
 
     /// Whether it has ended. A driver that asks this first moves no answer that is none.

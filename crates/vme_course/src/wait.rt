@@ -3,13 +3,14 @@ ghost use Rattle.std.specs.Prelude.{◌≡◌, ◌≢◌, ◌≤◌, if◌then�
 ghost use Rattle.std.specs.Str.{bytes_eq};
 ghost use Rattle.vme_block.specs.Rooms.{short_room};
 ghost use Rattle.vme_core.specs.Calls.{call_of};
+ghost use Rattle.vme_core.specs.Deeds.{call_asked};
 ghost use Rattle.vme_master.specs.Machine.{advance, fresh_task, to_do, job_room};
 ghost use Rattle.vme_shared.specs.declared.reply.LineReply.TheVariants.{Met, Timeout};
 ghost use Rattle.vme_course.specs.Tables.{Rests, waits_next, next_asks_again};
 ghost use Rattle.vme_course.specs.Events.{call_in, answer_in};
 
 use std::marker::Model;
-use vme_core::{Event, EventReply};
+use vme_core::{Deed, Event, EventReply};
 use vme_lanes::Datum;
 use vme_master::{Outcome, Task};
 use vme_shared::LineReply;
@@ -58,6 +59,13 @@ impl<'a> WaitTask<'a> {
         ensures { option_map call_of result ≡ call_in (waits_next self.now.want.items (to_do self.now.task)) }
     {
         self.task.event()
+    }
+
+    /// What that event asks, apart from the lines of a cycle.
+    pub(crate) fn deed(&self) -> Option<Deed<'_>>
+        ensures { option_map call_asked result ≡ call_in (waits_next self.now.want.items (to_do self.now.task)) }
+    {
+        self.task.deed()
     }
 
     /// Whether it has ended.

@@ -76,7 +76,7 @@ impl<'a> Plan<'a> {
 
     /// The request, which is lawful.
     #[tactic(auto, using(crate::proofs::Lawful::lawful))]
-    fn request(&self) -> &'a Request
+    pub fn request(&self) -> &'a Request
         ensures value { result.now ≡ self.now.request }
         ensures lawful { IsLawful self.now.am self.now.request }
     {

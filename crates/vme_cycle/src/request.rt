@@ -220,7 +220,7 @@ impl Request {
     }
 
     /// The bytes to write as datum `i`, of a write.
-    pub(crate) fn datum(&self, i: u16) -> Option<&[u8]>
+    pub fn datum(&self, i: u16) -> Option<&[u8]>
         requires counted { IsTrue (is_counted self.now) }
         requires in_count { i < count_of self.now }
         ensures value { option_map (λ bytes. bytes.now) result ≡ datum_of self.now i }

@@ -1,7 +1,10 @@
 ghost use Rattle.std.specs.Prelude.{◌≡◌, ◌<◌, ◌≤◌, ℕ, List, length, IsTrue, option_map};
 ghost use Rattle.vme_block.specs.Rooms.{block_limit};
-ghost use Rattle.vme_cycle.specs.Requests.{count_of};
+ghost use Rattle.vme_cycle.specs.Requests.{count_of, is_counted};
+ghost use Rattle.vme_memory.specs.Access.{accessed};
+ghost use Rattle.vme_memory.specs.Data.{datum_command};
 ghost use Rattle.vme_core.specs.Calls.{call_of};
+ghost use Rattle.vme_core.specs.Deeds.{call_asked};
 ghost use Rattle.vme_master.specs.Jobs.{ask_call, look_call, done_call, datum_call, local_call};
 ghost use Rattle.vme_master.specs.Machine.{job_aim, datum_phase, phase_at, phase_broken, first_phase, phase_told, phase_replied, makes, bus_next, local_next, job_next, end_outcome, IsPlaced, IsShort, call_count, job_room};
 ghost use Rattle.vme_master.specs.declared.phase.Phase.TheVariants.{Moves};
@@ -12,10 +15,10 @@ use crate::outcome::Outcome;
 use crate::phase::Phase;
 use vme_arbiter::{ArbCmd, ArbReply};
 use vme_block::Room;
-use vme_core::Event;
-use vme_cycle::{Modify, Transfer};
+use vme_core::{Deed, Event};
+use vme_cycle::{Modify, Request, Transfer};
 use vme_lanes::Datum;
-use vme_memory::{BoardCmd, Reply};
+use vme_memory::{Access, BoardCmd, Reply};
 
 /// A transfer over the bus: whose it is, and where its first byte lies, by the place of a board in
 /// the map and the offset there, if a board is selected.
@@ -70,6 +73,38 @@ impl BusJob<'_> {
         Event::Board { board, cmd }
     }
 
+    /// The same apart from the lines of its cycle.
+    fn moves(&self, i: u16) -> Deed<'_>
+        requires in_count { i < count_of self.now.transfer.request }
+        requires placed { IsPlaced (Job.Bus self.now) }
+        ensures { call_asked result ≡ datum_call self.now self.now.place i }
+    {
+        let Some((board, offset)) = self.place else {
+            return Deed::Bus(ArbCmd::Done { slot: self.slot });
+        };
+        let plan = self.transfer.plan();
+        prove!(i < plan.len());
+        let at = offset + u32::from(i) * u32::from(plan.datum_len());
+        let access = access_of(plan.request(), i, at);
+        Deed::Datum { board, access }
+    }
+
+    /// What it asks in a phase, if anything.
+    fn deed(&self, phase: Phase) -> Option<Deed<'_>>
+        requires in_count { (i : ℕ) → phase ≡ Moves i → i < count_of self.now.transfer.request }
+        requires placed { IsPlaced (Job.Bus self.now) }
+        ensures { (read : List ℕ) → option_map call_asked result ≡ call_in (bus_next self.now phase read) }
+    {
+        let (slot, level) = (self.slot, self.level);
+        match phase {
+            Phase::Asks => Some(Deed::Bus(ArbCmd::Ask { slot, level })),
+            Phase::Looks => Some(Deed::Bus(ArbCmd::Look { slot })),
+            Phase::Moves { i } => Some(self.moves(i)),
+            Phase::Frees { .. } => Some(Deed::Bus(ArbCmd::Done { slot })),
+            Phase::Fresh | Phase::Ended { .. } | Phase::Denied => None,
+        }
+    }
+
     /// The event that it makes in a phase, if any.
     fn event(&self, phase: Phase) -> Option<Event>
         requires in_count { (i : ℕ) → phase ≡ Moves i → i < count_of self.now.transfer.request }
@@ -100,6 +135,37 @@ impl BusJob<'_> {
     }
 }
 
+/// What datum `i` of a request asks of its slave, at the offset of its first byte there.
+fn access_of(request: &Request, i: u16, at: u32) -> Access<'_>
+    requires counted { IsTrue (is_counted request.now) }
+    requires in_count { i < count_of request.now }
+    ensures { accessed result ≡ datum_command request.now i at }
+{
+    match request {
+        Request::Read { n, .. } => Access::Read {
+            block: false,
+            at,
+            n: *n,
+        },
+        Request::BlockRead { n, .. } => Access::Read {
+            block: true,
+            at,
+            n: *n,
+        },
+        Request::Modify { n, f, .. } => Access::Modify { at, n: *n, f },
+        Request::Write { .. } => Access::Write {
+            block: false,
+            at,
+            bytes: request.datum(i).unwrap(),
+        },
+        Request::BlockWrite { .. } | Request::BlockFill { .. } => Access::Write {
+            block: true,
+            at,
+            bytes: request.datum(i).unwrap(),
+        },
+    }
+}
+
 fn copy_function(f: Option<&Modify>) -> Option<Modify>
     ensures { result ≡ option_map (λ f. f.now) f.entry }
 {
@@ -117,6 +183,19 @@ pub struct LocalJob {
 }
 
 impl LocalJob {
+    /// What it asks in a phase, if anything.
+    fn deed(&self, phase: Phase) -> Option<Deed<'_>>
+        ensures { (read : List ℕ) → option_map call_asked result ≡ call_in (local_next self.now phase read) }
+    {
+        match phase {
+            Phase::Moves { .. } => Some(Deed::Board {
+                board: self.board,
+                cmd: &self.cmd,
+            }),
+            _ => None,
+        }
+    }
+
     /// The event that it makes in a phase, if any.
     fn event(&self, phase: Phase) -> Option<Event>
         ensures { (read : List ℕ) → option_map call_of result ≡ call_in (local_next self.now phase read) }
@@ -148,6 +227,18 @@ impl Job<'_> {
         match self {
             Job::Bus(job) => Aim::of_plan(&job.transfer.plan()),
             Job::Local(job) => Aim::of_command(&job.cmd),
+        }
+    }
+
+    /// What it asks in a phase, if anything.
+    pub(crate) fn deed(&self, phase: Phase) -> Option<Deed<'_>>
+        requires in_count { (i : ℕ) → phase ≡ Moves i → i < call_count self.now }
+        requires placed { IsPlaced self.now }
+        ensures { (read : List ℕ) → option_map call_asked result ≡ call_in (job_next self.now phase read) }
+    {
+        match self {
+            Job::Bus(job) => job.deed(phase),
+            Job::Local(job) => job.deed(phase),
         }
     }
 

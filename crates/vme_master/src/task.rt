@@ -6,6 +6,7 @@ ghost use Rattle.vme_core.specs.declared.event.EventReply.TheVariants as told;
 ghost use Rattle.vme_master.specs.declared.job.Job.{Job as AnyJob};
 ghost use Rattle.vme_master.specs.Jobs.{bus_job, local_job};
 ghost use Rattle.vme_core.specs.Calls.{call_of};
+ghost use Rattle.vme_core.specs.Deeds.{call_asked};
 ghost use Rattle.vme_master.specs.Tables.{Given, Rests, next_of};
 ghost use Rattle.vme_master.specs.Machine.{bytes_of, fresh_task, bus_task, advance, task_given, to_do, is_called, job_room, IsPlaced};
 ghost use Rattle.vme_master.specs.Events.{next_in, call_in, outcome_in, read_in, given_out};
@@ -19,7 +20,7 @@ use std::marker::Model;
 use std::mem;
 use vme_arbiter::ArbReply;
 use vme_block::Room;
-use vme_core::{Event, EventReply};
+use vme_core::{Deed, Event, EventReply};
 use vme_cycle::{CycleFault, Request, Transfer};
 use vme_decode::AddressMap;
 use vme_memory::{BoardCmd, Reply};
@@ -147,6 +148,13 @@ impl<'a> Task<'a> {
         ensures { option_map call_of result ≡ call_in (to_do self.now) }
     {
         self.job.event(self.phase)
+    }
+
+    /// What that event asks, apart from the lines of a cycle.
+    pub fn deed(&self) -> Option<Deed<'_>>
+        ensures { option_map call_asked result ≡ call_in (to_do self.now) }
+    {
+        self.job.deed(self.phase)
     }
 
     /// Whether it has ended. A driver that asks this first moves no outcome that is none.

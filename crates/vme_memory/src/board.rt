@@ -1,5 +1,6 @@
 ghost use Rattle.std.specs.Prelude.{ℕ, ◌≡◌, ◌↔◌, ◌+◌, ◌%◌, ◌≤◌, length, take, drop, slice_get, true, false, Some, IsTrue, ◌&&◌, IfOk, OnOk, IsErrOf};
 ghost use Rattle.vme_lanes.specs.Rows.{row_of};
+ghost use Rattle.vme_word.specs.Words.{part_of};
 ghost use Rattle.vme_cycle.specs.SignalLines.{len_at};
 ghost use Rattle.vme_memory.specs.Classes.{answers_quads, is_block_place, is_modify_place, is_local_len};
 ghost use Rattle.vme_memory.specs.Boards.{is_board_size, zeros};
@@ -42,7 +43,7 @@ impl ByteMemory {
     ghost use Rattle.std.specs.Option.{option_map};
     ghost use Rattle.vme_cycle.specs.Functions.{has_len};
     ghost use Rattle.vme_memory.specs.Steps as Steps;
-    ghost use Rattle.vme_memory.specs.Steps.{fits, has_cycle, bytes_at, modify_at, step, answer, read_command, driven_write, wide_write, wide_command, cycle, HasLen};
+    ghost use Rattle.vme_memory.specs.Steps.{fits, has_cycle, bytes_at, modify_at, step, answer, read_command, write_command, driven_write, wide_write, wide_command, cycle, HasLen};
     ghost use Rattle.vme_memory.specs.Locals.{answer_given};
 
     /// A memory of `size` bytes, all zero.
@@ -111,7 +112,7 @@ impl ByteMemory {
         let block = signals.am().kind().is_block();
         match (block, signals.write(), f) {
             (_, true, None) => self.read(block, location, at),
-            (_, false, None) => self.write(block, location, at, signals.lines()),
+            (_, false, None) => self.drive(block, location, at, signals.lines()),
             (false, true, Some(f)) => self.modify(location, at, f),
             (_, _, Some(_)) => Reply::Berr,
         }
@@ -156,11 +157,11 @@ impl ByteMemory {
         if signals.write() {
             self.read_wide(at)
         } else {
-            self.write_wide(at, signals.lines())
+            self.drive_wide(at, signals.lines())
         }
     }
 
-    fn read_wide(&self, at: u32) -> Reply
+    pub(crate) fn read_wide(&self, at: u32) -> Reply
         requires { at % 4 ≡ 0 }
         ensures reply { result ≡ (step self.now (Steps.BlockRead at 8)).0 }
         ensures memory { self.now ≡ (step self.now (Steps.BlockRead at 8)).1 }
@@ -172,7 +173,7 @@ impl ByteMemory {
         Reply::Bytes(self.storage.read_wide(at))
     }
 
-    fn write_wide(&mut self, at: u32, lines: DataLines) -> Reply
+    fn drive_wide(&mut self, at: u32, lines: DataLines) -> Reply
         requires { at % 4 ≡ 0 }
         ensures reply { result ≡ (answer self.old (wide_write at lines.lanes)).0 }
         ensures memory { self.new ≡ (answer self.old (wide_write at lines.lanes)).1 }
@@ -181,11 +182,20 @@ impl ByteMemory {
         if !lines.carries_all() {
             return Reply::Berr;
         }
-        let bytes = pick_wide(lines);
+        self.write_wide(at, pick_wide(lines).as_slice())
+    }
+
+    pub(crate) fn write_wide(&mut self, at: u32, bytes: &[u8]) -> Reply
+        requires place { at % 4 ≡ 0 }
+        requires wide { length bytes.now ≡ 8 }
+        ensures reply { result ≡ (step self.old (Steps.BlockWrite at bytes.now)).0 }
+        ensures memory { self.new ≡ (step self.old (Steps.BlockWrite at bytes.now)).1 }
+        ensures len { HasLen result 8 }
+    {
         if !self.reaches_wide(at) {
             return Reply::Berr;
         }
-        self.storage.write_wide(at, bytes.as_slice());
+        self.storage.write_wide(at, bytes);
         Reply::Done
     }
 
@@ -214,7 +224,7 @@ impl ByteMemory {
     }
 
     #[tactic(auto, using(crate::proofs::Places::not_wide))]
-    fn read(&self, block: bool, location: Location, at: u32) -> Reply
+    pub(crate) fn read(&self, block: bool, location: Location, at: u32) -> Reply
         requires { (row_of location).first ≡ at % 4 }
         ensures reply { result ≡ (step self.now (read_command block at (row_of location).len)).0 }
         ensures memory { self.now ≡ (step self.now (read_command block at (row_of location).len)).1 }
@@ -235,8 +245,7 @@ impl ByteMemory {
         is_whole_place(location, at) && self.class.blt
     }
 
-    #[tactic(auto, using(crate::proofs::Places::not_wide))]
-    fn write(&mut self, block: bool, location: Location, at: u32, lines: DataLines) -> Reply
+    fn drive(&mut self, block: bool, location: Location, at: u32, lines: DataLines) -> Reply
         requires { (row_of location).first ≡ at % 4 }
         ensures reply { result ≡ (answer self.old (driven_write block location at lines.lanes)).0 }
         ensures memory { self.new ≡ (answer self.old (driven_write block location at lines.lanes)).1 }
@@ -245,7 +254,16 @@ impl ByteMemory {
         if !lines.carries(location) {
             return Reply::Berr;
         }
-        let word = driven_word(location, lines);
+        self.write(block, location, at, driven_word(location, lines))
+    }
+
+    #[tactic(auto, using(crate::proofs::Places::not_wide, vme_word::proofs::Enables::part_len))]
+    pub(crate) fn write(&mut self, block: bool, location: Location, at: u32, word: u32) -> Reply
+        requires { (row_of location).first ≡ at % 4 }
+        ensures reply { result ≡ (step self.old (write_command block at (part_of location word))).0 }
+        ensures memory { self.new ≡ (step self.old (write_command block at (part_of location word))).1 }
+        ensures len { (len : ℕ) → HasLen result len }
+    {
         if !self.reaches(location, at) {
             return Reply::Berr;
         }
@@ -256,7 +274,7 @@ impl ByteMemory {
         Reply::Done
     }
 
-    fn modify(&mut self, location: Location, at: u32, f: &Modify) -> Reply
+    pub(crate) fn modify(&mut self, location: Location, at: u32, f: &Modify) -> Reply
         requires { (row_of location).first ≡ at % 4 }
         ensures reply { result ≡ (step self.old (Steps.Modify at (row_of location).len f.now)).0 }
         ensures memory { self.new ≡ (step self.old (Steps.Modify at (row_of location).len f.now)).1 }

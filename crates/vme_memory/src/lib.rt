@@ -2,6 +2,7 @@
 //! (ANSI/IEEE Std 1014-1987, section 2.3.6: D08(EO), D16 and D32 slaves).
 #![tactic(auto)]
 
+mod access;
 mod apply;
 mod board;
 mod class;
@@ -10,6 +11,7 @@ mod laws;
 mod reply;
 mod storage;
 
+pub use access::Access;
 pub use board::{ByteMemory, MemoryFault};
 pub use class::{Class, Width8To32};
 pub use command::BoardCmd;

@@ -4,12 +4,15 @@ ghost use Rattle.vme_shared.specs.declared.reply.LineReply.TheVariants.{Unfinish
 ghost use Rattle.vme_core.specs.Runs.{Machine};
 ghost use Rattle.vme_core.specs.Machines.{whos};
 ghost use Rattle.vme_script.specs.Configurations.{Configuration};
-ghost use Rattle.vme_course.specs.Machine.{IsLineBelow};
+ghost use Rattle.vme_core.specs.Calls.{Call, machine_step};
+ghost use Rattle.vme_course.specs.Tables.{Makes};
+ghost use Rattle.vme_course.specs.Events.{MakesCall};
+ghost use Rattle.vme_course.specs.Machine.{line_to_do, IsLineBelow};
 ghost use Rattle.vme_runner.specs.Drivers.{lane_turn, IsLaneOf, StepsWithin};
 
 use std::alloc::{AllocError, Global};
 use std::marker::Model;
-use vme_core::Core;
+use vme_core::{Core, EventReply};
 use vme_course::{LineTask, Rooms};
 use vme_script::{Config, Script};
 use vme_shared::LineReply;
@@ -125,7 +128,6 @@ impl<'a> Lane<'a> {
     }
 
     /// The line at work makes its event, if one is.
-    #[tactic(auto, using(crate::proofs::Calls::calls_there, crate::proofs::Calls::is_counted))]
     fn make(&mut self, core: &mut Core, board: usize)
         requires who { board < whos core.old }
         requires below { IfSome self.old.at (IsLineBelow (length core.old.boards)) }
@@ -142,8 +144,7 @@ impl<'a> Lane<'a> {
         let Some(task) = &mut self.task else {
             return;
         };
-        let event = task.event().unwrap();
-        let reply = core.apply(board, &event).unwrap();
+        let reply = reply_to(task, core, board);
         task.give(Some(&reply));
         if task.is_over() {
             let answer = task.take_answer().unwrap();
@@ -152,6 +153,25 @@ impl<'a> Lane<'a> {
             let_go(&mut self.task);
         }
     }
+}
+
+/// The core's reply to what the event of a line asks.
+#[tactic(auto, using(crate::proofs::Calls::is_counted, crate::proofs::Calls::has_deed))]
+fn reply_to(task: &LineTask<'_>, core: &mut Core, board: usize) -> EventReply
+    requires who { board < whos core.old }
+    requires makes { MakesCall (line_to_do task.now) }
+    requires below { IsLineBelow (length core.old.boards) task.now }
+    requires room { StepsWithin (2 ^ 64 - 2) core.old }
+    ensures step { (call : Call) → line_to_do task.now ≡ Makes call →
+        (core.new, result) ≡ machine_step core.old board call }
+    ensures whos { whos core.new ≡ whos core.old }
+    ensures boards { length core.new.boards ≡ length core.old.boards }
+{
+    // Taken where it lies: to move it out would take longer than to make it.
+    let Some(deed) = &task.deed() else {
+        unreachable!()
+    };
+    core.make(board, deed).unwrap()
 }
 
 /// Lets the task of a line go, in its place.

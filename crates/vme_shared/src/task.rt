@@ -1,6 +1,7 @@
 ghost use Rattle.std.specs.Prelude.{◌≡◌, ◌≢◌, ◌∷◌};
 ghost use Rattle.std.specs.Option.{option_map, option_copied};
 ghost use Rattle.vme_core.specs.Calls.{call_of};
+ghost use Rattle.vme_core.specs.Deeds.{call_asked};
 ghost use Rattle.vme_master.specs.Tables.{Given};
 ghost use Rattle.vme_shared.specs.Mailboxes.{IsAsked};
 ghost use Rattle.vme_shared.specs.Tables.{SharedJob, Rests, shared_next};
@@ -13,7 +14,7 @@ use crate::request::SharedRequest;
 use crate::todo::SharedTodo;
 use crate::work::Work;
 use std::marker::Model;
-use vme_core::{Event, EventReply};
+use vme_core::{Deed, Event, EventReply};
 use vme_cycle::CycleFault;
 use vme_decode::AddressMap;
 
@@ -83,6 +84,16 @@ impl<'a> SharedTask<'a> {
     {
         match &self.work {
             Work::Moves { task, .. } => task.event(),
+            Work::Over(_) => None,
+        }
+    }
+
+    /// What that event asks, apart from the lines of a cycle.
+    pub fn deed(&self) -> Option<Deed<'_>>
+        ensures { option_map call_asked result ≡ call_in (shared_to_do self.now) }
+    {
+        match &self.work {
+            Work::Moves { task, .. } => task.deed(),
             Work::Over(_) => None,
         }
     }

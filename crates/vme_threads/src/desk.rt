@@ -55,8 +55,8 @@ impl Desk {
     }
 
     /// Makes the events of a line of the script, by its place among those that ask for something,
-    /// until it is answered; what it reads over the bus goes into the room. It snoozes before it looks again whether it has the bus, and before each
-    /// further attempt at the line.
+    /// until it is answered; what it reads over the bus goes into the room. It snoozes before it looks
+    /// again whether it has the bus, and before each further attempt at the line.
     ///
     /// # Errors
     /// `Spent` where an object has made as many steps as can be counted, here or for another worker.

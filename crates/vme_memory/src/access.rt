@@ -1,0 +1,112 @@
+//! Data of transfers as a slave takes them.
+ghost use Rattle.std.specs.Prelude.{◌≡◌, ◌%◌, IfSome};
+ghost use Rattle.vme_lanes.specs.Rows.{row_of, location_at};
+ghost use Rattle.vme_memory.specs.Steps.{read_command, write_command, step};
+ghost use Rattle.vme_memory.specs.Steps as Steps;
+ghost use Rattle.vme_memory.specs.Access.{accessed};
+
+use crate::board::ByteMemory;
+use crate::reply::Reply;
+use vme_cycle::Modify;
+use vme_lanes::Location;
+use vme_word::placed_word;
+
+/// How many bytes a datum has at most that goes over four data lanes.
+const LANES: usize = 4;
+
+/// How many bytes a datum has that goes over all eight lanes.
+const WIDE_LEN: usize = 8;
+
+/// What one datum of a transfer asks of the slave that it selects, apart from the lines that tell the
+/// slave of it. `at` is the offset of its first byte; `block` tells whether it is one of a block.
+#[derive(Debug, Drop)]
+pub enum Access<'a> {
+    /// A read of `n` bytes.
+    Read {
+        block: bool,
+        at: u32,
+        n: u8,
+    },
+    /// A write of these bytes.
+    Write {
+        block: bool,
+        at: u32,
+        bytes: &'a [u8],
+    },
+    /// A read-modify-write of `n` bytes.
+    Modify {
+        at: u32,
+        n: u8,
+        f: &'a Modify,
+    },
+}
+
+impl ByteMemory {
+    /// Answers one datum of a transfer as it does the cycle that tells of it. The reply and the memory
+    /// after it are those of the command; after `Berr` nothing has changed.
+    pub fn access(&mut self, access: &Access<'_>) -> Reply
+        ensures reply { result ≡ (step self.old (accessed access.now)).0 }
+        ensures memory { self.new ≡ (step self.old (accessed access.now)).1 }
+        ensures berr { result ≡ Reply.Berr → self.new ≡ self.old }
+    {
+        match access {
+            Access::Read { block, at, n } => self.read_datum(*block, *at, *n),
+            Access::Write { block, at, bytes } => self.write_datum(*block, *at, bytes),
+            Access::Modify { at, n, f } => self.modify_datum(*at, *n, f),
+        }
+    }
+
+    fn read_datum(&self, block: bool, at: u32, n: u8) -> Reply
+        ensures reply { result ≡ (step self.now (read_command block at n)).0 }
+        ensures memory { self.now ≡ (step self.now (read_command block at n)).1 }
+    {
+        if block && usize::from(n) == WIDE_LEN {
+            if at % 4 != 0 {
+                return Reply::Berr;
+            }
+            return self.read_wide(at);
+        }
+        match Location::of(at, n) {
+            Some(location) => self.read(block, location, at),
+            None => Reply::Berr,
+        }
+    }
+
+    fn write_datum(&mut self, block: bool, at: u32, bytes: &[u8]) -> Reply
+        ensures reply { result ≡ (step self.old (write_command block at bytes.now)).0 }
+        ensures memory { self.new ≡ (step self.old (write_command block at bytes.now)).1 }
+    {
+        if block && bytes.len() == WIDE_LEN {
+            if at % 4 != 0 {
+                return Reply::Berr;
+            }
+            return self.write_wide(at, bytes);
+        }
+        match location_of(at, bytes.len()) {
+            Some(location) => self.write(block, location, at, placed_word(location, bytes)),
+            None => Reply::Berr,
+        }
+    }
+
+    fn modify_datum(&mut self, at: u32, n: u8, f: &Modify) -> Reply
+        ensures reply { result ≡ (step self.old (Steps.Modify at n f.now)).0 }
+        ensures memory { self.new ≡ (step self.old (Steps.Modify at n f.now)).1 }
+    {
+        match Location::of(at, n) {
+            Some(location) => self.modify(location, at, f),
+            None => Reply::Berr,
+        }
+    }
+}
+
+/// The location of so many bytes at an offset, if a cycle over four lanes has them.
+#[tactic(auto, using(crate::proofs::Places::none_longer))]
+fn location_of(at: u32, len: usize) -> Option<Location>
+    ensures value { result ≡ location_at at len }
+    ensures row { IfSome result (λ l. ((row_of l).first ≡ at % 4) × ((row_of l).len ≡ len)) }
+{
+    if len > LANES {
+        return None;
+    }
+    Location::of(at, len as u8)
+}
