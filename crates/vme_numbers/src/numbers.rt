@@ -1,21 +1,32 @@
 //! Numbers and bytes as words of a line.
-ghost use Rattle.std.specs.Prelude.{◌≡◌, ◌<◌, ◌≤◌, ◌^◌, IfSome};
+ghost use Rattle.std.specs.Prelude.{◌≡◌, ◌<◌, ◌≤◌, ◌^◌, IfSome, MatchOption};
 ghost use Rattle.std.specs.Option.{option_map};
 ghost use Rattle.vme_numbers.specs.Numbers.{hex_digit, hex_number, hex_bytes, exact_bytes, small_number, local_number, local_bytes, decimal_digit, decimal_number};
 
 use arrayvec::ArrayVec;
 use vme_lanes::Datum;
 
-fn hex_digit(c: u8) -> Option<u8>
-    ensures value { result ≡ hex_digit c }
-    ensures small { IfSome result (λ d. d < 16) }
+/// What a byte that is no digit counts as. It is more than eight digits spell, and no digits after
+/// it make it less.
+const X: u64 = 1 << 32;
+
+/// The value of each byte as a hexadecimal digit of either case.
+static DIGITS: [u64; 256] = [
+    X, X, X, X, X, X, X, X, X, X, X, X, X, X, X, X, X, X, X, X, X, X, X, X, X, X, X, X, X, X, X, X,
+    X, X, X, X, X, X, X, X, X, X, X, X, X, X, X, X, 0, 1, 2, 3, 4, 5, 6, 7, 8, 9, X, X, X, X, X, X,
+    X, 10, 11, 12, 13, 14, 15, X, X, X, X, X, X, X, X, X, X, X, X, X, X, X, X, X, X, X, X, X, X, X,
+    X, X, X, 10, 11, 12, 13, 14, 15, X, X, X, X, X, X, X, X, X, X, X, X, X, X, X, X, X, X, X, X, X,
+    X, X, X, X, X, X, X, X, X, X, X, X, X, X, X, X, X, X, X, X, X, X, X, X, X, X, X, X, X, X, X, X,
+    X, X, X, X, X, X, X, X, X, X, X, X, X, X, X, X, X, X, X, X, X, X, X, X, X, X, X, X, X, X, X, X,
+    X, X, X, X, X, X, X, X, X, X, X, X, X, X, X, X, X, X, X, X, X, X, X, X, X, X, X, X, X, X, X, X,
+    X, X, X, X, X, X, X, X, X, X, X, X, X, X, X, X, X, X, X, X, X, X, X, X, X, X, X, X, X, X, X, X,
+    X, X, X, X,
+];
+
+fn hex_digit(c: u8) -> u64
+    ensures digit { MatchOption (hex_digit c) (result ≡ 2 ^ 32) (λ d. (result ≡ d) × (d < 16)) }
 {
-    match c {
-        b'0'..=b'9' => Some(c - b'0'),
-        b'a'..=b'f' => Some(c - b'a' + 10),
-        b'A'..=b'F' => Some(c - b'A' + 10),
-        _ => None,
-    }
+    DIGITS[c as usize]
 }
 
 /// The number that a word of `len` hexadecimal digits spells.
@@ -28,11 +39,15 @@ pub fn hex_number(len: usize, word: &[u8]) -> Option<u32>
     if word.len() != len {
         return None;
     }
-    let mut number: u32 = 0;
+    let mut number = 0;
     for digit in word {
-        number = 16 * number + u32::from(hex_digit(*digit)?);
+        number = 16 * number + hex_digit(*digit);
     }
-    Some(number)
+    if number < X {
+        Some(number as u32)
+    } else {
+        None
+    }
 }
 
 /// The one to `MOST` bytes that a word spells.
@@ -46,11 +61,18 @@ pub fn hex_bytes<const MOST: usize>(word: &[u8]) -> Option<ArrayVec<u8, MOST>>
     }
     let mut bytes = ArrayVec::new();
     let mut rest = word;
+    let mut sum = 0;
     while let [high, low, tail @ ..] = rest {
-        bytes.push(16 * hex_digit(*high)? + hex_digit(*low)?);
+        let pair = 16 * hex_digit(*high) + hex_digit(*low);
+        bytes.push((pair % 256) as u8);
+        sum += pair;
         rest = tail;
     }
-    if rest.is_empty() { Some(bytes) } else { None }
+    if rest.is_empty() && sum < X {
+        Some(bytes)
+    } else {
+        None
+    }
 }
 
 /// The `len` bytes that a word spells, at most eight.

@@ -1,12 +1,11 @@
-use Rattle.std.proofs.Common.{◌≡◌, ◌+◌, ◌*◌, ◌≤◌, length}
-use Rattle.vme_numbers.specs.Numbers.{hex_pairs}
-use Rattle.vme_numbers.proofs.Digits.{with_front}
+use Rattle.std.proofs.Common.{◌+◌, ◌*◌, ◌≤◌, length}
+use Rattle.vme_numbers.proofs.Digits.{IsSpelled}
 use Rattle.vme_numbers.proofs.numbers.hex_bytes.Given as goal
 
 -- the bytes so far, with those that the rest spells, are those of the word
 abbrev pub invariant-loop-rest : goal.invariant-loop-rest
 invariant-loop-rest g l = record {
-  bytes : with_front l.bytes.items (hex_pairs l.rest) ≡ hex_pairs l.fn.word;
+  bytes : IsSpelled l.bytes.items l.sum l.rest l.fn.word;
   room : 2 * length l.bytes.items + length l.rest ≤ 2 * g.row.MOST;
 }
 
