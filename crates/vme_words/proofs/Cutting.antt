@@ -1,11 +1,13 @@
 -- Texts cut at a byte: the lines and the words that this gives.
-use Rattle.std.proofs.Common.{◌≡◌, ℕ, ◌+◌, ◌<◌, ◌≤◌, Bool, List, [], ◌∷◌, length, take, drop, filter, None, Some, refl, ap, ◌∙◌, arith, inl, inr, length-drop}
+use Rattle.std.proofs.Common.{◌≡◌, ℕ, ◌+◌, ◌<◌, ◌≤◌, Bool, false, List, [], get_or, Option, ◌∷◌, length, take, drop, filter, None, Some, refl, ap, ◌∙◌, arith, inl, inr, length-drop}
 use Rattle.std.specs.Prelude.{◌==◌, nat_lt}
 use Rattle.std.specs.List.{slice_split, position, position_or_len, onto_first}
 use Rattle.std.specs.Str.Lines.{lines, lines_of_parts, strip_carriage_return}
-use Rattle.std.proofs.lemmas.Bool.{cases_Bool, cases_lt, ltb-true, lt-ltb, ne_eqb}
+use Rattle.std.proofs.lemmas.Bool.{cases_Bool, cases_lt, ltb-true, lt-ltb, le-ltb, ne_eqb}
 use Rattle.std.proofs.lemmas.Option.{cond_some}
 use Rattle.std.proofs.lemmas.List.Splits.{slice_split_first, slice_split-cons_no, length-slice_split}
+use Rattle.std.proofs.lemmas.List.Sums.{position_or_len_is, passes_at_first}
+use Rattle.memchr.specs.Find.{IsFirstByte}
 use Rattle.vme_words.specs.Words.{words, is_nonempty, IsCut, IsUncut}
 
 -- the test of a byte
@@ -17,6 +19,19 @@ position_is p xs i place =
     let found = cond_some (nat_lt (position_or_len p xs) (length xs)) (position_or_len p xs) i place in
     let lt = ltb-true (position_or_len p xs) (length xs) found.0 in
     (omega (arith, lt, found.1), found.1)
+
+-- the first such place, as a search of the byte tells it
+pub place_found : (byte : ℕ) (text : List ℕ) (found : Option ℕ) → IsFirstByte (λ b. b == byte) text found → found ≡ position (λ b. b == byte) text
+place_found byte text None none =
+    elim (cases_lt (position_or_len (is_byte byte) text) (length text)) [
+      | inl lt ↦ absurd (none _ (omega arith) lt (passes_at_first (is_byte byte) text 0 lt))
+      | inr le ↦ rw (le-ltb _ _ le) refl
+    ]
+place_found byte text (Some k) found =
+    let before : (j : ℕ) → j < k → is_byte byte (get_or text j 0) ≡ false =
+    λ j lt. elim (cases_Bool (is_byte byte (get_or text j 0))) [ inl hit ↦ absurd (found.0.before j (omega arith) lt hit) | inr miss ↦ miss ] in
+    let at : position_or_len (is_byte byte) text ≡ k = position_or_len_is (is_byte byte) text k 0 (omega (arith, found.0.high)) before (λ _. found.1) in
+    rw (at, lt-ltb k (length text) found.0.high) refl
 
 -- the parts round the first such byte
 pub cut_at :

@@ -3,7 +3,7 @@ ghost use Rattle.std.specs.Prelude.{◌≡◌, ◌<◌, ◌∷◌, length};
 ghost use Rattle.std.specs.Str.Lines.{lines, strip_carriage_return};
 ghost use Rattle.std.specs.Iterator.{YieldsFirstRef, item_count};
 
-use crate::parts::cut;
+use crate::parts::cut_far;
 
 const LINE_END: u8 = b'\n';
 
@@ -23,7 +23,7 @@ fn split_line(text: &[u8]) -> (&[u8], &[u8])
     ensures lines { lines text.now ≡ result.0.now ∷ lines result.1.now }
     ensures shorter { length result.1.now < length text.now }
 {
-    match cut(text, LINE_END) {
+    match cut_far(text, LINE_END) {
         Some((line, rest)) => (without_return(line), rest),
         None => (text, &[]),
     }
