@@ -23,6 +23,7 @@ static DIGITS: [u64; 256] = [
     X, X, X, X,
 ];
 
+/// The value of a byte as a digit.
 fn hex_digit(c: u8) -> u64
     ensures digit { MatchOption (hex_digit c) (result ≡ 2 ^ 32) (λ d. (result ≡ d) × (d < 16)) }
 {
