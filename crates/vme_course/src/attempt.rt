@@ -33,6 +33,7 @@ pub enum AttemptTask<'a> {
 impl Attempts<'_> {
     /// The attempt at work is given nothing at first, and then the reply to each of its events. Where
     /// it ends with an answer that asks for another, this is begun, while there may be one more.
+    #[inline(always)]
     pub(crate) fn give(&mut self, given: Option<&EventReply>)
         ensures task { self.new ≡ attempts_advance self.old (option_copied given.entry) }
         ensures begun { attempt_to_do self.new.attempt ≢ Rests }
@@ -47,6 +48,7 @@ impl Attempts<'_> {
 }
 
 impl AttemptTask<'_> {
+    #[inline(always)]
     fn give(&mut self, given: Option<&EventReply>)
         ensures task { self.new ≡ attempt_advance self.old (option_copied given.entry) }
         ensures begun { attempt_to_do self.new ≢ Rests }
@@ -70,6 +72,7 @@ impl AttemptTask<'_> {
     }
 
     /// What that event asks, apart from the lines of a cycle.
+    #[inline(always)]
     pub(crate) fn deed(&self) -> Option<Deed<'_>>
         ensures { option_map call_asked result ≡ call_in (attempt_to_do self.now) }
     {
@@ -81,6 +84,7 @@ impl AttemptTask<'_> {
     }
 
     /// Whether it has ended.
+    #[inline(always)]
     pub(crate) fn is_over(&self) -> bool
         ensures { result ≡ is_some (answer_in (attempt_to_do self.now)) }
     {
@@ -103,6 +107,7 @@ impl AttemptTask<'_> {
     }
 
     /// Whether it has ended with an answer that asks for another attempt.
+    #[inline(always)]
     fn asks_again(&self) -> bool
         ensures { result ≡ next_asks_again (attempt_to_do self.now) }
     {
@@ -118,6 +123,7 @@ impl AttemptTask<'_> {
 
     /// The same before its first call, to be done once more. A transfer or a command never asks for
     /// this.
+    #[inline(never)]
     fn again(&mut self)
         requires { next_asks_again (attempt_to_do self.old) ≡ true }
         ensures { self.new ≡ attempt_anew self.old }

@@ -68,6 +68,7 @@ impl<'a> LineTask<'a> {
 
     /// The first half of `next`, for a driver that asks for the event or the answer apart: the line is
     /// given nothing at first, and then each time the reply to its event.
+    #[inline(always)]
     pub fn give(&mut self, given: Option<&EventReply>)
         ensures task { self.new ≡ line_advance self.old (option_copied given.entry) }
         ensures begun { line_to_do self.new ≢ Rests }
@@ -90,6 +91,7 @@ impl<'a> LineTask<'a> {
     }
 
     /// What that event asks, apart from the lines of a cycle.
+    #[inline(always)]
     pub fn deed(&self) -> Option<Deed<'_>>
         ensures { option_map call_asked result ≡ call_in (line_to_do self.now) }
     {
@@ -100,6 +102,7 @@ impl<'a> LineTask<'a> {
     }
 
     /// Whether it has ended. A driver that asks this first moves no answer that is none.
+    #[inline(always)]
     pub fn is_over(&self) -> bool
         ensures { result ≡ is_some (answer_in (line_to_do self.now)) }
     {
@@ -121,6 +124,7 @@ impl<'a> LineTask<'a> {
     }
 
     /// Takes its answer, where it has ended. A line is denied any further answer, unless it is refused.
+    #[inline(never)]
     pub fn take_answer(&mut self) -> Option<LineReply>
         ensures answer { result ≡ answer_in (line_to_do self.old) }
         ensures task { self.new ≡ line_taken self.old }

@@ -46,6 +46,7 @@ impl<'a> WaitTask<'a> {
     }
 
     /// It is given nothing at first, and then the reply to each of its events.
+    #[inline(never)]
     #[tactic(auto, using(vme_master::proofs::Stands::job_stays))]
     pub(crate) fn give(&mut self, given: Option<&EventReply>)
         ensures task { self.new ≡ record self.old { task = advance self.old.task (option_copied given.entry) } }
@@ -62,6 +63,7 @@ impl<'a> WaitTask<'a> {
     }
 
     /// What that event asks, apart from the lines of a cycle.
+    #[inline(never)]
     pub(crate) fn deed(&self) -> Option<Deed<'_>>
         ensures { option_map call_asked result ≡ call_in (waits_next self.now.want.items (to_do self.now.task)) }
     {
@@ -76,6 +78,7 @@ impl<'a> WaitTask<'a> {
     }
 
     /// Whether it has ended with other bytes than it is to find.
+    #[inline(never)]
     pub(crate) fn asks_again(&self) -> bool
         ensures { result ≡ next_asks_again (waits_next self.now.want.items (to_do self.now.task)) }
     {

@@ -220,6 +220,7 @@ impl Request {
     }
 
     /// The bytes to write as datum `i`, of a write.
+    #[inline(always)]
     pub fn datum(&self, i: u16) -> Option<&[u8]>
         requires counted { IsTrue (is_counted self.now) }
         requires in_count { i < count_of self.now }

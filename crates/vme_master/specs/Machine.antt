@@ -209,3 +209,9 @@ pub record IsSound (t : TaskView) (room : ℕ) : Type 0 where
   pub placed : IsPlaced t.job
   pub read : HasRoom t.job t.phase t.read
   pub enough : IsEnough t.job t.phase room
+
+-- what a task keeps, with the room that it has and what it knows of its job (this project's own)
+pub record IsKept (t : TaskView) (room : ℕ) (aim : Aim) (count : ℕ) : Type 0 where
+  pub sound : IsSound t room
+  pub of_aim : aim ≡ job_aim t.job
+  pub of_count : count ≡ call_count t.job

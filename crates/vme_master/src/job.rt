@@ -74,6 +74,7 @@ impl BusJob<'_> {
     }
 
     /// The same apart from the lines of its cycle.
+    #[inline(always)]
     fn moves(&self, i: u16) -> Deed<'_>
         requires in_count { i < count_of self.now.transfer.request }
         requires placed { IsPlaced (Job.Bus self.now) }
@@ -90,6 +91,7 @@ impl BusJob<'_> {
     }
 
     /// What it asks in a phase, if anything.
+    #[inline(always)]
     fn deed(&self, phase: Phase) -> Option<Deed<'_>>
         requires in_count { (i : ℕ) → phase ≡ Moves i → i < count_of self.now.transfer.request }
         requires placed { IsPlaced (Job.Bus self.now) }
@@ -121,13 +123,14 @@ impl BusJob<'_> {
     }
 
     /// Where it is at datum `i`, if there is such a one and a board for it.
-    fn at(&self, i: u16) -> Phase
+    fn at(&self, i: u16, count: u16) -> Phase
+        requires { count ≡ count_of self.now.transfer.request }
         ensures { result ≡ datum_phase self.now self.now.place i }
     {
         if self.place.is_none() {
             return Phase::Frees { berr: Some(0) };
         }
-        if i < self.transfer.plan().len() {
+        if i < count {
             Phase::Moves { i }
         } else {
             Phase::Frees { berr: None }
@@ -136,6 +139,7 @@ impl BusJob<'_> {
 }
 
 /// What datum `i` of a request asks of its slave, at the offset of its first byte there.
+#[inline(always)]
 fn access_of(request: &Request, i: u16, at: u32) -> Access<'_>
     requires counted { IsTrue (is_counted request.now) }
     requires in_count { i < count_of request.now }
@@ -184,6 +188,7 @@ pub struct LocalJob {
 
 impl LocalJob {
     /// What it asks in a phase, if anything.
+    #[inline(always)]
     fn deed(&self, phase: Phase) -> Option<Deed<'_>>
         ensures { (read : List ℕ) → option_map call_asked result ≡ call_in (local_next self.now phase read) }
     {
@@ -231,6 +236,7 @@ impl Job<'_> {
     }
 
     /// What it asks in a phase, if anything.
+    #[inline(always)]
     pub(crate) fn deed(&self, phase: Phase) -> Option<Deed<'_>>
         requires in_count { (i : ℕ) → phase ≡ Moves i → i < call_count self.now }
         requires placed { IsPlaced self.now }
@@ -278,45 +284,49 @@ impl Job<'_> {
     }
 
     /// Where it is at its call `i` on a board.
-    fn at(&self, i: u16) -> Phase
+    fn at(&self, i: u16, count: u16) -> Phase
+        requires { count ≡ call_count self.now }
         ensures { result ≡ phase_at self.now i }
     {
         match self {
-            Job::Bus(job) => job.at(i),
+            Job::Bus(job) => job.at(i, count),
             Job::Local(_) if i == 0 => Phase::Moves { i },
             Job::Local(_) => Phase::Ended { berr: None },
         }
     }
 
     /// Where the first call leads.
-    pub(crate) fn first_phase(&self) -> Phase
+    pub(crate) fn first_phase(&self, count: u16) -> Phase
+        requires { count ≡ call_count self.now }
         ensures { result ≡ first_phase self.now }
     {
         match self {
             Job::Bus(_) => Phase::Asks,
-            Job::Local(_) => self.at(0),
+            Job::Local(_) => self.at(0, count),
         }
     }
 
     /// Where the arbiter's reply to an ask or a look leads.
-    pub(crate) fn phase_told(&self, reply: ArbReply) -> Phase
+    pub(crate) fn phase_told(&self, reply: ArbReply, count: u16) -> Phase
+        requires { count ≡ call_count self.now }
         ensures { result ≡ phase_told self.now reply }
     {
         match reply {
-            ArbReply::Granted => self.at(0),
+            ArbReply::Granted => self.at(0, count),
             ArbReply::Waiting => Phase::Looks,
             ArbReply::Freed | ArbReply::Denied => Phase::Denied,
         }
     }
 
     /// Where a board's reply to its call `i` leads.
-    pub(crate) fn phase_replied(&self, i: u16, reply: &Reply) -> Phase
-        requires { i < call_count self.now }
+    pub(crate) fn phase_replied(&self, i: u16, reply: &Reply, count: u16) -> Phase
+        requires in_count { i < call_count self.now }
+        requires count { count ≡ call_count self.now }
         ensures { result ≡ phase_replied self.now i reply.now }
     {
         prove!(i < self.count());
         match (self, reply) {
-            (_, Reply::Bytes(_) | Reply::Done) => self.at(i + 1),
+            (_, Reply::Bytes(_) | Reply::Done) => self.at(i + 1, count),
             (Job::Bus(_), Reply::Berr) => Phase::Frees { berr: Some(i) },
             (Job::Local(_), Reply::Berr) => Phase::Ended { berr: Some(i) },
         }

@@ -33,16 +33,19 @@ pub struct Task<'a> {
     job: Job<'a>,
     phase: Phase,
     read: Room,
+    // Of the job, and kept, since each reply asks for them.
+    aim: Aim,
+    count: u16,
 }
 
 impl<'a> Model for Task<'a> {
-    ghost use Rattle.vme_master.specs.Machine.{TaskView, IsSound};
+    ghost use Rattle.vme_master.specs.Machine.{TaskView, IsKept};
 
     ghost Value = { TaskView };
 
     ghost view = { λ t. record { job = t.job; phase = t.phase; read = t.read.items } };
 
-    ghost invariant = { λ t. IsSound (record { job = t.job; phase = t.phase; read = t.read.items }) t.read.room };
+    ghost invariant = { λ t. IsKept (record { job = t.job; phase = t.phase; read = t.read.items }) t.read.room t.aim t.count };
 }
 
 impl<'a> Task<'a> {
@@ -111,10 +114,13 @@ impl<'a> Task<'a> {
         requires enough { job_room job ≤ room.room }
         ensures { result ≡ fresh_task job.entry }
     {
+        let (aim, count) = (job.aim(), job.count());
         Task {
             job,
             phase: Phase::Fresh,
             read: room,
+            aim,
+            count,
         }
     }
 
@@ -132,6 +138,7 @@ impl<'a> Task<'a> {
 
     /// The first half of `next`, for a driver that asks for the event or the outcome apart: the task
     /// is given nothing at first, and then each time the reply to its event.
+    #[inline(always)]
     pub fn give(&mut self, reply: Option<&EventReply>)
         ensures task { self.new ≡ advance self.old (option_copied reply.entry) }
         ensures begun { to_do self.new ≢ Rests }
@@ -151,6 +158,7 @@ impl<'a> Task<'a> {
     }
 
     /// What that event asks, apart from the lines of a cycle.
+    #[inline(always)]
     pub fn deed(&self) -> Option<Deed<'_>>
         ensures { option_map call_asked result ≡ call_in (to_do self.now) }
     {
@@ -158,6 +166,7 @@ impl<'a> Task<'a> {
     }
 
     /// Whether it has ended. A driver that asks this first moves no outcome that is none.
+    #[inline(always)]
     pub fn is_over(&self) -> bool
         ensures { result ≡ is_some (outcome_in (to_do self.now)) }
     {
@@ -172,7 +181,7 @@ impl<'a> Task<'a> {
     pub fn read(&self) -> Option<&[u8]>
         ensures { option_map (λ bytes. bytes.now) result ≡ read_in (to_do self.now) }
     {
-        match (self.phase, self.job.aim()) {
+        match (self.phase, self.aim) {
             (Phase::Ended { berr: None }, Aim::Read { .. }) => Some(self.read.as_slice()),
             _ => None,
         }
@@ -180,6 +189,7 @@ impl<'a> Task<'a> {
 
     /// What came of it, where it has ended, with the bytes that were read: the task has none of them
     /// then.
+    #[inline(never)]
     pub fn take_outcome(&mut self) -> Option<Outcome>
         ensures outcome { result ≡ outcome_in (to_do self.old) }
         ensures task { self.new ≡ given_out self.old }
@@ -209,12 +219,13 @@ impl<'a> Task<'a> {
     }
 
     /// The first call, and any later one without a reply.
+    #[inline(never)]
     fn call(&mut self)
         ensures task { self.new ≡ advance self.old None }
         ensures called { IsTrue (is_called self.new.phase) }
     {
         self.phase = match self.phase {
-            Phase::Fresh => self.job.first_phase(),
+            Phase::Fresh => self.job.first_phase(self.count),
             Phase::Ended { berr } => Phase::Ended { berr },
             _ => Phase::Denied,
         };
@@ -226,7 +237,7 @@ impl<'a> Task<'a> {
         ensures called { IsTrue (is_called self.new.phase) }
     {
         self.phase = match (self.phase, reply) {
-            (Phase::Asks | Phase::Looks, _) => self.job.phase_told(reply),
+            (Phase::Asks | Phase::Looks, _) => self.job.phase_told(reply, self.count),
             (Phase::Frees { berr }, ArbReply::Freed) => Phase::Ended { berr },
             (Phase::Ended { berr }, _) => Phase::Ended { berr },
             _ => Phase::Denied,
@@ -239,10 +250,10 @@ impl<'a> Task<'a> {
         ensures called { IsTrue (is_called self.new.phase) }
     {
         match self.phase {
-            Phase::Moves { i } if self.job.aim().accepts(reply) => {
+            Phase::Moves { i } if self.aim.accepts(reply) => {
                 prove!(i < self.job.count());
                 append(&mut self.read, reply);
-                self.phase = self.job.phase_replied(i, reply);
+                self.phase = self.job.phase_replied(i, reply, self.count);
             }
             Phase::Ended { .. } => {}
             _ => self.phase = Phase::Denied,
@@ -267,6 +278,10 @@ fn append(read: &mut Room, reply: &Reply)
     ensures { read.new ≡ record read.old { items = read.old.items ++ bytes_of reply.now } }
 {
     if let Reply::Bytes(datum) = reply {
-        read.push_all(datum.as_slice());
+        match datum.as_slice() {
+            // Most data have four bytes: as a literal they are copied at once.
+            [a, b, c, d] => read.push_all(&[*a, *b, *c, *d]),
+            bytes => read.push_all(bytes),
+        }
     }
 }

@@ -44,6 +44,7 @@ pub enum Access<'a> {
 impl ByteMemory {
     /// Answers one datum of a transfer as it does the cycle that tells of it. The reply and the memory
     /// after it are those of the command; after `Berr` nothing has changed.
+    #[inline(always)]
     pub fn access(&mut self, access: &Access<'_>) -> Reply
         ensures reply { result ≡ (step self.old (accessed access.now)).0 }
         ensures memory { self.new ≡ (step self.old (accessed access.now)).1 }
@@ -56,6 +57,7 @@ impl ByteMemory {
         }
     }
 
+    #[inline(always)]
     fn read_datum(&self, block: bool, at: u32, n: u8) -> Reply
         ensures reply { result ≡ (step self.now (read_command block at n)).0 }
         ensures memory { self.now ≡ (step self.now (read_command block at n)).1 }
@@ -72,6 +74,7 @@ impl ByteMemory {
         }
     }
 
+    #[inline(always)]
     fn write_datum(&mut self, block: bool, at: u32, bytes: &[u8]) -> Reply
         ensures reply { result ≡ (step self.old (write_command block at bytes.now)).0 }
         ensures memory { self.new ≡ (step self.old (write_command block at bytes.now)).1 }
@@ -88,6 +91,7 @@ impl ByteMemory {
         }
     }
 
+    #[inline(never)]
     fn modify_datum(&mut self, at: u32, n: u8, f: &Modify) -> Reply
         ensures reply { result ≡ (step self.old (Steps.Modify at n f.now)).0 }
         ensures memory { self.new ≡ (step self.old (Steps.Modify at n f.now)).1 }

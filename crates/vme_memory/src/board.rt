@@ -223,6 +223,7 @@ impl ByteMemory {
         u64::from(at) + u64::from(len) <= u64::from(self.storage.len())
     }
 
+    #[inline(always)]
     #[tactic(auto, using(crate::proofs::Places::not_wide))]
     pub(crate) fn read(&self, block: bool, location: Location, at: u32) -> Reply
         requires { (row_of location).first ≡ at % 4 }
@@ -257,6 +258,7 @@ impl ByteMemory {
         self.write(block, location, at, driven_word(location, lines))
     }
 
+    #[inline(always)]
     #[tactic(auto, using(crate::proofs::Places::not_wide, vme_word::proofs::Enables::part_len))]
     pub(crate) fn write(&mut self, block: bool, location: Location, at: u32, word: u32) -> Reply
         requires { (row_of location).first ≡ at % 4 }

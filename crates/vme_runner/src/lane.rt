@@ -104,6 +104,7 @@ impl<'a> Lane<'a> {
     }
 
     /// Answers lines that need no event, up to one that makes one.
+    #[inline(never)]
     fn seek(&mut self, config: &'a Config, board: usize)
         requires board { board < length config.now.boards }
         requires lane { IsLaneOf config.now board self.old }
@@ -156,6 +157,7 @@ impl<'a> Lane<'a> {
 }
 
 /// The core's reply to what the event of a line asks.
+#[inline(always)]
 #[tactic(auto, using(crate::proofs::Calls::is_counted, crate::proofs::Calls::has_deed))]
 fn reply_to(task: &LineTask<'_>, core: &mut Core, board: usize) -> EventReply
     requires who { board < whos core.old }
@@ -175,6 +177,7 @@ fn reply_to(task: &LineTask<'_>, core: &mut Core, board: usize) -> EventReply
 }
 
 /// Lets the task of a line go, in its place.
+#[inline(never)]
 fn let_go(task: &mut Option<LineTask<'_>>)
     ensures { task.new ≡ None }
 {
@@ -182,6 +185,7 @@ fn let_go(task: &mut Option<LineTask<'_>>)
 }
 
 /// Puts the answer of the line at a place.
+#[inline(never)]
 fn put_answer(lines: &mut [(u16, LineReply)], place: usize, answer: LineReply)
     requires { place < length lines.old }
     ensures { lines.new

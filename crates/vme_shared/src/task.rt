@@ -69,6 +69,7 @@ impl<'a> SharedTask<'a> {
 
     /// The first half of `next`, for a driver that asks for the event or the outcome apart: it is
     /// given nothing at first, and then each time the reply to its event.
+    #[inline(never)]
     pub fn give(&mut self, reply: Option<&EventReply>)
         ensures task { self.new ≡ shared_advance self.old (option_copied reply.entry) }
         ensures begun { shared_to_do self.new ≢ Rests }
@@ -89,6 +90,7 @@ impl<'a> SharedTask<'a> {
     }
 
     /// What that event asks, apart from the lines of a cycle.
+    #[inline(never)]
     pub fn deed(&self) -> Option<Deed<'_>>
         ensures { option_map call_asked result ≡ call_in (shared_to_do self.now) }
     {

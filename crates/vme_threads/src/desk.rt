@@ -81,13 +81,14 @@ impl Desk {
         let mut task = LineTask::start(config, self.who, line, room);
         task.give(None);
         for _ in rt.forever() {
-            let Some(event) = task.event() else {
+            // Taken where it lies: to move it out would take longer than to make it.
+            let Some(event) = &task.event() else {
                 return Ok(task.take_answer().unwrap());
             };
             if ports.stop.load(Ordering::SeqCst) {
                 return Err(Spent);
             }
-            let reply = self.make(rt, ports, &event)?;
+            let reply = self.make(rt, ports, event)?;
             let waits = matches!(reply, EventReply::Bus(ArbReply::Waiting));
             let attempts = task.attempts_left();
             task.give(Some(&reply));

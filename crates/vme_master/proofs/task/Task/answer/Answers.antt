@@ -10,14 +10,14 @@ use Rattle.vme_master.proofs.task.Task.answer.Goals.{After-accepts}
 -- the reply is as wanted
 form : (c : After-accepts) → c.accepts.result ≡ true → has_form (aim_len (job_aim c.self.inside.job)) c.args.reply.now ≡ true
 form c accepted =
-    ap (λ (aim : Aim). has_form (aim_len aim) c.args.reply.now) (sym c.aim.ensures.value) ∙ sym c.accepts.ensures.value ∙ accepted
+    ap (λ (aim : Aim). has_form (aim_len aim) c.args.reply.now) (sym c.self.invariant.of_aim) ∙ sym c.accepts.ensures.value ∙ accepted
 
 -- there is room for its bytes
 pub append-requires : goal.append-requires
 append-requires c =
     let at = (goal.at.append-requires c).After-accepts in
-    let had : HasRoom c.self.inside.job (Moves c.in-Moves.i) c.self.inside.read.items = rw c.in-Moves.is at c.self.invariant.read in
-    let enough : IsEnough c.self.inside.job (Moves c.in-Moves.i) c.self.inside.read.room = rw c.in-Moves.is at c.self.invariant.enough in
+    let had : HasRoom c.self.inside.job (Moves c.in-Moves.i) c.self.inside.read.items = rw c.in-Moves.is at c.self.invariant.sound.read in
+    let enough : IsEnough c.self.inside.job (Moves c.in-Moves.i) c.self.inside.read.room = rw c.in-Moves.is at c.self.invariant.sound.enough in
     room_before c.self.inside.job c.in-Moves.i c.self.inside.read.room c.self.inside.read.items c.args.reply.now had (form at c.if-accepts.true)
     c.accepts.ensures.small enough
 
@@ -25,7 +25,11 @@ append-requires c =
 pub invariant_of-self : goal.invariant_of-self
 invariant_of-self c =
     let at = (goal.at.invariant_of-self c).After-accepts in
-    let had : HasRoom c.self.inside.job (Moves c.in-Moves.i) c.self.inside.read.items = rw c.in-Moves.is at c.self.invariant.read in
-    let enough : IsEnough c.self.inside.job (Moves c.in-Moves.i) c.self.inside.read.room = rw c.in-Moves.is at c.self.invariant.enough in
-    rw (c.phase_replied-self-inside.ensures, c.append.ensures) (sound_after c.self.inside.job c.in-Moves.i c.self.inside.read.room
-    c.self.inside.read.items c.args.reply.now c.self.invariant.placed had (form at c.if-accepts.true) c.accepts.ensures.small enough)
+    let had : HasRoom c.self.inside.job (Moves c.in-Moves.i) c.self.inside.read.items = rw c.in-Moves.is at c.self.invariant.sound.read in
+    let enough : IsEnough c.self.inside.job (Moves c.in-Moves.i) c.self.inside.read.room = rw c.in-Moves.is at c.self.invariant.sound.enough in
+    rw (c.phase_replied-self-inside.ensures, c.append.ensures) (record {
+      sound = sound_after c.self.inside.job c.in-Moves.i c.self.inside.read.room c.self.inside.read.items c.args.reply.now
+          c.self.invariant.sound.placed had (form at c.if-accepts.true) c.accepts.ensures.small enough;
+      of_aim = c.self.invariant.of_aim;
+      of_count = c.self.invariant.of_count;
+    })
