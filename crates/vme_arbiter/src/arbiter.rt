@@ -160,6 +160,7 @@ impl Object for Arbiter {
 
     ghost step = { turn_step };
 
+    #[inline(always)]
     fn apply(&mut self, cmd: &ArbCmd) -> ArbReply {
         match *cmd {
             ArbCmd::Ask { slot, level } => self.ask(slot, level),

@@ -1,14 +1,18 @@
 -- A deed for a board that is there is a call of the machine.
-use Rattle.std.proofs.Common.{◌≡◌, ℕ, ◌<◌, ◌↔◌, ◌-◌, ◌^◌, Bool, true, length, set, slice_index_or, Option, Some, refl, ap, sym, subst, ◌∙◌}
+use Rattle.std.proofs.Common.{◌≡◌, ◌≢◌, ℕ, ◌<◌, ◌↔◌, ◌-◌, ◌^◌, Bool, true, length, set, slice_index_or, Option, Some, Result, Ok, Err, refl, ap, sym, subst, ◌∙◌}
 use Rattle.std.specs.Prelude.{slice_get}
 use Rattle.std.specs.Option.{option_map}
+use Rattle.std.specs.Result.{IsOk, IsErr}
 use Rattle.std.proofs.lemmas.Option.{slice_get-map, slice_get_read}
 use Rattle.vme_memory.specs.declared.reply.Reply.{Reply}
 use Rattle.vme_memory.specs.Steps.{Command}
 use Rattle.vme_memory.specs.Boards.{Board}
 use Rattle.vme_core.specs.declared.event.Deed.{Deed}
+use Rattle.vme_core.specs.declared.event.EventReply.{EventReply}
 use Rattle.vme_core.specs.declared.event.EventReply.TheVariants as told
+use Rattle.vme_core.specs.declared.event.Target.{Target}
 use Rattle.vme_core.specs.declared.event.Target.TheVariants as at
+use Rattle.vme_core.specs.declared.fault.Spent.{Spent}
 use Rattle.vme_core.specs.Tallies.{Tally}
 use Rattle.vme_core.specs.Runs.{Machine}
 use Rattle.vme_core.specs.Calls.{OnBoard, command_step, counted_step, machine_step}
@@ -40,3 +44,9 @@ board_spent m self deed x b spent same is there own when =
     let steps : steps_of m (at.Board x) ≡ Some b.steps
     = slice_get-map (λ (b : Tally Board). b.steps) m.boards x ∙ ap (option_map (λ (b : Tally Board). b.steps)) (found m x b within own) in
     rw (← same, is, steps) ((λ yes. ap Some (when.0 yes)), (λ all. when.1 (let n = all in cc)))
+
+-- what can be counted is replied to
+pub is_counted : (machine : Machine) (target : Target) (result : Result EventReply Spent) → steps_of machine target ≢ Some (2 ^ 64 - 1)
+    → IsErr result ↔ (steps_of machine target ≡ Some (2 ^ 64 - 1)) → IsOk result
+is_counted machine target (Ok reply) unspent spent = refl
+is_counted machine target (Err fault) unspent spent = absurd (unspent (spent.0 refl))

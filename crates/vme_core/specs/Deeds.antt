@@ -1,12 +1,14 @@
 -- What a deed asks, and of what.
-use Rattle.std.specs.Prelude.{Some}
+use Rattle.std.specs.Prelude.{◌≢◌, ◌-◌, ◌^◌, Some}
 use Rattle.vme_memory.specs.Access.{accessed}
 use Rattle.vme_memory.specs.Locals.{command_given}
 use Rattle.vme_core.specs.declared.event.Deed.{Deed}
 use Rattle.vme_core.specs.declared.event.Deed.TheVariants as deeds
 use Rattle.vme_core.specs.declared.event.Target.{Target}
 use Rattle.vme_core.specs.declared.event.Target.TheVariants as at
+use Rattle.vme_core.specs.Runs.{Machine}
 use Rattle.vme_core.specs.Calls.{Call, OnBoard, OnBus}
+use Rattle.vme_core.specs.Machines.{IsThere, steps_of}
 
 -- the call that a deed makes (this project's own)
 abbrev pub call_asked : Deed → Call
@@ -19,3 +21,13 @@ abbrev pub target_of_deed : Deed → Target
 target_of_deed (deeds.Board board cmd) = at.Board board
 target_of_deed (deeds.Datum board access) = at.Board board
 target_of_deed (deeds.Bus cmd) = at.Bus
+
+-- what a call is given to (this project's own)
+abbrev pub target_of_call : Call → Target
+target_of_call (OnBoard board command) = at.Board board
+target_of_call (OnBus cmd) = at.Bus
+
+-- an object is there, and can count a further step (this project's own)
+pub record CanCount (machine : Machine) (target : Target) : Type 0 where
+  pub there : IsThere machine target
+  pub unspent : steps_of machine target ≢ Some (2 ^ 64 - 1)

@@ -47,6 +47,7 @@ impl<O: Object> Counted<O> {
     }
 
     /// Takes a command and counts it. Where no further step can be counted, nothing is done.
+    #[inline(always)]
     pub(crate) fn apply(&mut self, who: usize, cmd: &O::Cmd) -> Result<O::Reply, Spent>
         requires who { who < length self.old.made }
         ensures step { IfOk result (λ reply. (self.new, reply) ≡ counted_step O.step self.old who cmd.now) }
@@ -107,6 +108,7 @@ impl<O: Object> Counted<O> {
 impl Counted<ByteMemory> {
     /// Answers one datum of a transfer and counts it. Where no further step can be counted, nothing
     /// is done.
+    #[inline(always)]
     pub(crate) fn access(&mut self, who: usize, access: &Access<'_>) -> Result<Reply, Spent>
         requires who { who < length self.old.made }
         ensures step { IfOk result (λ reply. (self.new, reply)

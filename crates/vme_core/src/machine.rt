@@ -4,7 +4,7 @@ ghost use Rattle.vme_arbiter.specs.Arbitration.{opening_bus};
 ghost use Rattle.vme_core.specs.Tallies.{fresh_tally};
 ghost use Rattle.vme_core.specs.Runs.{Did, move, target_of};
 ghost use Rattle.vme_core.specs.Calls.{call_of, machine_step};
-ghost use Rattle.vme_core.specs.Deeds.{call_asked, target_of_deed};
+ghost use Rattle.vme_core.specs.Deeds.{call_asked, target_of_deed, CanCount};
 ghost use Rattle.vme_core.specs.Machines.{opening, whos, IsThere, steps_of, counts_of, made_of, HasRun};
 
 use crate::counted::Counted;
@@ -80,6 +80,7 @@ impl Core {
 
     /// One deed of `who`, and the reply to it: the same as to an event that asks the same. Where the
     /// object can count no further step, nothing is done.
+    #[inline(always)]
     pub fn make(&mut self, who: usize, deed: &Deed<'_>) -> Result<EventReply, Spent>
         requires who { who < whos self.old }
         requires there { IsThere self.old (target_of_deed deed.now) }
@@ -98,6 +99,19 @@ impl Core {
             }
             Deed::Bus(cmd) => Ok(EventReply::Bus(self.bus.apply(who, cmd)?)),
         }
+    }
+
+    /// One deed of `who` which its object can count, and the reply to it.
+    #[inline(always)]
+    #[tactic(auto, using(crate::proofs::Deeds::is_counted))]
+    pub fn reply(&mut self, who: usize, deed: &Deed<'_>) -> EventReply
+        requires who { who < whos self.old }
+        requires can { CanCount self.old (target_of_deed deed.now) }
+        ensures step { (self.new, result) ≡ machine_step self.old who (call_asked deed.now) }
+        ensures boards { length self.new.boards ≡ length self.old.boards }
+        ensures whos { whos self.new ≡ whos self.old }
+    {
+        self.make(who, deed).unwrap()
     }
 
     /// Events one after another, each with who gives it; their replies are appended. Room for all of

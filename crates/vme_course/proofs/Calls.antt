@@ -1,16 +1,24 @@
 -- What a line does next, by the event and the answer that it gives.
-use Rattle.std.proofs.Common.{◌≡◌, ◌≢◌, false, true, is_some, Option, Some, None, refl, sym}
+use Rattle.std.proofs.Common.{◌≡◌, ◌≢◌, ℕ, false, true, is_some, Option, Some, None, refl, sym}
 use Rattle.std.specs.Option.{IsSome, option_map}
 use Rattle.vme_core.specs.declared.event.Event.{Event}
 use Rattle.vme_core.specs.declared.event.Deed.{Deed}
 use Rattle.vme_core.specs.Calls.{Call, call_of}
-use Rattle.vme_core.specs.Deeds.{call_asked}
+use Rattle.vme_core.specs.declared.event.Deed.TheVariants as deeds
+use Rattle.vme_core.specs.Runs.{Machine}
+use Rattle.vme_core.specs.Deeds.{call_asked, target_of_deed, target_of_call, CanCount}
+use Rattle.vme_core.specs.declared.event.EventReply.{EventReply}
+use Rattle.vme_master.specs.Tables as tasks
+use Rattle.vme_master.specs.Tables.{Next}
+use Rattle.vme_master.specs.Machine.{TaskView, advance, to_do}
+use Rattle.vme_master.specs.Events as tasks_seen
 use Rattle.vme_shared.specs.declared.reply.LineReply.{LineReply}
 use Rattle.vme_course.specs.declared.task.LineTask.{LineTask}
 use Rattle.vme_course.specs.declared.task.LineTask.TheVariants.{Refused, Tries, Over}
 use Rattle.vme_course.specs.declared.attempt.Attempts.{Attempts}
-use Rattle.vme_course.specs.Tables.{LineNext, Rests, Makes, Ends}
-use Rattle.vme_course.specs.Machine.{line_to_do, line_taken, attempt_to_do, attempts_taken}
+use Rattle.vme_course.specs.Tables.{LineNext, Rests, Makes, Ends, moves_next, next_asks_again}
+use Rattle.vme_course.specs.declared.attempt.AttemptTask.TheVariants.{Moves}
+use Rattle.vme_course.specs.Machine.{line_to_do, line_taken, attempt_to_do, attempts_taken, attempts_advance}
 use Rattle.vme_course.specs.Events.{call_in, answer_in, MakesCall}
 
 -- its event is that of its call
@@ -90,3 +98,25 @@ attempts_end a (Ends answer) is = refl
 
 pub is_taken : (a : Attempts) → is_some (answer_in (attempt_to_do a.attempt)) ≡ true → Over ≡ line_taken (Tries a)
 is_taken a is = sym (attempts_end a (attempt_to_do a.attempt) is)
+
+-- what a transfer or a command calls is what its task calls
+pub moves_call : (next : Next) → call_in (moves_next next) ≡ tasks_seen.call_in next
+moves_call tasks.Rests = refl
+moves_call (tasks.Makes call) = refl
+moves_call (tasks.Ends outcome) = refl
+
+-- and it is attempted once
+moves_once : (next : Next) → next_asks_again (moves_next next) ≡ false
+moves_once tasks.Rests = refl
+moves_once (tasks.Makes call) = refl
+moves_once (tasks.Ends outcome) = refl
+
+pub moves_on : (t : TaskView) (left : ℕ) (given : Option EventReply)
+    → record { attempt = Moves (advance t given); left = left } ≡ attempts_advance (record { attempt = Moves t; left = left }) given
+moves_on t left given = rw (moves_once (to_do (advance t given))) refl
+
+-- what a deed is given to is what its call is given to
+pub asked_of : (machine : Machine) (deed : Deed) → CanCount machine (target_of_call (call_asked deed)) → CanCount machine (target_of_deed deed)
+asked_of machine (deeds.Board board cmd) can = can
+asked_of machine (deeds.Datum board access) can = can
+asked_of machine (deeds.Bus cmd) can = can

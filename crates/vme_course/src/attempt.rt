@@ -1,13 +1,14 @@
 //! Attempts at a line, one after another.
-ghost use Rattle.std.specs.Prelude.{◌≡◌, ◌≢◌, option_map, option_copied, is_some, true};
-ghost use Rattle.vme_core.specs.Calls.{call_of};
-ghost use Rattle.vme_core.specs.Deeds.{call_asked};
+ghost use Rattle.std.specs.Prelude.{◌≡◌, ◌≢◌, ◌<◌, length, option_map, option_copied, is_some, true, Some, IfSome};
+ghost use Rattle.vme_core.specs.Calls.{Call, call_of, machine_step};
+ghost use Rattle.vme_core.specs.Deeds.{call_asked, target_of_call, CanCount};
+ghost use Rattle.vme_core.specs.Machines.{whos};
 ghost use Rattle.vme_course.specs.Tables.{Rests, next_asks_again};
 ghost use Rattle.vme_course.specs.Machine.{attempt_anew, attempt_advance, attempt_to_do, attempts_advance};
 ghost use Rattle.vme_course.specs.Events.{call_in, answer_in};
 
 use crate::wait::WaitTask;
-use vme_core::{Deed, Event, EventReply};
+use vme_core::{Core, Deed, Event, EventReply};
 use vme_master::Task;
 use vme_shared::{LineReply, SharedOutcome, SharedTask};
 
@@ -44,6 +45,53 @@ impl Attempts<'_> {
             self.attempt.again();
             self.attempt.give(None);
         }
+    }
+
+    /// The attempt at work makes its call on boards and arbiter, where it makes one, and is given the
+    /// reply. A transfer or a command, which is attempted once, does so by itself.
+    #[inline(always)]
+    #[tactic(auto, using(crate::proofs::Calls::moves_call, crate::proofs::Calls::moves_on))]
+    pub(crate) fn make(&mut self, core: &mut Core, who: usize)
+        requires who { who < whos core.old }
+        requires can { IfSome (call_in (attempt_to_do self.old.attempt))
+            (λ call. CanCount core.old (target_of_call call)) }
+        ensures machine { (call : Call) → call_in (attempt_to_do self.old.attempt) ≡ Some call →
+            core.new ≡ (machine_step core.old who call).0 }
+        ensures task { (call : Call) → call_in (attempt_to_do self.old.attempt) ≡ Some call →
+            self.new ≡ attempts_advance self.old (Some (machine_step core.old who call).1) }
+        ensures begun { (call : Call) → call_in (attempt_to_do self.old.attempt) ≡ Some call →
+            attempt_to_do self.new.attempt ≢ Rests }
+        ensures boards { length core.new.boards ≡ length core.old.boards }
+        ensures whos { whos core.new ≡ whos core.old }
+    {
+        if let AttemptTask::Moves(task) = &mut self.attempt {
+            task.make(core, who);
+        } else {
+            self.make_in_attempts(core, who);
+        }
+    }
+
+    /// The same of what may be attempted again.
+    #[inline(never)]
+    #[tactic(auto, using(crate::proofs::Calls::asked_of))]
+    fn make_in_attempts(&mut self, core: &mut Core, who: usize)
+        requires who { who < whos core.old }
+        requires can { IfSome (call_in (attempt_to_do self.old.attempt))
+            (λ call. CanCount core.old (target_of_call call)) }
+        ensures machine { (call : Call) → call_in (attempt_to_do self.old.attempt) ≡ Some call →
+            core.new ≡ (machine_step core.old who call).0 }
+        ensures task { (call : Call) → call_in (attempt_to_do self.old.attempt) ≡ Some call →
+            self.new ≡ attempts_advance self.old (Some (machine_step core.old who call).1) }
+        ensures begun { (call : Call) → call_in (attempt_to_do self.old.attempt) ≡ Some call →
+            attempt_to_do self.new.attempt ≢ Rests }
+        ensures boards { length core.new.boards ≡ length core.old.boards }
+        ensures whos { whos core.new ≡ whos core.old }
+    {
+        let Some(deed) = &self.attempt.deed() else {
+            return;
+        };
+        let reply = core.reply(who, deed);
+        self.give(Some(&reply));
     }
 }
 

@@ -1,12 +1,13 @@
-ghost use Rattle.std.specs.Prelude.{◌≡◌, ◌≢◌, ◌≤◌, ◌+◌, [], ◌∷◌, ◌++◌, length, Ok, Some, None, IsTrue, option_map, option_copied, is_some};
+ghost use Rattle.std.specs.Prelude.{◌≡◌, ◌≢◌, ◌<◌, ◌≤◌, ◌+◌, [], ◌∷◌, ◌++◌, length, Ok, Some, None, IfSome, IsTrue, option_map, option_copied, is_some};
 ghost use Rattle.vme_block.specs.Rooms.{short_room};
 ghost use Rattle.vme_cycle.specs.Requests.{reply_room};
 ghost use Rattle.vme_cycle.specs.Lawful.{Transfer as LawfulRequest, transfer_of};
 ghost use Rattle.vme_core.specs.declared.event.EventReply.TheVariants as told;
 ghost use Rattle.vme_master.specs.declared.job.Job.{Job as AnyJob};
 ghost use Rattle.vme_master.specs.Jobs.{bus_job, local_job};
-ghost use Rattle.vme_core.specs.Calls.{call_of};
-ghost use Rattle.vme_core.specs.Deeds.{call_asked};
+ghost use Rattle.vme_core.specs.Calls.{Call, OnBus, call_of, machine_step};
+ghost use Rattle.vme_core.specs.Deeds.{call_asked, target_of_call, CanCount};
+ghost use Rattle.vme_core.specs.Machines.{whos};
 ghost use Rattle.vme_master.specs.Tables.{Given, Rests, next_of};
 ghost use Rattle.vme_master.specs.Machine.{bytes_of, fresh_task, bus_task, advance, task_given, to_do, is_called, job_room, IsPlaced};
 ghost use Rattle.vme_master.specs.Events.{next_in, call_in, outcome_in, read_in, given_out};
@@ -18,9 +19,9 @@ use crate::phase::Phase;
 use crate::todo::Todo;
 use std::marker::Model;
 use std::mem;
-use vme_arbiter::ArbReply;
+use vme_arbiter::{ArbCmd, ArbReply};
 use vme_block::Room;
-use vme_core::{Deed, Event, EventReply};
+use vme_core::{Core, Deed, Event, EventReply, Target};
 use vme_cycle::{CycleFault, Request, Transfer};
 use vme_decode::AddressMap;
 use vme_memory::{BoardCmd, Reply};
@@ -163,6 +164,65 @@ impl<'a> Task<'a> {
         ensures { option_map call_asked result ≡ call_in (to_do self.now) }
     {
         self.job.deed(self.phase)
+    }
+
+    /// Makes its call on boards and arbiter, where it makes one, and is given the reply: as by `deed`
+    /// and `give`, but faster, since neither the deed nor the reply is laid out in between.
+    #[inline(always)]
+    pub fn make(&mut self, core: &mut Core, who: usize)
+        requires who { who < whos core.old }
+        requires can { IfSome (call_in (to_do self.old)) (λ call. CanCount core.old (target_of_call call)) }
+        ensures machine { (call : Call) → call_in (to_do self.old) ≡ Some call →
+            core.new ≡ (machine_step core.old who call).0 }
+        ensures task { (call : Call) → call_in (to_do self.old) ≡ Some call →
+            self.new ≡ advance self.old (Some (machine_step core.old who call).1) }
+        ensures begun { (call : Call) → call_in (to_do self.old) ≡ Some call → to_do self.new ≢ Rests }
+        ensures boards { length core.new.boards ≡ length core.old.boards }
+        ensures whos { whos core.new ≡ whos core.old }
+    {
+        match (&self.job, self.phase) {
+            (Job::Bus(job), Phase::Asks) => {
+                let (slot, level) = (job.slot, job.level);
+                self.tell(core, who, ArbCmd::Ask { slot, level });
+            }
+            (Job::Bus(job), Phase::Looks) => {
+                let slot = job.slot;
+                self.tell(core, who, ArbCmd::Look { slot });
+            }
+            (Job::Bus(job), Phase::Frees { .. }) => {
+                let slot = job.slot;
+                self.tell(core, who, ArbCmd::Done { slot });
+            }
+            (Job::Bus(job), Phase::Moves { i }) => {
+                let Some((board, offset)) = job.place else {
+                    let slot = job.slot;
+                    return self.tell(core, who, ArbCmd::Done { slot });
+                };
+                let reply = core.reply(who, &job.moves_to(board, offset, i));
+                self.give(Some(&reply));
+            }
+            (Job::Local(job), Phase::Moves { .. }) => {
+                let (board, cmd) = (job.board, &job.cmd);
+                let reply = core.reply(who, &Deed::Board { board, cmd });
+                self.give(Some(&reply));
+            }
+            _ => {}
+        }
+    }
+
+    /// Gives the arbiter a command, and is given its reply.
+    #[inline(always)]
+    fn tell(&mut self, core: &mut Core, who: usize, cmd: ArbCmd)
+        requires who { who < whos core.old }
+        requires can { CanCount core.old Target.Bus }
+        ensures machine { core.new ≡ (machine_step core.old who (OnBus cmd)).0 }
+        ensures task { self.new ≡ advance self.old (Some (machine_step core.old who (OnBus cmd)).1) }
+        ensures begun { to_do self.new ≢ Rests }
+        ensures boards { length core.new.boards ≡ length core.old.boards }
+        ensures whos { whos core.new ≡ whos core.old }
+    {
+        let reply = core.reply(who, &Deed::Bus(cmd));
+        self.give(Some(&reply));
     }
 
     /// Whether it has ended. A driver that asks this first moves no outcome that is none.

@@ -12,7 +12,7 @@ ghost use Rattle.vme_runner.specs.Drivers.{lane_turn, IsLaneOf, StepsWithin};
 
 use std::alloc::{AllocError, Global};
 use std::marker::Model;
-use vme_core::{Core, EventReply};
+use vme_core::Core;
 use vme_course::{LineTask, Rooms};
 use vme_script::{Config, Script};
 use vme_shared::LineReply;
@@ -129,6 +129,8 @@ impl<'a> Lane<'a> {
     }
 
     /// The line at work makes its event, if one is.
+    #[inline(always)]
+    #[tactic(auto, using(crate::proofs::Calls::can_make))]
     fn make(&mut self, core: &mut Core, board: usize)
         requires who { board < whos core.old }
         requires below { IfSome self.old.at (IsLineBelow (length core.old.boards)) }
@@ -145,8 +147,7 @@ impl<'a> Lane<'a> {
         let Some(task) = &mut self.task else {
             return;
         };
-        let reply = reply_to(task, core, board);
-        task.give(Some(&reply));
+        task.make(core, board);
         if task.is_over() {
             let answer = task.take_answer().unwrap();
             put_answer(&mut self.lines, self.ended, answer);
@@ -154,26 +155,6 @@ impl<'a> Lane<'a> {
             let_go(&mut self.task);
         }
     }
-}
-
-/// The core's reply to what the event of a line asks.
-#[inline(always)]
-#[tactic(auto, using(crate::proofs::Calls::is_counted, crate::proofs::Calls::has_deed))]
-fn reply_to(task: &LineTask<'_>, core: &mut Core, board: usize) -> EventReply
-    requires who { board < whos core.old }
-    requires makes { MakesCall (line_to_do task.now) }
-    requires below { IsLineBelow (length core.old.boards) task.now }
-    requires room { StepsWithin (2 ^ 64 - 2) core.old }
-    ensures step { (call : Call) → line_to_do task.now ≡ Makes call →
-        (core.new, result) ≡ machine_step core.old board call }
-    ensures whos { whos core.new ≡ whos core.old }
-    ensures boards { length core.new.boards ≡ length core.old.boards }
-{
-    // Taken where it lies: to move it out would take longer than to make it.
-    let Some(deed) = &task.deed() else {
-        unreachable!()
-    };
-    core.make(board, deed).unwrap()
 }
 
 /// Lets the task of a line go, in its place.

@@ -1,10 +1,12 @@
 use Rattle.std.proofs.Common.{◌≡◌, ℕ, List, length, Option, sym, ◌∙◌, ap, slice_set, slice_index_or}
 use Rattle.std.specs.Vec.{with_items}
 use Rattle.std.proofs.lemmas.List.{with_items_is, length-set}
+use Rattle.vme_core.specs.Calls.{machine_step}
 use Rattle.vme_shared.specs.declared.reply.LineReply.{LineReply}
 use Rattle.vme_script.specs.declared.script.ScriptLine.{ScriptLine}
 use Rattle.vme_course.specs.declared.task.LineTask.{LineTask}
 use Rattle.vme_course.specs.Machine.{line_to_do}
+use Rattle.vme_course.specs.Events.{call_in}
 use Rattle.vme_course.proofs.Calls.{at_work, its_call, ends_so}
 use Rattle.vme_runner.specs.Drivers.{LaneView}
 use Rattle.vme_runner.proofs.Turning.{turn_goes_on, turn_ends}
@@ -14,17 +16,37 @@ use Rattle.vme_runner.proofs.lane.Lane.make.Goals as goal
 abbrev lane_with : List ScriptLine → List (ℕ × LineReply) → ℕ → Option LineTask → LaneView
 lane_with script lines ended at = record { script = script; lines = lines; ended = ended; at = at }
 
+-- it makes another call next
+pub invariant_of-self-else-is_over : goal.invariant_of-self-else-is_over
+invariant_of-self-else-is_over c =
+    let sound = rw c.in-Some.is at c.self.invariant.work in
+    let call = its_call (line_to_do c.in-Some.task) sound.1 in
+    let called = ap call_in (sym call.1) in
+    record {
+      work = (sound.0, at_work (line_to_do c.make.new.self) (c.make.ensures.begun call.0 called) (sym c.is_over.ensures ∙ c.if-is_over.false));
+      left = rw c.in-Some.is at c.self.invariant.left;
+    }
+
+pub returns-else-is_over-clause-below : goal.returns-else-is_over-clause-below
+returns-else-is_over-clause-below c =
+    let sound = rw c.in-Some.is at c.self.invariant.work in
+    let call = its_call (line_to_do c.in-Some.task) sound.1 in
+    c.make.ensures.below call.0 (length c.args.core.now.boards) (ap call_in (sym call.1)) (rw (← c.self.view_is, c.in-Some.is) at c.requires.below)
+
 pub returns-else-is_over-clause-turn : goal.returns-else-is_over-clause-turn
 returns-else-is_over-clause-turn c =
     let sound = rw c.in-Some.is at c.self.invariant.work in
     let is = ap (lane_with c.self.inside.script.now c.self.inside.lines.items c.self.inside.ended) (sym c.in-Some.is) ∙ c.self.view_is in
     let call = its_call (line_to_do c.in-Some.task) sound.1 in
-    let step = c.reply_to-reply.ensures.step call.0 (sym call.1) in
-    let next = its_call (line_to_do c.give.new.self)
-    (at_work (line_to_do c.give.new.self) c.give.ensures.begun (sym c.is_over.ensures ∙ c.if-is_over.false)) in
+    let reply = (machine_step c.args.core.now c.args.board call.0).1 in
+    let called = ap call_in (sym call.1) in
+    let step = ap (λ machine. (machine, reply)) (c.make.ensures.machine call.0 called) in
+    let given = c.make.ensures.task call.0 called in
+    let next = its_call (line_to_do c.make.new.self)
+    (at_work (line_to_do c.make.new.self) (c.make.ensures.begun call.0 called) (sym c.is_over.ensures ∙ c.if-is_over.false)) in
     λ config lane over.
-    turn_goes_on config c.args.board c.args.core.now c.reply_to-reply.new.core c.args.self.now c.self.inside.script.now c.self.inside.lines.items c.self.inside.ended c.in-Some.task
-    c.give.new.self call.0 next.0 c.reply_to-reply.result is lane.lines sound.0 (sym call.1) step c.give.ensures.task next.1
+    turn_goes_on config c.args.board c.args.core.now c.make.new.core c.args.self.now c.self.inside.script.now c.self.inside.lines.items c.self.inside.ended c.in-Some.task
+    c.make.new.self call.0 next.0 reply is lane.lines sound.0 (sym call.1) step given next.1
 
 pub returns-then-is_over-clause-turn : goal.returns-then-is_over-clause-turn
 returns-then-is_over-clause-turn c =
@@ -32,7 +54,10 @@ returns-then-is_over-clause-turn c =
     let sound = rw c.in-Some.is at c.self.invariant.work in
     let is = ap (lane_with c.self.inside.script.now c.self.inside.lines.items c.self.inside.ended) (sym c.in-Some.is) ∙ c.self.view_is in
     let call = its_call (line_to_do c.in-Some.task) sound.1 in
-    let step = c.reply_to-reply.ensures.step call.0 (sym call.1) in
+    let reply = (machine_step c.args.core.now c.args.board call.0).1 in
+    let called = ap call_in (sym call.1) in
+    let step = ap (λ machine. (machine, reply)) (c.make.ensures.machine call.0 called) in
+    let given = c.make.ensures.task call.0 called in
     let put : c.put_answer.new.lines ≡ slice_set c.self.inside.lines.items c.self.inside.ended
     ((slice_index_or c.self.inside.lines.items c.self.inside.ended (0, answer)).0, answer)
     = rw c.deref_mut.ensures.value at c.put_answer.ensures in
@@ -40,6 +65,6 @@ returns-then-is_over-clause-turn c =
     = with_items_is c.self.inside.lines c.put_answer.new.lines (ap length c.put_answer.ensures ∙ length-set _ _ _ ∙ c.deref_mut.ensures.len) in
     λ config lane over.
     rw (lines, put, c.let_go.ensures)
-    (turn_ends config c.args.board c.args.core.now c.reply_to-reply.new.core c.args.self.now c.self.inside.script.now c.self.inside.lines.items c.self.inside.ended c.in-Some.task
-    c.give.new.self call.0 answer c.reply_to-reply.result is lane.lines sound.0 (sym call.1) step c.give.ensures.task
-    (ends_so (line_to_do c.give.new.self) answer (rw c.unwrap-answer.ensures at c.take_answer.ensures.answer)))
+    (turn_ends config c.args.board c.args.core.now c.make.new.core c.args.self.now c.self.inside.script.now c.self.inside.lines.items c.self.inside.ended c.in-Some.task
+    c.make.new.self call.0 answer reply is lane.lines sound.0 (sym call.1) step given
+    (ends_so (line_to_do c.make.new.self) answer (rw c.unwrap-answer.ensures at c.take_answer.ensures.answer)))

@@ -18,14 +18,14 @@ pub loop-preserved : goal.loop-preserved
 loop-preserved g c =
     let n = length c.args.config.now.boards in
     at_more c.args.config.now c.args.line c.args.self.now c.loop.self c.make.new.self c.in-Some-event.event c.in_ok-reply.reply c.loop.task
-    c.give-in-loop.new.self c.loop.invariant c.in-Some-event.ensures.event c.in_ok-reply.ensures c.give-in-loop.ensures.task
+    c.give-in-loop.new.self c.loop.invariant (rw c.in-Some-event.is at c.event.ensures.event) c.in_ok-reply.ensures c.give-in-loop.ensures.task
     c.give-in-loop.ensures.begun (c.give-in-loop.ensures.below n c.loop.invariant.below)
 
 pub loop-preserved-in-loop : goal.loop-preserved-in-loop
 loop-preserved-in-loop g c =
     let n = length c.args.config.now.boards in
     at_more c.args.config.now c.args.line c.args.self.now c.loop.self c.make.new.self c.in-Some-event.event c.in_ok-reply.reply c.loop.task
-    c.give-in-loop.new.self c.loop.invariant c.in-Some-event.ensures.event c.in_ok-reply.ensures c.give-in-loop.ensures.task
+    c.give-in-loop.new.self c.loop.invariant (rw c.in-Some-event.is at c.event.ensures.event) c.in_ok-reply.ensures c.give-in-loop.ensures.task
     c.give-in-loop.ensures.begun (c.give-in-loop.ensures.below n c.loop.invariant.below)
 
 pub returns-in_default : goal.returns-in_default
@@ -34,4 +34,4 @@ returns-in_default g c =
     (rw c.unwrap.ensures at c.take_answer.ensures.answer)
 
 pub unwrap-requires : goal.unwrap-requires
-unwrap-requires g c = has_answer (line_to_do c.loop.task) c.take_answer.result c.loop.invariant.begun c.in_default.ensures.event c.take_answer.ensures.answer
+unwrap-requires g c = has_answer (line_to_do c.loop.task) c.take_answer.result c.loop.invariant.begun (rw c.in_default.is at c.event.ensures.event) c.take_answer.ensures.answer
