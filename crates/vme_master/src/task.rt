@@ -339,7 +339,8 @@ fn append(read: &mut Room, reply: &Reply)
 {
     if let Reply::Bytes(datum) = reply {
         match datum.as_slice() {
-            // Most data have four bytes: as a literal they are copied at once.
+            // As literals, so that few bytes are copied in place.
+            [a] => read.push_all(&[*a]),
             [a, b, c, d] => read.push_all(&[*a, *b, *c, *d]),
             bytes => read.push_all(bytes),
         }

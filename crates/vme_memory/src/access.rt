@@ -104,6 +104,7 @@ impl ByteMemory {
 }
 
 /// The location of so many bytes at an offset, if a cycle over four lanes has them.
+#[inline(always)]
 #[tactic(auto, using(crate::proofs::Places::none_longer))]
 fn location_of(at: u32, len: usize) -> Option<Location>
     ensures value { result ≡ location_at at len }

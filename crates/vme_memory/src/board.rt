@@ -208,6 +208,7 @@ impl ByteMemory {
 
     /// Whether the bytes of a location, from `at` on, lie within the board and its class has the
     /// cycle.
+    #[inline(always)]
     #[tactic(auto, using(crate::proofs::Places::place_found))]
     fn reaches(&self, location: Location, at: u32) -> bool
         requires { (row_of location).first ≡ at % 4 }
@@ -217,6 +218,7 @@ impl ByteMemory {
         self.fits(at, location.len()) && self.class.answers(location)
     }
 
+    #[inline(always)]
     fn fits(&self, at: u32, len: u8) -> bool
         ensures { result ≡ fits self.now at len }
     {
@@ -240,6 +242,7 @@ impl ByteMemory {
         Reply::Bytes(self.storage.read(location, at))
     }
 
+    #[inline(always)]
     fn has_block(&self, location: Location, at: u32) -> bool
         ensures { result ≡ (is_block_place at (row_of location).len && self.now.class.blt) }
     {

@@ -80,6 +80,7 @@ impl Storage {
     }
 
     /// Reads the bytes of a location from one word. `at` is the offset of the first.
+    #[inline(always)]
     #[tactic(auto, using(crate::proofs::Words::words_len, crate::proofs::Words::word_there, crate::proofs::Parts::part_at))]
     pub(crate) fn read(&self, location: Location, at: u32) -> Datum
         requires place { (row_of location).first ≡ at % 4 }
@@ -93,6 +94,7 @@ impl Storage {
 
     /// Changes the bytes of a location in one word to those of another word. `at` is the offset of
     /// the first.
+    #[inline(always)]
     #[tactic(auto, using(crate::proofs::Words::words_len, crate::proofs::Words::word_there, crate::proofs::Parts::merged_at))]
     pub(crate) fn write(&mut self, location: Location, at: u32, new: u32)
         requires place { (row_of location).first ≡ at % 4 }
