@@ -27,12 +27,6 @@ makes_event Rests event is = absurd cc
 makes_event (Makes call) event is = cc
 makes_event (Ends answer) event is = absurd cc
 
--- and so is that of its deed
-pub makes_deed : (next : LineNext) (deed : Deed) → Some (call_asked deed) ≡ call_in next → next ≡ Makes (call_asked deed)
-makes_deed Rests deed is = absurd cc
-makes_deed (Makes call) deed is = cc
-makes_deed (Ends answer) deed is = absurd cc
-
 -- where it makes a call there is an event
 pub has_event : (next : LineNext) (event : Option Event) → MakesCall next → option_map call_of event ≡ call_in next → IsSome event
 has_event Rests event makes is = absurd makes

@@ -336,7 +336,7 @@ impl Job<'_> {
         requires count { count ≡ call_count self.now }
         ensures { result ≡ phase_replied self.now i reply.now }
     {
-        prove!(i < self.count());
+        prove!(i < count);
         match (self, reply) {
             (_, Reply::Bytes(_) | Reply::Done) => self.at(i + 1, count),
             (Job::Bus(_), Reply::Berr) => Phase::Frees { berr: Some(i) },

@@ -311,7 +311,7 @@ impl<'a> Task<'a> {
     {
         match self.phase {
             Phase::Moves { i } if self.aim.accepts(reply) => {
-                prove!(i < self.job.count());
+                prove!(i < self.count);
                 append(&mut self.read, reply);
                 self.phase = self.job.phase_replied(i, reply, self.count);
             }

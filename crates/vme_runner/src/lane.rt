@@ -1,12 +1,11 @@
 //! The way of one processor through its script.
-ghost use Rattle.std.specs.Prelude.{◌≡◌, ℕ, ◌<◌, ◌≤◌, ◌-◌, ◌^◌, length, map, slice_set, slice_index_or, Some, None, IfOk, IfSome, IsTrue};
+ghost use Rattle.std.specs.Prelude.{◌≡◌, ℕ, ◌<◌, ◌≤◌, ◌-◌, ◌^◌, length, map, slice_set, slice_index_or, is_some, true, Some, None, IfOk, IfSome, IsTrue};
 ghost use Rattle.vme_shared.specs.declared.reply.LineReply.TheVariants.{Unfinished};
 ghost use Rattle.vme_core.specs.Runs.{Machine};
 ghost use Rattle.vme_core.specs.Machines.{whos};
 ghost use Rattle.vme_script.specs.Configurations.{Configuration};
-ghost use Rattle.vme_core.specs.Calls.{Call, machine_step};
-ghost use Rattle.vme_course.specs.Tables.{Makes};
-ghost use Rattle.vme_course.specs.Events.{MakesCall};
+ghost use Rattle.vme_course.specs.Tables.{Ends};
+ghost use Rattle.vme_course.specs.Events.{answer_in};
 ghost use Rattle.vme_course.specs.Machine.{line_to_do, IsLineBelow};
 ghost use Rattle.vme_runner.specs.Drivers.{lane_turn, IsLaneOf, StepsWithin};
 
@@ -149,8 +148,7 @@ impl<'a> Lane<'a> {
         };
         task.make(core, board);
         if task.is_over() {
-            let answer = task.take_answer().unwrap();
-            put_answer(&mut self.lines, self.ended, answer);
+            put_answer_of(&mut self.lines, self.ended, task);
             self.ended += 1;
             let_go(&mut self.task);
         }
@@ -163,6 +161,19 @@ fn let_go(task: &mut Option<LineTask<'_>>)
     ensures { task.new ≡ None }
 {
     *task = None;
+}
+
+/// Puts the answer of a line that is over at its place. Out of line, so that a turn has no room for it.
+#[inline(never)]
+#[tactic(auto, using(crate::proofs::Calls::its_own))]
+fn put_answer_of(lines: &mut [(u16, LineReply)], place: usize, task: &mut LineTask<'_>)
+    requires place { place < length lines.old }
+    requires over { is_some (answer_in (line_to_do task.old)) ≡ true }
+    ensures len { length lines.new ≡ length lines.old }
+    ensures put { (answer : LineReply) → line_to_do task.old ≡ Ends answer → lines.new
+        ≡ slice_set lines.old place ((slice_index_or lines.old place (0, answer)).0, answer) }
+{
+    put_answer(lines, place, task.take_answer().unwrap());
 }
 
 /// Puts the answer of the line at a place.

@@ -1,14 +1,15 @@
 use Rattle.std.proofs.Common.{◌≡◌, ℕ, List, length, Option, sym, ◌∙◌, ap, slice_set, slice_index_or}
 use Rattle.std.specs.Vec.{with_items}
-use Rattle.std.proofs.lemmas.List.{with_items_is, length-set}
+use Rattle.std.proofs.lemmas.List.{with_items_is}
 use Rattle.vme_core.specs.Calls.{machine_step}
 use Rattle.vme_shared.specs.declared.reply.LineReply.{LineReply}
 use Rattle.vme_script.specs.declared.script.ScriptLine.{ScriptLine}
 use Rattle.vme_course.specs.declared.task.LineTask.{LineTask}
 use Rattle.vme_course.specs.Machine.{line_to_do}
 use Rattle.vme_course.specs.Events.{call_in}
-use Rattle.vme_course.proofs.Calls.{at_work, its_call, ends_so}
+use Rattle.vme_course.proofs.Calls.{at_work, its_call}
 use Rattle.vme_runner.specs.Drivers.{LaneView}
+use Rattle.vme_runner.proofs.Calls.{its_answer}
 use Rattle.vme_runner.proofs.Turning.{turn_goes_on, turn_ends}
 use Rattle.vme_runner.proofs.lane.Lane.make.Goals as goal
 
@@ -50,7 +51,7 @@ returns-else-is_over-clause-turn c =
 
 pub returns-then-is_over-clause-turn : goal.returns-then-is_over-clause-turn
 returns-then-is_over-clause-turn c =
-    let answer = c.unwrap-answer.result in
+    let end = its_answer (line_to_do c.make.new.self) (sym c.is_over.ensures ∙ c.if-is_over.true) in
     let sound = rw c.in-Some.is at c.self.invariant.work in
     let is = ap (lane_with c.self.inside.script.now c.self.inside.lines.items c.self.inside.ended) (sym c.in-Some.is) ∙ c.self.view_is in
     let call = its_call (line_to_do c.in-Some.task) sound.1 in
@@ -58,13 +59,12 @@ returns-then-is_over-clause-turn c =
     let called = ap call_in (sym call.1) in
     let step = ap (λ machine. (machine, reply)) (c.make.ensures.machine call.0 called) in
     let given = c.make.ensures.task call.0 called in
-    let put : c.put_answer.new.lines ≡ slice_set c.self.inside.lines.items c.self.inside.ended
-    ((slice_index_or c.self.inside.lines.items c.self.inside.ended (0, answer)).0, answer)
-    = rw c.deref_mut.ensures.value at c.put_answer.ensures in
-    let lines : (with_items c.self.inside.lines c.put_answer.new.lines).items ≡ c.put_answer.new.lines
-    = with_items_is c.self.inside.lines c.put_answer.new.lines (ap length c.put_answer.ensures ∙ length-set _ _ _ ∙ c.deref_mut.ensures.len) in
+    let put : c.put_answer_of.new.lines ≡ slice_set c.self.inside.lines.items c.self.inside.ended
+    ((slice_index_or c.self.inside.lines.items c.self.inside.ended (0, end.0)).0, end.0)
+    = rw c.deref_mut.ensures.value at c.put_answer_of.ensures.put end.0 (sym end.1) in
+    let lines : (with_items c.self.inside.lines c.put_answer_of.new.lines).items ≡ c.put_answer_of.new.lines
+    = with_items_is c.self.inside.lines c.put_answer_of.new.lines (c.put_answer_of.ensures.len ∙ c.deref_mut.ensures.len) in
     λ config lane over.
     rw (lines, put, c.let_go.ensures)
     (turn_ends config c.args.board c.args.core.now c.make.new.core c.args.self.now c.self.inside.script.now c.self.inside.lines.items c.self.inside.ended c.in-Some.task
-    c.make.new.self call.0 answer reply is lane.lines sound.0 (sym call.1) step given
-    (ends_so (line_to_do c.make.new.self) answer (rw c.unwrap-answer.ensures at c.take_answer.ensures.answer)))
+    c.make.new.self call.0 end.0 reply is lane.lines sound.0 (sym call.1) step given end.1)
