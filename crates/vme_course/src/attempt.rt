@@ -1,5 +1,5 @@
 //! Attempts at a line, one after another.
-ghost use Rattle.std.specs.Prelude.{◌≡◌, ◌≢◌, ◌<◌, length, option_map, option_copied, is_some, true, Some, IfSome};
+ghost use Rattle.std.specs.Prelude.{◌≡◌, ◌≢◌, ◌<◌, length, option_map, option_copied, is_some, true, Some, None, IfSome};
 ghost use Rattle.vme_core.specs.Calls.{Call, call_of, machine_step};
 ghost use Rattle.vme_core.specs.Deeds.{call_asked, target_of_call, CanCount};
 ghost use Rattle.vme_core.specs.Machines.{whos};
@@ -61,6 +61,8 @@ impl Attempts<'_> {
             self.new ≡ attempts_advance self.old (Some (machine_step core.old who call).1) }
         ensures begun { (call : Call) → call_in (attempt_to_do self.old.attempt) ≡ Some call →
             attempt_to_do self.new.attempt ≢ Rests }
+        ensures nothing { call_in (attempt_to_do self.old.attempt) ≡ None →
+            (core.new ≡ core.old) × (self.new ≡ self.old) }
         ensures boards { length core.new.boards ≡ length core.old.boards }
         ensures whos { whos core.new ≡ whos core.old }
     {
@@ -84,6 +86,8 @@ impl Attempts<'_> {
             self.new ≡ attempts_advance self.old (Some (machine_step core.old who call).1) }
         ensures begun { (call : Call) → call_in (attempt_to_do self.old.attempt) ≡ Some call →
             attempt_to_do self.new.attempt ≢ Rests }
+        ensures nothing { call_in (attempt_to_do self.old.attempt) ≡ None →
+            (core.new ≡ core.old) × (self.new ≡ self.old) }
         ensures boards { length core.new.boards ≡ length core.old.boards }
         ensures whos { whos core.new ≡ whos core.old }
     {

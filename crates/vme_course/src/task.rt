@@ -1,4 +1,4 @@
-ghost use Rattle.std.specs.Prelude.{◌≡◌, ◌≢◌, ◌<◌, ◌≤◌, ◌∷◌, [], ℕ, length, option_map, option_copied, is_some, slice_get, Some, IfSome};
+ghost use Rattle.std.specs.Prelude.{◌≡◌, ◌≢◌, ◌<◌, ◌≤◌, ◌∷◌, [], ℕ, length, option_map, option_copied, is_some, slice_get, Some, None, IfSome};
 ghost use Rattle.vme_core.specs.Calls.{Call, call_of, machine_step};
 ghost use Rattle.vme_core.specs.Deeds.{call_asked, target_of_call, CanCount};
 ghost use Rattle.vme_core.specs.Machines.{whos};
@@ -113,6 +113,7 @@ impl<'a> LineTask<'a> {
         ensures task { (call : Call) → call_in (line_to_do self.old) ≡ Some call →
             self.new ≡ line_advance self.old (Some (machine_step core.old who call).1) }
         ensures begun { (call : Call) → call_in (line_to_do self.old) ≡ Some call → line_to_do self.new ≢ Rests }
+        ensures nothing { call_in (line_to_do self.old) ≡ None → (core.new ≡ core.old) × (self.new ≡ self.old) }
         ensures below { (call : Call) (n : ℕ) → call_in (line_to_do self.old) ≡ Some call →
             IsLineBelow n self.old → IsLineBelow n self.new }
         ensures boards { length core.new.boards ≡ length core.old.boards }

@@ -177,6 +177,7 @@ impl<'a> Task<'a> {
         ensures task { (call : Call) → call_in (to_do self.old) ≡ Some call →
             self.new ≡ advance self.old (Some (machine_step core.old who call).1) }
         ensures begun { (call : Call) → call_in (to_do self.old) ≡ Some call → to_do self.new ≢ Rests }
+        ensures nothing { call_in (to_do self.old) ≡ None → (core.new ≡ core.old) × (self.new ≡ self.old) }
         ensures boards { length core.new.boards ≡ length core.old.boards }
         ensures whos { whos core.new ≡ whos core.old }
     {
