@@ -1,4 +1,4 @@
-ghost use Rattle.std.specs.Prelude.{◌≡◌, ◌+◌, ◌<◌, ◌-◌, ◌^◌, ◌↔◌, ◌∷◌, [], length, slice_set, slice_index_or, Some, IsErr, IfOk, IfErr};
+ghost use Rattle.std.specs.Prelude.{◌≡◌, ◌≢◌, ◌+◌, ◌<◌, ◌-◌, ◌^◌, ◌↔◌, ◌∷◌, [], length, slice_set, slice_index_or, Some, IsErr, IfOk, IfErr};
 ghost use Rattle.vme_object.specs.History.{entry};
 ghost use Rattle.vme_core.specs.Tallies.{Went, fresh_tally};
 ghost use Rattle.vme_memory.specs.Access.{accessed};
@@ -116,11 +116,21 @@ impl Counted<ByteMemory> {
         ensures spent { IsErr result ↔ (self.old.steps ≡ 2 ^ 64 - 1) }
         ensures unchanged { IfErr result (λ _. self.new ≡ self.old) }
     {
-        let Some(steps) = next_count(self.steps) else {
+        if self.steps == u64::MAX {
             return Err(Spent);
-        };
+        }
+        Ok(self.datum(who, access))
+    }
+
+    /// The same where a further step can be counted.
+    #[inline(always)]
+    pub(crate) fn datum(&mut self, who: usize, access: &Access<'_>) -> Reply
+        requires who { who < length self.old.made }
+        requires unspent { self.old.steps ≢ 2 ^ 64 - 1 }
+        ensures { (self.new, result) ≡ counted_step command_step self.old who (Some (accessed access.now)) }
+    {
         let reply = self.object.access(access);
-        self.count(who, steps);
-        Ok(reply)
+        self.count(who, self.steps + 1);
+        reply
     }
 }

@@ -3,7 +3,8 @@ ghost use Rattle.vme_arbiter.specs.declared.kind.ArbiterKind.TheVariants.{Priori
 ghost use Rattle.vme_arbiter.specs.Arbitration.{opening_bus};
 ghost use Rattle.vme_core.specs.Tallies.{fresh_tally};
 ghost use Rattle.vme_core.specs.Runs.{Did, move, target_of};
-ghost use Rattle.vme_core.specs.Calls.{call_of, machine_step};
+ghost use Rattle.vme_memory.specs.Access.{accessed};
+ghost use Rattle.vme_core.specs.Calls.{OnBoard, call_of, machine_step};
 ghost use Rattle.vme_core.specs.Deeds.{call_asked, target_of_deed, CanCount};
 ghost use Rattle.vme_core.specs.Machines.{opening, whos, IsThere, steps_of, counts_of, made_of, HasRun};
 
@@ -13,7 +14,7 @@ use crate::fault::{OutOfMemory, RunStop, Spent};
 use std::alloc::Global;
 use std::marker::Model;
 use vme_arbiter::Arbiter;
-use vme_memory::ByteMemory;
+use vme_memory::{Access, ByteMemory, Reply};
 
 /// Boards, the arbiter of their bus, and the steps of each, on one thread. Contracts see it as a
 /// machine of plain objects with their counts.
@@ -112,6 +113,19 @@ impl Core {
         ensures whos { whos self.new ≡ whos self.old }
     {
         self.make(who, deed).unwrap()
+    }
+
+    /// One datum of a transfer of `who` for a board which can count it, by its place, and the reply.
+    #[inline(always)]
+    pub fn datum(&mut self, who: usize, board: usize, access: &Access<'_>) -> Reply
+        requires who { who < whos self.old }
+        requires can { CanCount self.old (Target.Board board) }
+        ensures step { (self.new, EventReply.Board result)
+            ≡ machine_step self.old who (OnBoard board (Some (accessed access.now))) }
+        ensures boards { length self.new.boards ≡ length self.old.boards }
+        ensures whos { whos self.new ≡ whos self.old }
+    {
+        self.boards[board].datum(who, access)
     }
 
     /// Events one after another, each with who gives it; their replies are appended. Room for all of

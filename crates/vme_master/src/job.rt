@@ -3,8 +3,8 @@ ghost use Rattle.vme_block.specs.Rooms.{block_limit};
 ghost use Rattle.vme_cycle.specs.Requests.{count_of, is_counted};
 ghost use Rattle.vme_memory.specs.Access.{accessed};
 ghost use Rattle.vme_memory.specs.Data.{datum_command};
-ghost use Rattle.vme_core.specs.Calls.{call_of};
-ghost use Rattle.vme_core.specs.Deeds.{call_asked, target_of_deed};
+ghost use Rattle.vme_core.specs.Calls.{OnBoard, call_of};
+ghost use Rattle.vme_core.specs.Deeds.{call_asked};
 ghost use Rattle.vme_master.specs.Jobs.{ask_call, look_call, done_call, datum_call, local_call};
 ghost use Rattle.vme_master.specs.Machine.{job_aim, datum_phase, phase_at, phase_broken, first_phase, phase_told, phase_replied, makes, bus_next, local_next, job_next, end_outcome, IsPlaced, IsShort, call_count, job_room};
 ghost use Rattle.vme_master.specs.declared.phase.Phase.TheVariants.{Moves};
@@ -15,7 +15,7 @@ use crate::outcome::Outcome;
 use crate::phase::Phase;
 use vme_arbiter::{ArbCmd, ArbReply};
 use vme_block::Room;
-use vme_core::{Deed, Event, Target};
+use vme_core::{Deed, Event};
 use vme_cycle::{Modify, Request, Transfer};
 use vme_lanes::Datum;
 use vme_memory::{Access, BoardCmd, Reply};
@@ -81,25 +81,26 @@ impl BusJob<'_> {
         ensures { call_asked result ≡ datum_call self.now self.now.place i }
     {
         match self.place {
-            Some((board, offset)) => self.moves_to(board, offset, i),
+            Some((board, offset)) => {
+                let access = self.moves_to(board, offset, i);
+                Deed::Datum { board, access }
+            }
             None => Deed::Bus(ArbCmd::Done { slot: self.slot }),
         }
     }
 
-    /// The same where the board of the first datum, and its offset there, are known.
+    /// The datum itself, where the board of the first one, and its offset there, are known.
     #[inline(always)]
-    pub(crate) fn moves_to(&self, board: usize, offset: u32, i: u16) -> Deed<'_>
+    pub(crate) fn moves_to(&self, board: usize, offset: u32, i: u16) -> Access<'_>
         requires in_count { i < count_of self.now.transfer.request }
         requires placed { IsPlaced (Job.Bus self.now) }
         requires place { self.now.place ≡ Some (board, offset) }
-        ensures value { call_asked result ≡ datum_call self.now self.now.place i }
-        ensures target { target_of_deed result ≡ Target.Board board }
+        ensures { OnBoard board (Some (accessed result)) ≡ datum_call self.now self.now.place i }
     {
         let plan = self.transfer.plan();
         prove!(i < plan.len());
         let at = offset + u32::from(i) * u32::from(plan.datum_len());
-        let access = access_of(plan.request(), i, at);
-        Deed::Datum { board, access }
+        access_of(plan.request(), i, at)
     }
 
     /// What it asks in a phase, if anything.

@@ -199,8 +199,8 @@ impl<'a> Task<'a> {
                     let slot = job.slot;
                     return self.tell(core, who, ArbCmd::Done { slot });
                 };
-                let reply = core.reply(who, &job.moves_to(board, offset, i));
-                self.give(Some(&reply));
+                let reply = core.datum(who, board, &job.moves_to(board, offset, i));
+                self.answer(&reply);
             }
             (Job::Local(job), Phase::Moves { .. }) => {
                 let (board, cmd) = (job.board, &job.cmd);

@@ -32,6 +32,10 @@ answers class Bytes02 = answers_quads class.width && class.uat
 answers class Bytes13 = answers_quads class.width && class.uat
 answers class Bytes12 = answers_quads class.width && class.uat
 
+-- the same of one, two or four bytes at a multiple of their number, which have a location (IEEE 1014, section 2.3.6)
+abbrev pub answers_whole : Class → ℕ → Bool
+answers_whole class n = n == 1 || (if n == 2 then answers_doubles class.width else answers_quads class.width)
+
 -- where one datum of a block may be: one, two or four bytes at a multiple of their number (IEEE 1014, section 2.3.6: block
 -- transfer cycles), eight at a multiple of four (this project's own)
 abbrev pub is_block_place : ℕ → ℕ → Bool

@@ -62,6 +62,21 @@ impl ByteMemory {
         ensures reply { result ≡ (step self.now (read_command block at n)).0 }
         ensures memory { self.now ≡ (step self.now (read_command block at n)).1 }
     {
+        // Lengths as literals, so that the compiler works out shifts.
+        match n {
+            1 => self.read_whole(block, at, 1),
+            2 if at % 2 == 0 => self.read_whole(block, at, 2),
+            4 if at % 4 == 0 => self.read_whole(block, at, 4),
+            _ => self.read_other(block, at, n),
+        }
+    }
+
+    /// Any read.
+    #[inline(never)]
+    fn read_other(&self, block: bool, at: u32, n: u8) -> Reply
+        ensures reply { result ≡ (step self.now (read_command block at n)).0 }
+        ensures memory { self.now ≡ (step self.now (read_command block at n)).1 }
+    {
         if block && usize::from(n) == WIDE_LEN {
             if at % 4 != 0 {
                 return Reply::Berr;
@@ -76,6 +91,20 @@ impl ByteMemory {
 
     #[inline(always)]
     fn write_datum(&mut self, block: bool, at: u32, bytes: &[u8]) -> Reply
+        ensures reply { result ≡ (step self.old (write_command block at bytes.now)).0 }
+        ensures memory { self.new ≡ (step self.old (write_command block at bytes.now)).1 }
+    {
+        match bytes.len() {
+            1 => self.write_whole(block, at, 1, bytes),
+            2 if at % 2 == 0 => self.write_whole(block, at, 2, bytes),
+            4 if at % 4 == 0 => self.write_whole(block, at, 4, bytes),
+            _ => self.write_other(block, at, bytes),
+        }
+    }
+
+    /// Any write.
+    #[inline(never)]
+    fn write_other(&mut self, block: bool, at: u32, bytes: &[u8]) -> Reply
         ensures reply { result ≡ (step self.old (write_command block at bytes.now)).0 }
         ensures memory { self.new ≡ (step self.old (write_command block at bytes.now)).1 }
     {

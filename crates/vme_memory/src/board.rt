@@ -1,4 +1,4 @@
-ghost use Rattle.std.specs.Prelude.{ℕ, ◌≡◌, ◌↔◌, ◌+◌, ◌%◌, ◌≤◌, length, take, drop, slice_get, true, false, Some, IsTrue, ◌&&◌, IfOk, OnOk, IsErrOf};
+ghost use Rattle.std.specs.Prelude.{ℕ, ◌≡◌, ◌↔◌, ◌+◌, ◌%◌, ◌≤◌, length, take, drop, slice_get, true, false, Some, IsTrue, ◌&&◌, ◌||◌, not, IfOk, OnOk, IsErrOf};
 ghost use Rattle.vme_lanes.specs.Rows.{row_of};
 ghost use Rattle.vme_word.specs.Words.{part_of};
 ghost use Rattle.vme_cycle.specs.SignalLines.{len_at};
@@ -297,6 +297,43 @@ impl ByteMemory {
         self.storage
             .write(location, at, placed_word(location, new.as_slice()));
         Reply::Bytes(old)
+    }
+
+    /// A read of one, two or four bytes at a multiple of their number.
+    #[inline(always)]
+    pub(crate) fn read_whole(&self, block: bool, at: u32, n: u8) -> Reply
+        requires { is_modify_place at n ≡ true }
+        ensures reply { result ≡ (step self.now (read_command block at n)).0 }
+        ensures memory { self.now ≡ (step self.now (read_command block at n)).1 }
+    {
+        if !self.reaches_whole(block, at, n) {
+            return Reply::Berr;
+        }
+        Reply::Bytes(self.storage.datum(at, n))
+    }
+
+    /// A write of so many bytes there.
+    #[inline(always)]
+    pub(crate) fn write_whole(&mut self, block: bool, at: u32, n: u8, bytes: &[u8]) -> Reply
+        requires place { is_modify_place at n ≡ true }
+        requires len { length bytes.now ≡ n }
+        ensures reply { result ≡ (step self.old (write_command block at bytes.now)).0 }
+        ensures memory { self.new ≡ (step self.old (write_command block at bytes.now)).1 }
+    {
+        if !self.reaches_whole(block, at, n) {
+            return Reply::Berr;
+        }
+        self.storage.overwrite(at, bytes);
+        Reply::Done
+    }
+
+    #[inline(always)]
+    #[tactic(auto, using(crate::proofs::Places::whole_found))]
+    fn reaches_whole(&self, block: bool, at: u32, n: u8) -> bool
+        requires { is_modify_place at n ≡ true }
+        ensures { result ≡ (fits self.now at n && has_cycle self.now at n && (not block || self.now.class.blt)) }
+    {
+        self.fits(at, n) && self.class.answers_whole(n) && (!block || self.class.blt)
     }
 
     #[inline(never)]

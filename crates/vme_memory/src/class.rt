@@ -26,7 +26,7 @@ pub struct Class {
 
 impl Class {
     ghost use Rattle.std.specs.Prelude.{◌≡◌};
-    ghost use Rattle.vme_memory.specs.Classes.{answers};
+    ghost use Rattle.vme_memory.specs.Classes.{answers, answers_whole};
 
     pub(crate) fn answers(self, location: Location) -> bool
         ensures { result ≡ answers self location }
@@ -38,6 +38,17 @@ impl Class {
             Location::Bytes02 | Location::Bytes13 | Location::Bytes12 => {
                 self.width == Width8To32::D32 && self.uat
             }
+        }
+    }
+    /// The same of one, two or four bytes at a multiple of their number, which have a location.
+    #[inline(always)]
+    pub(crate) fn answers_whole(self, n: u8) -> bool
+        ensures { result ≡ answers_whole self n }
+    {
+        match n {
+            1 => true,
+            2 => self.width != Width8To32::D08,
+            _ => self.width == Width8To32::D32,
         }
     }
 }
