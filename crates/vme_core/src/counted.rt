@@ -55,25 +55,37 @@ impl<O: Object> Counted<O> {
         ensures spent { IsErr result ↔ (self.old.steps ≡ 2 ^ 64 - 1) }
         ensures unchanged { IfErr result (λ _. self.new ≡ self.old) }
     {
-        let Some(steps) = next_count(self.steps) else {
+        if next_count(self.steps).is_none() {
             return Err(Spent);
-        };
+        }
+        Ok(self.reply(who, cmd))
+    }
+
+    /// The same where a further step can be counted.
+    #[inline(always)]
+    pub(crate) fn reply(&mut self, who: usize, cmd: &O::Cmd) -> O::Reply
+        requires who { who < length self.old.made }
+        requires unspent { self.old.steps ≢ 2 ^ 64 - 1 }
+        ensures step { (self.new, result) ≡ counted_step O.step self.old who cmd.now }
+        ensures went { Went O.step (entry who cmd.now result ∷ []) self.old self.new }
+    {
         let reply = self.object.apply(cmd);
-        self.count(who, steps);
-        Ok(reply)
+        self.count(who);
+        reply
     }
 
     /// One more step is counted, of `who`.
-    fn count(&mut self, who: usize, steps: u64)
+    #[inline(always)]
+    fn count(&mut self, who: usize)
         requires who { who < length self.old.made }
-        requires next { steps ≡ self.old.steps + 1 }
+        requires unspent { self.old.steps ≢ 2 ^ 64 - 1 }
         ensures { self.new ≡ record {
           object = self.old.object;
-          steps = steps;
+          steps = self.old.steps + 1;
           made = slice_set self.old.made who (slice_index_or self.old.made who 0 + 1);
         } }
     {
-        self.steps = steps;
+        self.steps = next_count(self.steps).unwrap();
         self.made[who] += 1;
     }
 
@@ -106,23 +118,7 @@ impl<O: Object> Counted<O> {
 }
 
 impl Counted<ByteMemory> {
-    /// Answers one datum of a transfer and counts it. Where no further step can be counted, nothing
-    /// is done.
-    #[inline(always)]
-    pub(crate) fn access(&mut self, who: usize, access: &Access<'_>) -> Result<Reply, Spent>
-        requires who { who < length self.old.made }
-        ensures step { IfOk result (λ reply. (self.new, reply)
-            ≡ counted_step command_step self.old who (Some (accessed access.now))) }
-        ensures spent { IsErr result ↔ (self.old.steps ≡ 2 ^ 64 - 1) }
-        ensures unchanged { IfErr result (λ _. self.new ≡ self.old) }
-    {
-        if self.steps == u64::MAX {
-            return Err(Spent);
-        }
-        Ok(self.datum(who, access))
-    }
-
-    /// The same where a further step can be counted.
+    /// Answers one datum of a transfer, and counts it, where a further step can be counted.
     #[inline(always)]
     pub(crate) fn datum(&mut self, who: usize, access: &Access<'_>) -> Reply
         requires who { who < length self.old.made }
@@ -130,7 +126,7 @@ impl Counted<ByteMemory> {
         ensures { (self.new, result) ≡ counted_step command_step self.old who (Some (accessed access.now)) }
     {
         let reply = self.object.access(access);
-        self.count(who, self.steps + 1);
+        self.count(who);
         reply
     }
 }

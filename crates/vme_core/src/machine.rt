@@ -4,7 +4,8 @@ ghost use Rattle.vme_arbiter.specs.Arbitration.{opening_bus};
 ghost use Rattle.vme_core.specs.Tallies.{fresh_tally};
 ghost use Rattle.vme_core.specs.Runs.{Did, move, target_of};
 ghost use Rattle.vme_memory.specs.Access.{accessed};
-ghost use Rattle.vme_core.specs.Calls.{OnBoard, call_of, machine_step};
+ghost use Rattle.vme_memory.specs.Locals.{command_given};
+ghost use Rattle.vme_core.specs.Calls.{OnBoard, OnBus, call_of, machine_step};
 ghost use Rattle.vme_core.specs.Deeds.{call_asked, target_of_deed, CanCount};
 ghost use Rattle.vme_core.specs.Machines.{opening, whos, IsThere, steps_of, counts_of, made_of, HasRun};
 
@@ -13,8 +14,8 @@ use crate::event::{Deed, Event, EventReply, Target};
 use crate::fault::{OutOfMemory, RunStop, Spent};
 use std::alloc::Global;
 use std::marker::Model;
-use vme_arbiter::Arbiter;
-use vme_memory::{Access, ByteMemory, Reply};
+use vme_arbiter::{ArbCmd, ArbReply, Arbiter};
+use vme_memory::{Access, BoardCmd, ByteMemory, Reply};
 
 /// Boards, the arbiter of their bus, and the steps of each, on one thread. Contracts see it as a
 /// machine of plain objects with their counts.
@@ -79,32 +80,9 @@ impl Core {
         }
     }
 
-    /// One deed of `who`, and the reply to it: the same as to an event that asks the same. Where the
-    /// object can count no further step, nothing is done.
+    /// One deed of `who` which its object can count, and the reply to it: the same as to an event that
+    /// asks the same.
     #[inline(always)]
-    pub fn make(&mut self, who: usize, deed: &Deed<'_>) -> Result<EventReply, Spent>
-        requires who { who < whos self.old }
-        requires there { IsThere self.old (target_of_deed deed.now) }
-        ensures step { IfOk result (λ reply. (self.new, reply) ≡ machine_step self.old who (call_asked deed.now)) }
-        ensures spent { IsErr result ↔ (steps_of self.old (target_of_deed deed.now) ≡ Some (2 ^ 64 - 1)) }
-        ensures unchanged { IfErr result (λ _. self.new ≡ self.old) }
-        ensures boards { length self.new.boards ≡ length self.old.boards }
-        ensures whos { whos self.new ≡ whos self.old }
-    {
-        match deed {
-            Deed::Board { board, cmd } => {
-                Ok(EventReply::Board(self.boards[*board].apply(who, cmd)?))
-            }
-            Deed::Datum { board, access } => {
-                Ok(EventReply::Board(self.boards[*board].access(who, access)?))
-            }
-            Deed::Bus(cmd) => Ok(EventReply::Bus(self.bus.apply(who, cmd)?)),
-        }
-    }
-
-    /// One deed of `who` which its object can count, and the reply to it.
-    #[inline(always)]
-    #[tactic(auto, using(crate::proofs::Deeds::is_counted))]
     pub fn reply(&mut self, who: usize, deed: &Deed<'_>) -> EventReply
         requires who { who < whos self.old }
         requires can { CanCount self.old (target_of_deed deed.now) }
@@ -112,7 +90,36 @@ impl Core {
         ensures boards { length self.new.boards ≡ length self.old.boards }
         ensures whos { whos self.new ≡ whos self.old }
     {
-        self.make(who, deed).unwrap()
+        match deed {
+            Deed::Board { board, cmd } => EventReply::Board(self.command(who, *board, cmd)),
+            Deed::Datum { board, access } => EventReply::Board(self.datum(who, *board, access)),
+            Deed::Bus(cmd) => EventReply::Bus(self.tell(who, *cmd)),
+        }
+    }
+
+    /// A command of `who` to the arbiter, which can count it, and the reply.
+    #[inline(always)]
+    pub fn tell(&mut self, who: usize, cmd: ArbCmd) -> ArbReply
+        requires who { who < whos self.old }
+        requires can { CanCount self.old Target.Bus }
+        ensures step { (self.new, EventReply.Bus result) ≡ machine_step self.old who (OnBus cmd) }
+        ensures boards { length self.new.boards ≡ length self.old.boards }
+        ensures whos { whos self.new ≡ whos self.old }
+    {
+        self.bus.reply(who, &cmd)
+    }
+
+    /// A command of `who` to a board which can count it, by its place, and the reply.
+    #[inline(always)]
+    pub fn command(&mut self, who: usize, board: usize, cmd: &BoardCmd) -> Reply
+        requires who { who < whos self.old }
+        requires can { CanCount self.old (Target.Board board) }
+        ensures step { (self.new, EventReply.Board result)
+            ≡ machine_step self.old who (OnBoard board (command_given cmd.now)) }
+        ensures boards { length self.new.boards ≡ length self.old.boards }
+        ensures whos { whos self.new ≡ whos self.old }
+    {
+        self.boards[board].reply(who, cmd)
     }
 
     /// One datum of a transfer of `who` for a board which can count it, by its place, and the reply.

@@ -5,7 +5,7 @@ ghost use Rattle.vme_cycle.specs.Lawful.{Transfer as LawfulRequest, transfer_of}
 ghost use Rattle.vme_core.specs.declared.event.EventReply.TheVariants as told;
 ghost use Rattle.vme_master.specs.declared.job.Job.{Job as AnyJob};
 ghost use Rattle.vme_master.specs.Jobs.{bus_job, local_job};
-ghost use Rattle.vme_core.specs.Calls.{Call, OnBus, call_of, machine_step};
+ghost use Rattle.vme_core.specs.Calls.{Call, call_of, machine_step};
 ghost use Rattle.vme_core.specs.Deeds.{call_asked, target_of_call, CanCount};
 ghost use Rattle.vme_core.specs.Machines.{whos};
 ghost use Rattle.vme_master.specs.Tables.{Given, Rests, next_of};
@@ -21,7 +21,7 @@ use std::marker::Model;
 use std::mem;
 use vme_arbiter::{ArbCmd, ArbReply};
 use vme_block::Room;
-use vme_core::{Core, Deed, Event, EventReply, Target};
+use vme_core::{Core, Deed, Event, EventReply};
 use vme_cycle::{CycleFault, Request, Transfer};
 use vme_decode::AddressMap;
 use vme_memory::{BoardCmd, Reply};
@@ -146,8 +146,8 @@ impl<'a> Task<'a> {
     {
         match reply {
             None => self.call(),
-            Some(EventReply::Bus(reply)) => self.turn(*reply),
-            Some(EventReply::Board(reply)) => self.answer(reply),
+            Some(EventReply::Bus(reply)) => self.turn(self.phase, *reply),
+            Some(EventReply::Board(reply)) => self.answer(self.phase, reply),
         }
     }
 
@@ -184,46 +184,31 @@ impl<'a> Task<'a> {
         match (&self.job, self.phase) {
             (Job::Bus(job), Phase::Asks) => {
                 let (slot, level) = (job.slot, job.level);
-                self.tell(core, who, ArbCmd::Ask { slot, level });
+                let reply = core.tell(who, ArbCmd::Ask { slot, level });
+                self.turn(Phase::Asks, reply);
             }
             (Job::Bus(job), Phase::Looks) => {
-                let slot = job.slot;
-                self.tell(core, who, ArbCmd::Look { slot });
+                let reply = core.tell(who, ArbCmd::Look { slot: job.slot });
+                self.turn(Phase::Looks, reply);
             }
-            (Job::Bus(job), Phase::Frees { .. }) => {
-                let slot = job.slot;
-                self.tell(core, who, ArbCmd::Done { slot });
+            (Job::Bus(job), Phase::Frees { berr }) => {
+                let reply = core.tell(who, ArbCmd::Done { slot: job.slot });
+                self.turn(Phase::Frees { berr }, reply);
             }
             (Job::Bus(job), Phase::Moves { i }) => {
                 let Some((board, offset)) = job.place else {
-                    let slot = job.slot;
-                    return self.tell(core, who, ArbCmd::Done { slot });
+                    let reply = core.tell(who, ArbCmd::Done { slot: job.slot });
+                    return self.turn(Phase::Moves { i }, reply);
                 };
                 let reply = core.datum(who, board, &job.moves_to(board, offset, i));
-                self.answer(&reply);
+                self.answer(Phase::Moves { i }, &reply);
             }
-            (Job::Local(job), Phase::Moves { .. }) => {
-                let (board, cmd) = (job.board, &job.cmd);
-                let reply = core.reply(who, &Deed::Board { board, cmd });
-                self.give(Some(&reply));
+            (Job::Local(job), Phase::Moves { i }) => {
+                let reply = core.command(who, job.board, &job.cmd);
+                self.answer(Phase::Moves { i }, &reply);
             }
             _ => {}
         }
-    }
-
-    /// Gives the arbiter a command, and is given its reply.
-    #[inline(always)]
-    fn tell(&mut self, core: &mut Core, who: usize, cmd: ArbCmd)
-        requires who { who < whos core.old }
-        requires can { CanCount core.old Target.Bus }
-        ensures machine { core.new ≡ (machine_step core.old who (OnBus cmd)).0 }
-        ensures task { self.new ≡ advance self.old (Some (machine_step core.old who (OnBus cmd)).1) }
-        ensures begun { to_do self.new ≢ Rests }
-        ensures boards { length core.new.boards ≡ length core.old.boards }
-        ensures whos { whos core.new ≡ whos core.old }
-    {
-        let reply = core.reply(who, &Deed::Bus(cmd));
-        self.give(Some(&reply));
     }
 
     /// Whether it has ended. A driver that asks this first moves no outcome that is none.
@@ -292,12 +277,14 @@ impl<'a> Task<'a> {
         };
     }
 
-    /// The arbiter has replied.
-    fn turn(&mut self, reply: ArbReply)
+    /// The arbiter has replied in a phase, which the caller knows.
+    #[inline(always)]
+    fn turn(&mut self, phase: Phase, reply: ArbReply)
+        requires { self.old.phase ≡ phase }
         ensures task { self.new ≡ advance self.old (Some (told.Bus reply)) }
         ensures called { IsTrue (is_called self.new.phase) }
     {
-        self.phase = match (self.phase, reply) {
+        self.phase = match (phase, reply) {
             (Phase::Asks | Phase::Looks, _) => self.job.phase_told(reply, self.count),
             (Phase::Frees { berr }, ArbReply::Freed) => Phase::Ended { berr },
             (Phase::Ended { berr }, _) => Phase::Ended { berr },
@@ -305,12 +292,14 @@ impl<'a> Task<'a> {
         };
     }
 
-    /// A board has replied.
-    fn answer(&mut self, reply: &Reply)
+    /// A board has replied in a phase, which the caller knows.
+    #[inline(always)]
+    fn answer(&mut self, phase: Phase, reply: &Reply)
+        requires { self.old.phase ≡ phase }
         ensures task { self.new ≡ advance self.old (Some (told.Board reply.now)) }
         ensures called { IsTrue (is_called self.new.phase) }
     {
-        match self.phase {
+        match phase {
             Phase::Moves { i } if self.aim.accepts(reply) => {
                 prove!(i < self.count);
                 append(&mut self.read, reply);

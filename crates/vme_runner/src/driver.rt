@@ -53,6 +53,7 @@ impl<'a> Driver<'a> {
     }
 
     /// A turn of the processor of a board.
+    #[inline(always)]
     fn turn(&mut self, config: &'a Config, board: usize)
         requires board { board < length config.now.boards }
         requires driver { IsDriverOf config.now self.old }

@@ -75,6 +75,7 @@ impl<'a> Lane<'a> {
     }
 
     /// A turn of the processor: it makes one event, if there is a line that needs one.
+    #[inline(always)]
     pub(crate) fn turn(&mut self, config: &'a Config, core: &mut Core, board: usize)
         requires board { board < length config.now.boards }
         requires lane { IsLaneOf config.now board self.old }

@@ -2,7 +2,7 @@ use Rattle.std.proofs.Common.{◌≡◌, true, ap, sym, ◌∙◌}
 use Rattle.vme_memory.specs.Data.{has_form}
 use Rattle.vme_master.specs.declared.aim.Aim.{Aim}
 use Rattle.vme_master.specs.declared.phase.Phase.TheVariants.{Moves}
-use Rattle.vme_master.specs.Machine.{job_aim, aim_len, HasRoom, IsEnough}
+use Rattle.vme_master.specs.Machine.{TaskView, job_aim, aim_len, HasRoom, IsEnough}
 use Rattle.vme_master.proofs.Rooms.{room_before, sound_after}
 use Rattle.vme_master.proofs.task.Task.answer.Goals as goal
 use Rattle.vme_master.proofs.task.Task.answer.Goals.{After-accepts}
@@ -12,12 +12,16 @@ form : (c : After-accepts) → c.accepts.result ≡ true → has_form (aim_len (
 form c accepted =
     ap (λ (aim : Aim). has_form (aim_len aim) c.args.reply.now) (sym c.self.invariant.of_aim) ∙ sym c.accepts.ensures.value ∙ accepted
 
+-- it is at a board
+moves : (c : After-accepts) → c.self.inside.phase ≡ Moves c.in-Moves.i
+moves c = ap (λ (t : TaskView). t.phase) c.self.view_is ∙ c.requires ∙ c.in-Moves.is
+
 -- there is room for its bytes
 pub append-requires : goal.append-requires
 append-requires c =
     let at = (goal.at.append-requires c).After-accepts in
-    let had : HasRoom c.self.inside.job (Moves c.in-Moves.i) c.self.inside.read.items = rw c.in-Moves.is at c.self.invariant.sound.read in
-    let enough : IsEnough c.self.inside.job (Moves c.in-Moves.i) c.self.inside.read.room = rw c.in-Moves.is at c.self.invariant.sound.enough in
+    let had : HasRoom c.self.inside.job (Moves c.in-Moves.i) c.self.inside.read.items = rw (moves at) at c.self.invariant.sound.read in
+    let enough : IsEnough c.self.inside.job (Moves c.in-Moves.i) c.self.inside.read.room = rw (moves at) at c.self.invariant.sound.enough in
     room_before c.self.inside.job c.in-Moves.i c.self.inside.read.room c.self.inside.read.items c.args.reply.now had (form at c.if-accepts.true)
     c.accepts.ensures.small enough
 
@@ -25,8 +29,8 @@ append-requires c =
 pub invariant_of-self : goal.invariant_of-self
 invariant_of-self c =
     let at = (goal.at.invariant_of-self c).After-accepts in
-    let had : HasRoom c.self.inside.job (Moves c.in-Moves.i) c.self.inside.read.items = rw c.in-Moves.is at c.self.invariant.sound.read in
-    let enough : IsEnough c.self.inside.job (Moves c.in-Moves.i) c.self.inside.read.room = rw c.in-Moves.is at c.self.invariant.sound.enough in
+    let had : HasRoom c.self.inside.job (Moves c.in-Moves.i) c.self.inside.read.items = rw (moves at) at c.self.invariant.sound.read in
+    let enough : IsEnough c.self.inside.job (Moves c.in-Moves.i) c.self.inside.read.room = rw (moves at) at c.self.invariant.sound.enough in
     rw (c.phase_replied-self-inside.ensures, c.append.ensures) (record {
       sound = sound_after c.self.inside.job c.in-Moves.i c.self.inside.read.room c.self.inside.read.items c.args.reply.now
           c.self.invariant.sound.placed had (form at c.if-accepts.true) c.accepts.ensures.small enough;
