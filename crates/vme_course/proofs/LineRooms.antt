@@ -1,12 +1,12 @@
 -- The rooms of the lines of a script, in order.
-use Rattle.std.proofs.Common.{◌≡◌, ℕ, zero, suc, ◌+◌, ◌<◌, ◌≤◌, List, [], ◌∷◌, ◌++◌, length, map, take, drop, get_or, max, Some, refl, ap, sym, ◌∙◌, arith, add-one}
+use Rattle.std.proofs.Common.{◌≡◌, ℕ, zero, suc, ◌+◌, ◌<◌, ◌≤◌, Bool, true, false, List, [], ◌∷◌, ◌++◌, length, map, take, drop, get_or, max, Some, refl, ap, sym, ◌∙◌, arith, add-one}
 use Rattle.std.specs.Prelude.{slice_get}
-use Rattle.std.proofs.lemmas.List.{drop_more, length-drop, length-map}
+use Rattle.std.proofs.lemmas.List.{append_assoc, append-nil, drop_more, length-drop, length-map}
 use Rattle.std.proofs.lemmas.Option.{same_Some, get_or_from_slice_get}
 use Rattle.vme_block.specs.Rooms.{RoomView, short_room}
 use Rattle.vme_lines.specs.declared.line.Line.{Line}
 use Rattle.vme_script.specs.declared.script.ScriptLine.{ScriptLine}
-use Rattle.vme_course.specs.Rooms.{line_room, room_of, rooms_of}
+use Rattle.vme_course.specs.Rooms.{line_room, room_of, rooms_of, rooms_kept}
 
 -- the room at the place of a line
 room_found : (script : List ScriptLine) (n : ℕ) (line : Line) → slice_get (map (λ one. one.line) script) n ≡ Some line
@@ -63,3 +63,60 @@ next_room script n rooms rest room within are is =
     line_there [] n n< = absurd (omega arith)
     line_there (one ∷ script) zero n< = (one.line, refl)
     line_there (one ∷ script) (suc n) n< = line_there script n (omega arith)
+
+-- rooms so far by what is kept of them, whatever comes after
+unfoldable pub AreKept : List Bool → List RoomView → List RoomView → Type 0
+AreKept take_memory long rooms =
+    (more : List Bool) (rest : List RoomView) → rooms_kept (take_memory ++ more) (long ++ rest) ≡ rooms ++ rooms_kept more rest
+
+-- none
+pub kept_none : (take_memory : List Bool) (long : List RoomView) → take_memory ≡ [] → long ≡ [] → AreKept take_memory long []
+unfolding AreKept
+kept_none take_memory long none empty = λ more rest. rw (none, empty) refl
+
+-- one more that is made anew
+pub kept_short : (take_memory : List Bool) (long rooms : List RoomView) (room : RoomView) → AreKept take_memory long rooms
+    → room ≡ record { items = []; room = short_room } → AreKept (take_memory ++ false ∷ []) long (rooms ++ room ∷ [])
+unfolding AreKept
+kept_short take_memory long rooms room before empty = λ more rest.
+    ap (λ (all : List Bool). rooms_kept all (long ++ rest)) (append_assoc take_memory (false ∷ []) more)
+    ∙ before (false ∷ more) rest
+    ∙ ap (λ (r : RoomView). rooms ++ r ∷ rooms_kept more rest) (sym empty)
+    ∙ sym (append_assoc rooms (room ∷ []) (rooms_kept more rest))
+
+-- one more that is kept
+pub kept_long : (take_memory : List Bool) (long rooms : List RoomView) (room : RoomView) → AreKept take_memory long rooms
+    → AreKept (take_memory ++ true ∷ []) (long ++ room ∷ []) (rooms ++ room ∷ [])
+unfolding AreKept
+kept_long take_memory long rooms room before = λ more rest.
+    ap (λ (all : List Bool). rooms_kept all (long ++ room ∷ [] ++ rest)) (append_assoc take_memory (true ∷ []) more)
+    ∙ ap (λ (all : List RoomView). rooms_kept (take_memory ++ true ∷ more) all) (append_assoc long (room ∷ []) rest)
+    ∙ before (true ∷ more) (room ∷ rest)
+    ∙ sym (append_assoc rooms (room ∷ []) (rooms_kept more rest))
+
+-- all of them
+pub kept_all : (take_memory : List Bool) (long rooms : List RoomView) → AreKept take_memory long rooms → rooms_kept take_memory long ≡ rooms
+unfolding AreKept
+kept_all take_memory long rooms all =
+    ap (λ (b : List Bool). rooms_kept b long) (sym (append-nil take_memory))
+    ∙ ap (λ (r : List RoomView). rooms_kept (take_memory ++ []) r) (sym (append-nil long))
+    ∙ all [] []
+    ∙ append-nil rooms
+
+-- one line more, whose room is kept
+pub one_long : (script : List ScriptLine) (n count : ℕ) (line : Line) (before after : List Bool) (long longer : List RoomView) (room : RoomView)
+    → slice_get (map (λ one. one.line) script) n ≡ Some line → AreKept before long (rooms_of (take n script)) → count ≡ line_room line
+    → after ≡ before ++ true ∷ [] → longer ≡ long ++ room ∷ [] → room ≡ record { items = []; room = max short_room count }
+    → AreKept after longer (rooms_of (take (n + 1) script))
+one_long script n count line before after long longer room found kept reads marked put made =
+    rw (marked, put, rooms_more script n line found, ← reads, ← made) (kept_long before long (rooms_of (take n script)) room kept)
+
+-- one line more, whose room is made anew
+pub one_short : (script : List ScriptLine) (n count : ℕ) (line : Line) (before after : List Bool) (long : List RoomView)
+    → slice_get (map (λ one. one.line) script) n ≡ Some line → AreKept before long (rooms_of (take n script)) → count ≡ line_room line
+    → after ≡ before ++ false ∷ [] → count ≤ short_room → AreKept after long (rooms_of (take (n + 1) script))
+one_short script n count line before after long found kept reads marked few =
+    let size : max short_room count ≡ short_room = omega arith in
+    rw (marked, rooms_more script n line found, ← reads)
+    (kept_short before long (rooms_of (take n script)) (record { items = []; room = max short_room count }) kept
+    (ap (λ (n : ℕ). let r : RoomView = record { items = []; room = n } in r) size))

@@ -1,5 +1,5 @@
 -- Room for the bytes that the lines of a script read.
-use Rattle.std.specs.Prelude.{ℕ, List, [], map, max, Result, Ok, Err}
+use Rattle.std.specs.Prelude.{ℕ, Bool, true, false, List, [], ◌∷◌, map, max, Result, Ok, Err}
 use Rattle.vme_block.specs.Rooms.{RoomView, short_room}
 use Rattle.vme_cycle.specs.declared.fault.CycleFault.{CycleFault}
 use Rattle.vme_cycle.specs.Requests.{reply_room}
@@ -26,3 +26,11 @@ room_of line = record { items = []; room = max short_room (line_room line) }
 -- an empty room for each line of a script, in order (this project's own)
 abbrev pub rooms_of : List ScriptLine → List RoomView
 rooms_of script = map (λ one. room_of one.line) script
+
+-- the rooms of lines, by whether each takes memory, where those that do are kept in order and any other is an empty room
+-- (this project's own)
+abbrev pub rooms_kept : List Bool → List RoomView → List RoomView
+rooms_kept [] long = []
+rooms_kept (false ∷ more) long = record { items = []; room = short_room } ∷ rooms_kept more long
+rooms_kept (true ∷ more) [] = []
+rooms_kept (true ∷ more) (room ∷ long) = room ∷ rooms_kept more long

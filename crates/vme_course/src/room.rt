@@ -5,27 +5,34 @@ ghost use Rattle.vme_course.specs.Rooms.{line_room, rooms_of};
 use std::alloc::{AllocError, Global};
 use std::marker::Model;
 use std::vec::IntoIter;
-use vme_block::Room;
+use vme_block::{Room, SHORT};
 use vme_cycle::Plan;
 use vme_lines::Line;
 use vme_script::Script;
 
-/// Empty rooms, one for each line of a script that has not begun, in order.
+/// Empty rooms, one for each line of a script that has not begun, in order. Only those that take
+/// memory are kept: any other is made anew as its line begins, so that most lines need one byte here.
 #[derive(Drop)]
 pub struct Rooms {
-    rooms: IntoIter<Room, Global>,
+    /// Whether the room of each line takes memory.
+    take_memory: IntoIter<bool, Global>,
+    /// Those that do.
+    long: IntoIter<Room, Global>,
 }
 
 impl Model for Rooms {
     ghost use Rattle.std.specs.Prelude.{◌≡◌, List, length};
     ghost use Rattle.std.specs.Vec.Iter.{into_iter_items, into_iter_len};
     ghost use Rattle.vme_block.specs.Rooms.{RoomView};
+    ghost use Rattle.vme_course.specs.Rooms.{rooms_kept};
 
     ghost Value = { List RoomView };
 
-    ghost view = { λ r. into_iter_items r.rooms };
+    ghost view = { λ r. rooms_kept (into_iter_items r.take_memory) (into_iter_items r.long) };
 
-    ghost invariant = { λ r. into_iter_len r.rooms ≡ length (into_iter_items r.rooms) };
+    ghost invariant = { λ r.
+        (into_iter_len r.take_memory ≡ length (into_iter_items r.take_memory))
+        × (into_iter_len r.long ≡ length (into_iter_items r.long)) };
 }
 
 impl Rooms {
@@ -33,12 +40,19 @@ impl Rooms {
     pub fn new(alloc: Global, script: &Script) -> Result<Rooms, AllocError>
         ensures { IfOk result (λ rooms. rooms ≡ rooms_of script.now) }
     {
-        let mut rooms = Vec::with_capacity(alloc, script.len())?;
+        let mut take_memory = Vec::with_capacity(alloc, script.len())?;
+        let mut long = Vec::new(alloc);
         for line in 0..script.len() {
-            rooms.push_reserved(Room::with_room(alloc, line_room(script.line(line)))?);
+            let count = line_room(script.line(line));
+            let takes_memory = SHORT < count;
+            if takes_memory {
+                long.push(Room::with_room(alloc, count)?)?;
+            }
+            take_memory.push_reserved(takes_memory);
         }
         Ok(Rooms {
-            rooms: rooms.into_iter(),
+            take_memory: take_memory.into_iter(),
+            long: long.into_iter(),
         })
     }
 
@@ -47,7 +61,11 @@ impl Rooms {
         requires { 0 < length self.old }
         ensures { self.old ≡ result ∷ self.new }
     {
-        self.rooms.next().unwrap()
+        if self.take_memory.next().unwrap() {
+            self.long.next().unwrap()
+        } else {
+            Room::new()
+        }
     }
 }
 
