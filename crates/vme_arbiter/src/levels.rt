@@ -1,4 +1,4 @@
-ghost use Rattle.std.specs.Prelude.{◌≡◌, ◌≢◌, ◌<◌, ◌≤◌, ℕ, length, Some, IfSome, MatchOption, slice_get};
+ghost use Rattle.std.specs.Prelude.{◌≡◌, ◌≢◌, ◌<◌, ◌≤◌, ℕ, IsFalse, length, Some, IfSome, MatchOption, slice_get};
 ghost use Rattle.std.specs.Option.{option_map, option_and_then};
 ghost use Rattle.vme_arbiter.specs.Levels.{level_order};
 ghost use Rattle.vme_arbiter.specs.Grants.{HasNone, IsGreatest};
@@ -38,10 +38,25 @@ pub(crate) fn next_request(levels: &[Option<u8>], first: u8) -> Option<Request>
     ensures within { IfSome result (λ next. next.slot < length levels.now) }
     ensures level { IfSome result (λ next. next.level < 4) }
 {
+    if !has_request(levels) {
+        return None;
+    }
     if let Some(next) = greatest_request(levels, 0, first + 1) {
         return Some(next);
     }
     greatest_request(levels, first + 1, LEVELS)
+}
+
+/// Whether an array holds a level for any slot. It looks at all places, so that many are compared at
+/// a time: mostly nobody asks, and then no level is sought.
+fn has_request(levels: &[Option<u8>]) -> bool
+    ensures { IsFalse result → (slot level : ℕ) → slice_get levels.now slot ≢ Some (Some level) }
+{
+    let mut any = false;
+    for pending in levels {
+        any |= pending.is_some();
+    }
+    any
 }
 
 /// On the greatest of the levels from one to below another that has a request, that of the lowest

@@ -1,7 +1,14 @@
-use Rattle.std.proofs.Common.{sym}
+use Rattle.std.proofs.Common.{sym, rules}
 use Rattle.std.proofs.lemmas.Option.{slice_get_within}
+use Rattle.vme_arbiter.specs.Levels.{level_order}
+use Rattle.vme_arbiter.proofs.Listed.{none-listed}
 use Rattle.vme_arbiter.proofs.Nexts.{up_to_first-next, later-next, later-within}
 use Rattle.vme_arbiter.proofs.levels.next_request.Goals as goal
+
+-- where nobody asks
+pub returns-then-not-has_request-clause-next : goal.returns-then-not-has_request-clause-next
+returns-then-not-has_request-clause-next c =
+    sym (none-listed (level_order c.args.first) c.args.levels.now (c.has_request.ensures (search rules)))
 
 pub returns-in-Some-clause-next : goal.returns-in-Some-clause-next
 returns-in-Some-clause-next c =
