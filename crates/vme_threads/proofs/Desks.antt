@@ -1,5 +1,6 @@
 -- Runs that a processor makes with its passes.
-use Rattle.std.proofs.Common.{◌≡◌, ◌≢◌, ℕ, ◌<◌, List, [], ◌∷◌, ◌++◌, length, slice_index_or, set, All, refl, sym, subst, ◌∙◌}
+use Rattle.std.proofs.Common.{◌≡◌, ◌≢◌, ℕ, ◌<◌, List, [], ◌∷◌, ◌++◌, length, slice_index_or, set, All, Result, Ok, Err, refl, ap, sym, subst, ◌∙◌, arith}
+use Rattle.std.specs.Prelude.{IfOk}
 use Rattle.std.proofs.lemmas.List.Elements.{All-nil, All-cons, All-append, filter_map-append}
 use Rattle.std.proofs.lemmas.Bool.{eq-eqb, ne_eqb}
 use Rattle.vme_object.specs.declared.history.Entry.{Entry}
@@ -15,10 +16,12 @@ use Rattle.vme_core.specs.declared.event.Event.TheVariants as asked
 use Rattle.vme_core.specs.declared.event.EventReply.TheVariants as told
 use Rattle.vme_core.specs.Runs.{Move, move, IsReplyTo, board_entry, bus_entry, board_part, bus_part}
 use Rattle.vme_port.specs.Passes.{PassView}
-use Rattle.vme_port.specs.Calls.{Makes}
+use Rattle.vme_port.specs.declared.fault.Spent.{Spent}
+use Rattle.vme_port.specs.Calls.{Makes, entries_of}
 use Rattle.vme_port.proofs.OneHistory.{makes_none, makes_more}
 use Rattle.vme_threads.specs.declared.desk.Desk.{Desk}
 use Rattle.vme_threads.specs.declared.worker.Worker.{Worker}
+use Rattle.vme_threads.specs.declared.ports.BoardPort.{BoardPort}
 use Rattle.vme_threads.specs.declared.ports.Ports.{Ports}
 use Rattle.vme_script.specs.Configurations.{Configuration}
 use Rattle.vme_threads.specs.Ports.{IsWorkerOf}
@@ -112,3 +115,15 @@ made_on_board d board cmd reply event p q e is there at whose makes who boards b
           (λ k b off. subst (λ (es : List (Entry BoardCmd Reply)). Makes es b b) (sym (other_part k board d.who cmd reply off)) (makes_none b)));
       bus = subst (λ b. Makes [] d.bus b) (sym bus) (makes_none d.bus);
     })
+
+-- so is a command to it, where its port takes it
+pub made_by_board :
+    (ports : Ports) (d : Desk) (board : ℕ) (cmd : BoardCmd) (result : Result Reply Spent) (o : BoardPort) (p q : PassView BoardCmd Reply) (e : Desk)
+    → Fits ports d → board < length d.boards.items → p ≡ slice_index_or d.boards.items board p
+    → Makes (entries_of p.who cmd result) p q → e.who ≡ d.who → e.boards.items ≡ set d.boards.items board q → e.bus ≡ d.bus
+    → IfOk result (λ reply. HasMade (move d.who (asked.Board board cmd) (told.Board reply) ∷ []) d e)
+made_by_board ports d board cmd (Ok reply) o p q e fits there at makes who boards bus =
+    let own = fits.boards.each board o p (omega (arith, there, fits.boards.count)) in
+    let whose = ap (λ (q : PassView BoardCmd Reply). q.who) at ∙ own.1 in
+    made_on_board d board cmd reply (asked.Board board cmd) p q e refl there at whose makes who boards bus
+made_by_board ports d board cmd (Err spent) o p q e fits there at makes who boards bus = tt

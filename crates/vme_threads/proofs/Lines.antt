@@ -1,24 +1,28 @@
 -- A line of a script, event by event.
-use Rattle.std.proofs.Common.{◌≡◌, ◌≢◌, ℕ, zero, suc, ◌<◌, List, [], ◌∷◌, ◌++◌, length, Some, None, refl, ap, sym, ◌∙◌, arith}
+use Rattle.std.proofs.Common.{◌≡◌, ◌≢◌, ℕ, zero, suc, ◌<◌, List, [], ◌∷◌, ◌++◌, length, Option, Some, None, refl, ap, sym, ◌∙◌, arith}
 use Rattle.std.specs.List.{slice_get}
-use Rattle.vme_core.specs.declared.event.Event.{Event}
+use Rattle.std.specs.Option.{IsSome, option_map}
 use Rattle.vme_core.specs.declared.event.EventReply.{EventReply}
-use Rattle.vme_core.specs.Calls.{call_of}
+use Rattle.vme_core.specs.declared.event.Deed.{Deed}
+use Rattle.vme_core.specs.Calls.{Call, OnBoard}
+use Rattle.vme_core.specs.Deeds.{call_asked}
+use Rattle.vme_memory.specs.Steps.{Command}
 use Rattle.vme_core.specs.Runs.{Move, move}
 use Rattle.vme_shared.specs.declared.reply.LineReply.{LineReply}
 use Rattle.vme_lines.specs.declared.line.Line.{Line}
 use Rattle.vme_script.specs.Configurations.{Configuration}
 use Rattle.vme_course.specs.declared.task.LineTask.{LineTask}
 use Rattle.vme_course.specs.Scripts.{lines_at}
-use Rattle.vme_course.specs.Tables.{Rests, line_next}
+use Rattle.vme_course.specs.Tables.{LineNext, Rests, Makes, Ends, line_next}
 use Rattle.vme_course.specs.Machine.{line_started, line_advance, line_to_do, line_after, IsLineBelow}
-use Rattle.vme_course.specs.Events.{call_in, answer_in}
+use Rattle.vme_course.specs.Events.{call_in, answer_in, MakesCall}
 use Rattle.vme_course.specs.Courses.{Goes}
 use Rattle.vme_course.proofs.Lines.{by_the_replies}
 use Rattle.vme_course.proofs.Calls.{makes_event, ends_so}
+use Rattle.vme_course.proofs.Below.{calls_below}
 use Rattle.vme_course.proofs.Courses.{goes-snoc}
 use Rattle.vme_threads.specs.declared.desk.Desk.{Desk}
-use Rattle.vme_threads.specs.Desks.{HasMade}
+use Rattle.vme_threads.specs.Desks.{HasMade, HasMadeNext}
 use Rattle.vme_threads.specs.Rans.{HasAnswered}
 use Rattle.vme_threads.proofs.Desks.{made_none, made_more}
 
@@ -66,22 +70,24 @@ next_is config place d e task at = ap line_to_do at.is ∙ by_the_replies config
 
 -- one event more
 pub at_more :
-    (config : Configuration) (place : ℕ) (d e f : Desk) (event : Event) (reply : EventReply) (task new : LineTask)
-    → IsAtWork config place d e task → Some (call_of event) ≡ call_in (line_to_do task) → HasMade (move e.who event reply ∷ []) e f
+    (config : Configuration) (place : ℕ) (d e f : Desk) (reply : EventReply) (task new : LineTask)
+    → IsAtWork config place d e task → HasMadeNext (line_to_do task) reply e f
     → new ≡ line_advance task (Some reply) → line_to_do new ≢ Rests → IsLineBelow (length config.boards) new → IsAtWork config place d f new
-at_more config place d e f event reply task new at calls made advanced begun below = record {
-  line = at.line;
-  there = at.there;
-  run = at.run ++ move e.who event reply ∷ [];
-  made = made_more at.run (move e.who event reply ∷ []) d e f at.made made;
-  replies = reply ∷ at.replies;
-  goes =
-      goes-snoc config d.who at.line [] at.run at.replies (move e.who event reply) at.goes
-      (sym (next_is config place d e task at) ∙ makes_event (line_to_do task) event calls);
-  is = advanced ∙ ap (λ (t : LineTask). line_advance t (Some reply)) at.is;
-  begun = begun;
-  below = below;
-}
+at_more config place d e f reply task new at next advanced begun below =
+    let event = next.event in
+    record {
+      line = at.line;
+      there = at.there;
+      run = at.run ++ move e.who event reply ∷ [];
+      made = made_more at.run (move e.who event reply ∷ []) d e f at.made next.made;
+      replies = reply ∷ at.replies;
+      goes =
+          goes-snoc config d.who at.line [] at.run at.replies (move e.who event reply) at.goes
+          (sym (next_is config place d e task at) ∙ makes_event (line_to_do task) event next.calls);
+      is = advanced ∙ ap (λ (t : LineTask). line_advance t (Some reply)) at.is;
+      begun = begun;
+      below = below;
+    }
 
 -- the answer
 pub at_end :
@@ -98,3 +104,20 @@ at_end config place d e task answer at is = record {
     ends = sym (next_is config place d e task at) ∙ sym (ends_so (line_to_do task) answer is);
   };
 }
+
+-- a line that makes a call has a deed of it
+pub has_deed : (next : LineNext) (deed : Option Deed) → MakesCall next → option_map call_asked deed ≡ call_in next → IsSome deed
+has_deed Rests deed makes is = absurd makes
+has_deed (Makes call) None makes is = absurd cc
+has_deed (Makes call) (Some deed) makes is = refl
+has_deed (Ends answer) deed makes is = absurd makes
+
+-- a board that is called is there
+in_makes : (next : LineNext) (call : Call) → Some call ≡ call_in next → next ≡ Makes call
+in_makes Rests call is = absurd cc
+in_makes (Makes other) call is = cc
+in_makes (Ends answer) call is = absurd cc
+
+pub board_there : (n : ℕ) (task : LineTask) (board : ℕ) (command : Option Command) → IsLineBelow n task
+    → Some (OnBoard board command) ≡ call_in (line_to_do task) → board < n
+board_there n task board command below is = calls_below n task (OnBoard board command) below (in_makes (line_to_do task) (OnBoard board command) is)

@@ -1,21 +1,24 @@
 ghost use Rattle.std.specs.Prelude.{◌≡◌, ◌<◌, ◌≤◌, ◌∷◌, [], length, slice_get, Some, IfOk};
+ghost use Rattle.vme_core.specs.declared.event.Event.TheVariants as asked;
+ghost use Rattle.vme_core.specs.declared.event.EventReply.TheVariants as told;
 ghost use Rattle.vme_core.specs.Runs.{move};
 ghost use Rattle.vme_lines.specs.declared.line.Line.{Line};
-ghost use Rattle.vme_course.specs.Events.{IsEventBelow};
+ghost use Rattle.vme_course.specs.Events.{IsEventBelow, MakesCall};
+ghost use Rattle.vme_course.specs.Machine.{line_to_do, IsLineBelow};
 ghost use Rattle.vme_course.specs.Rooms.{line_room};
 ghost use Rattle.vme_course.specs.Scripts.{lines_at};
-ghost use Rattle.vme_threads.specs.Desks.{Fits, HasMade};
+ghost use Rattle.vme_threads.specs.Desks.{Fits, HasMade, HasMadeNext};
 ghost use Rattle.vme_threads.specs.Rans.{HasAnswered};
 
 use crate::ports::Ports;
 use crossbeam_utils::Backoff;
 use std::sync::Wait;
 use std::sync::atomic::Ordering;
-use vme_arbiter::{ArbReply, Arbiter};
+use vme_arbiter::{ArbCmd, ArbReply, Arbiter};
 use vme_block::Room;
-use vme_core::{Event, EventReply};
+use vme_core::{Deed, Event, EventReply};
 use vme_course::LineTask;
-use vme_memory::ByteMemory;
+use vme_memory::{BoardCmd, ByteMemory, Reply};
 use vme_port::{Pass, Spent};
 use vme_script::Config;
 use vme_shared::LineReply;
@@ -30,10 +33,46 @@ pub struct Desk {
 }
 
 impl Desk {
+    /// Gives a command to the arbiter.
+    ///
+    /// # Errors
+    /// `Spent` where the arbiter has made as many steps as can be counted.
+    #[inline(always)]
+    fn tell<R: Wait>(&mut self, rt: &R, ports: &Ports, cmd: &ArbCmd) -> Result<ArbReply, Spent>
+        requires { Fits ports.now self.old }
+        ensures { IfOk result (λ reply.
+            HasMade (move self.old.who (asked.Bus cmd.now) (told.Bus reply) ∷ []) self.old self.new) }
+    {
+        ports.bus.call(rt, &mut self.bus, cmd)
+    }
+
+    /// Gives a command to a board, by its place.
+    ///
+    /// # Errors
+    /// `Spent` where the board has made as many steps as can be counted.
+    #[inline(always)]
+    fn command<R: Wait>(
+        &mut self,
+        rt: &R,
+        ports: &Ports,
+        board: usize,
+        cmd: &BoardCmd,
+    ) -> Result<Reply, Spent>
+        requires fits { Fits ports.now self.old }
+        requires there { board < length self.old.boards.items }
+        ensures { IfOk result (λ reply.
+            HasMade (move self.old.who (asked.Board board cmd.now) (told.Board reply) ∷ []) self.old self.new) }
+    {
+        let port = &ports.boards[board].port;
+        let pass = &mut self.boards[board];
+        port.call(rt, pass, cmd)
+    }
+
     /// Makes an event, by a call of the port that it is for.
     ///
     /// # Errors
     /// `Spent` where its object has made as many steps as can be counted.
+    #[inline(always)]
     pub(crate) fn make<R: Wait>(
         &mut self,
         rt: &R,
@@ -46,11 +85,35 @@ impl Desk {
     {
         match event {
             Event::Board { board, cmd } => {
-                let port = &ports.boards[*board].port;
-                let pass = &mut self.boards[*board];
-                Ok(EventReply::Board(port.call(rt, pass, cmd)?))
+                Ok(EventReply::Board(self.command(rt, ports, *board, cmd)?))
             }
-            Event::Bus(cmd) => Ok(EventReply::Bus(ports.bus.call(rt, &mut self.bus, cmd)?)),
+            Event::Bus(cmd) => Ok(EventReply::Bus(self.tell(rt, ports, cmd)?)),
+        }
+    }
+
+    /// Makes the event that a line asks for next. A command is given where it lies. Only for a datum of
+    /// a transfer its event is laid out, since a board's history has the lines of each cycle.
+    ///
+    /// # Errors
+    /// `Spent` where its object has made as many steps as can be counted.
+    #[inline(always)]
+    fn make_next<R: Wait>(
+        &mut self,
+        rt: &R,
+        ports: &Ports,
+        task: &LineTask<'_>,
+    ) -> Result<EventReply, Spent>
+        requires fits { Fits ports.now self.old }
+        requires below { IsLineBelow (length self.old.boards.items) task.now }
+        requires calls { MakesCall (line_to_do task.now) }
+        ensures { IfOk result (λ reply. HasMadeNext (line_to_do task.now) reply self.old self.new) }
+    {
+        match task.deed().unwrap() {
+            Deed::Bus(cmd) => Ok(EventReply::Bus(self.tell(rt, ports, &cmd)?)),
+            Deed::Board { board, cmd } => {
+                Ok(EventReply::Board(self.command(rt, ports, board, cmd)?))
+            }
+            Deed::Datum { .. } => self.make(rt, ports, &task.event().unwrap()),
         }
     }
 
@@ -81,14 +144,13 @@ impl Desk {
         let mut task = LineTask::start(config, self.who, line, room);
         task.give(None);
         for _ in rt.forever() {
-            // Taken where it lies: to move it out would take longer than to make it.
-            let Some(event) = &task.event() else {
+            if task.is_over() {
                 return Ok(task.take_answer().unwrap());
-            };
+            }
             if ports.stop.load(Ordering::SeqCst) {
                 return Err(Spent);
             }
-            let reply = self.make(rt, ports, event)?;
+            let reply = self.make_next(rt, ports, &task)?;
             let waits = matches!(reply, EventReply::Bus(ArbReply::Waiting));
             let attempts = task.attempts_left();
             task.give(Some(&reply));

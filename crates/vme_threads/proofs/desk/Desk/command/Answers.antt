@@ -1,0 +1,10 @@
+use Rattle.std.proofs.Common.{refl}
+use Rattle.vme_port.proofs.OneHistory.{makes_one}
+use Rattle.vme_threads.proofs.Desks.{made_by_board}
+use Rattle.vme_threads.proofs.desk.Desk.command.Goals as goal
+
+-- the board's port answers, and its pass is put back in its place
+pub returns : goal.returns
+returns g c =
+    made_by_board c.args.ports.now c.args.self.now c.args.board c.args.cmd.now c.call.result c.index.result.now c.index_mut-pass.result.now c.call.new.pass _
+    c.requires.fits c.requires.there c.index_mut-pass.ensures.value (makes_one _ _ _ _ _ c.call.ensures.adds) refl refl refl
