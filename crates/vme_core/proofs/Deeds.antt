@@ -5,7 +5,6 @@ use Rattle.std.proofs.lemmas.Option.{slice_get_read}
 use Rattle.vme_memory.specs.declared.reply.Reply.{Reply}
 use Rattle.vme_memory.specs.Steps.{Command}
 use Rattle.vme_memory.specs.Boards.{Board}
-use Rattle.vme_core.specs.declared.event.EventReply.{EventReply}
 use Rattle.vme_core.specs.declared.event.EventReply.TheVariants as told
 use Rattle.vme_core.specs.declared.event.Target.TheVariants as at
 use Rattle.vme_core.specs.Tallies.{Tally}
