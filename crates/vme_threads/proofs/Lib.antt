@@ -4,5 +4,6 @@ mod Hired
 pub mod Desks
 pub mod Lines
 pub mod Runs
+pub mod Once
 pub mod Collects
 pub mod Gathered

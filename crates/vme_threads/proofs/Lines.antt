@@ -96,12 +96,14 @@ pub at_end :
 at_end config place d e task answer at is = record {
   line = at.line;
   there = at.there;
-  run = at.run;
-  made = at.made;
-  course = record {
-    replies = at.replies;
-    goes = at.goes;
-    ends = sym (next_is config place d e task at) ∙ sym (ends_so (line_to_do task) answer is);
+  is = record {
+    run = at.run;
+    made = at.made;
+    course = record {
+      replies = at.replies;
+      goes = at.goes;
+      ends = sym (next_is config place d e task at) ∙ sym (ends_so (line_to_do task) answer is);
+    };
   };
 }
 

@@ -66,16 +66,16 @@ pub way_more :
 way_more config count d e f lines number answer way answered numbered =
     let same = way.made.who in
     let there = subst (λ who. slice_get (lines_at config who) count ≡ Some answered.line) same answered.there in
-    let course = subst (λ who. LineCourse config who answered.line answered.run answer) same answered.course in
+    let course = subst (λ who. LineCourse config who answered.line answered.is.run answer) same answered.is.course in
     record {
-      run = way.run ++ answered.run;
-      made = made_more way.run answered.run d e f way.made answered.made;
+      run = way.run ++ answered.is.run;
+      made = made_more way.run answered.is.run d e f way.made answered.is.made;
       course =
-          subst (λ (answers : List LineReply). IsCourse config d.who (take (count + 1) (lines_at config d.who)) (way.run ++ answered.run) answers)
+          subst (λ (answers : List LineReply). IsCourse config d.who (take (count + 1) (lines_at config d.who)) (way.run ++ answered.is.run) answers)
           (sym (map-append (λ (l : ℕ × LineReply). l.1) lines ((number, answer) ∷ [])))
-          (subst (λ (ls : List Line). IsCourse config d.who ls (way.run ++ answered.run) (answers_in lines ++ answer ∷ []))
+          (subst (λ (ls : List Line). IsCourse config d.who ls (way.run ++ answered.is.run) (answers_in lines ++ answer ∷ []))
           (sym (take_one (lines_at config d.who) count answered.line there))
-          (course-snoc config d.who (take count (lines_at config d.who)) way.run (answers_in lines) answered.line answered.run answer way.course course));
+          (course-snoc config d.who (take count (lines_at config d.who)) way.run (answers_in lines) answered.line answered.is.run answer way.course course));
       numbers =
           map-append (λ (l : ℕ × LineReply). l.0) lines ((number, answer) ∷ [])
           ∙ ap (λ (ns : List ℕ). ns ++ number ∷ []) way.numbers

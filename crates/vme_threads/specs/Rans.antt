@@ -17,13 +17,17 @@ use Rattle.vme_threads.specs.declared.worker.Ran.{Ran}
 use Rattle.vme_threads.specs.declared.ports.Ports.{Ports}
 use Rattle.vme_threads.specs.Desks.{Fits, HasMade}
 
--- the line at a place of the script was answered by the moves of a run (this project's own)
-pub record HasAnswered (config : Configuration) (place : ℕ) (answer : LineReply) (before after : Desk) : Type 0 where
-  pub line : Line
-  pub there : slice_get (lines_at config before.who) place ≡ Some line
+-- a line of the script was answered by the moves of a run (this project's own)
+pub record IsAnswered (config : Configuration) (line : Line) (answer : LineReply) (before after : Desk) : Type 0 where
   pub run : List Move
   pub made : HasMade run before after
   pub course : LineCourse config before.who line run answer
+
+-- so was the line at a place (this project's own)
+pub record HasAnswered (config : Configuration) (place : ℕ) (answer : LineReply) (before after : Desk) : Type 0 where
+  pub line : Line
+  pub there : slice_get (lines_at config before.who) place ≡ Some line
+  pub is : IsAnswered config line answer before after
 
 -- the numbers of lines that were answered (this project's own)
 abbrev pub numbers_in : List (ℕ × LineReply) → List ℕ

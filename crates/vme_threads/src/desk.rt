@@ -38,7 +38,7 @@ impl Desk {
     /// # Errors
     /// `Spent` where the arbiter has made as many steps as can be counted.
     #[inline(always)]
-    fn tell<R: Wait>(&mut self, rt: &R, ports: &Ports, cmd: &ArbCmd) -> Result<ArbReply, Spent>
+    pub(crate) fn tell<R: Wait>(&mut self, rt: &R, ports: &Ports, cmd: &ArbCmd) -> Result<ArbReply, Spent>
         requires { Fits ports.now self.old }
         ensures { IfOk result (λ reply.
             HasMade (move self.old.who (asked.Bus cmd.now) (told.Bus reply) ∷ []) self.old self.new) }
@@ -51,7 +51,7 @@ impl Desk {
     /// # Errors
     /// `Spent` where the board has made as many steps as can be counted.
     #[inline(always)]
-    fn command<R: Wait>(
+    pub(crate) fn command<R: Wait>(
         &mut self,
         rt: &R,
         ports: &Ports,
@@ -118,12 +118,11 @@ impl Desk {
     }
 
     /// Makes the events of a line of the script, by its place among those that ask for something,
-    /// until it is answered; what it reads over the bus goes into the room. It snoozes before it looks
-    /// again whether it has the bus, and before each further attempt at the line.
+    /// attempt by attempt, until it is answered.
     ///
     /// # Errors
     /// `Spent` where an object has made as many steps as can be counted, here or for another worker.
-    pub(crate) fn line<R: Wait>(
+    pub(crate) fn attempts<R: Wait>(
         &mut self,
         rt: &R,
         config: &Config,

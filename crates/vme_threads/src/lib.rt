@@ -7,6 +7,7 @@ mod desk;
 mod gate;
 mod gathering;
 mod hire;
+mod line;
 mod open;
 mod ports;
 mod report;

@@ -1,32 +1,23 @@
-use Rattle.std.proofs.Common.{length}
-use Rattle.vme_threads.proofs.Desks.{fits_after}
-use Rattle.vme_threads.proofs.Lines.{at_start, at_more, at_end}
+use Rattle.vme_lines.specs.declared.line.Line.TheVariants as lines
+use Rattle.vme_threads.proofs.Once.{line_found, answered_there}
 use Rattle.vme_threads.proofs.desk.Desk.line.Goals as goal
 
-pub loop-init : goal.loop-init
-loop-init g c =
-    at_start c.args.config.now c.args.line c.args.self.now c.start-task.result c.give.new.self c.requires.line c.start-task.ensures.line
-    c.give.ensures.task c.give.ensures.begun (c.give.ensures.below (length c.args.config.now.boards) c.start-task.ensures.there)
+pub transfer-requires-clause-room : goal.transfer-requires-clause-room
+transfer-requires-clause-room g c =
+    c.requires.room (lines.Bus c.in-Bus.request)
+    (line_found c.args.config.now c.args.self.now.who c.args.line c.script.result.now (lines.Bus c.in-Bus.request) c.script.ensures
+    (rw c.in-Bus.is at c.line.ensures))
 
-pub make_next-requires-clause-fits : goal.make_next-requires-clause-fits
-make_next-requires-clause-fits g c = fits_after c.args.ports.now _ _ _ c.loop.invariant.made c.requires.fits
+pub returns-in-Local : goal.returns-in-Local
+returns-in-Local g c =
+    answered_there c.args.config.now c.args.line (lines.Local c.in-Local.cmd) c.args.self.now c.local.new.self c.local.result
+    (line_found c.args.config.now c.args.self.now.who c.args.line c.script.result.now (lines.Local c.in-Local.cmd) c.script.ensures
+    (rw c.in-Local.is at c.line.ensures))
+    (c.local.ensures c.args.config.now)
 
--- the event that was due is made, and the line is told of its reply
-pub loop-preserved : goal.loop-preserved
-loop-preserved g c =
-    let n = length c.args.config.now.boards in
-    at_more c.args.config.now c.args.line c.args.self.now c.loop.self c.make_next.new.self c.in_ok-reply.reply c.loop.task c.give-in-loop.new.self
-    c.loop.invariant c.in_ok-reply.ensures c.give-in-loop.ensures.task c.give-in-loop.ensures.begun
-    (c.give-in-loop.ensures.below n c.loop.invariant.below)
-
-pub loop-preserved-in-loop : goal.loop-preserved-in-loop
-loop-preserved-in-loop g c =
-    let n = length c.args.config.now.boards in
-    at_more c.args.config.now c.args.line c.args.self.now c.loop.self c.make_next.new.self c.in_ok-reply.reply c.loop.task c.give-in-loop.new.self
-    c.loop.invariant c.in_ok-reply.ensures c.give-in-loop.ensures.task c.give-in-loop.ensures.begun
-    (c.give-in-loop.ensures.below n c.loop.invariant.below)
-
-pub returns-then-is_over : goal.returns-then-is_over
-returns-then-is_over g c =
-    at_end c.args.config.now c.args.line c.args.self.now c.loop.self c.loop.task c.unwrap.result c.loop.invariant
-    (rw c.unwrap.ensures at c.take_answer.ensures.answer)
+pub returns-in-Bus : goal.returns-in-Bus
+returns-in-Bus g c =
+    answered_there c.args.config.now c.args.line (lines.Bus c.in-Bus.request) c.args.self.now c.transfer.new.self c.transfer.result
+    (line_found c.args.config.now c.args.self.now.who c.args.line c.script.result.now (lines.Bus c.in-Bus.request) c.script.ensures
+    (rw c.in-Bus.is at c.line.ensures))
+    c.transfer.ensures

@@ -1,0 +1,233 @@
+-- Lines that are attempted once: what their job does next is what they do.
+use Rattle.std.proofs.Common.{◌≡◌, ◌≢◌, ℕ, ◌<◌, false, List, [], ◌∷◌, ◌++◌, length, map, Option, Some, None, Result, Ok, Err, refl, ap, sym, subst, ◌∙◌}
+use Rattle.std.specs.Prelude.{slice_get, IfOk}
+use Rattle.vme_memory.specs.declared.command.BoardCmd.{BoardCmd}
+use Rattle.vme_memory.specs.declared.reply.Reply.{Reply}
+use Rattle.vme_memory.specs.Steps.{Command}
+use Rattle.vme_memory.specs.Locals.{command_given}
+use Rattle.vme_cycle.specs.declared.fault.CycleFault.{CycleFault}
+use Rattle.vme_cycle.specs.declared.request.Request.{Request}
+use Rattle.vme_cycle.specs.Lawful.{Transfer as LawfulRequest, transfer_of}
+use Rattle.vme_decode.specs.declared.entry.Entry.{Entry}
+use Rattle.vme_core.specs.declared.event.Event.{Event}
+use Rattle.vme_core.specs.declared.event.Event.TheVariants as asked
+use Rattle.vme_core.specs.declared.event.EventReply.{EventReply}
+use Rattle.vme_core.specs.declared.event.EventReply.TheVariants as told
+use Rattle.vme_core.specs.Calls.{Call, OnBoard, call_of}
+use Rattle.vme_core.specs.Runs.{Move, move}
+use Rattle.vme_master.specs.declared.job.Job.{Job}
+use Rattle.vme_master.specs.declared.outcome.Outcome.{Outcome}
+use Rattle.vme_master.specs.Jobs.{bus_job, local_job}
+use Rattle.vme_master.specs.Tables as tasks
+use Rattle.vme_master.specs.Tables.{Next, Given, next_of}
+use Rattle.vme_master.specs.Machine.{TaskView, fresh_task, bus_task, advance, task_given, to_do}
+use Rattle.vme_master.specs.Events as tasks_seen
+use Rattle.vme_master.proofs.Stands.{by_the_table}
+use Rattle.vme_shared.specs.declared.reply.LineReply.{LineReply}
+use Rattle.vme_shared.specs.declared.reply.LineReply.TheVariants.{Transfer, Refused}
+use Rattle.vme_lines.specs.declared.line.Line.{Line}
+use Rattle.vme_lines.specs.declared.line.Line.TheVariants as lines
+use Rattle.vme_script.specs.declared.script.ScriptLine.{ScriptLine}
+use Rattle.vme_script.specs.Boards.{entries_of}
+use Rattle.vme_script.specs.Configurations.{Configuration}
+use Rattle.vme_course.specs.Scripts.{Moves, slot_at, level_at, lines_at, transfer_job, request_attempt, line_attempt}
+use Rattle.vme_course.specs.Tables.{LineNext, Makes, Ends, moves_next, attempts_of, next_asks_again, next_given, line_next, given_of}
+use Rattle.vme_course.specs.Events.{IsCallBelow, IsEventBelow}
+use Rattle.vme_course.specs.Courses.{Goes}
+use Rattle.vme_course.proofs.Calls.{makes_event}
+use Rattle.vme_course.proofs.Below.{next_below}
+use Rattle.vme_course.proofs.Courses.{goes-snoc}
+use Rattle.vme_port.specs.declared.fault.Spent.{Spent}
+use Rattle.vme_threads.specs.declared.desk.Desk.{Desk}
+use Rattle.vme_threads.specs.Desks.{HasMade, HasMadeNext}
+use Rattle.vme_threads.specs.Rans.{IsAnswered, HasAnswered}
+use Rattle.vme_threads.proofs.Desks.{made_none, made_more}
+use Rattle.vme_threads.proofs.Runs.{script_is}
+
+-- a transfer or a command is attempted once
+attempted_once : (next : Next) → next_asks_again (moves_next next) ≡ false
+attempted_once tasks.Rests = refl
+attempted_once (tasks.Makes call) = refl
+attempted_once (tasks.Ends outcome) = refl
+
+-- so the attempt at work was given all that the line was given
+all_given : (job : Job) (tries : ℕ) (given : Given) → (attempts_of (Moves job) tries given).given ≡ given
+all_given job tries [] = refl
+all_given job tries (last ∷ before) =
+    rw (attempted_once (next_of job (last ∷ (attempts_of (Moves job) tries before).given)))
+    (ap (λ (g : Given). last ∷ g) (all_given job tries before))
+
+-- and the line does next what its job does
+pub once_next : (config : Configuration) (board : ℕ) (line : Line) (job : Job) (replies : List EventReply)
+    → line_attempt config board line ≡ Ok (Moves job) → line_next config board line replies ≡ moves_next (next_of job (given_of replies))
+unfolding next_given
+once_next config board line job replies is =
+    rw is (ap (λ (g : Given). moves_next (next_of job g)) (all_given job config.tries (given_of replies)))
+
+-- a command to the local port was its line's one call
+pub local_answered :
+    (cmd : BoardCmd) (reply : Reply) (outcome : Outcome) (d e : Desk) → HasMade (move d.who (asked.Board d.who cmd) (told.Board reply) ∷ []) d e
+    → ((board : ℕ) → next_of (local_job board cmd) (Some (told.Board reply) ∷ None ∷ []) ≡ tasks.Ends outcome)
+    → (config : Configuration) → IsAnswered config (lines.Local cmd) (Transfer outcome) d e
+local_answered cmd reply outcome d e made ends = λ config. record {
+  run = move d.who (asked.Board d.who cmd) (told.Board reply) ∷ [];
+  made = made;
+  course = record {
+    replies = told.Board reply ∷ [];
+    goes = (once_next config d.who (lines.Local cmd) (local_job d.who cmd) [] refl, refl);
+    ends =
+        once_next config d.who (lines.Local cmd) (local_job d.who cmd) (told.Board reply ∷ []) refl
+        ∙ ap moves_next (ends d.who);
+  };
+}
+
+-- the line at a place of a script
+pub line_found :
+    (config : Configuration) (who place : ℕ) (script : List ScriptLine) (line : Line) → slice_get config.scripts who ≡ Some script
+    → slice_get (map (λ (one : ScriptLine). one.line) script) place ≡ Some line → slice_get (lines_at config who) place ≡ Some line
+line_found config who place script line there at =
+    subst (λ (all : List ScriptLine). slice_get (map (λ (one : ScriptLine). one.line) all) place ≡ Some line)
+    (sym (script_is config who who script refl there)) at
+
+-- where it was answered, so was the line at that place
+pub answered_there :
+    (config : Configuration) (place : ℕ) (line : Line) (d e : Desk) (result : Result LineReply Spent)
+    → slice_get (lines_at config d.who) place ≡ Some line → IfOk result (λ answer. IsAnswered config line answer d e)
+    → IfOk result (λ answer. HasAnswered config place answer d e)
+answered_there config place line d e (Ok answer) there is = record { line = line; there = there; is = is }
+answered_there config place line d e (Err spent) there is = tt
+
+-- a call of a task is that of its line
+called : (next : Next) (call : Call) → Some call ≡ tasks_seen.call_in next → moves_next next ≡ Makes call
+called tasks.Rests call is = absurd cc
+called (tasks.Makes other) call is = cc
+called (tasks.Ends outcome) call is = absurd cc
+
+-- so is its end
+ended : (next : Next) (outcome : Outcome) → Some outcome ≡ tasks_seen.outcome_in next → moves_next next ≡ Ends (Transfer outcome)
+ended tasks.Rests outcome is = absurd cc
+ended (tasks.Makes call) outcome is = absurd cc
+ended (tasks.Ends other) outcome is = cc
+
+-- a board that is called is there
+pub board_called :
+    (n : ℕ) (next : Next) (board : ℕ) (command : Option Command) → ((call : Call) → moves_next next ≡ Makes call → IsCallBelow n call)
+    → Some (OnBoard board command) ≡ tasks_seen.call_in next → board < n
+board_called n next board command below is = below (OnBoard board command) (called next (OnBoard board command) is)
+
+pub event_called :
+    (n : ℕ) (next : Next) (event : Event) → ((call : Call) → moves_next next ≡ Makes call → IsCallBelow n call)
+    → Some (call_of event) ≡ tasks_seen.call_in next → IsEventBelow n event
+event_called n next (asked.Board board cmd) below is = board_called n next board (command_given cmd) below is
+event_called n next (asked.Bus cmd) below is = tt
+
+-- a refused request is answered so, without a call
+refused_by : (map : List Entry) (slot level : ℕ) (t : Result LawfulRequest CycleFault) (fault : CycleFault)
+    → Err fault ≡ bus_task map slot level t → t ≡ Err fault
+refused_by map slot level (Ok t) fault is = absurd cc
+refused_by map slot level (Err other) fault is = cc
+
+pub refused_answered :
+    (config : Configuration) (map : List Entry) (slot level : ℕ) (request : Request) (fault : CycleFault) (d : Desk)
+    → Err fault ≡ bus_task map slot level (transfer_of request) → IsAnswered config (lines.Bus request) (Refused fault) d d
+unfolding next_given
+refused_answered config map slot level request fault d is = record {
+  run = [];
+  made = made_none d;
+  course = record { replies = []; goes = refl; ends = rw (refused_by map slot level (transfer_of request) fault is) refl };
+}
+
+-- the transfer of a line is at work: a run of its events was made, and this is its task
+pub record IsMoving (config : Configuration) (request : Request) (before now : Desk) (task : TaskView) : Type 0 where
+  pub job : Job
+  pub attempted : line_attempt config before.who (lines.Bus request) ≡ Ok (Moves job)
+  pub run : List Move
+  pub made : HasMade run before now
+  pub replies : List EventReply
+  pub goes : Goes config before.who (lines.Bus request) [] run replies
+  pub is : task ≡ task_given job (given_of replies)
+  pub begun : to_do task ≢ tasks.Rests
+
+-- the job of a lawful request
+record IsStarted (map : List Entry) (slot level : ℕ) (t : Result LawfulRequest CycleFault) (task : TaskView) : Type 0 where
+  one : LawfulRequest
+  lawful : t ≡ Ok one
+  fresh : task ≡ fresh_task (bus_job map slot level one)
+
+started_by : (map : List Entry) (slot level : ℕ) (t : Result LawfulRequest CycleFault) (task : TaskView)
+    → Ok task ≡ bus_task map slot level t → IsStarted map slot level t task
+started_by map slot level (Ok t) task is = record { one = t; lawful = refl; fresh = cc }
+started_by map slot level (Err fault) task is = absurd cc
+
+-- before the first event
+pub moving_start :
+    (config : Configuration) (map : List Entry) (slot level : ℕ) (request : Request) (d : Desk) (fresh task : TaskView)
+    → map ≡ entries_of config.boards → slot_at config d.who ≡ slot → level_at config d.who ≡ level
+    → Ok fresh ≡ bus_task map slot level (transfer_of request) → task ≡ advance fresh None → to_do task ≢ tasks.Rests
+    → IsMoving config request d d task
+moving_start config map slot level request d fresh task maps slots levels is advanced begun =
+    let started = started_by map slot level (transfer_of request) fresh is in
+    record {
+      job = bus_job map slot level started.one;
+      attempted =
+          ap (request_attempt (λ t. Moves (transfer_job config d.who t))) started.lawful
+          ∙ ap (λ (job : Job). Ok (Moves job))
+          (ap (λ (m : List Entry). bus_job m (slot_at config d.who) (level_at config d.who) started.one) (sym maps)
+          ∙ ap (λ (s : ℕ). bus_job map s (level_at config d.who) started.one) slots
+          ∙ ap (λ (l : ℕ). bus_job map slot l started.one) levels);
+      run = [];
+      made = made_none d;
+      replies = [];
+      goes = refl;
+      is = advanced ∙ ap (λ (t : TaskView). advance t None) started.fresh;
+      begun = begun;
+    }
+
+-- what it does next is what the table says
+moving_next : (config : Configuration) (request : Request) (d e : Desk) (task : TaskView) (at : IsMoving config request d e task)
+    → moves_next (to_do task) ≡ line_next config d.who (lines.Bus request) at.replies
+moving_next config request d e task at =
+    ap (λ (t : TaskView). moves_next (to_do t)) at.is ∙ ap moves_next (by_the_table at.job (given_of at.replies))
+    ∙ sym (once_next config d.who (lines.Bus request) at.job at.replies at.attempted)
+
+-- the boards that it calls are there
+pub moving_below :
+    (config : Configuration) (request : Request) (d e : Desk) (task : TaskView) (n : ℕ) (call : Call) → IsMoving config request d e task
+    → d.who < length config.boards → length config.boards ≡ n → moves_next (to_do task) ≡ Makes call → IsCallBelow n call
+moving_below config request d e task n call at there same next =
+    subst (λ (m : ℕ). IsCallBelow m call) same
+    (next_below config d.who (lines.Bus request) (given_of at.replies) call there (sym (moving_next config request d e task at) ∙ next))
+
+-- one event more
+pub moving_more :
+    (config : Configuration) (request : Request) (d e f : Desk) (reply : EventReply) (task new : TaskView)
+    → IsMoving config request d e task → HasMadeNext (moves_next (to_do task)) reply e f → new ≡ advance task (Some reply)
+    → to_do new ≢ tasks.Rests → IsMoving config request d f new
+moving_more config request d e f reply task new at next advanced begun =
+    let one = move e.who next.event reply in
+    record {
+      job = at.job;
+      attempted = at.attempted;
+      run = at.run ++ one ∷ [];
+      made = made_more at.run (one ∷ []) d e f at.made next.made;
+      replies = reply ∷ at.replies;
+      goes =
+          goes-snoc config d.who (lines.Bus request) [] at.run at.replies one at.goes
+          (sym (moving_next config request d e task at) ∙ makes_event (moves_next (to_do task)) next.event next.calls);
+      is = advanced ∙ ap (λ (t : TaskView). advance t (Some reply)) at.is;
+      begun = begun;
+    }
+
+-- the answer
+pub moving_end :
+    (config : Configuration) (request : Request) (d e : Desk) (task : TaskView) (outcome : Outcome) → IsMoving config request d e task
+    → Some outcome ≡ tasks_seen.outcome_in (to_do task) → IsAnswered config (lines.Bus request) (Transfer outcome) d e
+moving_end config request d e task outcome at is = record {
+  run = at.run;
+  made = at.made;
+  course = record {
+    replies = at.replies;
+    goes = at.goes;
+    ends = sym (moving_next config request d e task at) ∙ ended (to_do task) outcome is;
+  };
+}

@@ -1,0 +1,32 @@
+use Rattle.std.proofs.Common.{length}
+use Rattle.vme_threads.proofs.Desks.{fits_after}
+use Rattle.vme_threads.proofs.Lines.{at_start, at_more, at_end}
+use Rattle.vme_threads.proofs.desk.Desk.attempts.Goals as goal
+
+pub loop-init : goal.loop-init
+loop-init g c =
+    at_start c.args.config.now c.args.line c.args.self.now c.start-task.result c.give.new.self c.requires.line c.start-task.ensures.line
+    c.give.ensures.task c.give.ensures.begun (c.give.ensures.below (length c.args.config.now.boards) c.start-task.ensures.there)
+
+pub make_next-requires-clause-fits : goal.make_next-requires-clause-fits
+make_next-requires-clause-fits g c = fits_after c.args.ports.now _ _ _ c.loop.invariant.made c.requires.fits
+
+-- the event that was due is made, and the line is told of its reply
+pub loop-preserved : goal.loop-preserved
+loop-preserved g c =
+    let n = length c.args.config.now.boards in
+    at_more c.args.config.now c.args.line c.args.self.now c.loop.self c.make_next.new.self c.in_ok-reply.reply c.loop.task c.give-in-loop.new.self
+    c.loop.invariant c.in_ok-reply.ensures c.give-in-loop.ensures.task c.give-in-loop.ensures.begun
+    (c.give-in-loop.ensures.below n c.loop.invariant.below)
+
+pub loop-preserved-in-loop : goal.loop-preserved-in-loop
+loop-preserved-in-loop g c =
+    let n = length c.args.config.now.boards in
+    at_more c.args.config.now c.args.line c.args.self.now c.loop.self c.make_next.new.self c.in_ok-reply.reply c.loop.task c.give-in-loop.new.self
+    c.loop.invariant c.in_ok-reply.ensures c.give-in-loop.ensures.task c.give-in-loop.ensures.begun
+    (c.give-in-loop.ensures.below n c.loop.invariant.below)
+
+pub returns-then-is_over : goal.returns-then-is_over
+returns-then-is_over g c =
+    at_end c.args.config.now c.args.line c.args.self.now c.loop.self c.loop.task c.unwrap.result c.loop.invariant
+    (rw c.unwrap.ensures at c.take_answer.ensures.answer)

@@ -1,0 +1,189 @@
+//! Lines of a script, each by the shortest way: a command to the local port is one call, a transfer
+//! is a task alone, and what may be attempted again is a line's task.
+ghost use Rattle.std.specs.Prelude.{◌≡◌, ◌≢◌, ◌<◌, ◌≤◌, ◌∷◌, [], ℕ, false, length, slice_get, Some, None, IfOk};
+ghost use Rattle.vme_core.specs.Calls.{Call};
+ghost use Rattle.vme_core.specs.declared.event.EventReply.TheVariants as told;
+ghost use Rattle.vme_cycle.specs.Lawful.{transfer_of};
+ghost use Rattle.vme_lines.specs.Grammar.{IsOwnLine};
+ghost use Rattle.vme_lines.specs.declared.line.Line.{Line as AnyLine};
+ghost use Rattle.vme_lines.specs.declared.line.Line.TheVariants as lines;
+ghost use Rattle.vme_master.specs.Jobs.{local_job};
+ghost use Rattle.vme_master.specs.Machine.{to_do};
+ghost use Rattle.vme_master.specs.Tables.{Ends, next_of};
+ghost use Rattle.vme_script.specs.Configurations.{Configuration};
+ghost use Rattle.vme_course.specs.Events.{IsCallBelow, MakesCall};
+ghost use Rattle.vme_course.specs.Rooms.{line_room, room_of_request};
+ghost use Rattle.vme_course.specs.Scripts.{lines_at};
+ghost use Rattle.vme_course.specs.Tables as tables;
+ghost use Rattle.vme_course.specs.Tables.{moves_next};
+ghost use Rattle.vme_threads.specs.Desks.{Fits, HasMadeNext};
+ghost use Rattle.vme_threads.specs.Rans.{IsAnswered, HasAnswered};
+
+use crate::desk::Desk;
+use crate::ports::Ports;
+use crossbeam_utils::Backoff;
+use std::sync::Wait;
+use std::sync::atomic::Ordering;
+use vme_arbiter::ArbReply;
+use vme_block::{Block, Room};
+use vme_core::{Deed, EventReply};
+use vme_cycle::Request;
+use vme_lines::Line;
+use vme_master::{Outcome, Task};
+use vme_memory::{BoardCmd, Reply};
+use vme_port::Spent;
+use vme_script::Config;
+use vme_shared::LineReply;
+
+impl Desk {
+    /// Makes the events of a line of the script, by its place among those that ask for something,
+    /// until it is answered; what it reads over the bus goes into the room. It snoozes before it looks
+    /// again whether it has the bus, and before each further attempt at the line.
+    ///
+    /// # Errors
+    /// `Spent` where an object has made as many steps as can be counted, here or for another worker.
+    pub(crate) fn line<R: Wait>(
+        &mut self,
+        rt: &R,
+        config: &Config,
+        ports: &Ports,
+        line: usize,
+        room: Room,
+    ) -> Result<LineReply, Spent>
+        requires fits { Fits ports.now self.old }
+        requires ports { length ports.now.boards.items ≡ length config.now.boards }
+        requires board { self.old.who < length config.now.boards }
+        requires line { line < length (lines_at config.now self.old.who) }
+        requires none { room.items ≡ [] }
+        requires room { (one : AnyLine) → slice_get (lines_at config.now self.old.who) line ≡ Some one →
+            line_room one ≤ room.room }
+        ensures { IfOk result (λ answer. HasAnswered config.now line answer self.old self.new) }
+    {
+        match config.script(self.who).line(line) {
+            Line::Local(cmd) if !is_cycle(cmd) => self.local(rt, ports, cmd),
+            Line::Bus(request) => self.transfer(rt, config, ports, request, room),
+            _ => self.attempts(rt, config, ports, line, room),
+        }
+    }
+
+    /// A command to the local port of the own board: one call.
+    ///
+    /// # Errors
+    /// `Spent` as for a line.
+    fn local<R: Wait>(&mut self, rt: &R, ports: &Ports, cmd: &BoardCmd) -> Result<LineReply, Spent>
+        requires fits { Fits ports.now self.old }
+        requires there { self.old.who < length self.old.boards.items }
+        requires local { IsOwnLine (lines.Local cmd.now) }
+        ensures { (config : Configuration) →
+            IfOk result (λ answer. IsAnswered config (lines.Local cmd.now) answer self.old self.new) }
+    {
+        if ports.stop.load(Ordering::SeqCst) {
+            return Err(Spent);
+        }
+        let reply = self.command(rt, ports, self.who, cmd)?;
+        Ok(LineReply::Transfer(local_outcome(cmd, reply)))
+    }
+
+    /// A request over the bus: its task alone.
+    ///
+    /// # Errors
+    /// `Spent` as for a line.
+    fn transfer<R: Wait>(
+        &mut self,
+        rt: &R,
+        config: &Config,
+        ports: &Ports,
+        request: &Request,
+        room: Room,
+    ) -> Result<LineReply, Spent>
+        requires fits { Fits ports.now self.old }
+        requires ports { length ports.now.boards.items ≡ length config.now.boards }
+        requires board { self.old.who < length config.now.boards }
+        requires none { room.items ≡ [] }
+        requires room { room_of_request (transfer_of request.now) ≤ room.room }
+        ensures { IfOk result (λ answer. IsAnswered config.now (lines.Bus request.now) answer self.old self.new) }
+    {
+        let (slot, level) = (config.slot(self.who), config.level(self.who));
+        let mut task = match Task::start(config.map(), slot, level, request, room) {
+            Ok(task) => task,
+            Err(fault) => return Ok(LineReply::Refused(fault)),
+        };
+        let backoff = Backoff::new();
+        task.give(None);
+        for _ in rt.forever() {
+            if task.is_over() {
+                return Ok(LineReply::Transfer(task.take_outcome().unwrap()));
+            }
+            if ports.stop.load(Ordering::SeqCst) {
+                return Err(Spent);
+            }
+            let reply = self.make_of(rt, ports, &task)?;
+            task.give(Some(&reply));
+            if matches!(reply, EventReply::Bus(ArbReply::Waiting)) {
+                backoff.snooze();
+            }
+        }
+        unreachable!()
+    }
+
+    /// Makes the event that a task asks for next, as that of a line.
+    ///
+    /// # Errors
+    /// `Spent` where its object has made as many steps as can be counted.
+    #[inline(always)]
+    fn make_of<R: Wait>(
+        &mut self,
+        rt: &R,
+        ports: &Ports,
+        task: &Task<'_>,
+    ) -> Result<EventReply, Spent>
+        requires fits { Fits ports.now self.old }
+        requires below { (call : Call) → moves_next (to_do task.now) ≡ tables.Makes call →
+            IsCallBelow (length self.old.boards.items) call }
+        requires calls { MakesCall (moves_next (to_do task.now)) }
+        ensures { IfOk result (λ reply. HasMadeNext (moves_next (to_do task.now)) reply self.old self.new) }
+    {
+        match task.deed().unwrap() {
+            Deed::Bus(cmd) => Ok(EventReply::Bus(self.tell(rt, ports, &cmd)?)),
+            Deed::Board { board, cmd } => {
+                Ok(EventReply::Board(self.command(rt, ports, board, cmd)?))
+            }
+            Deed::Datum { .. } => self.make(rt, ports, &task.event().unwrap()),
+        }
+    }
+}
+
+/// Whether a command is a cycle of the bus.
+fn is_cycle(cmd: &BoardCmd) -> bool
+    ensures { result ≡ false → IsOwnLine (lines.Local cmd.now) }
+{
+    matches!(cmd, BoardCmd::Cycle { .. })
+}
+
+/// What comes of a command to a local port, by its reply.
+fn local_outcome(cmd: &BoardCmd, reply: Reply) -> Outcome
+    requires { IsOwnLine (lines.Local cmd.now) }
+    ensures { (board : ℕ) →
+        next_of (local_job board cmd.now) (Some (told.Board reply) ∷ None ∷ []) ≡ Ends result }
+{
+    match (cmd, reply) {
+        (_, Reply::Berr) => Outcome::Berr {
+            count: 0,
+            bytes: Block::new(),
+        },
+        (BoardCmd::LocalWrite { .. }, Reply::Done) => Outcome::Done,
+        (BoardCmd::LocalModify { n, .. }, Reply::Bytes(old))
+            if old.as_slice().len() == usize::from(*n) =>
+        {
+            Outcome::Old(old)
+        }
+        (BoardCmd::LocalRead { n, .. }, Reply::Bytes(bytes))
+            if bytes.as_slice().len() == usize::from(*n) =>
+        {
+            let mut read = Room::new();
+            read.push_all(bytes.as_slice());
+            Outcome::Read(read.into_block())
+        }
+        _ => Outcome::Denied,
+    }
+}
