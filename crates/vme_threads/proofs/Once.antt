@@ -31,7 +31,7 @@ use Rattle.vme_script.specs.declared.script.ScriptLine.{ScriptLine}
 use Rattle.vme_script.specs.Boards.{entries_of}
 use Rattle.vme_script.specs.Configurations.{Configuration}
 use Rattle.vme_course.specs.Scripts.{Moves, slot_at, level_at, lines_at, transfer_job, request_attempt, line_attempt}
-use Rattle.vme_course.specs.Tables.{LineNext, Makes, Ends, moves_next, attempts_of, next_asks_again, next_given, line_next, given_of}
+use Rattle.vme_course.specs.Tables.{Makes, Ends, moves_next, attempts_of, next_asks_again, next_given, line_next, given_of}
 use Rattle.vme_course.specs.Events.{IsCallBelow, IsEventBelow}
 use Rattle.vme_course.specs.Courses.{Goes}
 use Rattle.vme_course.proofs.Calls.{makes_event}

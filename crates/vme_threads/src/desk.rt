@@ -38,7 +38,12 @@ impl Desk {
     /// # Errors
     /// `Spent` where the arbiter has made as many steps as can be counted.
     #[inline(always)]
-    pub(crate) fn tell<R: Wait>(&mut self, rt: &R, ports: &Ports, cmd: &ArbCmd) -> Result<ArbReply, Spent>
+    pub(crate) fn tell<R: Wait>(
+        &mut self,
+        rt: &R,
+        ports: &Ports,
+        cmd: &ArbCmd,
+    ) -> Result<ArbReply, Spent>
         requires { Fits ports.now self.old }
         ensures { IfOk result (λ reply.
             HasMade (move self.old.who (asked.Bus cmd.now) (told.Bus reply) ∷ []) self.old self.new) }

@@ -173,13 +173,9 @@ fn local_outcome(cmd: &BoardCmd, reply: Reply) -> Outcome
         },
         (BoardCmd::LocalWrite { .. }, Reply::Done) => Outcome::Done,
         (BoardCmd::LocalModify { n, .. }, Reply::Bytes(old))
-            if old.as_slice().len() == usize::from(*n) =>
-        {
-            Outcome::Old(old)
-        }
+            if old.as_slice().len() == usize::from(*n) => { Outcome::Old(old) }
         (BoardCmd::LocalRead { n, .. }, Reply::Bytes(bytes))
-            if bytes.as_slice().len() == usize::from(*n) =>
-        {
+            if bytes.as_slice().len() == usize::from(*n) => {
             let mut read = Room::new();
             read.push_all(bytes.as_slice());
             Outcome::Read(read.into_block())

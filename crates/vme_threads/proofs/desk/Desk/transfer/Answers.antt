@@ -1,4 +1,4 @@
-use Rattle.std.proofs.Common.{length, map, ◌≡◌, ◌≤◌, arith}
+use Rattle.std.proofs.Common.{length, map, ◌≡◌, arith}
 use Rattle.std.proofs.lemmas.Option.{get_or_from_slice_get}
 use Rattle.vme_threads.proofs.Desks.{fits_after}
 use Rattle.vme_threads.proofs.Once.{refused_answered, moving_start, moving_below, moving_more, moving_end}
