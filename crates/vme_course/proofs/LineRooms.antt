@@ -1,12 +1,17 @@
 -- The rooms of the lines of a script, in order.
-use Rattle.std.proofs.Common.{◌≡◌, ℕ, zero, suc, ◌+◌, ◌<◌, ◌≤◌, Bool, true, false, List, [], ◌∷◌, ◌++◌, length, map, take, drop, get_or, max, Some, refl, ap, sym, ◌∙◌, arith, add-one}
+use Rattle.std.proofs.Common.{◌≡◌, ℕ, zero, suc, ◌+◌, ◌<◌, ◌≤◌, Bool, true, false, List, [], ◌∷◌, ◌++◌, length, map, take, drop, get_or, max, Some, Result, Ok, Err, refl, ap, sym, ◌∙◌, arith, add-one}
 use Rattle.std.specs.Prelude.{slice_get}
 use Rattle.std.proofs.lemmas.List.{append_assoc, append-nil, drop_more, length-drop, length-map}
 use Rattle.std.proofs.lemmas.Option.{same_Some, get_or_from_slice_get}
 use Rattle.vme_block.specs.Rooms.{RoomView, short_room}
+use Rattle.vme_cycle.specs.declared.fault.CycleFault.{CycleFault}
+use Rattle.vme_cycle.specs.declared.request.Request.{Request}
+use Rattle.vme_cycle.specs.Requests.{reply_room}
+use Rattle.vme_cycle.specs.Lawful.{Transfer, transfer_of}
+use Rattle.vme_cycle.proofs.Transfers.{comes_from}
 use Rattle.vme_lines.specs.declared.line.Line.{Line}
 use Rattle.vme_script.specs.declared.script.ScriptLine.{ScriptLine}
-use Rattle.vme_course.specs.Rooms.{line_room, room_of, rooms_of, rooms_kept}
+use Rattle.vme_course.specs.Rooms.{room_of_request, line_room, room_of, rooms_of, rooms_kept}
 
 -- the room at the place of a line
 room_found : (script : List ScriptLine) (n : ℕ) (line : Line) → slice_get (map (λ one. one.line) script) n ≡ Some line
@@ -120,3 +125,11 @@ one_short script n count line before after long found kept reads marked few =
     rw (marked, rooms_more script n line found, ← reads)
     (kept_short before long (rooms_of (take n script)) (record { items = []; room = max short_room count }) kept
     (ap (λ (n : ℕ). let r : RoomView = record { items = []; room = n } in r) size))
+
+-- a request reads no more than it says
+pub no_more_than : (request : Request) → room_of_request (transfer_of request) ≤ reply_room request
+no_more_than request = by_transfer (transfer_of request) refl
+  where
+    by_transfer : (transfer : Result Transfer CycleFault) → transfer_of request ≡ transfer → room_of_request transfer ≤ reply_room request
+    by_transfer (Ok t) is = let same = ap reply_room (comes_from request t is).same in omega (arith, same)
+    by_transfer (Err fault) is = omega arith

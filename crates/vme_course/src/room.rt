@@ -1,12 +1,14 @@
 //! Room for the bytes that the lines of a script read.
-ghost use Rattle.std.specs.Prelude.{◌≡◌, ◌<◌, ◌∷◌, length, IfOk};
+ghost use Rattle.std.specs.Prelude.{◌≡◌, ◌<◌, ◌≤◌, ◌∷◌, length, IfOk};
+ghost use Rattle.vme_block.specs.Rooms.{short_room};
+ghost use Rattle.vme_cycle.specs.Requests.{reply_room};
 ghost use Rattle.vme_course.specs.Rooms.{line_room, rooms_of};
 
 use std::alloc::{AllocError, Global};
 use std::marker::Model;
 use std::vec::IntoIter;
 use vme_block::{Room, SHORT};
-use vme_cycle::Plan;
+use vme_cycle::{Plan, Request};
 use vme_lines::Line;
 use vme_script::Script;
 
@@ -43,7 +45,7 @@ impl Rooms {
         let mut take_memory = Vec::with_capacity(alloc, script.len())?;
         let mut long = Vec::new(alloc);
         for line in 0..script.len() {
-            let count = line_room(script.line(line));
+            let count = long_room(script.line(line));
             let takes_memory = SHORT < count;
             if takes_memory {
                 long.push(Room::with_room(alloc, count)?)?;
@@ -66,6 +68,29 @@ impl Rooms {
         } else {
             Room::new()
         }
+    }
+}
+
+/// How many bytes a line reads, where they may be more than lie in a room itself; the request of any
+/// other line is not judged here.
+fn long_room(line: &Line) -> usize
+    ensures long { short_room < result → result ≡ line_room line.now }
+    ensures short { result ≤ short_room → line_room line.now ≤ short_room }
+{
+    match line {
+        Line::Bus(request) if SHORT < most_read(request) => line_room(line),
+        _ => 0,
+    }
+}
+
+/// How many bytes a request reads, if it is lawful.
+fn most_read(request: &Request) -> usize
+    ensures { result ≡ reply_room request.now }
+{
+    match request {
+        Request::Read { n, .. } | Request::Modify { n, .. } => usize::from(*n),
+        Request::BlockRead { n, count, .. } => usize::from(*n) * usize::from(*count),
+        Request::Write { .. } | Request::BlockWrite { .. } | Request::BlockFill { .. } => 0,
     }
 }
 
