@@ -1,5 +1,5 @@
-ghost use Rattle.std.specs.Prelude.{◌≡◌, ◌<◌, ◌≤◌, ◌^◌, [], length};
-ghost use Rattle.vme_cycle.specs.Functions.{number_from, bytes_onto};
+ghost use Rattle.std.specs.Prelude.{◌≡◌, ◌+◌, ◌<◌, ◌≤◌, ◌^◌, [], length};
+ghost use Rattle.vme_cycle.specs.Functions.{number_from, bytes_onto, number_bytes, sum_of};
 
 use vme_lanes::{Datum, copy_bytes};
 
@@ -21,7 +21,6 @@ impl Modify {
     ghost use Rattle.vme_cycle.specs.Functions.{value, has_len};
 
     /// What is written in the place of `old`.
-    #[tactic(auto, unfolding(crate::specs::Functions::sum_of))]
     pub fn value(&self, old: &Datum) -> Datum
         requires { IsTrue (has_len self.now (length old.now.items)) }
         ensures value { result.items ≡ value self.now old.now.items }
@@ -36,7 +35,7 @@ impl Modify {
                 new
             }
             Modify::Exchange(put) => copy_bytes(put),
-            Modify::Add(by) => spelled(old.len(), number_of(old) + number_of(by)),
+            Modify::Add(by) => sum_of(old, by),
             Modify::Compare { expect, put } => {
                 if old.as_slice() == expect.as_slice() {
                     copy_bytes(put)
@@ -73,6 +72,32 @@ impl Modify {
             Modify::Compare { expect, put } => expect.len() == len && put.len() == len,
         }
     }
+}
+
+/// The sum of two numbers, in as many bytes as the first has. Of four bytes, which most have, it is
+/// that of two words; any other is made byte by byte.
+#[tactic(auto, unfolding(crate::specs::Functions::sum_of))]
+fn sum_of(old: &Datum, by: &Datum) -> Datum
+    requires { length by.now.items ≡ length old.now.items }
+    ensures value { result.items ≡ sum_of old.now.items by.now.items }
+    ensures len { length result.items ≡ length old.now.items }
+{
+    match (old.as_slice(), by.as_slice()) {
+        ([a, b, c, d], [e, f, g, h]) => {
+            let word = u32::from_be_bytes([*a, *b, *c, *d]);
+            sum_of_words(word, u32::from_be_bytes([*e, *f, *g, *h]))
+        }
+        _ => spelled(old.len(), number_of(old) + number_of(by)),
+    }
+}
+
+/// The sum of two words, as four bytes: what goes beyond them is lost.
+#[inline(always)]
+fn sum_of_words(word: u32, by: u32) -> Datum
+    ensures value { result.items ≡ number_bytes 4 (word + by) }
+    ensures len { length result.items ≡ 4 }
+{
+    Datum::try_from(&word.wrapping_add(by).to_be_bytes()[..]).unwrap()
 }
 
 /// The number that bytes spell, the first most significant.
