@@ -3,6 +3,7 @@
 //! is the smallest such thing.
 #![tactic(auto)]
 
+mod asks;
 mod count;
 mod counter;
 mod held;
@@ -10,6 +11,7 @@ mod history;
 mod laws;
 mod object;
 
+pub use asks::{Asks, Given};
 pub use count::next_count;
 pub use counter::{Counter, CounterCmd};
 pub use held::Held;

@@ -11,23 +11,23 @@ use crate::seats::{FREE, TAKEN, Taking, WANTED};
 use crossbeam_utils::Backoff;
 use std::marker::Brand;
 use std::sync::Wait;
-use vme_object::Object;
+use vme_object::{Asks, Given, Object};
 
 /// How often a call tries before it parks.
 const TRIES: u32 = 10;
 
 impl<O: Object> Port<O> {
     /// One try.
-    fn attempt(
+    fn attempt<A: Asks<O>>(
         &self,
         pass: &mut Pass<O>,
-        cmd: &O::Cmd,
+        asked: &A,
         taking: Taking,
     ) -> Result<O::Reply, TryFault>
         requires { IsPassOf self.now pass.old }
         ensures pass { IsPassOf self.now pass.new }
         ensures adds { UnlessBusy result
-            (Adds O.step (opening self.now) (entries_of pass.old.who cmd.now result) pass.old pass.new) }
+            (Adds O.step (opening self.now) (entries_of pass.old.who (A.command asked.now) result) pass.old pass.new) }
         ensures busy { IfBusy result (pass.new ≡ pass.old) }
         ensures shared { IfBusy result (2 ≤ passes_of self.now) }
         ensures full { IfSpent result (length pass.new.seen ≡ 2 ^ 64 - 1) }
@@ -35,12 +35,12 @@ impl<O: Object> Port<O> {
         if !self.take::<Brand>(&mut pass.seat, taking) {
             return Err(TryFault::Busy);
         }
-        let Some(reply) = self.perform(&mut pass.seat, cmd) else {
+        let Some(reply) = self.perform(&mut pass.seat, asked) else {
             self.put_unchanged(&mut pass.seat);
             return Err(TryFault::Spent);
         };
         pass.made += 1;
-        self.put_entry::<Brand>(&mut pass.seat, pass.who, cmd, &reply);
+        self.put_entry::<A, Brand>(&mut pass.seat, pass.who, asked, &reply);
         Ok(reply)
     }
 
@@ -58,26 +58,26 @@ impl<O: Object> Port<O> {
         ensures shared { IfBusy result (2 ≤ passes_of self.now) }
         ensures full { IfSpent result (length pass.new.seen ≡ 2 ^ 64 - 1) }
     {
-        self.attempt(pass, cmd, Taking::Alone)
+        self.attempt(pass, &Given { cmd }, Taking::Alone)
     }
 
     /// Parks until the object may be at home, and tries, until a try is not busy. A try that takes
     /// the object leaves the port wanted, so that its put wakes the next one who waits.
-    fn call_parked<R: Wait>(
+    fn call_parked<R: Wait, A: Asks<O>>(
         &self,
         rt: &R,
         pass: &mut Pass<O>,
-        cmd: &O::Cmd,
+        asked: &A,
     ) -> Result<O::Reply, Spent>
         requires { IsPassOf self.now pass.old }
-        ensures adds { Adds O.step (opening self.now) (entries_of pass.old.who cmd.now result) pass.old pass.new }
+        ensures adds { Adds O.step (opening self.now) (entries_of pass.old.who (A.command asked.now) result) pass.old pass.new }
         ensures full { IfErr result (λ _. length pass.new.seen ≡ 2 ^ 64 - 1) }
     {
         for _ in rt.forever() {
             if self.mark(pass) != FREE {
                 self.table.shared.park(rt, 0, WANTED as u32);
             }
-            match self.attempt(pass, cmd, Taking::Wanted) {
+            match self.attempt(pass, asked, Taking::Wanted) {
                 Ok(reply) => return Ok(reply),
                 Err(TryFault::Spent) => return Err(Spent),
                 Err(TryFault::Busy) => {}
@@ -106,10 +106,27 @@ impl<O: Object> Port<O> {
         ensures adds { Adds O.step (opening self.now) (entries_of pass.old.who cmd.now result) pass.old pass.new }
         ensures full { IfErr result (λ _. length pass.new.seen ≡ 2 ^ 64 - 1) }
     {
-        match self.try_call(pass, cmd) {
+        self.ask(rt, pass, &Given { cmd })
+    }
+
+    /// The same with what asks for the step of a command; the entry has that command.
+    ///
+    /// # Errors
+    /// `Spent` where the history has 2^64 - 1 entries; no entry is added.
+    pub fn ask<R: Wait, A: Asks<O>>(
+        &self,
+        rt: &R,
+        pass: &mut Pass<O>,
+        asked: &A,
+    ) -> Result<O::Reply, Spent>
+        requires { IsPassOf self.now pass.old }
+        ensures adds { Adds O.step (opening self.now) (entries_of pass.old.who (A.command asked.now) result) pass.old pass.new }
+        ensures full { IfErr result (λ _. length pass.new.seen ≡ 2 ^ 64 - 1) }
+    {
+        match self.attempt(pass, asked, Taking::Alone) {
             Ok(reply) => Ok(reply),
             Err(TryFault::Spent) => Err(Spent),
-            Err(TryFault::Busy) => self.call_again(rt, pass, cmd),
+            Err(TryFault::Busy) => self.call_again(rt, pass, asked),
         }
     }
 
@@ -117,25 +134,25 @@ impl<O: Object> Port<O> {
     /// `put_unchanged` are, so that the code of a call that waits for nobody runs straight on.
     #[cold]
     #[inline(never)]
-    fn call_again<R: Wait>(
+    fn call_again<R: Wait, A: Asks<O>>(
         &self,
         rt: &R,
         pass: &mut Pass<O>,
-        cmd: &O::Cmd,
+        asked: &A,
     ) -> Result<O::Reply, Spent>
         requires { IsPassOf self.now pass.old }
-        ensures adds { Adds O.step (opening self.now) (entries_of pass.old.who cmd.now result) pass.old pass.new }
+        ensures adds { Adds O.step (opening self.now) (entries_of pass.old.who (A.command asked.now) result) pass.old pass.new }
         ensures full { IfErr result (λ _. length pass.new.seen ≡ 2 ^ 64 - 1) }
     {
         let backoff = Backoff::new();
         backoff.snooze();
         for _ in 1..TRIES {
-            match self.try_call(pass, cmd) {
+            match self.attempt(pass, asked, Taking::Alone) {
                 Ok(reply) => return Ok(reply),
                 Err(TryFault::Spent) => return Err(Spent),
                 Err(TryFault::Busy) => backoff.snooze(),
             }
         }
-        self.call_parked(rt, pass, cmd)
+        self.call_parked(rt, pass, asked)
     }
 }

@@ -9,7 +9,7 @@ use crate::port::Port;
 use crate::rule::{Knows, Puts, Takes, Tells, View};
 use atomic_table::Seat;
 use std::marker::Brand;
-use vme_object::{Object, next_count};
+use vme_object::{Asks, Object, next_count};
 
 /// The word where the object is at home.
 pub(crate) const FREE: u64 = 0;
@@ -61,22 +61,22 @@ impl<O: Object> Port<O> {
     }
 
     /// Performs a command on the object that is out with the seat, unless its history is full.
-    pub(crate) fn perform(
+    pub(crate) fn perform<A: Asks<O>>(
         &self,
         seat: &mut Seat<Home<O>, View<O::Cmd, O::Reply>>,
-        cmd: &O::Cmd,
+        asked: &A,
     ) -> Option<O::Reply>
         requires port { seat.old.table_id ≡ port_id self.now }
         requires out { IsOut seat.old.me }
         ensures port { seat.new.table_id ≡ seat.old.table_id }
-        ensures done { MatchOption result (IsFull seat.old.me seat.new.me) (λ r. HasPerformed O.step cmd.now r seat.old.me seat.new.me) }
+        ensures done { MatchOption result (IsFull seat.old.me seat.new.me) (λ r. HasPerformed O.step (A.command asked.now) r seat.old.me seat.new.me) }
     {
         let home = seat.slot_mut(&self.table.shared, 0);
         let Some(count) = next_count(home.count) else {
             return None;
         };
         home.count = count;
-        Some(home.object.apply(cmd))
+        Some(asked.ask(&mut home.object))
     }
 
     /// Puts the object home with these entries behind its history, and wakes one who waits for it.
@@ -114,18 +114,18 @@ impl<O: Object> Port<O> {
     }
 
     /// Puts the object home with one entry. The entry is named so that the call can pick it.
-    pub(crate) fn put_entry<W: Tells<O::Cmd, O::Reply>>(
+    pub(crate) fn put_entry<A: Asks<O>, W: Tells<O::Cmd, O::Reply>>(
         &self,
         seat: &mut Seat<Home<O>, View<O::Cmd, O::Reply>>,
         who: usize,
-        cmd: &O::Cmd,
+        asked: &A,
         reply: &O::Reply,
     )
         requires port { seat.old.table_id ≡ port_id self.now }
-        requires told { W.entries ≡ entry who cmd.now reply.now ∷ [] }
-        requires out { MayPut O.step (opening self.now) (entry who cmd.now reply.now ∷ []) seat.old.me }
+        requires told { W.entries ≡ entry who (A.command asked.now) reply.now ∷ [] }
+        requires out { MayPut O.step (opening self.now) (entry who (A.command asked.now) reply.now ∷ []) seat.old.me }
         ensures port { seat.new.table_id ≡ seat.old.table_id }
-        ensures told { HasPut (entry who cmd.now reply.now ∷ []) seat.old.me seat.new.me }
+        ensures told { HasPut (entry who (A.command asked.now) reply.now ∷ []) seat.old.me seat.new.me }
     {
         self.put_entries::<W>(seat);
     }

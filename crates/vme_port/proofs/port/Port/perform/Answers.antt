@@ -9,5 +9,5 @@ returns-in_default-clause-done g c = full c.args.seat.now.me c.slot_mut-home.res
 
 pub returns-clause-done : goal.returns-clause-done
 returns-clause-done g c =
-    performed g.O.Object.step c.args.cmd.now c.apply.result c.args.seat.now.me c.slot_mut-home.result.now _ c.slot_mut-home.ensures.value c.requires.out
-    c.in-Some.ensures.0 c.in-Some.ensures.1 c.apply.ensures.state c.apply.ensures.reply
+    performed g.O.Object.step (g.A.Asks.command c.args.asked.now) c.ask.result c.args.seat.now.me c.slot_mut-home.result.now _ c.slot_mut-home.ensures.value c.requires.out
+    c.in-Some.ensures.0 c.in-Some.ensures.1 c.ask.ensures.state c.ask.ensures.reply
