@@ -2,4 +2,5 @@ pub mod Tallies
 pub mod Runs
 pub mod Calls
 pub mod Machines
+pub mod Data
 pub mod Deeds

@@ -1,13 +1,14 @@
-ghost use Rattle.std.specs.Prelude.{◌≡◌, ◌≢◌, ◌+◌, ◌<◌, ◌-◌, ◌^◌, ◌↔◌, ◌∷◌, [], length, slice_set, slice_index_or, Some, IsErr, IfOk, IfErr};
+ghost use Rattle.std.specs.Prelude.{◌≡◌, ◌≢◌, ◌+◌, ◌<◌, ◌-◌, ◌^◌, ◌↔◌, ◌∷◌, [], length, slice_set, slice_index_or, IsErr, IfOk, IfErr};
 ghost use Rattle.vme_object.specs.History.{entry};
 ghost use Rattle.vme_core.specs.Tallies.{Went, fresh_tally};
-ghost use Rattle.vme_memory.specs.Access.{accessed};
+ghost use Rattle.vme_memory.specs.Locals.{command_given};
 ghost use Rattle.vme_core.specs.Calls.{command_step, counted_step};
 
+use crate::datum::DatumCycle;
 use crate::fault::{OutOfMemory, Spent};
 use std::alloc::Global;
 use std::marker::Model;
-use vme_memory::{Access, ByteMemory, Reply};
+use vme_memory::{ByteMemory, Reply};
 use vme_object::{Object, next_count};
 
 /// An object, with the number of its steps and of those that each who made.
@@ -120,12 +121,12 @@ impl<O: Object> Counted<O> {
 impl Counted<ByteMemory> {
     /// Answers one datum of a transfer, and counts it, where a further step can be counted.
     #[inline(always)]
-    pub(crate) fn datum(&mut self, who: usize, access: &Access<'_>) -> Reply
+    pub(crate) fn datum(&mut self, who: usize, cycle: &DatumCycle<'_>) -> Reply
         requires who { who < length self.old.made }
         requires unspent { self.old.steps ≢ 2 ^ 64 - 1 }
-        ensures { (self.new, result) ≡ counted_step command_step self.old who (Some (accessed access.now)) }
+        ensures { (self.new, result) ≡ counted_step command_step self.old who (command_given cycle.now) }
     {
-        let reply = self.object.access(access);
+        let reply = self.object.access(&cycle.access());
         self.count(who);
         reply
     }

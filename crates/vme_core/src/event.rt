@@ -1,5 +1,6 @@
+use crate::datum::DatumCycle;
 use vme_arbiter::{ArbCmd, ArbReply};
-use vme_memory::{Access, BoardCmd, Reply};
+use vme_memory::{BoardCmd, Reply};
 
 /// A command to one of the boards, or to the arbiter of their bus.
 #[derive(Debug, Drop)]
@@ -16,7 +17,7 @@ pub enum Deed<'a> {
     /// A command to one of the boards, by its place.
     Board { board: usize, cmd: &'a BoardCmd },
     /// A datum of a transfer, for one of the boards, by its place.
-    Datum { board: usize, access: Access<'a> },
+    Datum { board: usize, cycle: DatumCycle<'a> },
     /// To the arbiter.
     Bus(ArbCmd),
 }

@@ -3,11 +3,13 @@
 #![tactic(auto)]
 
 mod counted;
+mod datum;
 mod event;
 mod fault;
 mod laws;
 mod machine;
 
+pub use datum::DatumCycle;
 pub use event::{Deed, Event, EventReply, Target};
 pub use fault::{OutOfMemory, RunStop, Spent};
 pub use laws::{a_call_is_a_run_of_one, opening_is_replayed, runs_compose};

@@ -3,19 +3,19 @@ ghost use Rattle.vme_arbiter.specs.declared.kind.ArbiterKind.TheVariants.{Priori
 ghost use Rattle.vme_arbiter.specs.Arbitration.{opening_bus};
 ghost use Rattle.vme_core.specs.Tallies.{fresh_tally};
 ghost use Rattle.vme_core.specs.Runs.{Did, move, target_of};
-ghost use Rattle.vme_memory.specs.Access.{accessed};
 ghost use Rattle.vme_memory.specs.Locals.{command_given};
 ghost use Rattle.vme_core.specs.Calls.{OnBoard, OnBus, call_of, machine_step};
 ghost use Rattle.vme_core.specs.Deeds.{call_asked, target_of_deed, CanCount};
 ghost use Rattle.vme_core.specs.Machines.{opening, whos, IsThere, steps_of, counts_of, made_of, HasRun};
 
 use crate::counted::Counted;
+use crate::datum::DatumCycle;
 use crate::event::{Deed, Event, EventReply, Target};
 use crate::fault::{OutOfMemory, RunStop, Spent};
 use std::alloc::Global;
 use std::marker::Model;
 use vme_arbiter::{ArbCmd, ArbReply, Arbiter};
-use vme_memory::{Access, BoardCmd, ByteMemory, Reply};
+use vme_memory::{BoardCmd, ByteMemory, Reply};
 
 /// Boards, the arbiter of their bus, and the steps of each, on one thread. Contracts see it as a
 /// machine of plain objects with their counts.
@@ -92,7 +92,7 @@ impl Core {
     {
         match deed {
             Deed::Board { board, cmd } => EventReply::Board(self.command(who, *board, cmd)),
-            Deed::Datum { board, access } => EventReply::Board(self.datum(who, *board, access)),
+            Deed::Datum { board, cycle } => EventReply::Board(self.datum(who, *board, cycle)),
             Deed::Bus(cmd) => EventReply::Bus(self.tell(who, *cmd)),
         }
     }
@@ -124,15 +124,15 @@ impl Core {
 
     /// One datum of a transfer of `who` for a board which can count it, by its place, and the reply.
     #[inline(always)]
-    pub fn datum(&mut self, who: usize, board: usize, access: &Access<'_>) -> Reply
+    pub fn datum(&mut self, who: usize, board: usize, cycle: &DatumCycle<'_>) -> Reply
         requires who { who < whos self.old }
         requires can { CanCount self.old (Target.Board board) }
         ensures step { (self.new, EventReply.Board result)
-            ≡ machine_step self.old who (OnBoard board (Some (accessed access.now))) }
+            ≡ machine_step self.old who (OnBoard board (command_given cycle.now)) }
         ensures boards { length self.new.boards ≡ length self.old.boards }
         ensures whos { whos self.new ≡ whos self.old }
     {
-        self.boards[board].datum(who, access)
+        self.boards[board].datum(who, cycle)
     }
 
     /// Events one after another, each with who gives it; their replies are appended. Room for all of

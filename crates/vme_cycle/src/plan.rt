@@ -17,7 +17,7 @@ use vme_am::Am;
 use vme_lanes::{DataLines, Datum, Location, place};
 
 /// How a lawful request goes over the bus: the cycle that each of its data is.
-#[derive(Drop)]
+#[derive(Debug, Drop)]
 pub struct Plan<'a> {
     am: Am,
     request: &'a Request,

@@ -1,8 +1,7 @@
 ghost use Rattle.std.specs.Prelude.{◌≡◌, ◌<◌, ◌≤◌, ℕ, List, length, Some, IsTrue, option_map};
 ghost use Rattle.vme_block.specs.Rooms.{block_limit};
-ghost use Rattle.vme_cycle.specs.Requests.{count_of, is_counted};
-ghost use Rattle.vme_memory.specs.Access.{accessed};
-ghost use Rattle.vme_memory.specs.Data.{datum_command};
+ghost use Rattle.vme_cycle.specs.Requests.{count_of};
+ghost use Rattle.vme_memory.specs.Locals.{command_given};
 ghost use Rattle.vme_core.specs.Calls.{OnBoard, call_of};
 ghost use Rattle.vme_core.specs.Deeds.{call_asked};
 ghost use Rattle.vme_master.specs.Jobs.{ask_call, look_call, done_call, datum_call, local_call};
@@ -15,10 +14,10 @@ use crate::outcome::Outcome;
 use crate::phase::Phase;
 use vme_arbiter::{ArbCmd, ArbReply};
 use vme_block::Room;
-use vme_core::{Deed, Event};
-use vme_cycle::{Modify, Request, Transfer};
+use vme_core::{DatumCycle, Deed, Event};
+use vme_cycle::{Modify, Transfer};
 use vme_lanes::Datum;
-use vme_memory::{Access, BoardCmd, Reply};
+use vme_memory::{BoardCmd, Reply};
 
 /// A transfer over the bus: whose it is, and where its first byte lies, by the place of a board in
 /// the map and the offset there, if a board is selected.
@@ -82,8 +81,8 @@ impl BusJob<'_> {
     {
         match self.place {
             Some((board, offset)) => {
-                let access = self.moves_to(board, offset, i);
-                Deed::Datum { board, access }
+                let cycle = self.moves_to(board, offset, i);
+                Deed::Datum { board, cycle }
             }
             None => Deed::Bus(ArbCmd::Done { slot: self.slot }),
         }
@@ -91,16 +90,16 @@ impl BusJob<'_> {
 
     /// The datum itself, where the board of the first one, and its offset there, are known.
     #[inline(always)]
-    pub(crate) fn moves_to(&self, board: usize, offset: u32, i: u16) -> Access<'_>
+    pub(crate) fn moves_to(&self, board: usize, offset: u32, i: u16) -> DatumCycle<'_>
         requires in_count { i < count_of self.now.transfer.request }
         requires placed { IsPlaced (Job.Bus self.now) }
         requires place { self.now.place ≡ Some (board, offset) }
-        ensures { OnBoard board (Some (accessed result)) ≡ datum_call self.now self.now.place i }
+        ensures { OnBoard board (command_given result) ≡ datum_call self.now self.now.place i }
     {
         let plan = self.transfer.plan();
         prove!(i < plan.len());
         let at = offset + u32::from(i) * u32::from(plan.datum_len());
-        access_of(plan.request(), i, at)
+        DatumCycle::new(plan, i, at)
     }
 
     /// What it asks in a phase, if anything.
@@ -148,38 +147,6 @@ impl BusJob<'_> {
         } else {
             Phase::Frees { berr: None }
         }
-    }
-}
-
-/// What datum `i` of a request asks of its slave, at the offset of its first byte there.
-#[inline(always)]
-fn access_of(request: &Request, i: u16, at: u32) -> Access<'_>
-    requires counted { IsTrue (is_counted request.now) }
-    requires in_count { i < count_of request.now }
-    ensures { accessed result ≡ datum_command request.now i at }
-{
-    match request {
-        Request::Read { n, .. } => Access::Read {
-            block: false,
-            at,
-            n: *n,
-        },
-        Request::BlockRead { n, .. } => Access::Read {
-            block: true,
-            at,
-            n: *n,
-        },
-        Request::Modify { n, f, .. } => Access::Modify { at, n: *n, f },
-        Request::Write { .. } => Access::Write {
-            block: false,
-            at,
-            bytes: request.datum(i).unwrap(),
-        },
-        Request::BlockWrite { .. } | Request::BlockFill { .. } => Access::Write {
-            block: true,
-            at,
-            bytes: request.datum(i).unwrap(),
-        },
     }
 }
 

@@ -1,0 +1,104 @@
+//! Data of transfers, as the memory takes them that they are for.
+ghost use Rattle.std.specs.Prelude.{◌≡◌, ◌<◌, ◌%◌, Some, IsTrue};
+ghost use Rattle.vme_cycle.specs.Lawful.{IsLawfulTransfer};
+ghost use Rattle.vme_cycle.specs.Requests.{count_of, address_of, is_counted};
+ghost use Rattle.vme_memory.specs.Access.{accessed};
+ghost use Rattle.vme_memory.specs.Data.{datum_command};
+ghost use Rattle.vme_memory.specs.Locals.{command_given};
+ghost use Rattle.vme_core.specs.Data.{datum_cycle};
+
+use std::marker::Model;
+use vme_cycle::{Plan, Request};
+use vme_memory::{Access, ByteMemory, Reply};
+use vme_object::Asks;
+
+/// The cycle of a datum of a lawful transfer, for a memory where its first byte has an offset. Its
+/// lines are not laid out: a memory does what they would tell it. Contracts see it as the command.
+#[derive(Debug, Drop)]
+pub struct DatumCycle<'a> {
+    plan: Plan<'a>,
+    i: u16,
+    at: u32,
+}
+
+impl<'a> Model for DatumCycle<'a> {
+    ghost use Rattle.std.specs.Prelude.{◌≡◌, ◌<◌, ◌%◌};
+    ghost use Rattle.vme_cycle.specs.Lawful.{IsLawfulTransfer};
+    ghost use Rattle.vme_cycle.specs.Requests.{count_of, address_of};
+    ghost use Rattle.vme_memory.specs.declared.command.BoardCmd.{BoardCmd};
+    ghost use Rattle.vme_core.specs.Data.{datum_cycle};
+
+    ghost Value = { BoardCmd };
+
+    ghost view = { λ d. datum_cycle d.plan d.i d.at };
+
+    ghost invariant = { λ d. IsLawfulTransfer d.plan × (d.i < count_of d.plan.request) × (d.at % 4 ≡ address_of d.plan.request d.i % 4) };
+}
+
+impl<'a> DatumCycle<'a> {
+    /// The cycle of datum `i` of a plan, with the offset of its first byte, which has the place in the
+    /// group of four that its address has.
+    #[inline(always)]
+    pub fn new(plan: Plan<'a>, i: u16, at: u32) -> DatumCycle<'a>
+        requires lawful { IsLawfulTransfer plan }
+        requires in_count { i < count_of plan.request }
+        requires place { at % 4 ≡ address_of plan.request i % 4 }
+        ensures cycle { result ≡ datum_cycle plan.entry i at }
+        ensures command { command_given result ≡ Some (datum_command plan.entry.request i at) }
+    {
+        prove!(i < plan.len());
+        DatumCycle { plan, i, at }
+    }
+
+    /// What it asks of the memory.
+    #[inline(always)]
+    pub(crate) fn access(&self) -> Access<'a>
+        ensures { command_given self.now ≡ Some (accessed result) }
+    {
+        prove!(self.i < self.plan.len());
+        access_of(self.plan.request(), self.i, self.at)
+    }
+}
+
+impl Asks<ByteMemory> for DatumCycle<'_> {
+    ghost use Rattle.vme_memory.specs.declared.command.BoardCmd.{BoardCmd};
+
+    ghost command = { λ (d : BoardCmd). d };
+
+    #[inline(always)]
+    fn ask(&self, memory: &mut ByteMemory) -> Reply {
+        memory.access(&self.access())
+    }
+}
+
+/// What datum `i` of a request asks of its slave, at the offset of its first byte there.
+#[inline(always)]
+fn access_of(request: &Request, i: u16, at: u32) -> Access<'_>
+    requires counted { IsTrue (is_counted request.now) }
+    requires in_count { i < count_of request.now }
+    ensures { accessed result ≡ datum_command request.now i at }
+{
+    match request {
+        Request::Read { n, .. } => Access::Read {
+            block: false,
+            at,
+            n: *n,
+        },
+        Request::BlockRead { n, .. } => Access::Read {
+            block: true,
+            at,
+            n: *n,
+        },
+        Request::Modify { n, f, .. } => Access::Modify { at, n: *n, f },
+        Request::Write { .. } => Access::Write {
+            block: false,
+            at,
+            bytes: request.datum(i).unwrap(),
+        },
+        Request::BlockWrite { .. } | Request::BlockFill { .. } => Access::Write {
+            block: true,
+            at,
+            bytes: request.datum(i).unwrap(),
+        },
+    }
+}
