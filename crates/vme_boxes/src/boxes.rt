@@ -25,6 +25,7 @@ impl Boxes {
     }
 
     /// Whether a line may be asked, as far as it names a mailbox.
+    #[inline(always)]
     pub(crate) fn may_ask(self, line: &Line) -> bool
         ensures { result ≡ may_ask self line.now }
     {

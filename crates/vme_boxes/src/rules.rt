@@ -79,6 +79,7 @@ impl<'a> Declared<'a> {
     }
 
     /// Whether a line names a byte of a declared mailbox.
+    #[inline(always)]
     #[tactic(auto, using(crate::proofs::Untouched::none_touched))]
     fn touches(&self, line: &Line) -> bool
         ensures { result ≡ option_map_or (are_of_mailboxes self.now)
@@ -96,6 +97,7 @@ impl<'a> Declared<'a> {
 
 impl<'a> Rules<'a> {
     /// The mailboxes that a script may name.
+    #[inline(always)]
     fn boxes(&self) -> Boxes
         ensures { result ≡ boxes_of self.now }
     {
@@ -106,6 +108,7 @@ impl<'a> Rules<'a> {
     }
 
     /// Whether a line names a byte of a declared mailbox.
+    #[inline(always)]
     fn touches(&self, line: &Line) -> bool
         ensures { result ≡ touches self.now line.now }
     {
@@ -118,6 +121,7 @@ impl<'a> Rules<'a> {
     /// Reads a line, without its end, as `parse_line` does. In a file one that names a mailbox which
     /// is not declared is refused by S6, and one that names a byte of one that is, other than by a
     /// put or a take, by S9.
+    #[inline(always)]
     #[tactic(auto, unfolding(crate::specs::Rules::line_within))]
     pub fn line(&self, text: &[u8]) -> Result<Option<Line>, LineFault>
         ensures line { result ≡ line_within self.now text.now }

@@ -23,6 +23,7 @@ use vme_shared::{Mailbox, SharedRequest, SharedTask};
 
 /// What is attempted for a line of a board's processor, or the refusal of its request. What a request
 /// over the bus reads goes into the room.
+#[inline(always)]
 pub(crate) fn attempt_of<'a>(
     config: &'a Config,
     board: usize,
@@ -74,6 +75,7 @@ pub(crate) fn attempt_of<'a>(
 }
 
 /// A transfer over the bus.
+#[inline(always)]
 fn moves<'a>(
     config: &Config,
     board: usize,
@@ -93,6 +95,7 @@ fn moves<'a>(
 }
 
 /// A read over the bus that is to find these bytes.
+#[inline(never)]
 fn waits<'a>(
     config: &Config,
     board: usize,
@@ -131,6 +134,7 @@ fn short_transfer<'a>(
 }
 
 /// What is asked of a lock or a mailbox.
+#[inline(never)]
 fn shares<'a>(
     config: &'a Config,
     board: usize,

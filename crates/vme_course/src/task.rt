@@ -36,6 +36,7 @@ pub enum LineTask<'a> {
 impl<'a> LineTask<'a> {
     /// A line of the script of a board's processor, by its place among those that ask for something,
     /// before its first call. What it reads by a request over the bus goes into the room.
+    #[inline(always)]
     #[tactic(auto, using(crate::proofs::Below::started_below))]
     pub fn start(config: &'a Config, board: usize, line: usize, room: Room) -> LineTask<'a>
         requires board { board < length config.now.boards }
@@ -176,6 +177,7 @@ impl<'a> LineTask<'a> {
     }
 
     /// A line of a board's processor before its first call.
+    #[inline(always)]
     #[tactic(auto, unfolding(crate::specs::Machine::line_started))]
     fn of(config: &'a Config, board: usize, line: &'a Line, room: Room) -> LineTask<'a>
         requires board { board < length config.now.boards }

@@ -14,6 +14,7 @@ use vme_numbers::{hex_number, local_bytes, local_number};
 use vme_words::Words;
 
 /// `lr`
+#[inline(always)]
 #[tactic(auto, unfolding(crate::specs::Naming::line_by, crate::specs::Grammar::operands_of, crate::specs::Fields::with_field))]
 pub(crate) fn local_read(operands: Words<'_>) -> Result<Line, LineFault>
     ensures { result ≡ line_by form.LocalRead (words operands.entry.rest.now) }
@@ -25,6 +26,7 @@ pub(crate) fn local_read(operands: Words<'_>) -> Result<Line, LineFault>
 }
 
 /// `lw`
+#[inline(always)]
 #[tactic(auto, unfolding(crate::specs::Naming::line_by, crate::specs::Grammar::operands_of, crate::specs::Fields::with_field))]
 pub(crate) fn local_write(operands: Words<'_>) -> Result<Line, LineFault>
     ensures { result ≡ line_by form.LocalWrite (words operands.entry.rest.now) }
@@ -36,6 +38,7 @@ pub(crate) fn local_write(operands: Words<'_>) -> Result<Line, LineFault>
 }
 
 /// `lm`
+#[inline(always)]
 #[tactic(auto, unfolding(crate::specs::Modifies::local_modify_line))]
 pub(crate) fn local_modify(operands: Words<'_>) -> Result<Line, LineFault>
     ensures { result ≡ local_modify_line (words operands.entry.rest.now) }

@@ -33,6 +33,7 @@ pub(crate) enum Form {
 
 impl Form {
     /// The first form whose first word this is.
+    #[inline(always)]
     #[tactic(auto, unfolding(crate::specs::Naming::form_named), using(crate::proofs::Naming::unlock_named))]
     fn named(word: &[u8]) -> Option<Form>
         ensures { result ≡ form_named word.now }
@@ -57,6 +58,7 @@ impl Form {
     }
 
     /// What a line of this form asks for, by the words after its first. These name its function.
+    #[inline(always)]
     #[tactic(auto, unfolding(crate::specs::Naming::line_named))]
     fn line(self, operands: Words<'_>) -> Result<Line, LineFault>
         ensures { result ≡ line_named self (words operands.entry.rest.now) }
@@ -81,6 +83,7 @@ impl Form {
 }
 
 /// What a line asks for, by its first word and those after it.
+#[inline(always)]
 #[tactic(auto, using(crate::proofs::Naming::line_is_named, crate::proofs::Naming::line_is_unnamed))]
 pub(crate) fn line_of_words(word: &[u8], operands: Words<'_>) -> Result<Line, LineFault>
     ensures { result ≡ line_of_words (word.now ∷ words operands.entry.rest.now) }

@@ -14,6 +14,7 @@ use vme_numbers::{decimal_number, exact_bytes, hex_bytes, hex_number, small_numb
 use vme_words::Words;
 
 /// The code and the address that two words spell.
+#[inline(always)]
 #[tactic(auto, unfolding(crate::specs::Modifies::place_of))]
 pub(crate) fn place_of(am: &[u8], addr: &[u8]) -> Result<(u8, u32), LineFault>
     ensures { result ≡ place_of am.now addr.now }
@@ -24,6 +25,7 @@ pub(crate) fn place_of(am: &[u8], addr: &[u8]) -> Result<(u8, u32), LineFault>
 }
 
 /// `r`
+#[inline(always)]
 #[tactic(auto, unfolding(crate::specs::Naming::line_by, crate::specs::Grammar::operands_of, crate::specs::Fields::with_field, crate::specs::Modifies::place_of))]
 pub(crate) fn read(operands: Words<'_>) -> Result<Line, LineFault>
     ensures { result ≡ line_by form.Read (words operands.entry.rest.now) }
@@ -35,6 +37,7 @@ pub(crate) fn read(operands: Words<'_>) -> Result<Line, LineFault>
 }
 
 /// `w`
+#[inline(always)]
 #[tactic(auto, unfolding(crate::specs::Naming::line_by, crate::specs::Grammar::operands_of, crate::specs::Fields::with_field, crate::specs::Modifies::place_of))]
 pub(crate) fn write(operands: Words<'_>) -> Result<Line, LineFault>
     ensures { result ≡ line_by form.Write (words operands.entry.rest.now) }
@@ -46,6 +49,7 @@ pub(crate) fn write(operands: Words<'_>) -> Result<Line, LineFault>
 }
 
 /// `br`
+#[inline(always)]
 #[tactic(auto, unfolding(crate::specs::Naming::line_by, crate::specs::Grammar::operands_of, crate::specs::Fields::with_field, crate::specs::Modifies::place_of))]
 pub(crate) fn block_read(operands: Words<'_>) -> Result<Line, LineFault>
     ensures { result ≡ line_by form.BlockRead (words operands.entry.rest.now) }
@@ -58,6 +62,7 @@ pub(crate) fn block_read(operands: Words<'_>) -> Result<Line, LineFault>
 }
 
 /// `bw`
+#[inline(always)]
 #[tactic(auto, unfolding(crate::specs::Naming::line_by, crate::specs::Grammar::operands_of, crate::specs::Fields::with_field, crate::specs::Modifies::place_of))]
 pub(crate) fn block_write(operands: Words<'_>) -> Result<Line, LineFault>
     ensures { result ≡ line_by form.BlockWrite (words operands.entry.rest.now) }
@@ -70,6 +75,7 @@ pub(crate) fn block_write(operands: Words<'_>) -> Result<Line, LineFault>
 }
 
 /// `bf`
+#[inline(always)]
 #[tactic(auto, unfolding(crate::specs::Naming::line_by, crate::specs::Grammar::operands_of, crate::specs::Fields::with_field, crate::specs::Modifies::place_of))]
 pub(crate) fn block_fill(operands: Words<'_>) -> Result<Line, LineFault>
     ensures { result ≡ line_by form.BlockFill (words operands.entry.rest.now) }
@@ -89,6 +95,7 @@ pub(crate) fn block_fill(operands: Words<'_>) -> Result<Line, LineFault>
 }
 
 /// `m`
+#[inline(always)]
 #[tactic(auto, unfolding(crate::specs::Modifies::modify_line))]
 pub(crate) fn modify(operands: Words<'_>) -> Result<Line, LineFault>
     ensures { result ≡ modify_line (words operands.entry.rest.now) }
@@ -105,6 +112,7 @@ pub(crate) fn modify(operands: Words<'_>) -> Result<Line, LineFault>
 }
 
 /// `await`
+#[inline(always)]
 #[tactic(auto, unfolding(crate::specs::Naming::line_by, crate::specs::Grammar::operands_of, crate::specs::Fields::with_field, crate::specs::Modifies::place_of))]
 pub(crate) fn await_bytes(operands: Words<'_>) -> Result<Line, LineFault>
     ensures { result ≡ line_by form.Await (words operands.entry.rest.now) }

@@ -14,6 +14,7 @@ use vme_numbers::{decimal_number, hex_number};
 use vme_words::Words;
 
 /// The number of a mailbox.
+#[inline(always)]
 fn mailbox_of(number: &[u8]) -> Result<u8, LineFault>
     ensures { result ≡ ok_or (decimal_number 2 number.now) LineFault.BadNumber }
 {
@@ -22,6 +23,7 @@ fn mailbox_of(number: &[u8]) -> Result<u8, LineFault>
 }
 
 /// `lock`
+#[inline(always)]
 #[tactic(auto, unfolding(crate::specs::Naming::line_by, crate::specs::Grammar::operands_of, crate::specs::Fields::with_field, crate::specs::Modifies::place_of))]
 pub(crate) fn lock(operands: Words<'_>) -> Result<Line, LineFault>
     ensures { result ≡ line_by form.Lock (words operands.entry.rest.now) }
@@ -32,6 +34,7 @@ pub(crate) fn lock(operands: Words<'_>) -> Result<Line, LineFault>
 }
 
 /// `unlock`
+#[inline(always)]
 #[tactic(auto, unfolding(crate::specs::Naming::line_by, crate::specs::Grammar::operands_of, crate::specs::Fields::with_field, crate::specs::Modifies::place_of))]
 pub(crate) fn unlock(operands: Words<'_>) -> Result<Line, LineFault>
     ensures { result ≡ line_by form.Unlock (words operands.entry.rest.now) }
@@ -42,6 +45,7 @@ pub(crate) fn unlock(operands: Words<'_>) -> Result<Line, LineFault>
 }
 
 /// `put`
+#[inline(always)]
 #[tactic(auto, unfolding(crate::specs::Naming::line_by, crate::specs::Grammar::operands_of, crate::specs::Fields::with_field))]
 pub(crate) fn put(operands: Words<'_>) -> Result<Line, LineFault>
     ensures { result ≡ line_by form.Put (words operands.entry.rest.now) }
@@ -53,6 +57,7 @@ pub(crate) fn put(operands: Words<'_>) -> Result<Line, LineFault>
 }
 
 /// `take`
+#[inline(always)]
 #[tactic(auto, unfolding(crate::specs::Naming::line_by, crate::specs::Grammar::operands_of, crate::specs::Fields::with_field))]
 pub(crate) fn take(operands: Words<'_>) -> Result<Line, LineFault>
     ensures { result ≡ line_by form.Take (words operands.entry.rest.now) }

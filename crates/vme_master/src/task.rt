@@ -52,6 +52,7 @@ impl<'a> Model for Task<'a> {
 impl<'a> Task<'a> {
     /// The task of a slot's request for a transfer over the bus, for which it asks on a level; or
     /// else the first refusal of the request. What is read goes into a room that is enough for it.
+    #[inline(always)]
     pub fn start(
         map: &AddressMap,
         slot: u16,
@@ -85,12 +86,14 @@ impl<'a> Task<'a> {
     }
 
     /// The task of a command to the local port of the board at a place.
+    #[inline(always)]
     pub fn local(board: usize, cmd: BoardCmd) -> Task<'a>
         ensures { result ≡ fresh_task (local_job board cmd) }
     {
         Task::of(Job::Local(LocalJob { board, cmd }), Room::new())
     }
 
+    #[inline(always)]
     fn bus(map: &AddressMap, slot: u16, level: u8, transfer: Transfer<'a>, room: Room) -> Task<'a>
         requires empty { room.items ≡ [] }
         requires enough { reply_room transfer.request ≤ room.room }
@@ -109,6 +112,7 @@ impl<'a> Task<'a> {
         Task::of(Job::Bus(job), room)
     }
 
+    #[inline(always)]
     fn of(job: Job<'a>, room: Room) -> Task<'a>
         requires placed { IsPlaced job }
         requires empty { room.items ≡ [] }
@@ -265,7 +269,7 @@ impl<'a> Task<'a> {
     }
 
     /// The first call, and any later one without a reply.
-    #[inline(never)]
+    #[inline(always)]
     fn call(&mut self)
         ensures task { self.new ≡ advance self.old None }
         ensures called { IsTrue (is_called self.new.phase) }
