@@ -36,7 +36,7 @@ impl<'a> Model for Transfer<'a> {
 
 impl<'a> Transfer<'a> {
     /// The transfer of a lawful request, which is lent to it, or else the first refusal.
-
+    #[inline(always)]
     pub fn of(request: &'a Request) -> Result<Transfer<'a>, CycleFault>
         ensures { result ≡ transfer_of request.now }
     {
@@ -59,6 +59,7 @@ impl<'a> Transfer<'a> {
     }
 
     /// The plan.
+    #[inline(always)]
     pub fn plan(&self) -> Plan<'_>
         ensures value { result ≡ self.now }
         ensures lawful { IsLawfulTransfer self.now }
