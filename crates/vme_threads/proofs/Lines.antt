@@ -4,9 +4,8 @@ use Rattle.std.specs.List.{slice_get}
 use Rattle.std.specs.Option.{IsSome, option_map}
 use Rattle.vme_core.specs.declared.event.EventReply.{EventReply}
 use Rattle.vme_core.specs.declared.event.Deed.{Deed}
-use Rattle.vme_core.specs.Calls.{Call, OnBoard}
+use Rattle.vme_core.specs.Calls.{Call}
 use Rattle.vme_core.specs.Deeds.{call_asked}
-use Rattle.vme_memory.specs.Steps.{Command}
 use Rattle.vme_core.specs.Runs.{Move, move}
 use Rattle.vme_shared.specs.declared.reply.LineReply.{LineReply}
 use Rattle.vme_lines.specs.declared.line.Line.{Line}
@@ -15,14 +14,14 @@ use Rattle.vme_course.specs.declared.task.LineTask.{LineTask}
 use Rattle.vme_course.specs.Scripts.{lines_at}
 use Rattle.vme_course.specs.Tables.{LineNext, Rests, Makes, Ends, line_next}
 use Rattle.vme_course.specs.Machine.{line_started, line_advance, line_to_do, line_after, IsLineBelow}
-use Rattle.vme_course.specs.Events.{call_in, answer_in, MakesCall}
+use Rattle.vme_course.specs.Events.{call_in, answer_in, MakesCall, IsCallBelow}
 use Rattle.vme_course.specs.Courses.{Goes}
 use Rattle.vme_course.proofs.Lines.{by_the_replies}
 use Rattle.vme_course.proofs.Calls.{makes_event, ends_so}
 use Rattle.vme_course.proofs.Below.{calls_below}
 use Rattle.vme_course.proofs.Courses.{goes-snoc}
 use Rattle.vme_threads.specs.declared.desk.Desk.{Desk}
-use Rattle.vme_threads.specs.Desks.{HasMade, HasMadeNext}
+use Rattle.vme_threads.specs.Desks.{HasMade, HasCalled}
 use Rattle.vme_threads.specs.Rans.{HasAnswered}
 use Rattle.vme_threads.proofs.Desks.{made_none, made_more}
 
@@ -70,10 +69,10 @@ next_is config place d e task at = ap line_to_do at.is ∙ by_the_replies config
 
 -- one event more
 pub at_more :
-    (config : Configuration) (place : ℕ) (d e f : Desk) (reply : EventReply) (task new : LineTask)
-    → IsAtWork config place d e task → HasMadeNext (line_to_do task) reply e f
+    (config : Configuration) (place : ℕ) (d e f : Desk) (call : Call) (reply : EventReply) (task new : LineTask)
+    → IsAtWork config place d e task → Some call ≡ call_in (line_to_do task) → HasCalled call reply e f
     → new ≡ line_advance task (Some reply) → line_to_do new ≢ Rests → IsLineBelow (length config.boards) new → IsAtWork config place d f new
-at_more config place d e f reply task new at next advanced begun below =
+at_more config place d e f call reply task new at asks next advanced begun below =
     let event = next.event in
     record {
       line = at.line;
@@ -83,7 +82,7 @@ at_more config place d e f reply task new at next advanced begun below =
       replies = reply ∷ at.replies;
       goes =
           goes-snoc config d.who at.line [] at.run at.replies (move e.who event reply) at.goes
-          (sym (next_is config place d e task at) ∙ makes_event (line_to_do task) event next.calls);
+          (sym (next_is config place d e task at) ∙ makes_event (line_to_do task) event (ap Some next.calls ∙ asks));
       is = advanced ∙ ap (λ (t : LineTask). line_advance t (Some reply)) at.is;
       begun = begun;
       below = below;
@@ -120,6 +119,5 @@ in_makes Rests call is = absurd cc
 in_makes (Makes other) call is = cc
 in_makes (Ends answer) call is = absurd cc
 
-pub board_there : (n : ℕ) (task : LineTask) (board : ℕ) (command : Option Command) → IsLineBelow n task
-    → Some (OnBoard board command) ≡ call_in (line_to_do task) → board < n
-board_there n task board command below is = calls_below n task (OnBoard board command) below (in_makes (line_to_do task) (OnBoard board command) is)
+pub call_there : (n : ℕ) (task : LineTask) (call : Call) → IsLineBelow n task → Some call ≡ call_in (line_to_do task) → IsCallBelow n call
+call_there n task call below is = calls_below n task call below (in_makes (line_to_do task) call is)

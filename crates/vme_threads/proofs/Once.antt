@@ -1,19 +1,16 @@
 -- Lines that are attempted once: what their job does next is what they do.
-use Rattle.std.proofs.Common.{◌≡◌, ◌≢◌, ℕ, ◌<◌, false, List, [], ◌∷◌, ◌++◌, length, map, Option, Some, None, Result, Ok, Err, refl, ap, sym, subst, ◌∙◌}
+use Rattle.std.proofs.Common.{◌≡◌, ◌≢◌, ℕ, ◌<◌, false, List, [], ◌∷◌, ◌++◌, length, map, Some, None, Result, Ok, Err, refl, ap, sym, subst, ◌∙◌}
 use Rattle.std.specs.Prelude.{slice_get, IfOk}
 use Rattle.vme_memory.specs.declared.command.BoardCmd.{BoardCmd}
 use Rattle.vme_memory.specs.declared.reply.Reply.{Reply}
-use Rattle.vme_memory.specs.Steps.{Command}
-use Rattle.vme_memory.specs.Locals.{command_given}
 use Rattle.vme_cycle.specs.declared.fault.CycleFault.{CycleFault}
 use Rattle.vme_cycle.specs.declared.request.Request.{Request}
 use Rattle.vme_cycle.specs.Lawful.{Transfer as LawfulRequest, transfer_of}
 use Rattle.vme_decode.specs.declared.entry.Entry.{Entry}
-use Rattle.vme_core.specs.declared.event.Event.{Event}
 use Rattle.vme_core.specs.declared.event.Event.TheVariants as asked
 use Rattle.vme_core.specs.declared.event.EventReply.{EventReply}
 use Rattle.vme_core.specs.declared.event.EventReply.TheVariants as told
-use Rattle.vme_core.specs.Calls.{Call, OnBoard, call_of}
+use Rattle.vme_core.specs.Calls.{Call, call_of}
 use Rattle.vme_core.specs.Runs.{Move, move}
 use Rattle.vme_master.specs.declared.job.Job.{Job}
 use Rattle.vme_master.specs.declared.outcome.Outcome.{Outcome}
@@ -32,14 +29,13 @@ use Rattle.vme_script.specs.Boards.{entries_of}
 use Rattle.vme_script.specs.Configurations.{Configuration}
 use Rattle.vme_course.specs.Scripts.{Moves, slot_at, level_at, lines_at, transfer_job, request_attempt, line_attempt}
 use Rattle.vme_course.specs.Tables.{Makes, Ends, moves_next, attempts_of, next_asks_again, next_given, line_next, given_of}
-use Rattle.vme_course.specs.Events.{IsCallBelow, IsEventBelow}
+use Rattle.vme_course.specs.Events.{IsCallBelow}
 use Rattle.vme_course.specs.Courses.{Goes}
-use Rattle.vme_course.proofs.Calls.{makes_event}
 use Rattle.vme_course.proofs.Below.{next_below}
 use Rattle.vme_course.proofs.Courses.{goes-snoc}
 use Rattle.vme_port.specs.declared.fault.Spent.{Spent}
 use Rattle.vme_threads.specs.declared.desk.Desk.{Desk}
-use Rattle.vme_threads.specs.Desks.{HasMade, HasMadeNext}
+use Rattle.vme_threads.specs.Desks.{HasMade, HasCalled}
 use Rattle.vme_threads.specs.Rans.{IsAnswered, HasAnswered}
 use Rattle.vme_threads.proofs.Desks.{made_none, made_more}
 use Rattle.vme_threads.proofs.Runs.{script_is}
@@ -108,18 +104,6 @@ ended : (next : Next) (outcome : Outcome) → Some outcome ≡ tasks_seen.outcom
 ended tasks.Rests outcome is = absurd cc
 ended (tasks.Makes call) outcome is = absurd cc
 ended (tasks.Ends other) outcome is = cc
-
--- a board that is called is there
-pub board_called :
-    (n : ℕ) (next : Next) (board : ℕ) (command : Option Command) → ((call : Call) → moves_next next ≡ Makes call → IsCallBelow n call)
-    → Some (OnBoard board command) ≡ tasks_seen.call_in next → board < n
-board_called n next board command below is = below (OnBoard board command) (called next (OnBoard board command) is)
-
-pub event_called :
-    (n : ℕ) (next : Next) (event : Event) → ((call : Call) → moves_next next ≡ Makes call → IsCallBelow n call)
-    → Some (call_of event) ≡ tasks_seen.call_in next → IsEventBelow n event
-event_called n next (asked.Board board cmd) below is = board_called n next board (command_given cmd) below is
-event_called n next (asked.Bus cmd) below is = tt
 
 -- a refused request is answered so, without a call
 refused_by : (map : List Entry) (slot level : ℕ) (t : Result LawfulRequest CycleFault) (fault : CycleFault)
@@ -193,17 +177,17 @@ moving_next config request d e task at =
 -- the boards that it calls are there
 pub moving_below :
     (config : Configuration) (request : Request) (d e : Desk) (task : TaskView) (n : ℕ) (call : Call) → IsMoving config request d e task
-    → d.who < length config.boards → length config.boards ≡ n → moves_next (to_do task) ≡ Makes call → IsCallBelow n call
-moving_below config request d e task n call at there same next =
+    → d.who < length config.boards → length config.boards ≡ n → Some call ≡ tasks_seen.call_in (to_do task) → IsCallBelow n call
+moving_below config request d e task n call at there same asks =
     subst (λ (m : ℕ). IsCallBelow m call) same
-    (next_below config d.who (lines.Bus request) (given_of at.replies) call there (sym (moving_next config request d e task at) ∙ next))
+    (next_below config d.who (lines.Bus request) (given_of at.replies) call there (sym (moving_next config request d e task at) ∙ called (to_do task) call asks))
 
 -- one event more
 pub moving_more :
-    (config : Configuration) (request : Request) (d e f : Desk) (reply : EventReply) (task new : TaskView)
-    → IsMoving config request d e task → HasMadeNext (moves_next (to_do task)) reply e f → new ≡ advance task (Some reply)
+    (config : Configuration) (request : Request) (d e f : Desk) (call : Call) (reply : EventReply) (task new : TaskView)
+    → IsMoving config request d e task → Some call ≡ tasks_seen.call_in (to_do task) → HasCalled call reply e f → new ≡ advance task (Some reply)
     → to_do new ≢ tasks.Rests → IsMoving config request d f new
-moving_more config request d e f reply task new at next advanced begun =
+moving_more config request d e f call reply task new at asks next advanced begun =
     let one = move e.who next.event reply in
     record {
       job = at.job;
@@ -213,7 +197,7 @@ moving_more config request d e f reply task new at next advanced begun =
       replies = reply ∷ at.replies;
       goes =
           goes-snoc config d.who (lines.Bus request) [] at.run at.replies one at.goes
-          (sym (moving_next config request d e task at) ∙ makes_event (moves_next (to_do task)) next.event next.calls);
+          (sym (moving_next config request d e task at) ∙ called (to_do task) (call_of next.event) (ap Some next.calls ∙ asks));
       is = advanced ∙ ap (λ (t : TaskView). advance t (Some reply)) at.is;
       begun = begun;
     }

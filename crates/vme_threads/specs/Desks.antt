@@ -1,14 +1,12 @@
 -- What a processor does with its passes.
-use Rattle.std.specs.Prelude.{◌≡◌, List, [], ◌∷◌, Some, All}
+use Rattle.std.specs.Prelude.{◌≡◌, List, [], ◌∷◌, All}
 use Rattle.vme_object.specs.Each.{AllAt}
 use Rattle.vme_memory.specs.declared.command.BoardCmd.{BoardCmd}
 use Rattle.vme_memory.specs.declared.reply.Reply.{Reply}
 use Rattle.vme_core.specs.declared.event.Event.{Event}
 use Rattle.vme_core.specs.declared.event.EventReply.{EventReply}
-use Rattle.vme_core.specs.Calls.{call_of}
+use Rattle.vme_core.specs.Calls.{Call, call_of}
 use Rattle.vme_core.specs.Runs.{Move, move, IsReplyTo, board_part, bus_part}
-use Rattle.vme_course.specs.Tables.{LineNext}
-use Rattle.vme_course.specs.Events.{call_in}
 use Rattle.vme_port.specs.Passes.{PassView}
 use Rattle.vme_port.specs.Ports.{port_id}
 use Rattle.vme_port.specs.Calls.{Makes}
@@ -33,8 +31,8 @@ pub record HasMade (run : List Move) (before after : Desk) : Type 0 where
   pub boards : AllAt (λ x p q. Makes (board_part x run) p q) before.boards.items after.boards.items
   pub bus : Makes (bus_part run) before.bus after.bus
 
--- the who of a desk made an event of the call that a line makes next, and it got this reply (this project's own)
-pub record HasMadeNext (next : LineNext) (reply : EventReply) (before after : Desk) : Type 0 where
+-- the who of a desk made an event of a call, and it got this reply (this project's own)
+pub record HasCalled (call : Call) (reply : EventReply) (before after : Desk) : Type 0 where
   pub event : Event
-  pub calls : Some (call_of event) ≡ call_in next
+  pub calls : call_of event ≡ call
   pub made : HasMade (move before.who event reply ∷ []) before after

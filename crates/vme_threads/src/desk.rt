@@ -3,11 +3,11 @@ ghost use Rattle.vme_core.specs.declared.event.Event.TheVariants as asked;
 ghost use Rattle.vme_core.specs.declared.event.EventReply.TheVariants as told;
 ghost use Rattle.vme_core.specs.Runs.{move};
 ghost use Rattle.vme_lines.specs.declared.line.Line.{Line};
-ghost use Rattle.vme_course.specs.Events.{IsEventBelow, MakesCall};
-ghost use Rattle.vme_course.specs.Machine.{line_to_do, IsLineBelow};
+ghost use Rattle.vme_core.specs.Deeds.{call_asked};
+ghost use Rattle.vme_course.specs.Events.{IsCallBelow};
 ghost use Rattle.vme_course.specs.Rooms.{line_room};
 ghost use Rattle.vme_course.specs.Scripts.{lines_at};
-ghost use Rattle.vme_threads.specs.Desks.{Fits, HasMade, HasMadeNext};
+ghost use Rattle.vme_threads.specs.Desks.{Fits, HasMade, HasCalled};
 ghost use Rattle.vme_threads.specs.Rans.{HasAnswered};
 
 use crate::ports::Ports;
@@ -16,9 +16,10 @@ use std::sync::Wait;
 use std::sync::atomic::Ordering;
 use vme_arbiter::{ArbCmd, ArbReply, Arbiter};
 use vme_block::Room;
-use vme_core::{Deed, Event, EventReply};
+use vme_core::{Deed, EventReply};
 use vme_course::LineTask;
-use vme_memory::{BoardCmd, ByteMemory, Reply};
+use vme_memory::{ByteMemory, Reply};
+use vme_object::{Asks, Given};
 use vme_port::{Pass, Spent};
 use vme_script::Config;
 use vme_shared::LineReply;
@@ -51,29 +52,30 @@ impl Desk {
         ports.bus.call(rt, &mut self.bus, cmd)
     }
 
-    /// Gives a command to a board, by its place.
+    /// Gives a board, by its place, what asks for the step of a command.
     ///
     /// # Errors
     /// `Spent` where the board has made as many steps as can be counted.
     #[inline(always)]
-    pub(crate) fn command<R: Wait>(
+    pub(crate) fn command<R: Wait, A: Asks<ByteMemory>>(
         &mut self,
         rt: &R,
         ports: &Ports,
         board: usize,
-        cmd: &BoardCmd,
+        cmd: &A,
     ) -> Result<Reply, Spent>
         requires fits { Fits ports.now self.old }
         requires there { board < length self.old.boards.items }
         ensures { IfOk result (λ reply.
-            HasMade (move self.old.who (asked.Board board cmd.now) (told.Board reply) ∷ []) self.old self.new) }
+            HasMade (move self.old.who (asked.Board board (A.command cmd.now)) (told.Board reply) ∷ []) self.old self.new) }
     {
         let port = &ports.boards[board].port;
         let pass = &mut self.boards[board];
-        port.call(rt, pass, cmd)
+        port.ask(rt, pass, cmd)
     }
 
-    /// Makes an event, by a call of the port that it is for.
+    /// Makes what a deed asks, by a call of the port that it is for. A command is given where it lies,
+    /// and a datum of a transfer without its lines.
     ///
     /// # Errors
     /// `Spent` where its object has made as many steps as can be counted.
@@ -82,43 +84,20 @@ impl Desk {
         &mut self,
         rt: &R,
         ports: &Ports,
-        event: &Event,
+        deed: &Deed<'_>,
     ) -> Result<EventReply, Spent>
         requires fits { Fits ports.now self.old }
-        requires there { IsEventBelow (length self.old.boards.items) event.now }
-        ensures { IfOk result (λ reply. HasMade (move self.old.who event.now reply ∷ []) self.old self.new) }
+        requires there { IsCallBelow (length self.old.boards.items) (call_asked deed.now) }
+        ensures { IfOk result (λ reply. HasCalled (call_asked deed.now) reply self.old self.new) }
     {
-        match event {
-            Event::Board { board, cmd } => {
-                Ok(EventReply::Board(self.command(rt, ports, *board, cmd)?))
-            }
-            Event::Bus(cmd) => Ok(EventReply::Bus(self.tell(rt, ports, cmd)?)),
-        }
-    }
-
-    /// Makes the event that a line asks for next. A command is given where it lies. Only for a datum of
-    /// a transfer its event is laid out, since a board's history has the lines of each cycle.
-    ///
-    /// # Errors
-    /// `Spent` where its object has made as many steps as can be counted.
-    #[inline(always)]
-    fn make_next<R: Wait>(
-        &mut self,
-        rt: &R,
-        ports: &Ports,
-        task: &LineTask<'_>,
-    ) -> Result<EventReply, Spent>
-        requires fits { Fits ports.now self.old }
-        requires below { IsLineBelow (length self.old.boards.items) task.now }
-        requires calls { MakesCall (line_to_do task.now) }
-        ensures { IfOk result (λ reply. HasMadeNext (line_to_do task.now) reply self.old self.new) }
-    {
-        match task.deed().unwrap() {
-            Deed::Bus(cmd) => Ok(EventReply::Bus(self.tell(rt, ports, &cmd)?)),
+        match deed {
+            Deed::Bus(cmd) => Ok(EventReply::Bus(self.tell(rt, ports, cmd)?)),
             Deed::Board { board, cmd } => {
-                Ok(EventReply::Board(self.command(rt, ports, board, cmd)?))
+                Ok(EventReply::Board(self.command(rt, ports, *board, &Given { cmd: *cmd })?))
             }
-            Deed::Datum { .. } => self.make(rt, ports, &task.event().unwrap()),
+            Deed::Datum { board, cycle } => {
+                Ok(EventReply::Board(self.command(rt, ports, *board, cycle)?))
+            }
         }
     }
 
@@ -154,7 +133,7 @@ impl Desk {
             if ports.stop.load(Ordering::SeqCst) {
                 return Err(Spent);
             }
-            let reply = self.make_next(rt, ports, &task)?;
+            let reply = self.make(rt, ports, &task.deed().unwrap())?;
             let waits = matches!(reply, EventReply::Bus(ArbReply::Waiting));
             let attempts = task.attempts_left();
             task.give(Some(&reply));

@@ -16,7 +16,7 @@ ghost use Rattle.vme_course.specs.Rooms.{line_room, room_of_request};
 ghost use Rattle.vme_course.specs.Scripts.{lines_at};
 ghost use Rattle.vme_course.specs.Tables as tables;
 ghost use Rattle.vme_course.specs.Tables.{moves_next};
-ghost use Rattle.vme_threads.specs.Desks.{Fits, HasMadeNext};
+ghost use Rattle.vme_threads.specs.Desks.{Fits};
 ghost use Rattle.vme_threads.specs.Rans.{IsAnswered, HasAnswered};
 
 use crate::desk::Desk;
@@ -26,11 +26,12 @@ use std::sync::Wait;
 use std::sync::atomic::Ordering;
 use vme_arbiter::ArbReply;
 use vme_block::{Block, Room};
-use vme_core::{Deed, EventReply};
+use vme_core::EventReply;
 use vme_cycle::Request;
 use vme_lines::Line;
 use vme_master::{Outcome, Task};
 use vme_memory::{BoardCmd, Reply};
+use vme_object::Given;
 use vme_port::Spent;
 use vme_script::Config;
 use vme_shared::LineReply;
@@ -80,7 +81,7 @@ impl Desk {
         if ports.stop.load(Ordering::SeqCst) {
             return Err(Spent);
         }
-        let reply = self.command(rt, ports, self.who, cmd)?;
+        let reply = self.command(rt, ports, self.who, &Given { cmd })?;
         Ok(LineReply::Transfer(local_outcome(cmd, reply)))
     }
 
@@ -104,9 +105,10 @@ impl Desk {
         ensures { IfOk result (λ answer. IsAnswered config.now (lines.Bus request.now) answer self.old self.new) }
     {
         let (slot, level) = (config.slot(self.who), config.level(self.who));
-        let mut task = match Task::start(config.map(), slot, level, request, room) {
+        let mut started = Task::start(config.map(), slot, level, request, room);
+        let task = match &mut started {
             Ok(task) => task,
-            Err(fault) => return Ok(LineReply::Refused(fault)),
+            Err(fault) => return Ok(LineReply::Refused(*fault)),
         };
         let backoff = Backoff::new();
         task.give(None);
@@ -117,7 +119,7 @@ impl Desk {
             if ports.stop.load(Ordering::SeqCst) {
                 return Err(Spent);
             }
-            let reply = self.make_of(rt, ports, &task)?;
+            let reply = self.make(rt, ports, &task.deed().unwrap())?;
             task.give(Some(&reply));
             if matches!(reply, EventReply::Bus(ArbReply::Waiting)) {
                 backoff.snooze();
@@ -125,37 +127,12 @@ impl Desk {
         }
         unreachable!()
     }
-
-    /// Makes the event that a task asks for next, as that of a line.
-    ///
-    /// # Errors
-    /// `Spent` where its object has made as many steps as can be counted.
-    #[inline(always)]
-    fn make_of<R: Wait>(
-        &mut self,
-        rt: &R,
-        ports: &Ports,
-        task: &Task<'_>,
-    ) -> Result<EventReply, Spent>
-        requires fits { Fits ports.now self.old }
-        requires below { (call : Call) → moves_next (to_do task.now) ≡ tables.Makes call →
-            IsCallBelow (length self.old.boards.items) call }
-        requires calls { MakesCall (moves_next (to_do task.now)) }
-        ensures { IfOk result (λ reply. HasMadeNext (moves_next (to_do task.now)) reply self.old self.new) }
-    {
-        match task.deed().unwrap() {
-            Deed::Bus(cmd) => Ok(EventReply::Bus(self.tell(rt, ports, &cmd)?)),
-            Deed::Board { board, cmd } => {
-                Ok(EventReply::Board(self.command(rt, ports, board, cmd)?))
-            }
-            Deed::Datum { .. } => self.make(rt, ports, &task.event().unwrap()),
-        }
-    }
 }
 
 /// Whether a command is a cycle of the bus.
 fn is_cycle(cmd: &BoardCmd) -> bool
-    ensures { result ≡ false → IsOwnLine (lines.Local cmd.now) }
+    ensures own { result ≡ false → IsOwnLine (lines.Local cmd.now) }
+    ensures other { IsOwnLine (lines.Local cmd.now) → result ≡ false }
 {
     matches!(cmd, BoardCmd::Cycle { .. })
 }

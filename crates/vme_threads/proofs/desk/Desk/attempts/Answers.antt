@@ -1,6 +1,8 @@
-use Rattle.std.proofs.Common.{length}
+use Rattle.std.proofs.Common.{length, ◌≡◌, arith, subst}
+use Rattle.vme_core.specs.Deeds.{call_asked}
+use Rattle.vme_course.specs.Events.{IsCallBelow}
 use Rattle.vme_threads.proofs.Desks.{fits_after}
-use Rattle.vme_threads.proofs.Lines.{at_start, at_more, at_end}
+use Rattle.vme_threads.proofs.Lines.{at_start, at_more, at_end, call_there}
 use Rattle.vme_threads.proofs.desk.Desk.attempts.Goals as goal
 
 pub loop-init : goal.loop-init
@@ -8,22 +10,32 @@ loop-init g c =
     at_start c.args.config.now c.args.line c.args.self.now c.start-task.result c.give.new.self c.requires.line c.start-task.ensures.line
     c.give.ensures.task c.give.ensures.begun (c.give.ensures.below (length c.args.config.now.boards) c.start-task.ensures.there)
 
-pub make_next-requires-clause-fits : goal.make_next-requires-clause-fits
-make_next-requires-clause-fits g c = fits_after c.args.ports.now _ _ _ c.loop.invariant.made c.requires.fits
+pub make-requires-clause-fits : goal.make-requires-clause-fits
+make-requires-clause-fits g c = fits_after c.args.ports.now _ _ _ c.loop.invariant.made c.requires.fits
+
+pub make-requires-clause-there : goal.make-requires-clause-there
+make-requires-clause-there g c =
+    let fits = fits_after c.args.ports.now _ _ _ c.loop.invariant.made c.requires.fits in
+    let same : length c.args.config.now.boards ≡ length c.loop.self.boards.items = omega (arith, fits.boards.count, c.requires.ports) in
+    let call = call_asked c.unwrap-in-loop.result in
+    subst (λ n. IsCallBelow n call) same
+    (call_there (length c.args.config.now.boards) c.loop.task call c.loop.invariant.below (rw c.unwrap-in-loop.ensures at c.deed.ensures))
 
 -- the event that was due is made, and the line is told of its reply
 pub loop-preserved : goal.loop-preserved
 loop-preserved g c =
     let n = length c.args.config.now.boards in
-    at_more c.args.config.now c.args.line c.args.self.now c.loop.self c.make_next.new.self c.in_ok-reply.reply c.loop.task c.give-in-loop.new.self
-    c.loop.invariant c.in_ok-reply.ensures c.give-in-loop.ensures.task c.give-in-loop.ensures.begun
+    at_more c.args.config.now c.args.line c.args.self.now c.loop.self c.make.new.self
+    (call_asked c.unwrap-in-loop.result) c.in_ok-reply.reply c.loop.task c.give-in-loop.new.self
+    c.loop.invariant (rw c.unwrap-in-loop.ensures at c.deed.ensures) c.in_ok-reply.ensures c.give-in-loop.ensures.task c.give-in-loop.ensures.begun
     (c.give-in-loop.ensures.below n c.loop.invariant.below)
 
 pub loop-preserved-in-loop : goal.loop-preserved-in-loop
 loop-preserved-in-loop g c =
     let n = length c.args.config.now.boards in
-    at_more c.args.config.now c.args.line c.args.self.now c.loop.self c.make_next.new.self c.in_ok-reply.reply c.loop.task c.give-in-loop.new.self
-    c.loop.invariant c.in_ok-reply.ensures c.give-in-loop.ensures.task c.give-in-loop.ensures.begun
+    at_more c.args.config.now c.args.line c.args.self.now c.loop.self c.make.new.self
+    (call_asked c.unwrap-in-loop.result) c.in_ok-reply.reply c.loop.task c.give-in-loop.new.self
+    c.loop.invariant (rw c.unwrap-in-loop.ensures at c.deed.ensures) c.in_ok-reply.ensures c.give-in-loop.ensures.task c.give-in-loop.ensures.begun
     (c.give-in-loop.ensures.below n c.loop.invariant.below)
 
 pub returns-then-is_over : goal.returns-then-is_over

@@ -1,4 +1,5 @@
 use Rattle.std.proofs.Common.{length, map, ◌≡◌, arith}
+use Rattle.vme_core.specs.Deeds.{call_asked}
 use Rattle.std.proofs.lemmas.Option.{get_or_from_slice_get}
 use Rattle.vme_threads.proofs.Desks.{fits_after}
 use Rattle.vme_threads.proofs.Once.{refused_answered, moving_start, moving_below, moving_more, moving_end}
@@ -7,7 +8,7 @@ use Rattle.vme_threads.proofs.desk.Desk.transfer.Goals as goal
 pub returns-in-Err : goal.returns-in-Err
 returns-in-Err g c =
     refused_answered c.args.config.now c.map.result.now c.slot-slot.result c.level-level.result c.args.request.now c.in-Err.fault c.args.self.now
-    (rw c.in-Err.is at c.start.ensures)
+    (rw c.in-Err.is at c.start-started.ensures)
 
 pub loop-init : goal.loop-init
 loop-init g c =
@@ -16,27 +17,29 @@ loop-init g c =
     c.give.new.self c.map.ensures
     (get_or_from_slice_get (map (λ board. board.slot) boards) c.args.self.now.who c.slot-slot.result 0 c.slot-slot.ensures)
     (get_or_from_slice_get (map (λ board. board.level) boards) c.args.self.now.who c.level-level.result 0 c.level-level.ensures)
-    (rw c.in-Ok.is at c.start.ensures) c.give.ensures.task c.give.ensures.begun
+    (rw c.in-Ok.is at c.start-started.ensures) c.give.ensures.task c.give.ensures.begun
 
-pub make_of-requires-clause-fits : goal.make_of-requires-clause-fits
-make_of-requires-clause-fits g c = fits_after c.args.ports.now _ _ _ c.loop.invariant.made c.requires.fits
+pub make-requires-clause-fits : goal.make-requires-clause-fits
+make-requires-clause-fits g c = fits_after c.args.ports.now _ _ _ c.loop.invariant.made c.requires.fits
 
-pub make_of-requires-clause-below : goal.make_of-requires-clause-below
-make_of-requires-clause-below g c = λ call next.
+pub make-requires-clause-there : goal.make-requires-clause-there
+make-requires-clause-there g c =
     let fits = fits_after c.args.ports.now _ _ _ c.loop.invariant.made c.requires.fits in
     let same : length c.args.config.now.boards ≡ length c.loop.self.boards.items = omega (arith, fits.boards.count, c.requires.ports) in
-    moving_below c.args.config.now c.args.request.now c.args.self.now c.loop.self c.loop.task (length c.loop.self.boards.items) call
-    c.loop.invariant c.requires.board same next
+    moving_below c.args.config.now c.args.request.now c.args.self.now c.loop.self c.loop.task (length c.loop.self.boards.items)
+    (call_asked c.unwrap-in-loop.result) c.loop.invariant c.requires.board same (rw c.unwrap-in-loop.ensures at c.deed.ensures)
 
 pub loop-preserved : goal.loop-preserved
 loop-preserved g c =
-    moving_more c.args.config.now c.args.request.now c.args.self.now c.loop.self c.make_of.new.self c.in_ok-reply.reply c.loop.task
-    c.give-in-loop.new.self c.loop.invariant c.in_ok-reply.ensures c.give-in-loop.ensures.task c.give-in-loop.ensures.begun
+    moving_more c.args.config.now c.args.request.now c.args.self.now c.loop.self c.make.new.self (call_asked c.unwrap-in-loop.result)
+    c.in_ok-reply.reply c.loop.task c.give-in-loop.new.self c.loop.invariant (rw c.unwrap-in-loop.ensures at c.deed.ensures) c.in_ok-reply.ensures
+    c.give-in-loop.ensures.task c.give-in-loop.ensures.begun
 
 pub loop-preserved-then-matches : goal.loop-preserved-then-matches
 loop-preserved-then-matches g c =
-    moving_more c.args.config.now c.args.request.now c.args.self.now c.loop.self c.make_of.new.self c.in_ok-reply.reply c.loop.task
-    c.give-in-loop.new.self c.loop.invariant c.in_ok-reply.ensures c.give-in-loop.ensures.task c.give-in-loop.ensures.begun
+    moving_more c.args.config.now c.args.request.now c.args.self.now c.loop.self c.make.new.self (call_asked c.unwrap-in-loop.result)
+    c.in_ok-reply.reply c.loop.task c.give-in-loop.new.self c.loop.invariant (rw c.unwrap-in-loop.ensures at c.deed.ensures) c.in_ok-reply.ensures
+    c.give-in-loop.ensures.task c.give-in-loop.ensures.begun
 
 pub returns-then-is_over : goal.returns-then-is_over
 returns-then-is_over g c =
