@@ -7,7 +7,7 @@ ghost use Rattle.vme_cycle.specs.Lawful.{Transfer as LawfulRequest, transfer_of}
 ghost use Rattle.vme_script.specs.Boards.{entries_of};
 ghost use Rattle.vme_master.specs.Machine.{bus_task};
 ghost use Rattle.vme_shared.specs.Mailboxes.{IsAsked};
-ghost use Rattle.vme_course.specs.Scripts.{slot_at, level_at, mailbox_at, HasMailbox, HasItsMailbox, Moves, Waits, transfer_job, request_attempt, shared_attempt, line_attempt};
+ghost use Rattle.vme_course.specs.Scripts.{slot_at, level_at, mailbox_at, HasMailbox, HasItsMailbox, Waits, transfer_job, request_attempt, shared_attempt, line_attempt};
 ghost use Rattle.vme_course.specs.Rooms.{room_of_request, line_room};
 ghost use Rattle.vme_course.specs.Machine.{fresh_of};
 
@@ -23,7 +23,6 @@ use vme_shared::{Mailbox, SharedRequest, SharedTask};
 
 /// What is attempted for a line of a board's processor, or the refusal of its request. What a request
 /// over the bus reads goes into the room.
-#[inline(always)]
 pub(crate) fn attempt_of<'a>(
     config: &'a Config,
     board: usize,
@@ -37,7 +36,7 @@ pub(crate) fn attempt_of<'a>(
     ensures { result ≡ fresh_of (line_attempt config.now board line.now) }
 {
     match line {
-        Line::Bus(request) => moves(config, board, request, room),
+        Line::Bus(request) => Ok(AttemptTask::Moves(transfer(config, board, request, room)?)),
         Line::Local(cmd) => Ok(AttemptTask::Moves(Task::local(board, cmd.copy()))),
         Line::Await { am, addr, bytes } => waits(config, board, *am, *addr, bytes),
         Line::Lock { am, addr } => shares(
@@ -74,24 +73,23 @@ pub(crate) fn attempt_of<'a>(
     }
 }
 
-/// A transfer over the bus.
+/// The task of a request of a board's processor, or the refusal of the request.
 #[inline(always)]
-fn moves<'a>(
+pub(crate) fn transfer<'a>(
     config: &Config,
     board: usize,
     request: &'a Request,
     room: Room,
-) -> Result<AttemptTask<'a>, CycleFault>
+) -> Result<Task<'a>, CycleFault>
     requires board { board < length config.now.boards }
     requires none { room.items ≡ [] }
     requires room { room_of_request (transfer_of request.now) ≤ room.room }
-    ensures { result ≡ fresh_of (request_attempt (λ t. Moves (transfer_job config.now board t))
-        (transfer_of request.now)) }
+    ensures { result ≡ bus_task (entries_of config.now.boards) (slot_at config.now board)
+        (level_at config.now board) (transfer_of request.now) }
 {
     let slot = config.slot(board);
     let level = config.level(board);
-    let task = Task::start(config.map(), slot, level, request, room)?;
-    Ok(AttemptTask::Moves(task))
+    Task::start(config.map(), slot, level, request, room)
 }
 
 /// A read over the bus that is to find these bytes.

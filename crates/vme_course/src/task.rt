@@ -9,16 +9,18 @@ ghost use Rattle.vme_course.specs.Scripts.{HasItsMailbox, lines_at};
 ghost use Rattle.vme_course.specs.Rooms.{line_room};
 ghost use Rattle.vme_course.specs.Tables.{Rests, next_given};
 ghost use Rattle.vme_course.specs.Machine.{line_started, line_advance, line_to_do, line_taken, line_given, attempts_left, IsLineBelow};
+ghost use Rattle.vme_course.specs.declared.attempt.AttemptTask.TheVariants as tries;
+ghost use Rattle.vme_course.specs.declared.task.LineTask.TheVariants.{Tries};
 ghost use Rattle.vme_course.specs.Events.{next_in, call_in, answer_in, IsEventBelow, IsTodoBelow};
 
-use crate::attempt::Attempts;
-use crate::start::attempt_of;
+use crate::attempt::{AttemptTask, Attempts};
+use crate::start::{attempt_of, transfer};
 use crate::todo::LineTodo;
 use vme_block::Room;
 use vme_core::{Core, Deed, Event, EventReply};
 use vme_cycle::CycleFault;
 use vme_lines::Line;
-use vme_master::Outcome;
+use vme_master::{Outcome, Task};
 use vme_script::Config;
 use vme_shared::LineReply;
 
@@ -186,6 +188,26 @@ impl<'a> LineTask<'a> {
         requires room { line_room line.now ≤ room.room }
         ensures { result ≡ line_started config.now board line.now }
     {
+        match line {
+            Line::Bus(request) => match transfer(config, board, request, room) {
+                Ok(task) => once(task, config.tries()),
+                Err(fault) => LineTask::Refused(fault),
+            },
+            Line::Local(cmd) => once(Task::local(board, cmd.copy()), config.tries()),
+            _ => LineTask::of_any(config, board, line, room),
+        }
+    }
+
+    /// The same of any line. Out of line, so that a task that is attempted once is made in its place.
+    #[inline(never)]
+    #[tactic(auto, unfolding(crate::specs::Machine::line_started))]
+    fn of_any(config: &'a Config, board: usize, line: &'a Line, room: Room) -> LineTask<'a>
+        requires board { board < length config.now.boards }
+        requires mailbox { HasItsMailbox config.now line.now }
+        requires none { room.items ≡ [] }
+        requires room { line_room line.now ≤ room.room }
+        ensures { result ≡ line_started config.now board line.now }
+    {
         match attempt_of(config, board, line, room) {
             Ok(attempt) => LineTask::Tries(Attempts {
                 attempt,
@@ -194,6 +216,17 @@ impl<'a> LineTask<'a> {
             Err(fault) => LineTask::Refused(fault),
         }
     }
+}
+
+/// A transfer or a command, with the attempts that there may be at a line.
+#[inline(always)]
+fn once(task: Task<'_>, left: u32) -> LineTask<'_>
+    ensures { result ≡ Tries (record { attempt = tries.Moves task.entry; left = left }) }
+{
+    LineTask::Tries(Attempts {
+        attempt: AttemptTask::Moves(task),
+        left,
+    })
 }
 
 /// The number of lines of the script of a board's processor that ask for something.
