@@ -1,10 +1,12 @@
-//! Reads the lines of the scripts of a configuration file, and nothing else, in plain Rust by hand: it takes no memory a
-//! line, keeps twenty-four bytes of each, copies no byte of a block, and judges no request. So it is a measure of what
-//! the reading of lines takes at least.
+//! Reads the lines of the scripts of a configuration file, and nothing else, in plain Rust by hand: it keeps twenty-four
+//! bytes of each line, copies no byte of a block, and judges no request. So it is a measure of what the reading of lines
+//! takes at least.
 //!
-//! usage: plain_lines FILE READINGS
+//! usage: plain_lines FORM FILE READINGS
 //!
-//! FILE is as `compare_config` writes it. Prints the nanoseconds that a line takes, of the best reading.
+//! FORM is `words`, which reads each line word by word, or `places`, which reads a line in its usual spelling (one space
+//! between two words, data of four bytes) at fixed places, eight digits as one number of 64 bits, and only others word by
+//! word. FILE is as `compare_config` writes it. Prints the nanoseconds that a line takes, of the best reading.
 
 // What is kept of a line is read by nobody here.
 #![allow(dead_code)]
@@ -16,6 +18,13 @@ const LINE_LIMIT: usize = 80;
 const MOST_LINES: usize = 1_000;
 const LOCAL_LENGTHS: &[u8] = &[1, 2, 4];
 const LENGTHS: &[u8] = &[1, 2, 3, 4, 5, 6, 7, 8];
+
+/// How lines are read.
+#[derive(Clone, Copy)]
+enum Form {
+    Words,
+    Places,
+}
 
 #[derive(Clone, Copy)]
 enum Word {
@@ -235,6 +244,163 @@ fn parse(line: &[u8], number: u16) -> Result<Option<Line>, Fault> {
     }
 }
 
+const EACH: u64 = u64::MAX / 255;
+const TOP: u64 = EACH << 7;
+
+/// What was found at fixed places so far: nothing but zero where all is as in the usual spelling.
+struct Usual {
+    differs: u64,
+}
+
+impl Usual {
+    #[inline(always)]
+    fn expect(&mut self, byte: u8, wanted: u8) {
+        self.differs |= u64::from(byte ^ wanted);
+    }
+
+    /// The number of the first eight bytes, which are to be digits.
+    #[inline(always)]
+    fn number(&mut self, text: &[u8]) -> u32 {
+        let bytes = u64::from_be_bytes(text[..8].try_into().unwrap());
+        let decimal = (bytes ^ (EACH * 0x30)) & !TOP;
+        let letter = ((bytes | (EACH * 0x20)) ^ (EACH * 0x60)) & !TOP;
+        let is_decimal = !(decimal + EACH * 0x76) & TOP;
+        let is_letter = (letter + EACH * 0x7f) & !(letter + EACH * 0x79) & TOP;
+        self.differs |= (!(is_decimal | is_letter) | bytes) & TOP;
+        let digits = (bytes & (EACH * 15)) + (is_letter >> 7) * 9;
+        let pairs = (digits | digits >> 4) & 0x00ff_00ff_00ff_00ff;
+        let fours = (pairs | pairs >> 8) & 0x0000_ffff_0000_ffff;
+        (fours | fours >> 16) as u32
+    }
+
+    /// A code, a space and an address.
+    #[inline(always)]
+    fn place(&mut self, text: &[u8], line: &mut Line) {
+        let (high, low) = (DIGITS[usize::from(text[0])], DIGITS[usize::from(text[1])]);
+        self.differs |= u64::from((high | low) & 0xf0);
+        self.expect(text[2], b' ');
+        line.code = high << 4 | low & 15;
+        line.address = self.number(&text[3..]);
+    }
+
+    /// A digit from 1 to 8.
+    #[inline(always)]
+    fn length(&mut self, digit: u8, line: &mut Line) {
+        let less = digit.wrapping_sub(b'1');
+        self.differs |= u64::from(less & 0xf8);
+        line.length = (less & 7) + 1;
+    }
+
+    #[inline(always)]
+    fn block(&mut self, text: &[u8], line: &mut Line) -> Option<()> {
+        self.place(&text[3..14], line);
+        self.expect(text[2], b' ');
+        self.expect(text[14], b' ');
+        self.length(text[15], line);
+        self.expect(text[16], b' ');
+        match text[1] {
+            b'r' => {
+                line.word = Word::BlockRead;
+                line.count = count(&text[17..]).ok()?;
+            }
+            b'w' if text.len() % 8 == 1 => {
+                line.word = Word::BlockWrite;
+                line.start = 17;
+                line.count = ((text.len() - 17) / 2) as u16;
+                text[17..].chunks_exact(8).for_each(|eight| _ = self.number(eight));
+            }
+            b'f' if text.len() == 28 => {
+                line.word = Word::BlockFill;
+                line.count = count(&text[17..19]).ok()?;
+                self.expect(text[19], b' ');
+                line.bytes = u64::from(self.number(&text[20..]));
+            }
+            _ => return None,
+        }
+        Some(())
+    }
+
+    #[inline(always)]
+    fn modify(&mut self, text: &[u8], line: &mut Line) -> Option<()> {
+        self.place(&text[2..13], line);
+        for space in [1, 13, 15, 19] {
+            self.expect(text[space], b' ');
+        }
+        self.expect(text[14], b'4');
+        line.length = 4;
+        line.bytes = u64::from(self.number(&text[20..]));
+        line.word = match &text[16..19] {
+            b"add" if text.len() == 28 => Word::Modify(Function::Add),
+            b"cas" if text.len() == 37 => {
+                self.expect(text[28], b' ');
+                line.bytes = line.bytes << 32 | u64::from(self.number(&text[29..]));
+                Word::Modify(Function::Compare)
+            }
+            _ => return None,
+        };
+        Some(())
+    }
+
+    #[inline(always)]
+    fn local(&mut self, text: &[u8], line: &mut Line) -> Option<()> {
+        self.expect(text[2], b' ');
+        line.address = self.number(&text[3..]);
+        self.expect(text[11], b' ');
+        match text[1] {
+            b'r' if text.len() == 13 => {
+                line.word = Word::LocalRead;
+                line.length = length(&text[12..], LOCAL_LENGTHS).ok()?;
+            }
+            b'w' if text.len() == 20 => {
+                line.word = Word::LocalWrite;
+                line.length = 4;
+                line.bytes = u64::from(self.number(&text[12..]));
+            }
+            b'm' if text.len() == 17 && &text[13..] == b" set" => {
+                line.word = Word::LocalModify(Function::Set);
+                line.length = length(&text[12..13], LOCAL_LENGTHS).ok()?;
+            }
+            _ => return None,
+        }
+        Some(())
+    }
+}
+
+/// The line of a usual spelling; nothing where it is spelled otherwise, or asks for nothing.
+#[inline(always)]
+fn usual(text: &[u8], number: u16) -> Option<Line> {
+    let mut line = Line { word: Word::Read, code: 0, length: 0, count: 1, start: 0, number, address: 0, bytes: 0 };
+    let mut at = Usual { differs: 0 };
+    match text.first()? {
+        b'r' if text.len() == 15 => {
+            at.expect(text[1], b' ');
+            at.place(&text[2..13], &mut line);
+            at.expect(text[13], b' ');
+            at.length(text[14], &mut line);
+        }
+        b'w' if text.len() == 22 => {
+            line.word = Word::Write;
+            at.expect(text[1], b' ');
+            at.place(&text[2..13], &mut line);
+            at.expect(text[13], b' ');
+            line.length = 4;
+            line.bytes = u64::from(at.number(&text[14..]));
+        }
+        b'a' if text.len() == 26 && text.starts_with(b"await ") => {
+            line.word = Word::Await;
+            at.place(&text[6..17], &mut line);
+            at.expect(text[17], b' ');
+            line.length = 4;
+            line.bytes = u64::from(at.number(&text[18..]));
+        }
+        b'l' if text.len() >= 13 => at.local(text, &mut line)?,
+        b'b' if text.len() >= 18 => at.block(text, &mut line)?,
+        b'm' if text.len() >= 28 => at.modify(text, &mut line)?,
+        _ => return None,
+    }
+    if at.differs == 0 { Some(line) } else { None }
+}
+
 /// How long the first line of a text is, sought eight bytes at a time.
 fn line_length(text: &[u8]) -> usize {
     const ONES: u64 = u64::MAX / 255;
@@ -250,13 +416,20 @@ fn line_length(text: &[u8]) -> usize {
     text[at..].iter().position(|byte| *byte == b'\n').map_or(text.len(), |end| at + end)
 }
 
-fn script(mut text: &[u8]) -> Result<Vec<Line>, Fault> {
+fn script(mut text: &[u8], form: Form) -> Result<Vec<Line>, Fault> {
     let mut lines = Vec::with_capacity(MOST_LINES);
     let mut number = 0;
     while !text.is_empty() {
         number += 1;
         let length = line_length(text);
-        lines.extend(parse(&text[..length], number)?);
+        let line = &text[..length];
+        match form {
+            Form::Words => lines.extend(parse(line, number)?),
+            Form::Places => match usual(line, number) {
+                Some(one) => lines.push(one),
+                None => lines.extend(parse(line, number)?),
+            },
+        }
         text = text.get(length + 1..).unwrap_or_default();
     }
     Ok(lines)
@@ -264,8 +437,13 @@ fn script(mut text: &[u8]) -> Result<Vec<Line>, Fault> {
 
 fn main() {
     let words: Vec<String> = std::env::args().collect();
-    let [_, path, readings] = words.as_slice() else {
-        panic!("usage: plain_lines FILE READINGS");
+    let [_, form, path, readings] = words.as_slice() else {
+        panic!("usage: plain_lines FORM FILE READINGS");
+    };
+    let form = match form.as_str() {
+        "words" => Form::Words,
+        "places" => Form::Places,
+        _ => panic!("FORM is words or places"),
     };
     let file = std::fs::read_to_string(path).expect("a file");
     let scripts: Vec<&str> = file.split("\"\"\"").skip(1).step_by(2).map(|text| text.trim_start()).collect();
@@ -273,9 +451,9 @@ fn main() {
     let mut best = f64::INFINITY;
     for _ in 0..readings.parse().expect("a number") {
         let start = Instant::now();
-        for text in &scripts {
-            black_box(script(black_box(text.as_bytes())).expect("lines of a script"));
-        }
+        let read = |text: &&str| script(black_box(text.as_bytes()), form).expect("lines of a script");
+        let kept: Vec<Vec<Line>> = scripts.iter().map(read).collect();
+        drop(black_box(kept));
         best = best.min(start.elapsed().as_secs_f64());
     }
     println!("{:.1}", 1e9 * best / count as f64);

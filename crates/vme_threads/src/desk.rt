@@ -23,18 +23,21 @@ use vme_object::{Asks, Given};
 use vme_port::{Pass, Spent};
 use vme_script::Config;
 use vme_shared::LineReply;
+use vme_waits::Patience;
 
 /// The passes of one processor: one of the port of each board, by its place, and one of the
-/// arbiter's.
+/// arbiter's; and how long it has waited for the bus.
 #[derive(Drop)]
 pub struct Desk {
     pub(crate) who: usize,
     pub(crate) boards: Vec<Pass<ByteMemory>>,
     pub(crate) bus: Pass<Arbiter>,
+    pub(crate) patience: Patience,
 }
 
 impl Desk {
-    /// Gives a command to the arbiter.
+    /// Gives a command to the arbiter. Who is told to wait does so for a round, and who gives the bus
+    /// back tells those who wait.
     ///
     /// # Errors
     /// `Spent` where the arbiter has made as many steps as can be counted.
@@ -49,7 +52,15 @@ impl Desk {
         ensures { IfOk result (λ reply.
             HasMade (move self.old.who (asked.Bus cmd.now) (told.Bus reply) ∷ []) self.old self.new) }
     {
-        ports.bus.call(rt, &mut self.bus, cmd)
+        let releases = ports.waits.releases();
+        let reply = ports.bus.call(rt, &mut self.bus, cmd)?;
+        match reply {
+            ArbReply::Waiting => ports.waits.wait(rt, self.who, releases, &mut self.patience),
+            ArbReply::Granted => ports.waits.leave(&mut self.patience),
+            ArbReply::Freed => ports.waits.release(),
+            ArbReply::Denied => {}
+        }
+        Ok(reply)
     }
 
     /// Gives a board, by its place, what asks for the step of a command.
@@ -134,10 +145,9 @@ impl Desk {
                 return Err(Spent);
             }
             let reply = self.make(rt, ports, &task.deed().unwrap())?;
-            let waits = matches!(reply, EventReply::Bus(ArbReply::Waiting));
             let attempts = task.attempts_left();
             task.give(Some(&reply));
-            if waits || task.attempts_left() < attempts {
+            if task.attempts_left() < attempts {
                 backoff.snooze();
             }
         }

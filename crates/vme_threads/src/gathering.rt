@@ -107,6 +107,7 @@ fn collect(
             who: _,
             boards,
             bus: pass,
+            patience: _patience,
         } = desk;
         deal(columns, boards);
         bus.push_reserved(pass);
@@ -142,6 +143,7 @@ pub fn gather(ports: Ports, rans: Vec<Ran>) -> Report
     let Ports {
         boards,
         bus,
+        waits: _waits,
         sheet,
         rooms,
         stop: _stop,

@@ -21,12 +21,9 @@ ghost use Rattle.vme_threads.specs.Rans.{IsAnswered, HasAnswered};
 
 use crate::desk::Desk;
 use crate::ports::Ports;
-use crossbeam_utils::Backoff;
 use std::sync::Wait;
 use std::sync::atomic::Ordering;
-use vme_arbiter::ArbReply;
 use vme_block::{Block, Room};
-use vme_core::EventReply;
 use vme_cycle::Request;
 use vme_lines::Line;
 use vme_master::{Outcome, Task};
@@ -38,8 +35,8 @@ use vme_shared::LineReply;
 
 impl Desk {
     /// Makes the events of a line of the script, by its place among those that ask for something,
-    /// until it is answered; what it reads over the bus goes into the room. It snoozes before it looks
-    /// again whether it has the bus, and before each further attempt at the line.
+    /// until it is answered; what it reads over the bus goes into the room. It waits before it looks
+    /// again whether it has the bus, and snoozes before each further attempt at the line.
     ///
     /// # Errors
     /// `Spent` where an object has made as many steps as can be counted, here or for another worker.
@@ -110,7 +107,6 @@ impl Desk {
             Ok(task) => task,
             Err(fault) => return Ok(LineReply::Refused(*fault)),
         };
-        let backoff = Backoff::new();
         task.give(None);
         for _ in rt.forever() {
             if task.is_over() {
@@ -121,9 +117,6 @@ impl Desk {
             }
             let reply = self.make(rt, ports, &task.deed().unwrap())?;
             task.give(Some(&reply));
-            if matches!(reply, EventReply::Bus(ArbReply::Waiting)) {
-                backoff.snooze();
-            }
         }
         unreachable!()
     }

@@ -12,6 +12,7 @@ use vme_arbiter::Arbiter;
 use vme_memory::ByteMemory;
 use vme_port::Port;
 use vme_script::{Config, OutOfMemory};
+use vme_waits::Waits;
 
 /// The port of a board.
 #[derive(Drop)]
@@ -27,6 +28,7 @@ pub struct BoardPort {
 pub struct Ports {
     pub(crate) boards: Vec<BoardPort>,
     pub(crate) bus: Port<Arbiter>,
+    pub(crate) waits: Waits,
     pub(crate) sheet: Sheet,
     pub(crate) rooms: Mutex<Rooms>,
     pub(crate) stop: AtomicBool,
@@ -58,6 +60,7 @@ impl Ports {
         let ports = Ports {
             boards,
             bus,
+            waits: Waits::new(alloc, count)?,
             sheet: Sheet::new(alloc, count)?,
             rooms: Mutex::new(Rooms::new(alloc)?),
             stop: AtomicBool::new(false),

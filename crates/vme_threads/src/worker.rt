@@ -13,6 +13,7 @@ use vme_port::Pass;
 use vme_report::RunFault;
 use vme_script::{Config, Script};
 use vme_shared::LineReply;
+use vme_waits::Patience;
 
 /// A processor that has not begun its script: its passes, a room for what each line reads, and room
 /// for the replies.
@@ -58,6 +59,7 @@ impl Worker {
             who: bus.who(),
             boards,
             bus,
+            patience: Patience::new(),
         };
         Ok(Worker { desk, rooms, lines })
     }

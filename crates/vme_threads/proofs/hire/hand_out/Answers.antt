@@ -30,7 +30,7 @@ loop-pass-preserved c =
     let now = c.loop-pass.workers.items in
     let pass = c.in-Some.pass in
     let d = c.index_mut.result.now in
-    let v : Worker = record { desk = record { who = d.desk.who; boards = c.push_reserved.new.self; bus = d.desk.bus }; rooms = d.rooms; lines = d.lines } in
+    let v : Worker = record { desk = record { who = d.desk.who; boards = c.push_reserved.new.self; bus = d.desk.bus; patience = d.desk.patience }; rooms = d.rooms; lines = d.lines } in
     let at : c.len.result ≡ length left = c.len.ensures ∙ c.pop.new.self.ok.0 in
     let gets : Gets pass d v = record {
       who = refl;

@@ -30,8 +30,8 @@ loop-preserved g c =
     c.loop.invariant (rw c.unwrap-in-loop.ensures at c.deed.ensures) c.in_ok-reply.ensures c.give-in-loop.ensures.task c.give-in-loop.ensures.begun
     (c.give-in-loop.ensures.below n c.loop.invariant.below)
 
-pub loop-preserved-in-loop : goal.loop-preserved-in-loop
-loop-preserved-in-loop g c =
+pub loop-preserved-then-attempts_left-attempts : goal.loop-preserved-then-attempts_left-attempts
+loop-preserved-then-attempts_left-attempts g c =
     let n = length c.args.config.now.boards in
     at_more c.args.config.now c.args.line c.args.self.now c.loop.self c.make.new.self
     (call_asked c.unwrap-in-loop.result) c.in_ok-reply.reply c.loop.task c.give-in-loop.new.self

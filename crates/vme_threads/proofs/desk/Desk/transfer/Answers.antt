@@ -35,12 +35,6 @@ loop-preserved g c =
     c.in_ok-reply.reply c.loop.task c.give-in-loop.new.self c.loop.invariant (rw c.unwrap-in-loop.ensures at c.deed.ensures) c.in_ok-reply.ensures
     c.give-in-loop.ensures.task c.give-in-loop.ensures.begun
 
-pub loop-preserved-then-matches : goal.loop-preserved-then-matches
-loop-preserved-then-matches g c =
-    moving_more c.args.config.now c.args.request.now c.args.self.now c.loop.self c.make.new.self (call_asked c.unwrap-in-loop.result)
-    c.in_ok-reply.reply c.loop.task c.give-in-loop.new.self c.loop.invariant (rw c.unwrap-in-loop.ensures at c.deed.ensures) c.in_ok-reply.ensures
-    c.give-in-loop.ensures.task c.give-in-loop.ensures.begun
-
 pub returns-then-is_over : goal.returns-then-is_over
 returns-then-is_over g c =
     moving_end c.args.config.now c.args.request.now c.args.self.now c.loop.self c.loop.task c.unwrap.result c.loop.invariant

@@ -1,0 +1,50 @@
+/// How often the bus was given to others while a processor waits awake. A longer wait is slept through.
+const AWAKE_ROUNDS: u32 = 16;
+
+/// In how many rounds on end the bus is given back by nobody before those who sleep are woken, the
+/// first time.
+const STILL_ROUNDS: u32 = 8;
+
+/// How long a processor has waited for the bus, in rounds. After each it asks the arbiter again.
+#[derive(Clone, Copy, Debug)]
+pub struct Patience {
+    rounds: u32,
+    still: u32,
+}
+
+impl Patience {
+    /// That of a processor that does not wait.
+    pub fn new() -> Patience {
+        Patience {
+            rounds: 0,
+            still: 0,
+        }
+    }
+
+    /// Whether the processor waits.
+    pub(crate) fn has_begun(&self) -> bool {
+        self.rounds > 0
+    }
+
+    /// One round more.
+    pub(crate) fn begin_round(&mut self) {
+        self.rounds = self.rounds.saturating_add(1);
+    }
+
+    /// Whether the processor is to sleep: it waited long, and the bus was given to one after the other.
+    pub(crate) fn is_over(&self) -> bool {
+        self.rounds > AWAKE_ROUNDS && self.still == 0
+    }
+
+    /// The bus was given back in this round.
+    pub(crate) fn note_release(&mut self) {
+        self.still = 0;
+    }
+
+    /// It was not. Answers whether those who sleep are to be woken, since one of them may have the bus.
+    /// The longer it lasts, the rarer that is.
+    pub(crate) fn note_none(&mut self) -> bool {
+        self.still = self.still.saturating_add(1);
+        self.still >= STILL_ROUNDS && self.still.is_power_of_two()
+    }
+}
