@@ -5,6 +5,9 @@ const AWAKE_ROUNDS: u32 = 16;
 /// first time.
 const STILL_ROUNDS: u32 = 8;
 
+/// In how many before the last one awake sleeps too. Those who slept were woken four times by then.
+const LONG_STILL_ROUNDS: u32 = 64;
+
 /// How long a processor has waited for the bus, in rounds. After each it asks the arbiter again.
 #[derive(Clone, Copy, Debug)]
 pub struct Patience {
@@ -31,9 +34,15 @@ impl Patience {
         self.rounds = self.rounds.saturating_add(1);
     }
 
-    /// Whether the processor is to sleep: it waited long, and the bus was given to one after the other.
+    /// Whether the processor is to sleep where another waits awake: it waited long, and the bus was
+    /// given to one after the other.
     pub(crate) fn is_over(&self) -> bool {
         self.rounds > AWAKE_ROUNDS && self.still == 0
+    }
+
+    /// Whether the processor is to sleep whoever is awake: the bus was long given back by nobody.
+    pub(crate) fn is_spent(&self) -> bool {
+        self.still >= LONG_STILL_ROUNDS
     }
 
     /// The bus was given back in this round.

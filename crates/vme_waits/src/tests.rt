@@ -1,10 +1,12 @@
-//! Processors that wait for one another, round and round.
+//! Processors that wait for one another, round and round, and one that waits long.
 use crate::patience::Patience;
 use crate::waits::Waits;
 use std::sync::Wait;
-use std::sync::atomic::{AtomicU64, Ordering};
+use std::sync::atomic::{AtomicBool, AtomicU64, Ordering};
 use std::test::Fail;
+use std::thread;
 use std::thread::{Threads, join};
+use std::time::{Clock, Duration};
 
 /// How often each has its turn.
 const TURNS: u64 = 1000;
@@ -47,5 +49,57 @@ fn three_take_turns(rt: HostRuntime) -> Result<(), Fail> {
     let turn = AtomicU64::new(0);
     three(&rt, &waits, &turn);
     assert_eq!(&rt; turn.load(Ordering::SeqCst), 3 * TURNS);
+    Ok(())
+}
+
+/// How long the bus is held, in milliseconds.
+const HELD: u64 = 300;
+
+/// Waits for a sign, and answers in how many rounds it came.
+fn rounds_until<R: Wait>(rt: &R, waits: &Waits, sign: &AtomicBool, who: usize) -> u64 {
+    let mut patience = Patience::new();
+    let mut rounds = 0_u64;
+    for _ in rt.forever() {
+        let seen = waits.releases();
+        if sign.load(Ordering::SeqCst) {
+            break;
+        }
+        waits.wait(rt, who, seen, &mut patience);
+        rounds = rounds.wrapping_add(1);
+    }
+    waits.leave(&mut patience);
+    rounds
+}
+
+/// Holds the bus for long, and then gives it back under a sign.
+fn hold<R: Clock>(rt: &R, waits: &Waits, sign: &AtomicBool) {
+    thread::sleep(rt, Duration::from_millis(HELD));
+    sign.store(true, Ordering::SeqCst);
+    waits.release();
+}
+
+/// The rounds of the one who waits while the other of two holds the bus.
+fn rounds_while_held<R: Threads + Wait + Clock + Sync>(
+    rt: &R,
+    waits: &Waits,
+    sign: &AtomicBool,
+) -> u64 {
+    join(
+        rt,
+        || rounds_until(rt, waits, sign, 0),
+        || hold(rt, waits, sign),
+    )
+    .0
+}
+
+/// Who does not sleep goes through a round in a few microseconds, so through tens of thousands.
+#[test]
+fn who_waits_long_sleeps(rt: HostRuntime) -> Result<(), Fail> {
+    for count in 2..4 {
+        let waits = Waits::new(rt.alloc(), count)?;
+        let sign = AtomicBool::new(false);
+        let rounds = rounds_while_held(&rt, &waits, &sign);
+        assert!(&rt; rounds < 1000, "{rounds} rounds, for {count} processors");
+    }
     Ok(())
 }

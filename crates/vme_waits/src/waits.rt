@@ -9,15 +9,15 @@ use std::{hint, thread};
 /// How often a processor looks whether the bus was given back, before it yields.
 const PAUSES: u32 = 64;
 
-/// Of so many processors at most one waits at a time, so none of them sleeps.
-const AWAKE_ALWAYS: usize = 2;
+/// Of so many processors at most one waits at a time, so it is not counted who waits awake.
+const ALONE: usize = 2;
 
 /// What all who wait change.
 #[derive(Drop)]
 struct Counts {
     /// How often the bus was given back.
     releases: AtomicU64,
-    /// How many wait awake.
+    /// How many wait awake, where more than one may wait at a time.
     awake: AtomicU64,
     /// How many sleep, or are about to.
     asleep: AtomicU64,
@@ -25,8 +25,9 @@ struct Counts {
 
 /// What the processors that share a bus tell each other while they wait for it. Who waits looks here
 /// before it asks the arbiter again, so that it does not keep the arbiter from those who use the bus.
-/// Who waits long sleeps. One who waits is always awake: it sees where the bus is given back no more,
-/// and wakes the others, since it may be one of them who has it.
+/// Who waits long sleeps. While the bus goes from one to the other one who waits is awake: it sees
+/// where the bus is given back no more, and wakes the others, since it may be one of them who has it.
+/// Where it is long given back by nobody, the last one sleeps too.
 #[derive(Drop)]
 pub struct Waits {
     counts: CachePadded<Counts>,
@@ -36,11 +37,9 @@ pub struct Waits {
 impl Waits {
     /// For so many processors, none of which waits.
     pub fn new(alloc: Global, count: usize) -> Result<Waits, AllocError> {
-        let mut sleepers = Vec::new(alloc);
-        if count > AWAKE_ALWAYS {
-            for _ in 0..count {
-                sleepers.push(Sleeper::new())?;
-            }
+        let mut sleepers = Vec::with_capacity(alloc, count)?;
+        for _ in 0..count {
+            sleepers.push(Sleeper::new())?;
         }
         let counts = Counts {
             releases: AtomicU64::new(0),
@@ -74,12 +73,12 @@ impl Waits {
     #[cold]
     #[inline(never)]
     pub fn wait<R: Wait>(&self, rt: &R, who: usize, seen: u64, patience: &mut Patience) {
-        if !patience.has_begun() && self.has_sleepers() {
-            self.counts.awake.fetch_add(1, Ordering::SeqCst);
+        if !patience.has_begun() {
+            self.come_awake();
         }
         patience.begin_round();
-        if patience.is_over() {
-            self.sleep(rt, who, seen);
+        if patience.is_spent() || (patience.is_over() && self.counts_awake()) {
+            self.sleep(rt, who, seen, patience.is_spent());
         }
         if self.pause(seen) {
             patience.note_release();
@@ -92,16 +91,28 @@ impl Waits {
     #[inline(always)]
     pub fn leave(&self, patience: &mut Patience) {
         if patience.has_begun() {
-            if self.has_sleepers() {
-                self.counts.awake.fetch_sub(1, Ordering::SeqCst);
-            }
+            self.leave_awake();
             *patience = Patience::new();
         }
     }
 
-    /// Whether there are processors that may sleep, so that it counts who is awake.
-    fn has_sleepers(&self) -> bool {
-        !self.sleepers.is_empty()
+    /// Whether more than one may wait at a time, so that it is counted who waits awake.
+    #[inline(always)]
+    fn counts_awake(&self) -> bool {
+        self.sleepers.len() > ALONE
+    }
+
+    /// One more waits awake.
+    fn come_awake(&self) {
+        if self.counts_awake() {
+            self.counts.awake.fetch_add(1, Ordering::SeqCst);
+        }
+    }
+
+    /// One less does. Answers whether another is left.
+    #[inline(always)]
+    fn leave_awake(&self) -> bool {
+        self.counts_awake() && self.counts.awake.fetch_sub(1, Ordering::SeqCst) > 1
     }
 
     /// Pauses until the bus was given back more often than `seen`. Where that takes long it yields the
@@ -117,18 +128,19 @@ impl Waits {
         self.releases() != seen
     }
 
-    /// Sleeps, unless nobody else who waits is awake, or the bus was given back more often than `seen`.
-    fn sleep<R: Wait>(&self, rt: &R, who: usize, seen: u64) {
+    /// Sleeps, unless the bus was given back more often than `seen`, or, where it is not to sleep as the
+    /// last one, nobody else who waits is awake.
+    fn sleep<R: Wait>(&self, rt: &R, who: usize, seen: u64, as_last: bool) {
         let Some(sleeper) = self.sleepers.get(who) else {
             return;
         };
         sleeper.lie_down();
         self.counts.asleep.fetch_add(1, Ordering::SeqCst);
-        let others = self.counts.awake.fetch_sub(1, Ordering::SeqCst) > 1;
-        if others && self.releases() == seen {
+        let may_sleep = self.leave_awake() || as_last;
+        if may_sleep && self.releases() == seen {
             sleeper.sleep(rt);
         }
-        self.counts.awake.fetch_add(1, Ordering::SeqCst);
+        self.come_awake();
         self.counts.asleep.fetch_sub(1, Ordering::SeqCst);
         sleeper.get_up();
     }
