@@ -57,7 +57,7 @@ impl Desk {
         match reply {
             ArbReply::Waiting => ports.waits.wait(rt, self.who, releases, &mut self.patience),
             ArbReply::Granted => ports.waits.leave(&mut self.patience),
-            ArbReply::Freed => ports.waits.release(),
+            ArbReply::Freed => ports.waits.release(&mut self.patience),
             ArbReply::Denied => {}
         }
         Ok(reply)

@@ -1,3 +1,5 @@
+use std::mem;
+
 /// How often the bus was given to others while a processor waits awake. A longer wait is slept through.
 const AWAKE_ROUNDS: u32 = 16;
 
@@ -13,6 +15,7 @@ const LONG_STILL_ROUNDS: u32 = 64;
 pub struct Patience {
     rounds: u32,
     still: u32,
+    has_waited: bool,
 }
 
 impl Patience {
@@ -21,7 +24,23 @@ impl Patience {
         Patience {
             rounds: 0,
             still: 0,
+            has_waited: false,
         }
+    }
+
+    /// The processor has the bus, for which it had to wait.
+    pub(crate) fn end(&mut self) {
+        *self = Patience {
+            rounds: 0,
+            still: 0,
+            has_waited: true,
+        };
+    }
+
+    /// Whether the processor had to wait for the bus that it had. That is asked once.
+    #[inline(always)]
+    pub(crate) fn take_has_waited(&mut self) -> bool {
+        mem::take(&mut self.has_waited)
     }
 
     /// Whether the processor waits.

@@ -25,7 +25,7 @@ fn take_turns<R: Wait>(rt: &R, waits: &Waits, turn: &AtomicU64, who: usize) {
         }
         waits.leave(&mut patience);
         turn.fetch_add(1, Ordering::SeqCst);
-        waits.release();
+        waits.release(&mut patience);
     }
 }
 
@@ -75,7 +75,7 @@ fn rounds_until<R: Wait>(rt: &R, waits: &Waits, sign: &AtomicBool, who: usize) -
 fn hold<R: Clock>(rt: &R, waits: &Waits, sign: &AtomicBool) {
     thread::sleep(rt, Duration::from_millis(HELD));
     sign.store(true, Ordering::SeqCst);
-    waits.release();
+    waits.release(&mut Patience::new());
 }
 
 /// The rounds of the one who waits while the other of two holds the bus.

@@ -3,7 +3,7 @@ use crate::sleeper::Sleeper;
 use crossbeam_utils::CachePadded;
 use std::alloc::{AllocError, Global};
 use std::sync::Wait;
-use std::sync::atomic::{AtomicU64, Ordering};
+use std::sync::atomic::{AtomicBool, AtomicU64, Ordering};
 use std::{hint, thread};
 
 /// How often a processor looks whether the bus was given back, before it yields.
@@ -11,6 +11,13 @@ const PAUSES: u32 = 64;
 
 /// Of so many processors at most one waits at a time, so it is not counted who waits awake.
 const ALONE: usize = 2;
+
+/// How often one of two who stands aside looks whether the other still gives the bus back.
+const LOOKS_ASIDE: u32 = 16;
+
+/// How often it pauses before each of these looks, since each keeps the other waiting for a line of
+/// the cache.
+const PAUSES_ASIDE: u32 = 32;
 
 /// What all who wait change.
 #[derive(Drop)]
@@ -21,6 +28,8 @@ struct Counts {
     awake: AtomicU64,
     /// How many sleep, or are about to.
     asleep: AtomicU64,
+    /// Whether one of two stands aside.
+    aside: AtomicBool,
 }
 
 /// What the processors that share a bus tell each other while they wait for it. Who waits looks here
@@ -45,6 +54,7 @@ impl Waits {
             releases: AtomicU64::new(0),
             awake: AtomicU64::new(0),
             asleep: AtomicU64::new(0),
+            aside: AtomicBool::new(false),
         };
         Ok(Waits {
             counts: CachePadded::new(counts),
@@ -58,13 +68,18 @@ impl Waits {
         self.counts.releases.load(Ordering::SeqCst)
     }
 
-    /// The bus was given back. Where all who wait for it sleep, one of them is woken.
-    pub fn release(&self) {
+    /// The processor gave the bus back. Where all who wait for it sleep, one of them is woken. If it is
+    /// one of two, and had to wait for the bus, it stands aside for a while.
+    #[inline(always)]
+    pub fn release(&self, patience: &mut Patience) {
         self.counts.releases.fetch_add(1, Ordering::SeqCst);
         if self.counts.asleep.load(Ordering::SeqCst) > 0
             && self.counts.awake.load(Ordering::SeqCst) == 0
         {
             self.wake_first();
+        }
+        if patience.take_has_waited() && !self.counts_awake() {
+            self.stand_aside();
         }
     }
 
@@ -92,8 +107,31 @@ impl Waits {
     pub fn leave(&self, patience: &mut Patience) {
         if patience.has_begun() {
             self.leave_awake();
-            *patience = Patience::new();
+            patience.end();
         }
+    }
+
+    /// Lets the other of two use the bus, for a while or until it is given back no more, unless the other
+    /// stands aside. To hand the bus over takes longer than a transfer, so it is not to go from one to
+    /// the other with each.
+    #[cold]
+    #[inline(never)]
+    fn stand_aside(&self) {
+        if self.counts.aside.swap(true, Ordering::SeqCst) {
+            return;
+        }
+        let mut seen = self.releases();
+        for _ in 0..LOOKS_ASIDE {
+            for _ in 0..PAUSES_ASIDE {
+                hint::spin_loop();
+            }
+            let releases = self.releases();
+            if releases == seen {
+                break;
+            }
+            seen = releases;
+        }
+        self.counts.aside.store(false, Ordering::SeqCst);
     }
 
     /// Whether more than one may wait at a time, so that it is counted who waits awake.
