@@ -9,7 +9,8 @@ use std::{hint, thread};
 /// How often a processor looks whether the bus was given back, before it yields.
 const PAUSES: u32 = 64;
 
-/// Of so many processors at most one waits at a time, so it is not counted who waits awake.
+/// Of so many processors at most one waits at a time, so it is not counted who waits awake. Of fewer
+/// nobody ever waits.
 const ALONE: usize = 2;
 
 /// How often one of two who stands aside looks whether the other still gives the bus back.
@@ -72,6 +73,9 @@ impl Waits {
     /// one of two, and had to wait for the bus, it stands aside for a while.
     #[inline(always)]
     pub fn release(&self, patience: &mut Patience) {
+        if self.sleepers.len() < ALONE {
+            return;
+        }
         self.counts.releases.fetch_add(1, Ordering::SeqCst);
         if self.counts.asleep.load(Ordering::SeqCst) > 0
             && self.counts.awake.load(Ordering::SeqCst) == 0
