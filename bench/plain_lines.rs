@@ -6,7 +6,8 @@
 //!
 //! FORM is `words`, which reads each line word by word, or `places`, which reads a line in its usual spelling (one space
 //! between two words, data of four bytes) at fixed places, eight digits as one number of 64 bits, and only others word by
-//! word. FILE is as `compare_config` writes it. Prints the nanoseconds that a line takes, of the best reading.
+//! word; or `writes`, which reads nothing, and writes as many bytes for each line as `vme_script` keeps. FILE is as
+//! `compare_config` writes it. Prints the nanoseconds that a line takes, of the best reading.
 
 // What is kept of a line is read by nobody here.
 #![allow(dead_code)]
@@ -25,6 +26,10 @@ enum Form {
     Words,
     Places,
 }
+
+/// As many bytes as `vme_script` keeps of a line.
+#[derive(Clone, Copy)]
+struct Kept([u64; 13]);
 
 #[derive(Clone, Copy)]
 enum Word {
@@ -435,26 +440,40 @@ fn script(mut text: &[u8], form: Form) -> Result<Vec<Line>, Fault> {
     Ok(lines)
 }
 
+/// The bytes that are kept of the lines of a script, whatever they are.
+fn written(text: &[u8]) -> Vec<Kept> {
+    let mut kept = Vec::with_capacity(MOST_LINES);
+    kept.extend((0..MOST_LINES).map(|number| Kept([(number ^ text.len()) as u64; 13])));
+    kept
+}
+
+/// The seconds of the best of some readings.
+fn best_of<T>(readings: usize, scripts: &[&str], read: impl Fn(&[u8]) -> Vec<T>) -> f64 {
+    let mut best = f64::INFINITY;
+    for _ in 0..readings {
+        let start = Instant::now();
+        let kept: Vec<Vec<T>> = scripts.iter().map(|text| read(black_box(text.as_bytes()))).collect();
+        drop(black_box(kept));
+        best = best.min(start.elapsed().as_secs_f64());
+    }
+    best
+}
+
 fn main() {
     let words: Vec<String> = std::env::args().collect();
     let [_, form, path, readings] = words.as_slice() else {
         panic!("usage: plain_lines FORM FILE READINGS");
     };
-    let form = match form.as_str() {
-        "words" => Form::Words,
-        "places" => Form::Places,
-        _ => panic!("FORM is words or places"),
-    };
+    let readings = readings.parse().expect("a number");
     let file = std::fs::read_to_string(path).expect("a file");
     let scripts: Vec<&str> = file.split("\"\"\"").skip(1).step_by(2).map(|text| text.trim_start()).collect();
     let count: usize = scripts.iter().map(|text| text.lines().count()).sum();
-    let mut best = f64::INFINITY;
-    for _ in 0..readings.parse().expect("a number") {
-        let start = Instant::now();
-        let read = |text: &&str| script(black_box(text.as_bytes()), form).expect("lines of a script");
-        let kept: Vec<Vec<Line>> = scripts.iter().map(read).collect();
-        drop(black_box(kept));
-        best = best.min(start.elapsed().as_secs_f64());
-    }
+    let by = |form| move |text: &[u8]| script(text, form).expect("lines of a script");
+    let best = match form.as_str() {
+        "words" => best_of(readings, &scripts, by(Form::Words)),
+        "places" => best_of(readings, &scripts, by(Form::Places)),
+        "writes" => best_of(readings, &scripts, written),
+        _ => panic!("FORM is words, places or writes"),
+    };
     println!("{:.1}", 1e9 * best / count as f64);
 }
