@@ -1,0 +1,5 @@
+pub mod Heads
+pub mod Words
+pub mod Spelled
+pub mod Forms
+pub mod Known

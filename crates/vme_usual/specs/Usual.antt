@@ -1,0 +1,50 @@
+-- Lines in their usual spelling: what was found at the head of a text.
+use Rattle.std.specs.Prelude.{◌≡◌, ℕ, List, [], ◌∷◌, Option, Some, None, Ok, codes}
+use Rattle.arrayvec.specs.ArrayVec.{ArrayVec}
+use Rattle.vme_cycle.specs.declared.modify.Modify.{Modify}
+use Rattle.vme_cycle.specs.declared.modify.Modify.TheVariants as modifies
+use Rattle.vme_lines.specs.declared.line.Line.{Line}
+use Rattle.vme_lines.specs.Grammar.{line_of_words}
+use Rattle.vme_numbers.specs.Numbers.{hex_number, exact_bytes, decimal_number}
+use Rattle.vme_words.specs.Words.{words}
+
+-- the first word of a text spells a value, and its other words are those of the rest (this project's own)
+pub record Spelled (reads : List ℕ → Option ℕ) (text : List ℕ) (value : ℕ) (rest : List ℕ) : Type 0 where
+  pub word : List ℕ
+  pub first : words text ≡ word ∷ words rest
+  pub spells : reads word ≡ Some value
+
+-- the first two words of a text spell a code and an address, and its other words are those of the rest (this project's own)
+pub record IsPlace (text : List ℕ) (am addr : ℕ) (rest : List ℕ) : Type 0 where
+  pub between : List ℕ
+  pub code : Spelled (hex_number 2) text am between
+  pub address : Spelled (hex_number 8) between addr rest
+
+-- two words spell a number of data and a datum of n bytes (this project's own)
+pub record IsFill (n : ℕ) (words : List (List ℕ)) (count : ℕ) (bytes : ArrayVec ℕ) : Type 0 where
+  pub first : List ℕ
+  pub second : List ℕ
+  pub both : words ≡ first ∷ second ∷ []
+  pub number : decimal_number 4 first ≡ Some count
+  pub datum : exact_bytes n second ≡ Some bytes.items
+
+-- two words spell two data of n bytes (this project's own)
+pub record AreData (n : ℕ) (words : List (List ℕ)) (expect put : ArrayVec ℕ) : Type 0 where
+  pub first : List ℕ
+  pub second : List ℕ
+  pub both : words ≡ first ∷ second ∷ []
+  pub expected : exact_bytes n first ≡ Some expect.items
+  pub datum : exact_bytes n second ≡ Some put.items
+
+-- words are the name of a function and its data, of n bytes each (this project's own)
+pub data IsFunction (n : ℕ) : List (List ℕ) → Modify → Type 0 where
+  set : IsFunction n (codes "set" ∷ []) modifies.Set
+  exchange : {hex : List ℕ} {put : ArrayVec ℕ} → exact_bytes n hex ≡ Some put.items → IsFunction n (codes "xchg" ∷ hex ∷ []) (modifies.Exchange put)
+  add : {hex : List ℕ} {by : ArrayVec ℕ} → exact_bytes n hex ≡ Some by.items → IsFunction n (codes "add" ∷ hex ∷ []) (modifies.Add by)
+  compare : {first second : List ℕ} {expect put : ArrayVec ℕ} → exact_bytes n first ≡ Some expect.items → exact_bytes n second ≡ Some put.items
+      → IsFunction n (codes "cas" ∷ first ∷ second ∷ []) (modifies.Compare expect put)
+
+-- a line of this first word and this text after it asks for this, if anything was found in the text (this project's own)
+abbrev pub Asks : List ℕ → List ℕ → Option Line → Type 0
+Asks word text None = Unit {0}
+Asks word text (Some line) = line_of_words (word ∷ words text) ≡ Ok line
