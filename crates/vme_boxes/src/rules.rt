@@ -9,7 +9,8 @@ use crate::bytes::{await_bytes, local_bytes, lock_bytes, request_bytes, unlock_b
 use crate::place::Place;
 use std::marker::Model;
 use vme_decode::AddressMap;
-use vme_lines::{Line, LineFault, parse_line};
+use vme_lines::{Line, LineFault};
+use vme_usual::read_line;
 use vme_shared::Mailbox;
 
 /// What a file declares, as a script in it sees it.
@@ -126,7 +127,7 @@ impl<'a> Rules<'a> {
     pub fn line(&self, text: &[u8]) -> Result<Option<Line>, LineFault>
         ensures line { result ≡ line_within self.now text.now }
     {
-        let read = parse_line(text);
+        let read = read_line(text);
         if let Ok(Some(line)) = &read {
             if !self.boxes().may_ask(line) {
                 return Err(LineFault::BadNumber);
