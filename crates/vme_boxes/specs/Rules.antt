@@ -36,12 +36,21 @@ abbrev pub touches : Rules → Line → Bool
 touches ByItself line = false
 touches (InFile file) line = option_map_or (are_of_mailboxes file) (line_bytes file.entries file.board line) false
 
--- what was read of a line, if it may be asked: it is refused for a mailbox that is not there, and then for bytes of one that is
+-- the refusal of a line that may not be asked: it is refused for a mailbox that is not there, and then for bytes of one that is
 -- (this project's own)
+abbrev pub refusal_of : Rules → Line → Option LineFault
+refusal_of rules line =
+    if may_ask (boxes_of rules) line then (if touches rules line then Some MailboxBytes else None) else Some BadNumber
+
+-- a line, or its refusal if it has one (this project's own)
+abbrev pub unless_refused : Option LineFault → Line → Result (Option Line) LineFault
+unless_refused None line = Ok (Some line)
+unless_refused (Some fault) line = Err fault
+
+-- what was read of a line, if it may be asked (this project's own)
 abbrev pub asked_within : Rules → Result (Option Line) LineFault → Result (Option Line) LineFault
 asked_within rules (Ok None) = Ok None
-asked_within rules (Ok (Some line)) =
-    if may_ask (boxes_of rules) line then (if touches rules line then Err MailboxBytes else Ok (Some line)) else Err BadNumber
+asked_within rules (Ok (Some line)) = unless_refused (refusal_of rules line) line
 asked_within rules (Err fault) = Err fault
 
 -- what a line asks for, if for anything: whether it may be asked is told last (this project's own)

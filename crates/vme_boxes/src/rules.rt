@@ -2,7 +2,7 @@
 ghost use Rattle.std.specs.Prelude.{◌≡◌, false};
 ghost use Rattle.std.specs.Option.{option_map_or};
 ghost use Rattle.vme_boxes.specs.Bytes.{line_bytes};
-ghost use Rattle.vme_boxes.specs.Rules.{boxes_of, is_of_mailbox, are_of_mailboxes, touches, line_within};
+ghost use Rattle.vme_boxes.specs.Rules.{boxes_of, is_of_mailbox, are_of_mailboxes, touches, refusal_of, line_within};
 
 use crate::boxes::Boxes;
 use crate::bytes::{await_bytes, local_bytes, lock_bytes, request_bytes, unlock_bytes};
@@ -119,9 +119,23 @@ impl<'a> Rules<'a> {
         }
     }
 
-    /// Reads a line, without its end, as `parse_line` does. In a file one that names a mailbox which
-    /// is not declared is refused by S6, and one that names a byte of one that is, other than by a
-    /// put or a take, by S9.
+    /// The refusal of a line that was read, if it may not be asked. In a file one that names a mailbox
+    /// which is not declared is refused by S6, and one that names a byte of one that is, other than by
+    /// a put or a take, by S9.
+    #[inline(always)]
+    pub fn refusal(&self, line: &Line) -> Option<LineFault>
+        ensures refusal { result ≡ refusal_of self.now line.now }
+    {
+        if !self.boxes().may_ask(line) {
+            return Some(LineFault::BadNumber);
+        }
+        if self.touches(line) {
+            return Some(LineFault::MailboxBytes);
+        }
+        None
+    }
+
+    /// Reads a line, without its end, as `parse_line` does; one that may not be asked has its refusal.
     #[inline(always)]
     #[tactic(auto, unfolding(crate::specs::Rules::line_within))]
     pub fn line(&self, text: &[u8]) -> Result<Option<Line>, LineFault>
@@ -129,11 +143,8 @@ impl<'a> Rules<'a> {
     {
         let read = read_line(text);
         if let Ok(Some(line)) = &read {
-            if !self.boxes().may_ask(line) {
-                return Err(LineFault::BadNumber);
-            }
-            if self.touches(line) {
-                return Err(LineFault::MailboxBytes);
+            if let Some(fault) = self.refusal(line) {
+                return Err(fault);
             }
         }
         read

@@ -1,13 +1,16 @@
 //! Scripts: what the lines of a text ask for.
-ghost use Rattle.std.specs.Prelude.{◌≡◌, ◌<◌, ◌≤◌, nat_lt, length, slice_get, Some, Ok, Err, IfOk, IfErr, map};
+ghost use Rattle.std.specs.Prelude.{◌≡◌, ◌<◌, ◌≤◌, ◌∷◌, ◌++◌, [], List, nat_lt, length, slice_get, Some, Ok, Err, IfOk, IfErr, map};
 ghost use Rattle.std.specs.Str.Lines.{lines};
+ghost use Rattle.vme_boxes.specs.Rules.{refusal_of};
+ghost use Rattle.vme_script.specs.declared.script.ScriptLine.{ScriptLine};
 ghost use Rattle.vme_script.specs.Scripts.{script_of, script_within, lines_from, IsRefusalOf};
 
 use crate::fault::{ScriptFault, ScriptRefusal};
 use std::alloc::Global;
 use std::marker::Model;
 use vme_boxes::Rules;
-use vme_lines::Line;
+use vme_lines::{Line, LineFault};
+use vme_usual::read_line;
 use vme_words::Lines;
 
 /// The greatest number of lines of a script.
@@ -52,7 +55,7 @@ impl Script {
     }
 
     /// The script that a text is, whose lines go by rules.
-    #[tactic(auto, unfolding(crate::specs::Scripts::script_within))]
+    #[tactic(auto, unfolding(crate::specs::Scripts::script_within), using(vme_boxes::proofs::Asked::refused, vme_boxes::proofs::Asked::empty, vme_boxes::proofs::Asked::forbidden, vme_boxes::proofs::Asked::allowed))]
     pub(crate) fn within(
         alloc: Global,
         text: &[u8],
@@ -69,8 +72,13 @@ impl Script {
                 return Err(ScriptFault::Refused(ScriptRefusal::TooManyLines));
             }
             number += 1;
-            match rules.line(line) {
-                Ok(Some(line)) => lines.push(ScriptLine { number, line })?,
+            match read_line(line) {
+                Ok(Some(line)) => {
+                    lines.push(ScriptLine { number, line })?;
+                    if let Some(fault) = refusal_of_last(rules, lines.as_slice()) {
+                        return Err(fault_of(text, rules, ScriptRefusal::BadLine { number, fault }));
+                    }
+                }
                 Ok(None) => {}
                 Err(fault) => {
                     return Err(fault_of(text, rules, ScriptRefusal::BadLine { number, fault }));
@@ -101,6 +109,18 @@ impl Script {
         ensures { slice_get (map (λ line. line.number) self.now) j ≡ Some result }
     {
         self.lines[j].number
+    }
+}
+
+/// The refusal of the last of some lines, judged where it lies.
+#[inline(always)]
+fn refusal_of_last(rules: &Rules<'_>, lines: &[ScriptLine]) -> Option<LineFault>
+    ensures { (front : List ScriptLine) (last : ScriptLine) → lines.now ≡ front ++ last ∷ []
+        → result ≡ refusal_of rules.now last.line }
+{
+    match lines {
+        [.., last] => rules.refusal(&last.line),
+        [] => None,
     }
 }
 

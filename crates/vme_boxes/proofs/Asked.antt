@@ -1,0 +1,31 @@
+-- What a line asks for by rules, by what was read of it.
+use Rattle.std.proofs.Common.{◌≡◌, ℕ, List, Option, None, Some, Ok, Err, refl}
+use Rattle.vme_lines.specs.declared.line.Line.{Line}
+use Rattle.vme_lines.specs.declared.fault.LineFault.{LineFault}
+use Rattle.vme_lines.specs.Grammar.{line_of}
+use Rattle.vme_boxes.specs.declared.rules.Rules.{Rules}
+use Rattle.vme_boxes.specs.Rules.{refusal_of, line_within}
+
+-- a line that is refused by itself
+pub refused : (rules : Rules) (text : List ℕ) (fault : LineFault) → line_of text ≡ Err fault → line_within rules text ≡ Err fault
+unfolding line_within
+refused rules text fault read = rw read refl
+
+-- a line that asks for nothing
+pub empty : (rules : Rules) (text : List ℕ) → line_of text ≡ Ok None → line_within rules text ≡ Ok None
+unfolding line_within
+empty rules text read = rw read refl
+
+-- a line that may not be asked
+pub forbidden :
+    (rules : Rules) (text : List ℕ) (line : Line) (fault : LineFault) → line_of text ≡ Ok (Some line) → refusal_of rules line ≡ Some fault
+    → line_within rules text ≡ Err fault
+unfolding line_within
+forbidden rules text line fault read refusal = rw (read, refusal) refl
+
+-- a line that may be asked
+pub allowed :
+    (rules : Rules) (text : List ℕ) (line : Line) → line_of text ≡ Ok (Some line) → refusal_of rules line ≡ None
+    → line_within rules text ≡ Ok (Some line)
+unfolding line_within
+allowed rules text line read refusal = rw (read, refusal) refl
