@@ -10,8 +10,8 @@ use crate::place::Place;
 use std::marker::Model;
 use vme_decode::AddressMap;
 use vme_lines::{Line, LineFault};
-use vme_usual::read_line;
 use vme_shared::Mailbox;
+use vme_usual::read_line;
 
 /// What a file declares, as a script in it sees it.
 #[derive(Drop)]

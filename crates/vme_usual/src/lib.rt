@@ -9,5 +9,7 @@ mod data;
 mod fields;
 mod line;
 mod requests;
+#[cfg(test)]
+mod tests;
 
 pub use line::read_line;

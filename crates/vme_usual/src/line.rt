@@ -9,7 +9,7 @@ use vme_lines::{LINE_LIMIT, Line, LineFault, parse_line};
 
 /// What a line in its usual spelling asks for.
 #[inline(always)]
-fn usual_line(line: &[u8]) -> Option<Line>
+pub(crate) fn usual_line(line: &[u8]) -> Option<Line>
     ensures { MatchOption result (Unit {0}) (λ asked. line_of line.now ≡ Ok (Some asked)) }
 {
     if LINE_LIMIT < line.len() {
