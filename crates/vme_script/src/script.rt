@@ -10,7 +10,7 @@ use std::alloc::Global;
 use std::marker::Model;
 use vme_boxes::Rules;
 use vme_lines::{Line, LineFault};
-use vme_usual::read_line;
+use vme_usual::{any_line, usual_line};
 use vme_words::Lines;
 
 /// The greatest number of lines of a script.
@@ -72,7 +72,14 @@ impl Script {
                 return Err(ScriptFault::Refused(ScriptRefusal::TooManyLines));
             }
             number += 1;
-            match read_line(line) {
+            if let Some(line) = usual_line(line) {
+                lines.push(ScriptLine { number, line })?;
+                if let Some(fault) = refusal_of_last(rules, lines.as_slice()) {
+                    return Err(fault_of(text, rules, ScriptRefusal::BadLine { number, fault }));
+                }
+                continue;
+            }
+            match any_line(line) {
                 Ok(Some(line)) => {
                     lines.push(ScriptLine { number, line })?;
                     if let Some(fault) = refusal_of_last(rules, lines.as_slice()) {

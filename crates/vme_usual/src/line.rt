@@ -9,7 +9,7 @@ use vme_lines::{LINE_LIMIT, Line, LineFault, parse_line};
 
 /// What a line in its usual spelling asks for.
 #[inline(always)]
-pub(crate) fn usual_line(line: &[u8]) -> Option<Line>
+pub fn usual_line(line: &[u8]) -> Option<Line>
     ensures { MatchOption result (Unit {0}) (λ asked. line_of line.now ≡ Ok (Some asked)) }
 {
     if LINE_LIMIT < line.len() {
@@ -34,7 +34,7 @@ pub(crate) fn usual_line(line: &[u8]) -> Option<Line>
 /// What any line asks for.
 #[cold]
 #[inline(never)]
-fn any_line(line: &[u8]) -> Result<Option<Line>, LineFault>
+pub fn any_line(line: &[u8]) -> Result<Option<Line>, LineFault>
     ensures { result ≡ line_of line.now }
 {
     parse_line(line)
