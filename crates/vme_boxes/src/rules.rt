@@ -2,7 +2,7 @@
 ghost use Rattle.std.specs.Prelude.{◌≡◌, false};
 ghost use Rattle.std.specs.Option.{option_map_or};
 ghost use Rattle.vme_boxes.specs.Bytes.{line_bytes};
-ghost use Rattle.vme_boxes.specs.Rules.{boxes_of, is_of_mailbox, are_of_mailboxes, touches, refusal_of, line_within};
+ghost use Rattle.vme_boxes.specs.Rules.{boxes_of, is_of_mailbox, are_of_mailboxes, touches, refusal_of};
 
 use crate::boxes::Boxes;
 use crate::bytes::{await_bytes, local_bytes, lock_bytes, request_bytes, unlock_bytes};
@@ -11,7 +11,6 @@ use std::marker::Model;
 use vme_decode::AddressMap;
 use vme_lines::{Line, LineFault};
 use vme_shared::Mailbox;
-use vme_usual::read_line;
 
 /// What a file declares, as a script in it sees it.
 #[derive(Drop)]
@@ -133,20 +132,5 @@ impl<'a> Rules<'a> {
             return Some(LineFault::MailboxBytes);
         }
         None
-    }
-
-    /// Reads a line, without its end, as `parse_line` does; one that may not be asked has its refusal.
-    #[inline(always)]
-    #[tactic(auto, unfolding(crate::specs::Rules::line_within))]
-    pub fn line(&self, text: &[u8]) -> Result<Option<Line>, LineFault>
-        ensures line { result ≡ line_within self.now text.now }
-    {
-        let read = read_line(text);
-        if let Ok(Some(line)) = &read {
-            if let Some(fault) = self.refusal(line) {
-                return Err(fault);
-            }
-        }
-        read
     }
 }

@@ -4,3 +4,4 @@ pub mod Facts
 pub mod Scripts
 pub mod Sites
 pub mod Lawful
+pub mod Taking

@@ -46,6 +46,13 @@ lines_from rules number [] = Ok []
 lines_from rules number (line ∷ more) =
     line_before number (asked_at number (line_within rules line)) (lines_from rules (number + 1) more)
 
+-- a line by rules was taken among others: what it asks for stands behind them under its number, or it has this refusal
+-- (this project's own)
+abbrev pub IsTaken : Rules → ℕ → List ℕ → List ScriptLine → List ScriptLine → Option LineFault → Type 0
+IsTaken rules number text before after None =
+    (asked : Option Line) × (line_within rules text ≡ Ok asked) × (after ≡ before ++ numbered number asked)
+IsTaken rules number text before after (Some fault) = line_within rules text ≡ Err fault
+
 -- the script that a text is, whose lines go by rules: it has at most 1,000 lines, whatever they are (this project's own)
 unfoldable pub script_within : Rules → List ℕ → Result (List ScriptLine) ScriptRefusal
 script_within rules text = if nat_lt 1000 (length (lines text)) then Err TooManyLines else lines_from rules 1 (lines text)

@@ -1,16 +1,15 @@
 //! Scripts: what the lines of a text ask for.
-ghost use Rattle.std.specs.Prelude.{◌≡◌, ◌<◌, ◌≤◌, ◌∷◌, ◌++◌, [], List, nat_lt, length, slice_get, Some, Ok, Err, IfOk, IfErr, map};
+ghost use Rattle.std.specs.Prelude.{◌≡◌, ◌<◌, ◌≤◌, ◌∷◌, ◌++◌, [], nat_lt, length, slice_get, Some, Ok, Err, IfOk, IfErr, map};
 ghost use Rattle.std.specs.Str.Lines.{lines};
 ghost use Rattle.vme_boxes.specs.Rules.{refusal_of};
-ghost use Rattle.vme_script.specs.declared.script.ScriptLine.{ScriptLine};
-ghost use Rattle.vme_script.specs.Scripts.{script_of, script_within, lines_from, IsRefusalOf};
+ghost use Rattle.vme_script.specs.Scripts.{script_of, script_within, lines_from, IsRefusalOf, IsTaken};
 
 use crate::fault::{ScriptFault, ScriptRefusal};
-use std::alloc::Global;
+use std::alloc::{AllocError, Global};
 use std::marker::Model;
 use vme_boxes::Rules;
-use vme_lines::{Line, LineFault};
-use vme_usual::{any_line, usual_line};
+use vme_lines::{Line, LineFault, parse_line};
+use vme_usual::usual_line;
 use vme_words::Lines;
 
 /// The greatest number of lines of a script.
@@ -55,7 +54,7 @@ impl Script {
     }
 
     /// The script that a text is, whose lines go by rules.
-    #[tactic(auto, unfolding(crate::specs::Scripts::script_within), using(vme_boxes::proofs::Asked::refused, vme_boxes::proofs::Asked::empty, vme_boxes::proofs::Asked::forbidden, vme_boxes::proofs::Asked::allowed))]
+    #[tactic(auto, unfolding(crate::specs::Scripts::script_within), using(crate::proofs::Taking::taken, crate::proofs::Taking::untaken))]
     pub(crate) fn within(
         alloc: Global,
         text: &[u8],
@@ -72,24 +71,8 @@ impl Script {
                 return Err(ScriptFault::Refused(ScriptRefusal::TooManyLines));
             }
             number += 1;
-            if let Some(line) = usual_line(line) {
-                lines.push(ScriptLine { number, line })?;
-                if let Some(fault) = refusal_of_last(rules, lines.as_slice()) {
-                    return Err(fault_of(text, rules, ScriptRefusal::BadLine { number, fault }));
-                }
-                continue;
-            }
-            match any_line(line) {
-                Ok(Some(line)) => {
-                    lines.push(ScriptLine { number, line })?;
-                    if let Some(fault) = refusal_of_last(rules, lines.as_slice()) {
-                        return Err(fault_of(text, rules, ScriptRefusal::BadLine { number, fault }));
-                    }
-                }
-                Ok(None) => {}
-                Err(fault) => {
-                    return Err(fault_of(text, rules, ScriptRefusal::BadLine { number, fault }));
-                }
+            if let Some(fault) = take_line(&mut lines, number, line, rules)? {
+                return Err(fault_of(text, rules, ScriptRefusal::BadLine { number, fault }));
             }
         }
         Ok(Script { lines })
@@ -119,16 +102,56 @@ impl Script {
     }
 }
 
-/// The refusal of the last of some lines, judged where it lies.
+/// Adds what a line asks for, if it asks for something, or answers its refusal.
 #[inline(always)]
-fn refusal_of_last(rules: &Rules<'_>, lines: &[ScriptLine]) -> Option<LineFault>
-    ensures { (front : List ScriptLine) (last : ScriptLine) → lines.now ≡ front ++ last ∷ []
-        → result ≡ refusal_of rules.now last.line }
+#[tactic(auto, using(crate::proofs::Taking::kept))]
+fn take_line(
+    lines: &mut Vec<ScriptLine>,
+    number: u16,
+    text: &[u8],
+    rules: &Rules<'_>,
+) -> Result<Option<LineFault>, AllocError>
+    ensures { IfOk result (IsTaken rules.now number text.now lines.old.items lines.new.items) }
 {
-    match lines {
-        [.., last] => rules.refusal(&last.line),
-        [] => None,
+    match usual_line(text) {
+        Some(line) => keep(lines, ScriptLine { number, line }, rules),
+        None => take_any(lines, number, text, rules),
     }
+}
+
+/// The same, however the line is spelled.
+#[cold]
+#[inline(never)]
+#[tactic(auto, using(crate::proofs::Taking::kept, crate::proofs::Taking::passed_over, vme_boxes::proofs::Asked::refused))]
+fn take_any(
+    lines: &mut Vec<ScriptLine>,
+    number: u16,
+    text: &[u8],
+    rules: &Rules<'_>,
+) -> Result<Option<LineFault>, AllocError>
+    ensures { IfOk result (IsTaken rules.now number text.now lines.old.items lines.new.items) }
+{
+    match parse_line(text) {
+        Ok(Some(line)) => keep(lines, ScriptLine { number, line }, rules),
+        Ok(None) => Ok(None),
+        Err(fault) => Ok(Some(fault)),
+    }
+}
+
+/// Adds a line, and answers its refusal if it may not be asked. It is judged where it lies then, so that
+/// it is moved once.
+#[inline(always)]
+fn keep(
+    lines: &mut Vec<ScriptLine>,
+    line: ScriptLine,
+    rules: &Rules<'_>,
+) -> Result<Option<LineFault>, AllocError>
+    ensures kept { IfOk result (λ _. lines.new.items ≡ lines.old.items ++ line ∷ []) }
+    ensures refusal { IfOk result (λ refusal. refusal ≡ refusal_of rules.now line.line) }
+{
+    lines.push(line)?;
+    let last = lines.len() - 1;
+    Ok(rules.refusal(&lines[last].line))
 }
 
 /// What a text is told of which a line is refused: that it has too many lines, or else that line.

@@ -12,4 +12,4 @@ mod requests;
 #[cfg(test)]
 mod tests;
 
-pub use line::{any_line, read_line, usual_line};
+pub use line::{read_line, usual_line};

@@ -7,7 +7,7 @@ use crate::commands::{local_modify, local_read, local_write};
 use crate::requests::{await_bytes, block_fill, block_read, block_write, modify, read, write};
 use vme_lines::{LINE_LIMIT, Line, LineFault, parse_line};
 
-/// What a line in its usual spelling asks for.
+/// What a line in its usual spelling asks for; nothing of another line.
 #[inline(always)]
 pub fn usual_line(line: &[u8]) -> Option<Line>
     ensures { MatchOption result (Unit {0}) (λ asked. line_of line.now ≡ Ok (Some asked)) }
@@ -31,10 +31,10 @@ pub fn usual_line(line: &[u8]) -> Option<Line>
     }
 }
 
-/// What any line asks for.
+/// What any line asks for, read word by word.
 #[cold]
 #[inline(never)]
-pub fn any_line(line: &[u8]) -> Result<Option<Line>, LineFault>
+fn any_line(line: &[u8]) -> Result<Option<Line>, LineFault>
     ensures { result ≡ line_of line.now }
 {
     parse_line(line)
