@@ -20,29 +20,33 @@ pub record IsPlace (text : List ℕ) (am addr : ℕ) (rest : List ℕ) : Type 0 
   pub code : Spelled (hex_number 2) text am between
   pub address : Spelled (hex_number 8) between addr rest
 
+-- a word spells a datum of n bytes (this project's own)
+abbrev pub IsDatum : ℕ → List ℕ → ArrayVec ℕ → Type 0
+IsDatum n word datum = exact_bytes n word ≡ Some datum.items
+
 -- two words spell a number of data and a datum of n bytes (this project's own)
 pub record IsFill (n : ℕ) (words : List (List ℕ)) (count : ℕ) (bytes : ArrayVec ℕ) : Type 0 where
   pub first : List ℕ
   pub second : List ℕ
   pub both : words ≡ first ∷ second ∷ []
   pub number : decimal_number 4 first ≡ Some count
-  pub datum : exact_bytes n second ≡ Some bytes.items
+  pub datum : IsDatum n second bytes
 
 -- two words spell two data of n bytes (this project's own)
 pub record AreData (n : ℕ) (words : List (List ℕ)) (expect put : ArrayVec ℕ) : Type 0 where
   pub first : List ℕ
   pub second : List ℕ
   pub both : words ≡ first ∷ second ∷ []
-  pub expected : exact_bytes n first ≡ Some expect.items
-  pub datum : exact_bytes n second ≡ Some put.items
+  pub expected : IsDatum n first expect
+  pub datum : IsDatum n second put
 
 -- words are the name of a function and its data, of n bytes each (this project's own)
 pub data IsFunction (n : ℕ) : List (List ℕ) → Modify → Type 0 where
   set : IsFunction n (codes "set" ∷ []) modifies.Set
-  exchange : {hex : List ℕ} {put : ArrayVec ℕ} → exact_bytes n hex ≡ Some put.items → IsFunction n (codes "xchg" ∷ hex ∷ []) (modifies.Exchange put)
-  add : {hex : List ℕ} {by : ArrayVec ℕ} → exact_bytes n hex ≡ Some by.items → IsFunction n (codes "add" ∷ hex ∷ []) (modifies.Add by)
-  compare : {first second : List ℕ} {expect put : ArrayVec ℕ} → exact_bytes n first ≡ Some expect.items → exact_bytes n second ≡ Some put.items
-      → IsFunction n (codes "cas" ∷ first ∷ second ∷ []) (modifies.Compare expect put)
+  exchange : {hex : List ℕ} {by : ArrayVec ℕ} → IsDatum n hex by → IsFunction n (codes "xchg" ∷ hex ∷ []) (modifies.Exchange by)
+  add : {hex : List ℕ} {by : ArrayVec ℕ} → IsDatum n hex by → IsFunction n (codes "add" ∷ hex ∷ []) (modifies.Add by)
+  compare : {hex more : List ℕ} {expect put : ArrayVec ℕ} → IsDatum n hex expect → IsDatum n more put
+      → IsFunction n (codes "cas" ∷ hex ∷ more ∷ []) (modifies.Compare expect put)
 
 -- a line of this first word and this text after it asks for this, if anything was found in the text (this project's own)
 abbrev pub Asks : List ℕ → List ℕ → Option Line → Type 0
