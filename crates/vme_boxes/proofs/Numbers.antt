@@ -2,8 +2,8 @@
 use Rattle.std.proofs.Common.{◌≡◌, Bool, true, false, Some, refl, subst}
 use Rattle.std.specs.Prelude.{◌%◌, nat_le, ◌==◌, ◌&&◌}
 use Rattle.std.proofs.lemmas.Bool.{and_parts, leb-true, eqb-true}
-use Rattle.vme_document.specs.declared.file.MailboxTable.{MailboxTable}
-use Rattle.vme_document.specs.Keys.{◌>>=◌, when}
+use Rattle.vme_config_toml.specs.declared.file.MailboxTable.{MailboxTable}
+use Rattle.vme_config_toml.specs.Keys.{◌>>=◌, when}
 use Rattle.vme_shared.specs.declared.mailbox.Mailbox.{Mailbox}
 use Rattle.vme_boxes.specs.Mailboxes.{is_mailbox_code, mailbox_of, HasNumbers}
 

@@ -3,8 +3,8 @@ use Rattle.std.specs.Prelude.{ℕ, ◌≡◌, ◌≤◌, ◌%◌, nat_le, ◌==�
 use Rattle.std.specs.List.{list_any}
 use Rattle.vme_memory.specs.declared.class.Class.{Class}
 use Rattle.vme_memory.specs.Classes.{answers_quads}
-use Rattle.vme_document.specs.declared.file.MailboxTable.{MailboxTable}
-use Rattle.vme_document.specs.Keys.{◌>>=◌, when}
+use Rattle.vme_config_toml.specs.declared.file.MailboxTable.{MailboxTable}
+use Rattle.vme_config_toml.specs.Keys.{◌>>=◌, when}
 use Rattle.vme_shared.specs.declared.mailbox.Mailbox.{Mailbox}
 
 -- whether a code is one of data or short access, by which a mailbox is reached (IEEE 1014, section 2.2.2)

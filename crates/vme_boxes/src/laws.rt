@@ -3,7 +3,7 @@ ghost use Rattle.std.specs.Prelude.{◌≡◌, ℕ, ◌+◌, ◌^◌, ◌≤◌,
 ghost use Rattle.vme_am.specs.Spaces.{addresses_of};
 ghost use Rattle.vme_decode.specs.declared.entry.Entry.{Entry};
 ghost use Rattle.vme_decode.specs.Entries.{end_of};
-ghost use Rattle.vme_document.specs.declared.file.MailboxTable.{MailboxTable};
+ghost use Rattle.vme_config_toml.specs.declared.file.MailboxTable.{MailboxTable};
 ghost use Rattle.vme_shared.specs.declared.mailbox.Mailbox.{Mailbox};
 ghost use Rattle.vme_boxes.specs.declared.place.Place.{Place};
 ghost use Rattle.vme_boxes.specs.Mailboxes.{mailbox_of, HasNumbers};

@@ -2,7 +2,7 @@
 ghost use Rattle.std.specs.Prelude.{◌≡◌};
 ghost use Rattle.vme_boxes.specs.Mailboxes.{mailbox_of, holds_mailboxes};
 
-use vme_document::MailboxTable;
+use vme_config_toml::MailboxTable;
 use vme_memory::{Class, Width8To32};
 use vme_shared::Mailbox;
 

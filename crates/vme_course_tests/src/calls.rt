@@ -3,7 +3,7 @@ use std::process::Abort;
 use vme_arbiter::{ArbCmd, ArbReply};
 use vme_block::{Room, SHORT};
 use vme_core::{Event, EventReply};
-use vme_course::{LineTask, LineTodo, line_count, line_room};
+use vme_line_task::{LineTask, LineTodo, line_count, line_room};
 use vme_lanes::Datum;
 use vme_master::Outcome;
 use vme_memory::{BoardCmd, Reply};

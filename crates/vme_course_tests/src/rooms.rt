@@ -1,6 +1,6 @@
 //! How many bytes lines read by their requests over the bus, and the rooms for them.
 use std::test::Fail;
-use vme_course::{Rooms, line_room};
+use vme_line_task::{Rooms, line_room};
 use vme_script::Script;
 
 #[test]

@@ -27,9 +27,9 @@ use Rattle.vme_shared.specs.Tables.{SharedJob, SharedNext, progress_of, shared_n
 use Rattle.vme_shared.proofs.Starts.{rests}
 use Rattle.vme_lines.specs.declared.line.Line.{Line}
 use Rattle.vme_script.specs.Configurations.{Configuration}
-use Rattle.vme_course.specs.Scripts.{Shares, line_attempt}
-use Rattle.vme_course.specs.Tables.{Makes, Ends, Attempts, shares_next, attempt_next, next_asks_again, next_attempt, attempts_of, lawful_next, next_given, given_of, line_next}
-use Rattle.vme_course.specs.Courses.{Goes}
+use Rattle.vme_line_task.specs.Scripts.{Shares, line_attempt}
+use Rattle.vme_line_task.specs.Tables.{Makes, Ends, Attempts, shares_next, attempt_next, next_asks_again, next_attempt, attempts_of, lawful_next, next_given, given_of, line_next}
+use Rattle.vme_line_task.specs.Courses.{Goes}
 use Rattle.vme_mailbox_laws.specs.Along.{UsesMailbox, IsGood, IsCount, phase_given, put_told, taken_told}
 use Rattle.vme_mailbox_laws.proofs.Courses.{Stands, IsOver, opening, moves}
 use Rattle.vme_mailbox_laws.proofs.Ends.{ends_in}

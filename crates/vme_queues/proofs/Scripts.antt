@@ -20,8 +20,8 @@ use Rattle.vme_shared.specs.Tables.{SharedJob}
 use Rattle.vme_lines.specs.declared.line.Line.{Line}
 use Rattle.vme_lines.specs.declared.line.Line.TheVariants as lines
 use Rattle.vme_script.specs.Configurations.{Configuration}
-use Rattle.vme_course.specs.Scripts.{Shares, shared_job, unless_refused, line_attempt, mailbox_at}
-use Rattle.vme_course.specs.Courses.{LineCourse, IsCourse}
+use Rattle.vme_line_task.specs.Scripts.{Shares, shared_job, unless_refused, line_attempt, mailbox_at}
+use Rattle.vme_line_task.specs.Courses.{LineCourse, IsCourse}
 use Rattle.vme_mailbox_laws.specs.Along.{UsesMailbox, put_told, taken_told}
 use Rattle.vme_mailbox_laws.proofs.Courses.{IsOver}
 use Rattle.vme_queues.specs.Names.{names, told_put, told_taken, lines_put, lines_taken, LeavesAlone, AllLeave, IsMailboxOf}

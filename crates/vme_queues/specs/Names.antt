@@ -13,8 +13,8 @@ use Rattle.vme_lines.specs.declared.line.Line.{Line}
 use Rattle.vme_lines.specs.declared.line.Line.TheVariants.{Put, Take}
 use Rattle.vme_script.specs.Boards.{entries_of}
 use Rattle.vme_script.specs.Configurations.{Configuration}
-use Rattle.vme_course.specs.Scripts.{mailbox_at, lines_at}
-use Rattle.vme_course.specs.Tables.{Makes, line_next}
+use Rattle.vme_line_task.specs.Scripts.{mailbox_at, lines_at}
+use Rattle.vme_line_task.specs.Tables.{Makes, line_next}
 
 -- whether a line puts into the mailbox with a number, or takes from it (this project's own)
 abbrev pub names : ℕ → Line → Bool

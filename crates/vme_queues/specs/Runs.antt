@@ -15,8 +15,8 @@ use Rattle.vme_core.specs.Calls.{OnBus}
 use Rattle.vme_master.specs.Jobs.{fits}
 use Rattle.vme_shared.specs.declared.reply.LineReply.{LineReply}
 use Rattle.vme_script.specs.Configurations.{Configuration}
-use Rattle.vme_course.specs.Scripts.{lines_at}
-use Rattle.vme_course.specs.Courses.{IsCourse}
+use Rattle.vme_line_task.specs.Scripts.{lines_at}
+use Rattle.vme_line_task.specs.Courses.{IsCourse}
 
 -- a reply is of its event's kind, and that of the arbiter fits and is no denial (this project's own)
 abbrev pub IsTurned : Event → EventReply → Type 0

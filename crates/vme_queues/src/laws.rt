@@ -18,7 +18,7 @@ ghost use Rattle.vme_shared.specs.Mailboxes.{mailbox_refusal};
 ghost use Rattle.vme_script.specs.Boards.{entries_of};
 ghost use Rattle.vme_script.specs.Configurations.{Configuration, opening_memory};
 ghost use Rattle.vme_script.specs.Lawful.{IsLawful, IsLawfulMailbox};
-ghost use Rattle.vme_course.specs.Scripts.{lines_at};
+ghost use Rattle.vme_line_task.specs.Scripts.{lines_at};
 ghost use Rattle.vme_queues.specs.Places.{on_board};
 ghost use Rattle.vme_queues.specs.Names.{lines_put, lines_taken, IsMailboxOf};
 ghost use Rattle.vme_queues.specs.Runs.{ShareHistory};

@@ -23,7 +23,7 @@ use Rattle.vme_core.specs.Tallies.{Tally}
 use Rattle.vme_core.specs.Runs.{Machine}
 use Rattle.vme_core.specs.Calls.{Call, OnBoard, OnBus, command_step, board_after, machine_step}
 use Rattle.vme_master.proofs.Locals.{board_fits, turn_fits}
-use Rattle.vme_course.specs.Tenures.{IsGood}
+use Rattle.vme_line_task.specs.Tenures.{IsGood}
 
 -- a call on a board leaves the bus, and its reply is a board's
 pub record BoardCalled (machine : Machine) (who x : ℕ) (command : Option Command) (after : Machine × EventReply) : Type 0 where

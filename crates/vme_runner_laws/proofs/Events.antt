@@ -42,10 +42,10 @@ use Rattle.vme_shared.specs.Mailboxes.{stage_request, shared_refusal}
 use Rattle.vme_shared.specs.Steps.{first_stage, step_after}
 use Rattle.vme_shared.specs.Tables as shares
 use Rattle.vme_shared.specs.Tables.{SharedJob, Progress, At, Over, transfer_job as shared_transfer, stage_job, stage_begun, step_begun, progress_by, progress_given, progress_of, task_shown, next_at, shared_next}
-use Rattle.vme_course.specs.Scripts.{Attempt, Moves, Waits, Shares, slot_at, level_at, mailbox_at, transfer_job, request_attempt, unless_refused, shared_job, line_attempt}
-use Rattle.vme_course.specs.Tables.{Makes, attempt_next, attempts_of, lawful_next, next_given}
-use Rattle.vme_course.proofs.Below.{moves_makes, waits_makes, shares_makes}
-use Rattle.vme_course.specs.Events.{IsCallBelow}
+use Rattle.vme_line_task.specs.Scripts.{Attempt, Moves, Waits, Shares, slot_at, level_at, mailbox_at, transfer_job, request_attempt, unless_refused, shared_job, line_attempt}
+use Rattle.vme_line_task.specs.Tables.{Makes, attempt_next, attempts_of, lawful_next, next_given}
+use Rattle.vme_line_task.proofs.Below.{moves_makes, waits_makes, shares_makes}
+use Rattle.vme_line_task.specs.Events.{IsCallBelow}
 
 -- a call has an event
 pub record HasEvent (call : Call) : Type 0 where

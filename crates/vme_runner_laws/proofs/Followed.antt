@@ -13,9 +13,9 @@ use Rattle.vme_core.proofs.Dones.{did_nil, did_trans, opened_boards}
 use Rattle.vme_core.proofs.Tallies.{went_tells}
 use Rattle.vme_script.specs.Configurations.{Configuration, opening_memory}
 use Rattle.vme_script.specs.Lawful.{IsLawful}
-use Rattle.vme_course.specs.Courses.{Course, Follows}
-use Rattle.vme_course.proofs.Courses.{follows_nothing}
-use Rattle.vme_runner.specs.Turns.{World, course_turn, lines_left, turn_in, turn_at, place_of, turn, run, opening_world, world_after}
+use Rattle.vme_line_task.specs.Courses.{Course, Follows}
+use Rattle.vme_line_task.proofs.Courses.{follows_nothing}
+use Rattle.vme_stepper.specs.Turns.{World, course_turn, lines_left, turn_in, turn_at, place_of, turn, run, opening_world, world_after}
 use Rattle.vme_runner_laws.specs.TurnCalls.{first_call, course_call, place_call, turn_call}
 use Rattle.vme_runner_laws.specs.Moves.{calls_from, calls_in, moves_of, AreRun}
 use Rattle.vme_runner_laws.proofs.Places.{set_same, set_other, place_is}

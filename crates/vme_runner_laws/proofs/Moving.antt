@@ -18,13 +18,13 @@ use Rattle.vme_shared.specs.declared.reply.LineReply.{LineReply}
 use Rattle.vme_lines.specs.declared.line.Line.{Line}
 use Rattle.vme_script.specs.Configurations.{Configuration}
 use Rattle.vme_script.specs.Lawful.{IsLawful}
-use Rattle.vme_course.specs.Scripts.{lines_at}
-use Rattle.vme_course.specs.Tables.{LineNext, Rests, Makes, Ends, line_next, given_of}
-use Rattle.vme_course.specs.Courses.{Course, Follows}
-use Rattle.vme_course.specs.Events.{IsCallBelow}
-use Rattle.vme_course.proofs.Below.{next_below}
-use Rattle.vme_course.proofs.Courses.{follows_call, follows_answer}
-use Rattle.vme_runner.specs.Turns.{course, settled, call_made, turn_by, course_turn, lines_left}
+use Rattle.vme_line_task.specs.Scripts.{lines_at}
+use Rattle.vme_line_task.specs.Tables.{LineNext, Rests, Makes, Ends, line_next, given_of}
+use Rattle.vme_line_task.specs.Courses.{Course, Follows}
+use Rattle.vme_line_task.specs.Events.{IsCallBelow}
+use Rattle.vme_line_task.proofs.Below.{next_below}
+use Rattle.vme_line_task.proofs.Courses.{follows_call, follows_answer}
+use Rattle.vme_stepper.specs.Turns.{course, settled, call_made, turn_by, course_turn, lines_left}
 use Rattle.vme_runner_laws.specs.TurnCalls.{call_or, first_call}
 use Rattle.vme_runner_laws.specs.Moves.{calls_in, moves_of}
 use Rattle.vme_runner_laws.proofs.Places.{left_after}

@@ -13,9 +13,9 @@ use Rattle.vme_script.specs.declared.board.BoardConfig.{BoardConfig}
 use Rattle.vme_script.specs.declared.script.ScriptLine.{ScriptLine}
 use Rattle.vme_script.specs.Configurations.{Configuration}
 use Rattle.vme_script.specs.Lawful.{IsLawful}
-use Rattle.vme_course.specs.Scripts.{slot_at, level_at, script_at, lines_at}
-use Rattle.vme_course.specs.Courses.{Course}
-use Rattle.vme_runner.specs.Turns.{lines_left, place_of}
+use Rattle.vme_line_task.specs.Scripts.{slot_at, level_at, script_at, lines_at}
+use Rattle.vme_line_task.specs.Courses.{Course}
+use Rattle.vme_stepper.specs.Turns.{lines_left, place_of}
 
 -- what was written at a place is read there
 pub set_same : {X : Type 0} (xs : List X) (i : ℕ) (new x : X) → slice_get (slice_set xs i new) i ≡ Some x → new ≡ x

@@ -16,10 +16,10 @@ use Rattle.vme_core.specs.Calls.{Call, OnBoard, machine_step}
 use Rattle.vme_script.specs.Configurations.{Configuration}
 use Rattle.vme_script.specs.declared.script.ScriptLine.{ScriptLine}
 use Rattle.vme_script.specs.Lawful.{IsLawful}
-use Rattle.vme_course.specs.Scripts.{slot_at}
-use Rattle.vme_course.specs.Courses.{Course}
-use Rattle.vme_course.specs.Tenures.{IsLocal}
-use Rattle.vme_runner.specs.Turns.{World, course, course_turn, lines_left, turn_in, turn_at, place_of, turn, run, opening_world, world_after}
+use Rattle.vme_line_task.specs.Scripts.{slot_at}
+use Rattle.vme_line_task.specs.Courses.{Course}
+use Rattle.vme_line_task.specs.Tenures.{IsLocal}
+use Rattle.vme_stepper.specs.Turns.{World, course, course_turn, lines_left, turn_in, turn_at, place_of, turn, run, opening_world, world_after}
 use Rattle.vme_runner_laws.specs.TurnCalls.{first_call, course_call, place_call, turn_call}
 use Rattle.vme_runner_laws.proofs.Places.{set_same, set_other, slots_apart, place_is, left_own}
 use Rattle.vme_runner_laws.proofs.Standing.{CourseStands, rests_standing}

@@ -10,12 +10,12 @@ use Rattle.vme_core.specs.Calls.{Call}
 use Rattle.vme_shared.specs.declared.reply.LineReply.{LineReply}
 use Rattle.vme_lines.specs.declared.line.Line.{Line}
 use Rattle.vme_script.specs.Configurations.{Configuration}
-use Rattle.vme_course.specs.Scripts.{slot_at, lines_at}
-use Rattle.vme_course.specs.Tables.{LineNext, Rests, Makes, Ends, line_next}
-use Rattle.vme_course.specs.Courses.{Course}
-use Rattle.vme_course.specs.Tenures.{line_told, IsGood, IsGranted}
-use Rattle.vme_course.proofs.Kept.{line_begins, line_ends}
-use Rattle.vme_runner.specs.Turns.{course, settled, lines_left}
+use Rattle.vme_line_task.specs.Scripts.{slot_at, lines_at}
+use Rattle.vme_line_task.specs.Tables.{LineNext, Rests, Makes, Ends, line_next}
+use Rattle.vme_line_task.specs.Courses.{Course}
+use Rattle.vme_line_task.specs.Tenures.{line_told, IsGood, IsGranted}
+use Rattle.vme_line_task.proofs.Kept.{line_begins, line_ends}
+use Rattle.vme_stepper.specs.Turns.{course, settled, lines_left}
 
 -- what the slot was told last, in the line that comes next
 abbrev pub told_left : Configuration → ℕ → List Line → List EventReply → Option ArbReply

@@ -19,12 +19,12 @@ use Rattle.vme_lines.specs.declared.line.Line.{Line}
 use Rattle.vme_lines.specs.Grammar.{IsOwnLine}
 use Rattle.vme_script.specs.Configurations.{Configuration}
 use Rattle.vme_script.specs.Lawful.{IsLawful}
-use Rattle.vme_course.specs.Scripts.{slot_at}
-use Rattle.vme_course.specs.Tables.{LineNext, Rests, Makes, Ends, line_next}
-use Rattle.vme_course.specs.Courses.{Course}
-use Rattle.vme_course.specs.Tenures.{line_told, IsLocal, IsGranted}
-use Rattle.vme_course.proofs.Kept.{line_first, line_turns, line_holds, line_turn, line_datum}
-use Rattle.vme_runner.specs.Turns.{course, settled, call_made, turn_by, course_turn, lines_left}
+use Rattle.vme_line_task.specs.Scripts.{slot_at}
+use Rattle.vme_line_task.specs.Tables.{LineNext, Rests, Makes, Ends, line_next}
+use Rattle.vme_line_task.specs.Courses.{Course}
+use Rattle.vme_line_task.specs.Tenures.{line_told, IsLocal, IsGranted}
+use Rattle.vme_line_task.proofs.Kept.{line_first, line_turns, line_holds, line_turn, line_datum}
+use Rattle.vme_stepper.specs.Turns.{course, settled, call_made, turn_by, course_turn, lines_left}
 use Rattle.vme_runner_laws.specs.TurnCalls.{call_or, first_call}
 use Rattle.vme_runner_laws.proofs.Places.{lawful_slot, lawful_level, left_after, AllOwn}
 use Rattle.vme_runner_laws.proofs.Called.{board_called, bus_called, call_granted}

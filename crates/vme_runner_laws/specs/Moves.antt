@@ -9,8 +9,8 @@ use Rattle.vme_core.specs.Tallies.{Tells}
 use Rattle.vme_core.specs.Runs.{Move, board_part, bus_part}
 use Rattle.vme_core.specs.Calls.{Call, call_of}
 use Rattle.vme_script.specs.Configurations.{Configuration, opening_memory}
-use Rattle.vme_course.specs.Courses.{Course, Follows}
-use Rattle.vme_runner.specs.Turns.{World, turn, opening_world, world_after}
+use Rattle.vme_line_task.specs.Courses.{Course, Follows}
+use Rattle.vme_stepper.specs.Turns.{World, turn, opening_world, world_after}
 use Rattle.vme_runner_laws.specs.TurnCalls.{turn_call}
 
 -- the calls that turns of slots make, one after another, each with the place of the board whose processor makes it

@@ -7,9 +7,9 @@ ghost use Rattle.vme_core.specs.Runs.{Move};
 ghost use Rattle.vme_core.specs.Calls.{Call, OnBoard, machine_step};
 ghost use Rattle.vme_script.specs.Configurations.{Configuration};
 ghost use Rattle.vme_script.specs.Lawful.{IsLawful};
-ghost use Rattle.vme_course.specs.Courses.{Course};
-ghost use Rattle.vme_course.specs.Tenures.{IsLocal, IsGranted};
-ghost use Rattle.vme_runner.specs.Turns.{World, turn, world_after};
+ghost use Rattle.vme_line_task.specs.Courses.{Course};
+ghost use Rattle.vme_line_task.specs.Tenures.{IsLocal, IsGranted};
+ghost use Rattle.vme_stepper.specs.Turns.{World, turn, world_after};
 ghost use Rattle.vme_runner_laws.specs.TurnCalls.{turn_call};
 ghost use Rattle.vme_runner_laws.specs.Moves.{AreRun};
 

@@ -1,4 +1,4 @@
-//! Tests of runs by listed turns. They stand apart so that `vme_runner` is not proved twice.
+//! Tests of runs by listed turns. They stand apart so that `vme_stepper` is not proved twice.
 #![tactic(auto)]
 
 #[cfg(test)]

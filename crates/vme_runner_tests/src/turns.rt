@@ -4,7 +4,7 @@ use std::process::Abort;
 use std::test::Fail;
 use vme_io::RoomSink;
 use vme_report::RunFault;
-use vme_runner::{run_file, run_steps};
+use vme_stepper::{run_file, run_steps};
 use vme_script::Config;
 use vme_shared::Status;
 

@@ -10,7 +10,7 @@ use Rattle.vme_script.specs.declared.board.BoardConfig.{BoardConfig}
 use Rattle.vme_script.specs.declared.fault.ConfigFault.{ConfigFault}
 use Rattle.vme_script.specs.declared.fault.ConfigFault.TheVariants.{BadSlot, BadLevel, Overlap}
 use Rattle.vme_script.specs.Answers.{◌>>=◌, refuse}
-use Rattle.vme_document.specs.Files.{BoardValues}
+use Rattle.vme_config_toml.specs.Files.{BoardValues}
 use Rattle.vme_script.specs.Boards.{entry_of, class_of, range_refused, board_config, boards_after, have_ranges, map_of}
 use Rattle.vme_script.specs.Scripts.{has_slots}
 

@@ -13,7 +13,7 @@ use Rattle.vme_script.specs.declared.script.ScriptLine.{ScriptLine}
 use Rattle.vme_script.specs.declared.fault.ConfigFault.{ConfigFault}
 use Rattle.vme_script.specs.declared.fault.ConfigFault.TheVariants.{NoBoard, TooMany, BadSchedule, Overlap}
 use Rattle.vme_script.specs.Answers.{◌>>=◌, refuse}
-use Rattle.vme_document.specs.Files.{FileValues}
+use Rattle.vme_config_toml.specs.Files.{FileValues}
 use Rattle.vme_script.specs.Boards.{range_refused, boards_after, entries_of, map_of}
 use Rattle.vme_script.specs.Arbiters.{kind_named}
 use Rattle.vme_script.specs.Mailboxes.{mailboxes_of}

@@ -18,7 +18,7 @@ use Rattle.vme_script.specs.declared.fault.ConfigFault.{ConfigFault}
 use Rattle.vme_script.specs.declared.fault.ScriptRefusal.{ScriptRefusal}
 use Rattle.vme_script.specs.declared.script.ScriptLine.{ScriptLine}
 use Rattle.vme_script.specs.Answers.{◌>>=◌}
-use Rattle.vme_document.specs.Files.{BoardValues}
+use Rattle.vme_config_toml.specs.Files.{BoardValues}
 use Rattle.vme_script.specs.Scripts.{asked_at, line_before, lines_from, script_within, script_in, rules_of, scripts_from, scripts_of}
 
 -- whether a script is no longer than its text may be

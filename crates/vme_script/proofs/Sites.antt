@@ -6,7 +6,7 @@ use Rattle.std.specs.List.{list_all, list_any}
 use Rattle.std.proofs.lemmas.Bool.{and_parts, leb-true, ltb-false, false≢true}
 use Rattle.std.proofs.lemmas.List.Folds.{list_any-append}
 use Rattle.std.proofs.lemmas.Option.{slice_get-map}
-use Rattle.vme_document.specs.declared.file.MailboxTable.{MailboxTable}
+use Rattle.vme_config_toml.specs.declared.file.MailboxTable.{MailboxTable}
 use Rattle.vme_shared.specs.declared.mailbox.Mailbox.{Mailbox}
 use Rattle.vme_boxes.specs.declared.place.Place.{Place}
 use Rattle.vme_mailbox.specs.Layout.{mailbox_len}

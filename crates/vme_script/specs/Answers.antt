@@ -1,7 +1,7 @@
 -- Refusals one after another, and what a call answers where memory may be refused.
 use Rattle.std.specs.Prelude.{◌≡◌, ◌≢◌, Bool, true, false, Result, Ok, Err}
-use Rattle.vme_document.specs.declared.fault.DocumentFault.{DocumentFault}
-use Rattle.vme_document.specs.declared.fault.DocumentFault.TheVariants.{NotToml, BadKey, OutOfMemory}
+use Rattle.vme_config_toml.specs.declared.fault.DocumentFault.{DocumentFault}
+use Rattle.vme_config_toml.specs.declared.fault.DocumentFault.TheVariants.{NotToml, BadKey, OutOfMemory}
 use Rattle.vme_script.specs.declared.fault.ConfigFault.{ConfigFault}
 use Rattle.vme_script.specs.declared.fault.ConfigFault.TheVariants as config
 

@@ -17,8 +17,8 @@ use Rattle.vme_script.specs.declared.board.BoardConfig.{BoardConfig}
 use Rattle.vme_script.specs.declared.fault.ConfigFault.{ConfigFault}
 use Rattle.vme_script.specs.declared.fault.ConfigFault.TheVariants.{BadSlot, BadLevel, BadWord, BadSize, Misaligned, OutsideSpace, Overlap}
 use Rattle.vme_script.specs.Answers.{◌>>=◌, refuse}
-use Rattle.vme_document.specs.declared.file.ClassTable.{ClassTable}
-use Rattle.vme_document.specs.Files.{RangeValues, BoardValues}
+use Rattle.vme_config_toml.specs.declared.file.ClassTable.{ClassTable}
+use Rattle.vme_config_toml.specs.Files.{RangeValues, BoardValues}
 
 -- the space that a word names: short, standard or extended (IEEE 1014, section 2.3.5)
 unfoldable pub space_named : List ℕ → Option Space

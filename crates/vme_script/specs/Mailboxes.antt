@@ -2,7 +2,7 @@
 use Rattle.std.specs.Prelude.{nat_lt, not, List, [], ◌∷◌, ◌++◌, length, slice_get, Result, Ok}
 use Rattle.std.specs.List.{list_any}
 use Rattle.std.specs.Option.{ok_or}
-use Rattle.vme_document.specs.declared.file.MailboxTable.{MailboxTable}
+use Rattle.vme_config_toml.specs.declared.file.MailboxTable.{MailboxTable}
 use Rattle.vme_shared.specs.declared.mailbox.Mailbox.{Mailbox}
 use Rattle.vme_boxes.specs.declared.place.Place.{Place}
 use Rattle.vme_boxes.specs.Mailboxes.{mailbox_of, holds_mailboxes}

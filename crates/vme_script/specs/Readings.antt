@@ -5,7 +5,7 @@ use Rattle.toml.specs.Data.{Members}
 use Rattle.vme_script.specs.declared.fault.ConfigFault.{ConfigFault}
 use Rattle.vme_script.specs.declared.fault.ConfigFault.TheVariants.{NotToml, BadKey}
 use Rattle.vme_script.specs.Answers.{◌>>=◌}
-use Rattle.vme_document.specs.Keys.{file_values}
+use Rattle.vme_config_toml.specs.Keys.{file_values}
 use Rattle.vme_script.specs.Configurations.{Configuration, configuration_of}
 
 -- what the document that a text is configures, or the first refusal (this project's own)

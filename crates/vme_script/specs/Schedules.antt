@@ -5,7 +5,7 @@ use Rattle.vme_script.specs.declared.board.BoardConfig.{BoardConfig}
 use Rattle.vme_script.specs.declared.fault.ConfigFault.{ConfigFault}
 use Rattle.vme_script.specs.declared.fault.ConfigFault.TheVariants.{BadSchedule}
 use Rattle.vme_script.specs.Answers.{◌>>=◌, refuse}
-use Rattle.vme_document.specs.Files.{FileValues}
+use Rattle.vme_config_toml.specs.Files.{FileValues}
 
 -- whether there is a board in a slot (this project's own)
 unfoldable pub has_slot : List BoardConfig → ℕ → Bool

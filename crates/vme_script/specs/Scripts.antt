@@ -17,7 +17,7 @@ use Rattle.vme_script.specs.declared.fault.ScriptRefusal.{ScriptRefusal}
 use Rattle.vme_script.specs.declared.fault.ScriptRefusal.TheVariants.{BadLine, TooManyLines}
 use Rattle.vme_script.specs.declared.script.ScriptLine.{ScriptLine}
 use Rattle.vme_script.specs.Answers.{◌>>=◌}
-use Rattle.vme_document.specs.Files.{BoardValues}
+use Rattle.vme_config_toml.specs.Files.{BoardValues}
 
 -- what a line adds to the lines that ask for something (this project's own)
 abbrev pub numbered : ℕ → Option Line → List ScriptLine

@@ -7,7 +7,7 @@ use crate::fault::ConfigFault;
 use std::alloc::{AllocError, Global};
 use vme_am::Space;
 use vme_decode::{AddressMap, Entry, MapFault};
-use vme_document::{BoardTable, ClassTable, RangeTable};
+use vme_config_toml::{BoardTable, ClassTable, RangeTable};
 use vme_memory::{Class, Width8To32};
 
 /// The greatest number of a slot.

@@ -18,7 +18,7 @@ use vme_arbiter::{Arbiter, ArbiterKind};
 use vme_boxes::{Declared, Rules};
 use vme_core::OutOfMemory;
 use vme_decode::AddressMap;
-use vme_document::{BoardTable, FileTable};
+use vme_config_toml::{BoardTable, FileTable};
 use vme_memory::ByteMemory;
 use vme_shared::Mailbox;
 
@@ -42,7 +42,7 @@ pub struct Config {
 impl Model for Config {
     ghost use Rattle.std.specs.Prelude.{◌≡◌, Ok};
     ghost use Rattle.vme_script.specs.Boards.{entries_of};
-    ghost use Rattle.vme_document.specs.Files.{FileValues};
+    ghost use Rattle.vme_config_toml.specs.Files.{FileValues};
     ghost use Rattle.vme_script.specs.Configurations.{Configuration, configuration_of};
 
     ghost Value = { Configuration };

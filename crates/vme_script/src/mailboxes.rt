@@ -9,7 +9,7 @@ use crate::fault::ConfigFault;
 use std::alloc::Global;
 use vme_boxes::{Place, holds_mailboxes, mailbox_of};
 use vme_decode::AddressMap;
-use vme_document::MailboxTable;
+use vme_config_toml::MailboxTable;
 use vme_shared::Mailbox;
 
 /// The greatest number of mailboxes.

@@ -6,7 +6,7 @@ ghost use Rattle.vme_script.specs.Readings.{configuration_in};
 use crate::config::Config;
 use crate::fault::ConfigFault;
 use std::alloc::Global;
-use vme_document::{file_values, table_of};
+use vme_config_toml::{file_values, table_of};
 
 impl Config {
     /// Reads the text of a TOML file. The refusals are looked for in this order: C6; C7; C11 and

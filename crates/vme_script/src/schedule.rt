@@ -6,7 +6,7 @@ ghost use Rattle.vme_script.specs.Schedules.{has_slot, lawful_schedule, schedule
 use crate::board::BoardConfig;
 use crate::fault::ConfigFault;
 use std::alloc::Global;
-use vme_document::FileTable;
+use vme_config_toml::FileTable;
 
 /// The greatest number of tries, of rounds, and of the turns of a schedule.
 const MOST_TURNS: u32 = 1_000_000;

@@ -5,15 +5,15 @@ ghost use Rattle.vme_io.specs.Fronts.{AppendsFront};
 ghost use Rattle.vme_script.specs.declared.fault.ConfigFault.{ConfigFault};
 ghost use Rattle.vme_script.specs.Configurations.{Configuration};
 ghost use Rattle.vme_program.specs.Ends.{IsReadingFault, ReadsPastLimit, is_read_failure, is_write_failure};
-ghost use Rattle.vme_runner.specs.Schedules.{file_turns};
-ghost use Rattle.vme_runner.specs.Reports.{run_text, run_status};
+ghost use Rattle.vme_stepper.specs.Schedules.{file_turns};
+ghost use Rattle.vme_stepper.specs.Reports.{run_text, run_status};
 ghost use Rattle.vme_program.specs.Files.{Configures, IsRefusedAs};
 ghost use Rattle.vme_step.specs.Ends.{IsStepFault};
 
 use std::alloc::Global;
 use vme_io::{Sink, Source};
 use vme_program::{FILE_LIMIT, ProgramFault, Status, read_config};
-use vme_runner::run_file;
+use vme_stepper::run_file;
 
 /// Runs the scripts of a configuration file by its schedule and then its rounds, and writes the
 /// report.

@@ -20,8 +20,8 @@ use Rattle.vme_port.specs.Settlements.{Settles}
 use Rattle.vme_script.specs.declared.board.BoardConfig.{BoardConfig}
 use Rattle.vme_script.specs.declared.script.ScriptLine.{ScriptLine}
 use Rattle.vme_script.specs.Configurations.{Configuration, opening_memory}
-use Rattle.vme_course.specs.Scripts.{script_at, lines_at}
-use Rattle.vme_course.specs.Courses.{IsCourse}
+use Rattle.vme_line_task.specs.Scripts.{script_at, lines_at}
+use Rattle.vme_line_task.specs.Courses.{IsCourse}
 use Rattle.vme_threads.specs.declared.worker.Ran.{Ran}
 use Rattle.vme_threads.specs.declared.ports.BoardPort.{BoardPort}
 use Rattle.vme_threads.specs.declared.ports.Ports.{Ports}

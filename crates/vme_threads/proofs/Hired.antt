@@ -12,8 +12,8 @@ use Rattle.vme_port.specs.Passes.{PassView, IsUnused}
 use Rattle.vme_port.specs.Ports.{port_id}
 use Rattle.vme_script.specs.declared.board.BoardConfig.{BoardConfig}
 use Rattle.vme_script.specs.Configurations.{Configuration}
-use Rattle.vme_course.specs.Scripts.{script_at}
-use Rattle.vme_course.specs.Rooms.{rooms_of}
+use Rattle.vme_line_task.specs.Scripts.{script_at}
+use Rattle.vme_line_task.specs.Rooms.{rooms_of}
 use Rattle.vme_threads.specs.declared.worker.Worker.{Worker}
 use Rattle.vme_threads.specs.declared.ports.BoardPort.{BoardPort}
 use Rattle.vme_threads.specs.Ports.{IsPortOf, IsHired, AreHired}

@@ -27,12 +27,12 @@ use Rattle.vme_lines.specs.declared.line.Line.TheVariants as lines
 use Rattle.vme_script.specs.declared.script.ScriptLine.{ScriptLine}
 use Rattle.vme_script.specs.Boards.{entries_of}
 use Rattle.vme_script.specs.Configurations.{Configuration}
-use Rattle.vme_course.specs.Scripts.{Moves, slot_at, level_at, lines_at, transfer_job, request_attempt, line_attempt}
-use Rattle.vme_course.specs.Tables.{Makes, Ends, moves_next, attempts_of, next_asks_again, next_given, line_next, given_of}
-use Rattle.vme_course.specs.Events.{IsCallBelow}
-use Rattle.vme_course.specs.Courses.{Goes}
-use Rattle.vme_course.proofs.Below.{next_below}
-use Rattle.vme_course.proofs.Courses.{goes-snoc}
+use Rattle.vme_line_task.specs.Scripts.{Moves, slot_at, level_at, lines_at, transfer_job, request_attempt, line_attempt}
+use Rattle.vme_line_task.specs.Tables.{Makes, Ends, moves_next, attempts_of, next_asks_again, next_given, line_next, given_of}
+use Rattle.vme_line_task.specs.Events.{IsCallBelow}
+use Rattle.vme_line_task.specs.Courses.{Goes}
+use Rattle.vme_line_task.proofs.Below.{next_below}
+use Rattle.vme_line_task.proofs.Courses.{goes-snoc}
 use Rattle.vme_port.specs.declared.fault.Spent.{Spent}
 use Rattle.vme_threads.specs.declared.desk.Desk.{Desk}
 use Rattle.vme_threads.specs.Desks.{HasMade, HasCalled}

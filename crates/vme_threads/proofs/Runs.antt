@@ -9,11 +9,11 @@ use Rattle.vme_lines.specs.declared.line.Line.{Line}
 use Rattle.vme_script.specs.declared.script.ScriptLine.{ScriptLine}
 use Rattle.vme_script.specs.Configurations.{Configuration}
 use Rattle.vme_block.specs.Rooms.{RoomView}
-use Rattle.vme_course.specs.Scripts.{script_at, lines_at}
-use Rattle.vme_course.specs.Rooms.{line_room, rooms_of}
-use Rattle.vme_course.specs.Courses.{LineCourse, IsCourse}
-use Rattle.vme_course.proofs.Courses.{course-snoc}
-use Rattle.vme_course.proofs.LineRooms.{IsNextRoom, rooms_left, next_room}
+use Rattle.vme_line_task.specs.Scripts.{script_at, lines_at}
+use Rattle.vme_line_task.specs.Rooms.{line_room, rooms_of}
+use Rattle.vme_line_task.specs.Courses.{LineCourse, IsCourse}
+use Rattle.vme_line_task.proofs.Courses.{course-snoc}
+use Rattle.vme_line_task.proofs.LineRooms.{IsNextRoom, rooms_left, next_room}
 use Rattle.vme_threads.specs.declared.desk.Desk.{Desk}
 use Rattle.vme_threads.specs.declared.worker.Worker.{Worker}
 use Rattle.vme_threads.specs.declared.worker.Ran.{Ran}

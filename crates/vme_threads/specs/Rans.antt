@@ -10,8 +10,8 @@ use Rattle.vme_report.specs.declared.fault.RunFault.TheVariants.{Spent}
 use Rattle.vme_port.specs.Passes.{PassView}
 use Rattle.vme_lines.specs.declared.line.Line.{Line}
 use Rattle.vme_script.specs.Configurations.{Configuration}
-use Rattle.vme_course.specs.Scripts.{script_at, lines_at}
-use Rattle.vme_course.specs.Courses.{LineCourse, IsCourse}
+use Rattle.vme_line_task.specs.Scripts.{script_at, lines_at}
+use Rattle.vme_line_task.specs.Courses.{LineCourse, IsCourse}
 use Rattle.vme_threads.specs.declared.desk.Desk.{Desk}
 use Rattle.vme_threads.specs.declared.worker.Ran.{Ran}
 use Rattle.vme_threads.specs.declared.ports.Ports.{Ports}

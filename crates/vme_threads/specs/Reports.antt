@@ -8,8 +8,8 @@ use Rattle.vme_arbiter.specs.Arbitration.{Arbitration, opening_bus, turn_step}
 use Rattle.vme_core.specs.Runs.{Move, IsReplyTo, board_part, bus_part}
 use Rattle.vme_script.specs.declared.board.BoardConfig.{BoardConfig}
 use Rattle.vme_script.specs.Configurations.{Configuration, opening_memory}
-use Rattle.vme_course.specs.Scripts.{script_at, lines_at}
-use Rattle.vme_course.specs.Courses.{IsCourse}
+use Rattle.vme_line_task.specs.Scripts.{script_at, lines_at}
+use Rattle.vme_line_task.specs.Courses.{IsCourse}
 use Rattle.vme_threads.specs.declared.worker.Ran.{Ran}
 use Rattle.vme_threads.specs.declared.ports.Ports.{Ports}
 use Rattle.vme_threads.specs.declared.report.BoardEnd.{BoardEnd}

@@ -4,9 +4,9 @@ ghost use Rattle.vme_core.specs.declared.event.EventReply.TheVariants as told;
 ghost use Rattle.vme_core.specs.Runs.{move};
 ghost use Rattle.vme_lines.specs.declared.line.Line.{Line};
 ghost use Rattle.vme_core.specs.Deeds.{call_asked};
-ghost use Rattle.vme_course.specs.Events.{IsCallBelow};
-ghost use Rattle.vme_course.specs.Rooms.{line_room};
-ghost use Rattle.vme_course.specs.Scripts.{lines_at};
+ghost use Rattle.vme_line_task.specs.Events.{IsCallBelow};
+ghost use Rattle.vme_line_task.specs.Rooms.{line_room};
+ghost use Rattle.vme_line_task.specs.Scripts.{lines_at};
 ghost use Rattle.vme_threads.specs.Desks.{Fits, HasMade, HasCalled};
 ghost use Rattle.vme_threads.specs.Rans.{HasAnswered};
 
@@ -17,13 +17,13 @@ use std::sync::atomic::Ordering;
 use vme_arbiter::{ArbCmd, ArbReply, Arbiter};
 use vme_block::Room;
 use vme_core::{Deed, EventReply};
-use vme_course::LineTask;
+use vme_line_task::LineTask;
 use vme_memory::{ByteMemory, Reply};
 use vme_object::{Asks, Given};
 use vme_port::{Pass, Spent};
 use vme_script::Config;
 use vme_shared::LineReply;
-use vme_waits::Patience;
+use vme_bus_wait::Patience;
 
 /// The passes of one processor: one of the port of each board, by its place, and one of the
 /// arbiter's; and how long it has waited for the bus.

@@ -11,11 +11,11 @@ ghost use Rattle.vme_master.specs.Jobs.{local_job};
 ghost use Rattle.vme_master.specs.Machine.{to_do};
 ghost use Rattle.vme_master.specs.Tables.{Ends, next_of};
 ghost use Rattle.vme_script.specs.Configurations.{Configuration};
-ghost use Rattle.vme_course.specs.Events.{IsCallBelow, MakesCall};
-ghost use Rattle.vme_course.specs.Rooms.{line_room, room_of_request};
-ghost use Rattle.vme_course.specs.Scripts.{lines_at};
-ghost use Rattle.vme_course.specs.Tables as tables;
-ghost use Rattle.vme_course.specs.Tables.{moves_next};
+ghost use Rattle.vme_line_task.specs.Events.{IsCallBelow, MakesCall};
+ghost use Rattle.vme_line_task.specs.Rooms.{line_room, room_of_request};
+ghost use Rattle.vme_line_task.specs.Scripts.{lines_at};
+ghost use Rattle.vme_line_task.specs.Tables as tables;
+ghost use Rattle.vme_line_task.specs.Tables.{moves_next};
 ghost use Rattle.vme_threads.specs.Desks.{Fits};
 ghost use Rattle.vme_threads.specs.Rans.{IsAnswered, HasAnswered};
 

@@ -12,7 +12,7 @@ use vme_arbiter::Arbiter;
 use vme_memory::ByteMemory;
 use vme_port::Port;
 use vme_script::{Config, OutOfMemory};
-use vme_waits::Waits;
+use vme_bus_wait::Waits;
 
 /// The port of a board.
 #[derive(Drop)]

@@ -14,9 +14,9 @@ use Rattle.vme_shared.specs.Tables as shares
 use Rattle.vme_shared.specs.Tables.{SharedNext, shared_next}
 use Rattle.vme_lines.specs.declared.line.Line.{Line}
 use Rattle.vme_script.specs.Configurations.{Configuration}
-use Rattle.vme_course.specs.Scripts.{Attempt, Moves, Waits, Shares, lines_at, line_attempt}
-use Rattle.vme_course.specs.Tables.{Ends, moves_next, waits_next, shares_next, attempt_next, attempts_of, lawful_next, next_given}
-use Rattle.vme_course.specs.Courses.{IsCourse}
+use Rattle.vme_line_task.specs.Scripts.{Attempt, Moves, Waits, Shares, lines_at, line_attempt}
+use Rattle.vme_line_task.specs.Tables.{Ends, moves_next, waits_next, shares_next, attempt_next, attempts_of, lawful_next, next_given}
+use Rattle.vme_line_task.specs.Courses.{IsCourse}
 use Rattle.vme_threads.specs.declared.report.Report.{Report}
 use Rattle.vme_threads.specs.Rans.{answers_in}
 use Rattle.vme_threads.specs.Reports.{IsReportOf}

@@ -30,12 +30,12 @@ use Rattle.vme_shared.specs.declared.reply.LineReply.TheVariants.{Transfer}
 use Rattle.vme_lines.specs.declared.line.Line.{Line}
 use Rattle.vme_script.specs.Configurations.{Configuration, opening_memory}
 use Rattle.vme_script.specs.Lawful.{IsLawful}
-use Rattle.vme_course.specs.Scripts.{slot_at, lines_at}
-use Rattle.vme_course.specs.Tables.{Makes, Ends, line_next, given_of}
-use Rattle.vme_course.specs.Courses.{Goes, IsCourse}
-use Rattle.vme_course.specs.Tenures.{line_told, IsGood, IsGranted}
-use Rattle.vme_course.proofs.Kept.{line_begins, line_first, line_turns, line_turn, line_datum, line_ends}
-use Rattle.vme_course.proofs.Below.{next_below}
+use Rattle.vme_line_task.specs.Scripts.{slot_at, lines_at}
+use Rattle.vme_line_task.specs.Tables.{Makes, Ends, line_next, given_of}
+use Rattle.vme_line_task.specs.Courses.{Goes, IsCourse}
+use Rattle.vme_line_task.specs.Tenures.{line_told, IsGood, IsGranted}
+use Rattle.vme_line_task.proofs.Kept.{line_begins, line_first, line_turns, line_turn, line_datum, line_ends}
+use Rattle.vme_line_task.proofs.Below.{next_below}
 use Rattle.vme_runner_laws.proofs.Places.{has_board, lawful_slot, lawful_level, slots_apart}
 use Rattle.vme_threads.specs.declared.report.Report.{Report}
 use Rattle.vme_threads.specs.Rans.{answers_in}

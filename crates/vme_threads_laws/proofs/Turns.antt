@@ -16,7 +16,7 @@ use Rattle.vme_arbiter.proofs.Turns.{other-turn}
 use Rattle.vme_arbiter.proofs.Orderly.{orderly-opening}
 use Rattle.vme_core.specs.declared.event.EventReply.TheVariants as told
 use Rattle.vme_core.specs.Calls.{OnBus}
-use Rattle.vme_course.specs.Tenures.{IsGood}
+use Rattle.vme_line_task.specs.Tenures.{IsGood}
 use Rattle.vme_runner_laws.proofs.Called.{BusCalled, bus_called}
 
 -- a slot that stands by one last reply stands by another

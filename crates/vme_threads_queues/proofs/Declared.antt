@@ -13,7 +13,7 @@ use Rattle.vme_script.specs.declared.board.BoardConfig.{BoardConfig}
 use Rattle.vme_script.specs.Boards.{entries_of}
 use Rattle.vme_script.specs.Configurations.{Configuration, opening_memory}
 use Rattle.vme_script.specs.Lawful.{IsLawful, IsLawfulMailbox}
-use Rattle.vme_course.specs.Scripts.{mailbox_at}
+use Rattle.vme_line_task.specs.Scripts.{mailbox_at}
 use Rattle.vme_queues.specs.Names.{IsMailboxOf}
 use Rattle.vme_queues.specs.Places.{on_board}
 use Rattle.vme_queues.proofs.Lawful.{lies_at, lies_in, accepted}

@@ -12,7 +12,7 @@ use Rattle.vme_mailbox.proofs.Opening.{is_queue}
 use Rattle.vme_script.specs.declared.board.BoardConfig.{BoardConfig}
 use Rattle.vme_script.specs.Configurations.{Configuration, opening_memory}
 use Rattle.vme_script.specs.Lawful.{IsLawful}
-use Rattle.vme_course.specs.Scripts.{lines_at}
+use Rattle.vme_line_task.specs.Scripts.{lines_at}
 use Rattle.vme_queues.specs.Names.{lines_put, lines_taken, IsMailboxOf}
 use Rattle.vme_queues.specs.Groups.{own_words_put, own_words_taken}
 use Rattle.vme_queues.proofs.Groups.{own_words}

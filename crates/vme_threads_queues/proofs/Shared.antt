@@ -28,8 +28,8 @@ use Rattle.vme_shared.specs.declared.reply.LineReply.{LineReply}
 use Rattle.vme_script.specs.declared.board.BoardConfig.{BoardConfig}
 use Rattle.vme_script.specs.Configurations.{Configuration, opening_memory}
 use Rattle.vme_script.specs.Lawful.{IsLawful}
-use Rattle.vme_course.specs.Scripts.{lines_at}
-use Rattle.vme_course.specs.Courses.{IsCourse}
+use Rattle.vme_line_task.specs.Scripts.{lines_at}
+use Rattle.vme_line_task.specs.Courses.{IsCourse}
 use Rattle.vme_queues.specs.Runs.{IsTurned, AllTurned, ShareHistory}
 use Rattle.vme_threads.specs.declared.report.BoardEnd.{BoardEnd}
 use Rattle.vme_threads.specs.declared.report.Report.{Report}

@@ -8,8 +8,8 @@ use Rattle.vme_memory.specs.declared.command.BoardCmd.{BoardCmd}
 use Rattle.vme_memory.specs.declared.reply.Reply.{Reply}
 use Rattle.vme_mailbox.specs.Mailboxes.{BoardMailbox}
 use Rattle.vme_shared.specs.declared.status.Status.{Status}
-use Rattle.vme_document.specs.Files.{FileValues}
-use Rattle.vme_document.specs.Keys.{file_values}
+use Rattle.vme_config_toml.specs.Files.{FileValues}
+use Rattle.vme_config_toml.specs.Keys.{file_values}
 use Rattle.vme_script.specs.declared.fault.ConfigFault.TheVariants.{BadKey}
 use Rattle.vme_script.specs.Answers.{◌>>=◌}
 use Rattle.vme_script.specs.Configurations.{Configuration, configuration_of}

@@ -10,7 +10,7 @@ ghost use Rattle.vme_mailbox.specs.Words.{words_put, words_taken};
 ghost use Rattle.vme_shared.specs.declared.status.Status.{Status};
 ghost use Rattle.vme_script.specs.Configurations.{Configuration};
 ghost use Rattle.vme_script.specs.Lawful.{IsLawful};
-ghost use Rattle.vme_course.specs.Scripts.{lines_at};
+ghost use Rattle.vme_line_task.specs.Scripts.{lines_at};
 ghost use Rattle.vme_queues.specs.Names.{lines_put, lines_taken};
 ghost use Rattle.vme_queues.specs.Groups.{own_words_put, own_words_taken};
 ghost use Rattle.vme_threads.specs.declared.report.Report.{Report};

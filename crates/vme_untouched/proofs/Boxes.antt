@@ -20,7 +20,7 @@ use Rattle.vme_boxes.specs.Places.{place_by, place_at, place_of, share}
 use Rattle.vme_script.specs.Boards.{entries_of}
 use Rattle.vme_script.specs.Configurations.{Configuration}
 use Rattle.vme_script.specs.Lawful.{IsLawful, IsLawfulMailbox}
-use Rattle.vme_course.specs.Scripts.{mailbox_at, shared_job, shared_attempt}
+use Rattle.vme_line_task.specs.Scripts.{mailbox_at, shared_job, shared_attempt}
 use Rattle.vme_queues.specs.Places.{on_board}
 use Rattle.vme_queues.proofs.Lawful.{lies_at}
 use Rattle.vme_untouched.proofs.Apart.{IsAmong}

@@ -33,7 +33,7 @@ use Rattle.vme_script.specs.Boards.{entries_of}
 use Rattle.vme_script.specs.Configurations.{Configuration}
 use Rattle.vme_script.specs.Lawful.{IsLawful, IsLawfulMailbox}
 use Rattle.vme_script.specs.Scripts.{rules_of}
-use Rattle.vme_course.specs.Scripts.{lines_at, mailbox_at, line_attempt, shared_attempt}
+use Rattle.vme_line_task.specs.Scripts.{lines_at, mailbox_at, line_attempt, shared_attempt}
 use Rattle.vme_queues.specs.Places.{on_board}
 use Rattle.vme_queues.specs.Names.{names, LeavesAlone, AllLeave}
 use Rattle.vme_untouched.proofs.Apart.{IsAmong, beside}

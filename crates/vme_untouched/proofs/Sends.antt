@@ -26,7 +26,7 @@ use Rattle.vme_boxes.specs.declared.place.Place.{Place}
 use Rattle.vme_boxes.specs.Bytes.{transfer_bytes, request_bytes, local_bytes}
 use Rattle.vme_script.specs.Boards.{entries_of}
 use Rattle.vme_script.specs.Configurations.{Configuration}
-use Rattle.vme_course.specs.Scripts.{Moves, Waits, Shares, slot_at, level_at, transfer_job, request_attempt, unless_refused, shared_job, shared_attempt}
+use Rattle.vme_line_task.specs.Scripts.{Moves, Waits, Shares, slot_at, level_at, transfer_job, request_attempt, unless_refused, shared_job, shared_attempt}
 use Rattle.vme_untouched.proofs.Apart.{IsAmong}
 use Rattle.vme_untouched.proofs.Data.{sent}
 use Rattle.vme_untouched.proofs.Calls.{JobCalls, SharedCalls, Calls}

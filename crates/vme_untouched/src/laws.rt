@@ -2,7 +2,7 @@ ghost use Rattle.std.specs.Prelude.{◌≡◌, ◌+◌, ℕ, Some, slice_get};
 ghost use Rattle.vme_shared.specs.declared.mailbox.Mailbox.{Mailbox};
 ghost use Rattle.vme_script.specs.Configurations.{Configuration};
 ghost use Rattle.vme_script.specs.Lawful.{IsLawful, IsLawfulMailbox};
-ghost use Rattle.vme_course.specs.Scripts.{lines_at};
+ghost use Rattle.vme_line_task.specs.Scripts.{lines_at};
 ghost use Rattle.vme_queues.specs.Places.{on_board};
 ghost use Rattle.vme_queues.specs.Names.{AllLeave};
 

@@ -1,5 +1,5 @@
 use Rattle.vme_runner_laws.proofs.Runs.{after_stand, holder_is, granted_is}
-use Rattle.vme_runner.specs.Turns.{world_after}
+use Rattle.vme_stepper.specs.Turns.{world_after}
 use Rattle.vme_runner_laws.proofs.laws.commands_are_the_holders.Goals as goal
 
 pub returns-clause-orderly : goal.returns-clause-orderly

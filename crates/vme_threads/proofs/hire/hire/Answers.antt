@@ -7,8 +7,8 @@ use Rattle.vme_arbiter.specs.declared.command.ArbCmd.{ArbCmd}
 use Rattle.vme_arbiter.specs.declared.command.ArbReply.{ArbReply}
 use Rattle.vme_port.specs.Passes.{PassView, IsUnused}
 use Rattle.vme_port.specs.Ports.{port_id}
-use Rattle.vme_course.specs.Scripts.{script_at}
-use Rattle.vme_course.specs.Rooms.{rooms_of}
+use Rattle.vme_line_task.specs.Scripts.{script_at}
+use Rattle.vme_line_task.specs.Rooms.{rooms_of}
 use Rattle.vme_threads.specs.Ports.{IsHired}
 use Rattle.vme_threads.proofs.Places.{first_of_each, rest_of_each}
 use Rattle.vme_threads.proofs.Hired.{hired_first}

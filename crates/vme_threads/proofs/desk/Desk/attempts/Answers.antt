@@ -1,6 +1,6 @@
 use Rattle.std.proofs.Common.{length, ◌≡◌, arith, subst}
 use Rattle.vme_core.specs.Deeds.{call_asked}
-use Rattle.vme_course.specs.Events.{IsCallBelow}
+use Rattle.vme_line_task.specs.Events.{IsCallBelow}
 use Rattle.vme_threads.proofs.Desks.{fits_after}
 use Rattle.vme_threads.proofs.Lines.{at_start, at_more, at_end, call_there}
 use Rattle.vme_threads.proofs.desk.Desk.attempts.Goals as goal

@@ -1,7 +1,7 @@
 use Rattle.std.proofs.Common.{◌≡◌, ◌+◌, List, length, map, Some, ap, sym, subst, rules, arith}
 use Rattle.std.specs.List.{slice_get}
 use Rattle.vme_script.specs.declared.script.ScriptLine.{ScriptLine}
-use Rattle.vme_course.specs.Scripts.{script_at}
+use Rattle.vme_line_task.specs.Scripts.{script_at}
 use Rattle.vme_threads.proofs.Desks.{fits_first, fits_after}
 use Rattle.vme_threads.proofs.Runs.{IsUnderWay, nil_of, script_is, same_count, way_start, way_more, some_room, room_taken, room_serves, way_end}
 use Rattle.vme_threads.proofs.worker.Worker.run.Goals as goal

@@ -1,6 +1,6 @@
 use Rattle.std.proofs.Common.{◌≡◌, ◌≤◌, drop, length, vec_len, vec_capacity}
-use Rattle.vme_course.specs.Scripts.{script_at, lines_at}
-use Rattle.vme_course.specs.Rooms.{rooms_of}
+use Rattle.vme_line_task.specs.Scripts.{script_at, lines_at}
+use Rattle.vme_line_task.specs.Rooms.{rooms_of}
 use Rattle.vme_threads.proofs.Runs.{IsUnderWay}
 use Rattle.vme_threads.proofs.worker.Worker.run.Given as goal
 

@@ -1,0 +1,16 @@
+-- Lists of values, read one after another.
+use Rattle.std.proofs.Common.{◌≡◌, List, [], ◌∷◌, ◌++◌, length, Option, None, option_map, refl}
+use Rattle.toml.specs.View.{items_view}
+use Rattle.toml.specs.declared.value.Value.{Value}
+use Rattle.vme_config_toml.specs.Values.{pair_in}
+
+-- some values, and then those that were read
+abbrev pub with_front : {A : Type 0} → List A → Option (List A) → Option (List A)
+with_front front read = option_map (λ xs. front ++ xs) read
+
+-- another number of values than two is no pair
+pub pair_in_others : (vs : List Value) → (length vs ≡ 2 → ⊥) → pair_in (items_view vs) ≡ None
+pair_in_others [] other = refl
+pair_in_others (v ∷ []) other = refl
+pair_in_others (v ∷ w ∷ []) other = absurd (other refl)
+pair_in_others (v ∷ w ∷ x ∷ vs) other = refl

@@ -1,0 +1,92 @@
+//! What a configuration file says, as plain values.
+
+use std::marker::Model;
+
+/// The range of a board, as its table says it.
+#[derive(Drop)]
+pub struct RangeTable<'a> {
+    pub space: &'a str,
+    pub base: u32,
+    pub size: u32,
+    pub supervisory: bool,
+}
+
+impl<'a> Model for RangeTable<'a> {
+    ghost use Rattle.vme_config_toml.specs.Files.{RangeValues};
+
+    ghost Value = { RangeValues };
+
+    ghost view = { λ r. record {
+      space = r.space.now;
+      base = r.base;
+      size = r.size;
+      supervisory = r.supervisory;
+    } };
+}
+
+/// What a board's slave is able to answer, as its table says it.
+#[derive(Clone, Copy)]
+pub struct ClassTable {
+    pub width: u32,
+    pub uat: bool,
+    pub blt: bool,
+    pub rmw: bool,
+}
+
+/// What a table of `board` says.
+#[derive(Drop)]
+pub struct BoardTable<'a> {
+    pub slot: u32,
+    pub level: u32,
+    pub range: RangeTable<'a>,
+    pub class: ClassTable,
+    pub script: &'a str,
+}
+
+impl<'a> Model for BoardTable<'a> {
+    ghost use Rattle.vme_config_toml.specs.Files.{BoardValues};
+
+    ghost Value = { BoardValues };
+
+    ghost view = { λ b. record {
+      slot = b.slot;
+      level = b.level;
+      range = b.range;
+      class = b.class;
+      script = b.script.now;
+    } };
+}
+
+/// What a table of `mailbox` says.
+#[derive(Clone, Copy)]
+pub struct MailboxTable {
+    pub am: u32,
+    pub addr: u32,
+    pub slots: u32,
+}
+
+/// What a file says.
+#[derive(Drop)]
+pub struct FileTable<'a> {
+    pub arbiter: &'a str,
+    pub tries: u32,
+    pub schedule: Vec<(u32, u32)>,
+    pub rounds: u32,
+    pub boards: Vec<BoardTable<'a>>,
+    pub mailboxes: Vec<MailboxTable>,
+}
+
+impl<'a> Model for FileTable<'a> {
+    ghost use Rattle.vme_config_toml.specs.Files.{FileValues};
+
+    ghost Value = { FileValues };
+
+    ghost view = { λ f. record {
+      arbiter = f.arbiter.now;
+      tries = f.tries;
+      schedule = f.schedule.items;
+      rounds = f.rounds;
+      boards = f.boards.items;
+      mailboxes = f.mailboxes.items;
+    } };
+}

@@ -1,9 +1,0 @@
-use Rattle.std.proofs.Common.{subst}
-use Rattle.vme_course.specs.declared.task.LineTask.TheVariants.{Tries}
-use Rattle.vme_course.specs.Machine.{IsLineBelow}
-use Rattle.vme_course.proofs.Below.{event_below}
-use Rattle.vme_course.proofs.task.LineTask.event.Goals as goal
-
-pub returns-in-Tries-clause-there : goal.returns-in-Tries-clause-there
-returns-in-Tries-clause-there c = λ n below.
-    event_below n (Tries c.in-Tries.attempts) c.event.result (subst (IsLineBelow n) c.in-Tries.is below) c.event.ensures

@@ -1,6 +1,0 @@
--- What the map of the table finds is the member.
-use Rattle.toml.proofs.Views.{table_get}
-use Rattle.vme_document.proofs.values.value_at.Goals as goal
-
-pub returns : goal.returns
-returns c = table_get c.get.result c.args.key.now c.args.table.now.entries c.get.ensures.value

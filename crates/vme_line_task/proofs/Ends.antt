@@ -1,0 +1,117 @@
+-- An answer of a line is for good.
+use Rattle.std.proofs.Common.{◌≡◌, ℕ, false, List, [], ◌∷◌, Option, None, Result, Ok, Err, refl, ap, subst, ◌∙◌, inl, inr}
+use Rattle.std.specs.Prelude.{nat_lt, ◌&&◌}
+use Rattle.std.proofs.lemmas.Bool.{cases_Bool}
+use Rattle.vme_cycle.specs.declared.fault.CycleFault.{CycleFault}
+use Rattle.vme_core.specs.declared.event.EventReply.{EventReply}
+use Rattle.vme_master.specs.declared.job.Job.{Job}
+use Rattle.vme_master.specs.declared.outcome.Outcome.{Outcome}
+use Rattle.vme_master.specs.Tables as tasks
+use Rattle.vme_master.specs.Tables.{Next, Given, next_of, next_after}
+use Rattle.vme_shared.specs.declared.reply.LineReply.{LineReply}
+use Rattle.vme_shared.specs.declared.reply.LineReply.TheVariants as replies
+use Rattle.vme_shared.specs.declared.reply.LineReply.TheVariants.{Shared}
+use Rattle.vme_shared.specs.declared.outcome.SharedOutcome.TheVariants as shared
+use Rattle.vme_shared.specs.declared.stage.Stage.{Stage}
+use Rattle.vme_shared.specs.Steps.{first_stage}
+use Rattle.vme_shared.specs.Tables as shares
+use Rattle.vme_shared.specs.Tables.{SharedJob, SharedNext, stage_job, stage_begun, progress_given, next_at, shared_next}
+use Rattle.vme_shared.proofs.Tenures.{end_stays}
+use Rattle.vme_lines.specs.declared.line.Line.{Line}
+use Rattle.vme_script.specs.Configurations.{Configuration}
+use Rattle.vme_line_task.specs.Scripts.{Attempt, Moves, Waits, Shares, line_attempt}
+use Rattle.vme_line_task.specs.Tenures.{IsGranted}
+use Rattle.vme_line_task.specs.Tables.{LineNext, Ends, moves_next, waits_next, shares_next, attempt_next, asks_again, next_asks_again, Attempts, next_attempt, attempts_of, lawful_next, next_given}
+
+-- a task's end is for good
+task_stays : (job : Job) (given : Given) (last : Option EventReply) (outcome : Outcome) → next_of job given ≡ tasks.Ends outcome
+    → next_of job (last ∷ given) ≡ tasks.Ends outcome
+task_stays job given last outcome ended = ap (λ next. next_after job next last given) ended
+
+moves_stays : (job : Job) (given : Given) (last : Option EventReply) (answer : LineReply) (next : Next) → next_of job given ≡ next
+    → moves_next next ≡ Ends answer → moves_next (next_of job (last ∷ given)) ≡ Ends answer
+moves_stays job given last answer tasks.Rests is ends = absurd cc
+moves_stays job given last answer (tasks.Makes call) is ends = absurd cc
+moves_stays job given last answer (tasks.Ends outcome) is ends = ap moves_next (task_stays job given last outcome is) ∙ ends
+
+waits_stays : (job : Job) (want : List ℕ) (given : Given) (last : Option EventReply) (answer : LineReply) (next : Next) → next_of job given ≡ next
+    → waits_next want next ≡ Ends answer → waits_next want (next_of job (last ∷ given)) ≡ Ends answer
+waits_stays job want given last answer tasks.Rests is ends = absurd cc
+waits_stays job want given last answer (tasks.Makes call) is ends = absurd cc
+waits_stays job want given last answer (tasks.Ends outcome) is ends = ap (waits_next want) (task_stays job given last outcome is) ∙ ends
+
+shares_stays : (s : SharedJob) (given : Given) (last : Option EventReply) (answer : LineReply) (next : SharedNext) → shared_next s given ≡ next
+    → shares_next next ≡ Ends answer → shares_next (shared_next s (last ∷ given)) ≡ Ends answer
+shares_stays s given last answer shares.Rests is ends = absurd cc
+shares_stays s given last answer (shares.Makes call) is ends = absurd cc
+shares_stays s given last answer (shares.Ends outcome) is ends = ap shares_next (end_stays s given outcome last is) ∙ ends
+
+-- and so is an attempt's
+attempt_stays : (a : Attempt) (given : Given) (last : Option EventReply) (answer : LineReply) → attempt_next a given ≡ Ends answer
+    → attempt_next a (last ∷ given) ≡ Ends answer
+attempt_stays (Moves job) given last answer ends = moves_stays job given last answer (next_of job given) refl ends
+attempt_stays (Waits job want) given last answer ends = waits_stays job want given last answer (next_of job given) refl ends
+attempt_stays (Shares s) given last answer ends = shares_stays s given last answer (shared_next s given) refl ends
+
+-- an attempt that ends before its first call, or with it, is no denial and not made again: a transfer of it is refused
+pub record EndsAtOnce (answer : LineReply) : Type 0 where
+  pub granted : IsGranted answer
+  pub last : asks_again answer ≡ false
+
+at_once : (answer : LineReply) → Ends (Shared shared.Berr) ≡ Ends answer → EndsAtOnce answer
+at_once answer ends =
+    let is : replies.Shared shared.Berr ≡ answer = cc in
+    subst EndsAtOnce is (record { granted = (λ denied. absurd cc, λ denied. absurd cc); last = refl })
+
+stage_not_begun : (stage : Stage) (job : Result Job CycleFault) (answer : LineReply)
+    → shares_next (next_at (stage_begun stage [] job)) ≡ Ends answer → EndsAtOnce answer
+stage_not_begun stage (Ok job) answer ends = absurd cc
+stage_not_begun stage (Err fault) answer ends = at_once answer ends
+
+stage_just_begun : (s : SharedJob) (stage : Stage) (job : Result Job CycleFault) (answer : LineReply)
+    → shares_next (next_at (progress_given s None (stage_begun stage [] job))) ≡ Ends answer → EndsAtOnce answer
+stage_just_begun s stage (Ok job) answer ends = absurd cc
+stage_just_begun s stage (Err fault) answer ends = at_once answer ends
+
+not_begun : (a : Attempt) (answer : LineReply) → attempt_next a [] ≡ Ends answer → EndsAtOnce answer
+not_begun (Moves job) answer ends = absurd cc
+not_begun (Waits job want) answer ends = absurd cc
+not_begun (Shares s) answer ends = stage_not_begun (first_stage s.request) (stage_job s (first_stage s.request)) answer ends
+
+pub just_begun : (a : Attempt) (answer : LineReply) → attempt_next a (None ∷ []) ≡ Ends answer → EndsAtOnce answer
+just_begun (Moves job) answer ends = absurd cc
+just_begun (Waits job want) answer ends = absurd cc
+just_begun (Shares s) answer ends = stage_just_begun s (first_stage s.request) (stage_job s (first_stage s.request)) answer ends
+
+-- an attempt that has ended is the last one
+abbrev IsLast : Attempt → Attempts → Type 0
+IsLast a made = (answer : LineReply) → attempt_next a made.given ≡ Ends answer → (asks_again answer && nat_lt 1 made.left) ≡ false
+
+last_attempt : (a : Attempt) (made : Attempts) → IsLast a (next_attempt made (attempt_next a made.given))
+last_attempt a made =
+    elim (cases_Bool (next_asks_again (attempt_next a made.given) && nat_lt 1 made.left)) [
+      | inl more ↦ rw more (λ answer ends. rw (just_begun a answer ends).last refl)
+      | inr last ↦ rw last (λ answer ends. subst (λ next. (next_asks_again next && nat_lt 1 made.left) ≡ false) ends last)
+    ]
+
+all_last : (a : Attempt) (tries : ℕ) (given : Given) → IsLast a (attempts_of a tries given)
+all_last a tries [] = λ answer ends. rw (not_begun a answer ends).last refl
+all_last a tries (last ∷ before) =
+    let made = attempts_of a tries before in
+    last_attempt a (record { given = last ∷ made.given; left = made.left })
+
+-- so the line does not go on
+lawful_stays : (tries : ℕ) (attempt : Result Attempt CycleFault) (given : Given) (last : Option EventReply) (answer : LineReply)
+    → lawful_next tries attempt given ≡ Ends answer → lawful_next tries attempt (last ∷ given) ≡ Ends answer
+lawful_stays tries (Err fault) given last answer ends = ends
+lawful_stays tries (Ok a) given last answer ends =
+    let made = attempts_of a tries given in
+    let stays : attempt_next a (last ∷ made.given) ≡ Ends answer = attempt_stays a made.given last answer ends in
+    let over : (asks_again answer && nat_lt 1 made.left) ≡ false = all_last a tries given answer ends in
+    ap (λ (next : LineNext). attempt_next a (next_attempt (record { given = last ∷ made.given; left = made.left }) next).given) stays
+    ∙ rw over stays
+
+pub answer_stays : (config : Configuration) (board : ℕ) (line : Line) (given : Given) (last : Option EventReply) (answer : LineReply)
+    → next_given config board line given ≡ Ends answer → next_given config board line (last ∷ given) ≡ Ends answer
+unfolding next_given
+answer_stays config board line given last answer ends = lawful_stays config.tries (line_attempt config board line) given last answer ends

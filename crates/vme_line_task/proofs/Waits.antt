@@ -1,0 +1,50 @@
+-- What a read that is to find bytes reads: few bytes.
+use Rattle.std.proofs.Common.{◌≡◌, ℕ, ◌≤◌, List, length, Result, Ok, Err, ap, subst, ◌∙◌}
+use Rattle.arrayvec.specs.ArrayVec.{ArrayVec}
+use Rattle.vme_block.specs.Rooms.{short_room}
+use Rattle.vme_cycle.specs.declared.fault.CycleFault.{CycleFault}
+use Rattle.vme_cycle.specs.declared.request.Request.TheVariants.{Read}
+use Rattle.vme_cycle.specs.Requests.{reply_room}
+use Rattle.vme_cycle.specs.Lawful.{Transfer, transfer_of}
+use Rattle.vme_cycle.proofs.Transfers.{comes_from}
+use Rattle.vme_decode.specs.declared.entry.Entry.{Entry}
+use Rattle.vme_master.specs.Jobs.{bus_job}
+use Rattle.vme_master.specs.Machine.{TaskView, fresh_task, bus_task, job_room}
+use Rattle.vme_script.specs.Boards.{entries_of}
+use Rattle.vme_script.specs.Configurations.{Configuration}
+use Rattle.vme_line_task.specs.declared.attempt.AttemptTask.{AttemptTask}
+use Rattle.vme_line_task.specs.declared.attempt.AttemptTask.TheVariants as tries
+use Rattle.vme_line_task.specs.Scripts.{Waits, slot_at, level_at, transfer_job, request_attempt}
+use Rattle.vme_line_task.specs.Waits.{WaitView}
+use Rattle.vme_line_task.specs.Machine.{fresh_of}
+
+-- a lawful read reads as many bytes as it says
+pub reads_so_many : (am addr n : ℕ) (t : Transfer) → transfer_of (Read am addr n) ≡ Ok t → reply_room t.request ≡ n
+reads_so_many am addr n t is = ap reply_room (comes_from (Read am addr n) t is).same
+
+-- and so its task needs no more room
+pub task_is_short : (map : List Entry) (slot level : ℕ) (transfer : Result Transfer CycleFault) (task : TaskView)
+    → ((t : Transfer) → transfer ≡ Ok t → reply_room t.request ≤ short_room) → Ok task ≡ bus_task map slot level transfer
+    → job_room task.job ≤ short_room
+task_is_short map slot level (Ok t) task short is =
+    let same : task ≡ fresh_task (bus_job map slot level t) = cc in
+    rw same (short t cc)
+task_is_short map slot level (Err fault) task short is = absurd cc
+
+-- a wait by its task and what it is to find
+pub waits_so : (config : Configuration) (board am addr : ℕ) (bytes want : List ℕ) (task : TaskView) (wait : WaitView)
+    → Ok task ≡ bus_task (entries_of config.boards) (slot_at config board) (level_at config board) (transfer_of (Read am addr (length bytes)))
+    → bytes ≡ want → wait.task ≡ task → wait.want ≡ record { items = want }
+    → Ok (tries.Waits wait) ≡ fresh_of (request_attempt (λ t. Waits (transfer_job config board t) want) (transfer_of (Read am addr (length want))))
+waits_so config board am addr bytes want task wait is same its_task its_want =
+    by_transfer (transfer_of (Read am addr (length want)))
+    (subst (λ (bs : List ℕ). Ok task ≡ bus_task (entries_of config.boards) (slot_at config board) (level_at config board) (transfer_of (Read am addr (length bs)))) same is)
+  where
+    by_transfer : (transfer : Result Transfer CycleFault)
+        → Ok task ≡ bus_task (entries_of config.boards) (slot_at config board) (level_at config board) transfer
+        → Ok (tries.Waits wait) ≡ fresh_of (request_attempt (λ t. Waits (transfer_job config board t) want) transfer)
+    by_transfer (Ok t) is =
+        let fresh : task ≡ fresh_task (transfer_job config board t) = cc in
+        ap (λ (u : TaskView). let w : WaitView = record { task = u; want = wait.want } in let r : Result AttemptTask CycleFault = Ok (tries.Waits w) in r) (its_task ∙ fresh)
+        ∙ ap (λ (b : ArrayVec ℕ). let w : WaitView = record { task = fresh_task (transfer_job config board t); want = b } in let r : Result AttemptTask CycleFault = Ok (tries.Waits w) in r) its_want
+    by_transfer (Err fault) is = absurd cc

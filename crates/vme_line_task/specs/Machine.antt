@@ -1,0 +1,118 @@
+-- A line as a machine, which keeps a task in place of the replies: for the drivers' own functions.
+use Rattle.std.specs.Prelude.{ℕ, ◌≡◌, ◌-◌, nat_lt, ◌&&◌, if◌then◌else◌, List, [], ◌∷◌, Option, None, Result, Ok, Err}
+use Rattle.vme_cycle.specs.declared.fault.CycleFault.{CycleFault}
+use Rattle.vme_core.specs.declared.event.EventReply.{EventReply}
+use Rattle.vme_core.specs.Calls.{Call}
+use Rattle.vme_master.specs.Tables.{Given}
+use Rattle.vme_master.specs.Machine.{fresh_task, advance, to_do}
+use Rattle.vme_master.specs.declared.outcome.Outcome.TheVariants as outcomes
+use Rattle.vme_shared.specs.declared.reply.LineReply.TheVariants as replies
+use Rattle.vme_shared.specs.Machine.{shared_fresh, shared_advance, shared_to_do}
+use Rattle.vme_lines.specs.declared.line.Line.{Line}
+use Rattle.vme_script.specs.Configurations.{Configuration}
+use Rattle.vme_line_task.specs.declared.task.LineTask.{LineTask}
+use Rattle.vme_line_task.specs.declared.task.LineTask.TheVariants.{Refused, Tries, Over}
+use Rattle.vme_line_task.specs.declared.attempt.Attempts.{Attempts}
+use Rattle.vme_line_task.specs.declared.attempt.AttemptTask.{AttemptTask}
+use Rattle.vme_line_task.specs.declared.attempt.AttemptTask.TheVariants as tries
+use Rattle.vme_line_task.specs.Scripts.{Attempt, Moves, Waits, Shares, line_attempt}
+use Rattle.vme_line_task.specs.Tables.{LineNext, Makes, Ends, moves_next, waits_next, shares_next, next_asks_again, given_of}
+use Rattle.vme_line_task.specs.Events.{IsCallBelow}
+
+-- the task of an attempt before its first call (this project's own)
+abbrev pub attempt_fresh : Attempt → AttemptTask
+attempt_fresh (Moves job) = tries.Moves (fresh_task job)
+attempt_fresh (Waits job want) = tries.Waits (record { task = fresh_task job; want = record { items = want } })
+attempt_fresh (Shares s) = tries.Shares (shared_fresh s)
+
+-- the task of what is attempted, or the refusal (this project's own)
+abbrev pub fresh_of : Result Attempt CycleFault → Result AttemptTask CycleFault
+fresh_of (Ok attempt) = Ok (attempt_fresh attempt)
+fresh_of (Err fault) = Err fault
+
+-- the same attempt before its first call (this project's own)
+abbrev pub attempt_anew : AttemptTask → AttemptTask
+attempt_anew (tries.Moves t) = tries.Moves (fresh_task t.job)
+attempt_anew (tries.Waits w) = tries.Waits (record { task = fresh_task w.task.job; want = w.want })
+attempt_anew (tries.Shares v) = tries.Shares (shared_fresh v.job)
+
+-- an attempt after a call of it (this project's own)
+abbrev pub attempt_advance : AttemptTask → Option EventReply → AttemptTask
+attempt_advance (tries.Moves t) given = tries.Moves (advance t given)
+attempt_advance (tries.Waits w) given = tries.Waits (record { task = advance w.task given; want = w.want })
+attempt_advance (tries.Shares v) given = tries.Shares (shared_advance v given)
+
+-- what an attempt does next (this project's own)
+abbrev pub attempt_to_do : AttemptTask → LineNext
+attempt_to_do (tries.Moves t) = moves_next (to_do t)
+attempt_to_do (tries.Waits w) = waits_next w.want.items (to_do w.task)
+attempt_to_do (tries.Shares v) = shares_next (shared_to_do v)
+
+-- where the attempt at work has ended with an answer that asks for another, that one has begun, while there may be one more
+-- (this project's own)
+abbrev pub attempts_again : Attempts → LineNext → Attempts
+attempts_again a next =
+    if next_asks_again next && nat_lt 1 a.left
+    then record { attempt = attempt_advance (attempt_anew a.attempt) None; left = a.left - 1 }
+    else a
+
+-- attempts after a call of the one at work (this project's own)
+abbrev pub attempts_advance : Attempts → Option EventReply → Attempts
+attempts_advance a given =
+    attempts_again (record { attempt = attempt_advance a.attempt given; left = a.left })
+    (attempt_to_do (attempt_advance a.attempt given))
+
+-- a line before its first call, by what is attempted for it, or its refusal (this project's own)
+abbrev pub line_fresh : ℕ → Result Attempt CycleFault → LineTask
+line_fresh tries (Ok attempt) = Tries (record { attempt = attempt_fresh attempt; left = tries })
+line_fresh tries (Err fault) = Refused fault
+
+-- a line of a board's processor before its first call (this project's own)
+unfoldable pub line_started : Configuration → ℕ → Line → LineTask
+line_started config board line = line_fresh config.tries (line_attempt config board line)
+
+-- a line after a call of it (this project's own)
+abbrev pub line_advance : LineTask → Option EventReply → LineTask
+line_advance (Refused fault) given = Refused fault
+line_advance (Tries a) given = Tries (attempts_advance a given)
+line_advance Over given = Over
+
+-- what a line does next; one whose answer was taken is denied any other (this project's own)
+abbrev pub line_to_do : LineTask → LineNext
+line_to_do (Refused fault) = Ends (replies.Refused fault)
+line_to_do (Tries a) = attempt_to_do a.attempt
+line_to_do Over = Ends (replies.Transfer outcomes.Denied)
+
+-- how many attempts at a line there may be yet, the one at work among them; there is none at one that is refused or
+-- answered (this project's own)
+abbrev pub attempts_left : LineTask → ℕ
+attempts_left (Refused fault) = 0
+attempts_left (Tries a) = a.left
+attempts_left Over = 0
+
+-- attempts of which this is next: where the answer was taken they are over (this project's own)
+abbrev pub attempts_taken : Attempts → LineNext → LineTask
+attempts_taken a (Ends answer) = Over
+attempts_taken a next = Tries a
+
+-- a line after its answer was taken, if it has one: a refusal stays as it is (this project's own)
+abbrev pub line_taken : LineTask → LineTask
+line_taken (Tries a) = attempts_taken a (attempt_to_do a.attempt)
+line_taken task = task
+
+-- a line after calls with what it was given (this project's own)
+abbrev pub line_advanced : LineTask → Given → LineTask
+line_advanced task [] = task
+line_advanced task (last ∷ before) = line_advance (line_advanced task before) last
+
+-- a line of a board's processor after calls with what it was given (this project's own)
+abbrev pub line_given : Configuration → ℕ → Line → Given → LineTask
+line_given config board line given = line_advanced (line_started config board line) given
+
+-- a line after its first call and those with these replies, the newest first (this project's own)
+abbrev pub line_after : Configuration → ℕ → Line → List EventReply → LineTask
+line_after config board line replies = line_given config board line (given_of replies)
+
+-- the boards that a line calls, whatever it is given, are among the first n (this project's own)
+unfoldable pub IsLineBelow : ℕ → LineTask → Type 0
+IsLineBelow n task = (given : Given) (call : Call) → line_to_do (line_advanced task given) ≡ Makes call → IsCallBelow n call

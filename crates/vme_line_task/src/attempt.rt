@@ -1,0 +1,189 @@
+//! Attempts at a line, one after another.
+ghost use Rattle.std.specs.Prelude.{◌≡◌, ◌≢◌, ◌<◌, length, option_map, option_copied, is_some, true, Some, None, IfSome};
+ghost use Rattle.vme_core.specs.Calls.{Call, call_of, machine_step};
+ghost use Rattle.vme_core.specs.Deeds.{call_asked, target_of_call, CanCount};
+ghost use Rattle.vme_core.specs.Machines.{whos};
+ghost use Rattle.vme_line_task.specs.Tables.{Rests, next_asks_again};
+ghost use Rattle.vme_line_task.specs.Machine.{attempt_anew, attempt_advance, attempt_to_do, attempts_advance};
+ghost use Rattle.vme_line_task.specs.Events.{call_in, answer_in};
+
+use crate::wait::WaitTask;
+use vme_core::{Core, Deed, Event, EventReply};
+use vme_master::Task;
+use vme_shared::{LineReply, SharedOutcome, SharedTask};
+
+/// Attempts at a line, of which one is at work.
+#[derive(Debug, Drop)]
+pub struct Attempts<'a> {
+    pub(crate) attempt: AttemptTask<'a>,
+    /// How many there may be yet, the one at work among them.
+    pub(crate) left: u32,
+}
+
+/// What is done once in an attempt at a line.
+#[derive(Debug, Drop)]
+pub enum AttemptTask<'a> {
+    /// A transfer over the bus, or a command to the local port.
+    Moves(Task<'a>),
+    /// A read that is to find bytes.
+    Waits(WaitTask<'a>),
+    /// What is asked of a lock or a mailbox.
+    Shares(SharedTask<'a>),
+}
+
+impl Attempts<'_> {
+    /// The attempt at work is given nothing at first, and then the reply to each of its events. Where
+    /// it ends with an answer that asks for another, this is begun, while there may be one more.
+    #[inline(always)]
+    pub(crate) fn give(&mut self, given: Option<&EventReply>)
+        ensures task { self.new ≡ attempts_advance self.old (option_copied given.entry) }
+        ensures begun { attempt_to_do self.new.attempt ≢ Rests }
+    {
+        self.attempt.give(given);
+        if self.left > 1 && self.attempt.asks_again() {
+            self.left -= 1;
+            self.attempt.again();
+            self.attempt.give(None);
+        }
+    }
+
+    /// The attempt at work makes its call on boards and arbiter, where it makes one, and is given the
+    /// reply. A transfer or a command, which is attempted once, does so by itself.
+    #[inline(always)]
+    #[tactic(auto, using(crate::proofs::Calls::moves_call, crate::proofs::Calls::moves_on))]
+    pub(crate) fn make(&mut self, core: &mut Core, who: usize)
+        requires who { who < whos core.old }
+        requires can { IfSome (call_in (attempt_to_do self.old.attempt))
+            (λ call. CanCount core.old (target_of_call call)) }
+        ensures machine { (call : Call) → call_in (attempt_to_do self.old.attempt) ≡ Some call →
+            core.new ≡ (machine_step core.old who call).0 }
+        ensures task { (call : Call) → call_in (attempt_to_do self.old.attempt) ≡ Some call →
+            self.new ≡ attempts_advance self.old (Some (machine_step core.old who call).1) }
+        ensures begun { (call : Call) → call_in (attempt_to_do self.old.attempt) ≡ Some call →
+            attempt_to_do self.new.attempt ≢ Rests }
+        ensures nothing { call_in (attempt_to_do self.old.attempt) ≡ None →
+            (core.new ≡ core.old) × (self.new ≡ self.old) }
+        ensures boards { length core.new.boards ≡ length core.old.boards }
+        ensures whos { whos core.new ≡ whos core.old }
+    {
+        if let AttemptTask::Moves(task) = &mut self.attempt {
+            task.make(core, who);
+        } else {
+            self.make_in_attempts(core, who);
+        }
+    }
+
+    /// The same of what may be attempted again.
+    #[inline(never)]
+    #[tactic(auto, using(crate::proofs::Calls::asked_of))]
+    fn make_in_attempts(&mut self, core: &mut Core, who: usize)
+        requires who { who < whos core.old }
+        requires can { IfSome (call_in (attempt_to_do self.old.attempt))
+            (λ call. CanCount core.old (target_of_call call)) }
+        ensures machine { (call : Call) → call_in (attempt_to_do self.old.attempt) ≡ Some call →
+            core.new ≡ (machine_step core.old who call).0 }
+        ensures task { (call : Call) → call_in (attempt_to_do self.old.attempt) ≡ Some call →
+            self.new ≡ attempts_advance self.old (Some (machine_step core.old who call).1) }
+        ensures begun { (call : Call) → call_in (attempt_to_do self.old.attempt) ≡ Some call →
+            attempt_to_do self.new.attempt ≢ Rests }
+        ensures nothing { call_in (attempt_to_do self.old.attempt) ≡ None →
+            (core.new ≡ core.old) × (self.new ≡ self.old) }
+        ensures boards { length core.new.boards ≡ length core.old.boards }
+        ensures whos { whos core.new ≡ whos core.old }
+    {
+        let Some(deed) = &self.attempt.deed() else {
+            return;
+        };
+        let reply = core.reply(who, deed);
+        self.give(Some(&reply));
+    }
+}
+
+impl AttemptTask<'_> {
+    #[inline(always)]
+    fn give(&mut self, given: Option<&EventReply>)
+        ensures task { self.new ≡ attempt_advance self.old (option_copied given.entry) }
+        ensures begun { attempt_to_do self.new ≢ Rests }
+    {
+        match self {
+            AttemptTask::Moves(task) => task.give(given),
+            AttemptTask::Waits(wait) => wait.give(given),
+            AttemptTask::Shares(task) => task.give(given),
+        }
+    }
+
+    /// The event that it makes next, if it makes one.
+    pub(crate) fn event(&self) -> Option<Event>
+        ensures { option_map call_of result ≡ call_in (attempt_to_do self.now) }
+    {
+        match self {
+            AttemptTask::Moves(task) => task.event(),
+            AttemptTask::Waits(wait) => wait.event(),
+            AttemptTask::Shares(task) => task.event(),
+        }
+    }
+
+    /// What that event asks, apart from the lines of a cycle.
+    #[inline(always)]
+    pub(crate) fn deed(&self) -> Option<Deed<'_>>
+        ensures { option_map call_asked result ≡ call_in (attempt_to_do self.now) }
+    {
+        match self {
+            AttemptTask::Moves(task) => task.deed(),
+            AttemptTask::Waits(wait) => wait.deed(),
+            AttemptTask::Shares(task) => task.deed(),
+        }
+    }
+
+    /// Whether it has ended.
+    #[inline(always)]
+    pub(crate) fn is_over(&self) -> bool
+        ensures { result ≡ is_some (answer_in (attempt_to_do self.now)) }
+    {
+        match self {
+            AttemptTask::Moves(task) => task.is_over(),
+            AttemptTask::Waits(wait) => wait.is_over(),
+            AttemptTask::Shares(task) => task.outcome().is_some(),
+        }
+    }
+
+    /// Its answer, where it has ended. The bytes that were read go with it.
+    pub(crate) fn take_answer(&mut self) -> Option<LineReply>
+        ensures { result ≡ answer_in (attempt_to_do self.old) }
+    {
+        match self {
+            AttemptTask::Moves(task) => Some(LineReply::Transfer(task.take_outcome()?)),
+            AttemptTask::Waits(wait) => wait.take_answer(),
+            AttemptTask::Shares(task) => Some(LineReply::Shared(task.outcome()?)),
+        }
+    }
+
+    /// Whether it has ended with an answer that asks for another attempt.
+    #[inline(always)]
+    fn asks_again(&self) -> bool
+        ensures { result ≡ next_asks_again (attempt_to_do self.now) }
+    {
+        match self {
+            AttemptTask::Moves(_) => false,
+            AttemptTask::Waits(wait) => wait.asks_again(),
+            AttemptTask::Shares(task) => matches!(
+                task.outcome(),
+                Some(SharedOutcome::Busy | SharedOutcome::Full | SharedOutcome::Empty)
+            ),
+        }
+    }
+
+    /// The same before its first call, to be done once more. A transfer or a command never asks for
+    /// this.
+    #[inline(never)]
+    fn again(&mut self)
+        requires { next_asks_again (attempt_to_do self.old) ≡ true }
+        ensures { self.new ≡ attempt_anew self.old }
+    {
+        match self {
+            AttemptTask::Moves(_) => {}
+            AttemptTask::Waits(wait) => wait.again(),
+            AttemptTask::Shares(task) => task.again(),
+        }
+    }
+}

@@ -1,0 +1,108 @@
+//! Room for the bytes that the lines of a script read.
+ghost use Rattle.std.specs.Prelude.{◌≡◌, ◌<◌, ◌≤◌, ◌∷◌, length, IfOk};
+ghost use Rattle.vme_block.specs.Rooms.{short_room};
+ghost use Rattle.vme_cycle.specs.Requests.{reply_room};
+ghost use Rattle.vme_line_task.specs.Rooms.{line_room, rooms_of};
+
+use std::alloc::{AllocError, Global};
+use std::marker::Model;
+use std::vec::IntoIter;
+use vme_block::{Room, SHORT};
+use vme_cycle::{Plan, Request};
+use vme_lines::Line;
+use vme_script::Script;
+
+/// Empty rooms, one for each line of a script that has not begun, in order. Only those that take
+/// memory are kept: any other is made anew as its line begins, so that most lines need one byte here.
+#[derive(Drop)]
+pub struct Rooms {
+    /// Whether the room of each line takes memory.
+    take_memory: IntoIter<bool, Global>,
+    /// Those that do.
+    long: IntoIter<Room, Global>,
+}
+
+impl Model for Rooms {
+    ghost use Rattle.std.specs.Prelude.{◌≡◌, List, length};
+    ghost use Rattle.std.specs.Vec.Iter.{into_iter_items, into_iter_len};
+    ghost use Rattle.vme_block.specs.Rooms.{RoomView};
+    ghost use Rattle.vme_line_task.specs.Rooms.{rooms_kept};
+
+    ghost Value = { List RoomView };
+
+    ghost view = { λ r. rooms_kept (into_iter_items r.take_memory) (into_iter_items r.long) };
+
+    ghost invariant = { λ r.
+        (into_iter_len r.take_memory ≡ length (into_iter_items r.take_memory))
+        × (into_iter_len r.long ≡ length (into_iter_items r.long)) };
+}
+
+impl Rooms {
+    /// A room for each line of a script. All memory that their bytes need is taken here.
+    pub fn new(alloc: Global, script: &Script) -> Result<Rooms, AllocError>
+        ensures { IfOk result (λ rooms. rooms ≡ rooms_of script.now) }
+    {
+        let mut take_memory = Vec::with_capacity(alloc, script.len())?;
+        let mut long = Vec::new(alloc);
+        for line in 0..script.len() {
+            let count = long_room(script.line(line));
+            let takes_memory = SHORT < count;
+            if takes_memory {
+                long.push(Room::with_room(alloc, count)?)?;
+            }
+            take_memory.push_reserved(takes_memory);
+        }
+        Ok(Rooms {
+            take_memory: take_memory.into_iter(),
+            long: long.into_iter(),
+        })
+    }
+
+    /// The room of the next line, which is its own from then on.
+    pub fn take(&mut self) -> Room
+        requires { 0 < length self.old }
+        ensures { self.old ≡ result ∷ self.new }
+    {
+        if self.take_memory.next().unwrap() {
+            self.long.next().unwrap()
+        } else {
+            Room::new()
+        }
+    }
+}
+
+/// How many bytes a line reads, where they may be more than lie in a room itself; the request of any
+/// other line is not judged here.
+fn long_room(line: &Line) -> usize
+    ensures long { short_room < result → result ≡ line_room line.now }
+    ensures short { result ≤ short_room → line_room line.now ≤ short_room }
+{
+    match line {
+        Line::Bus(request) if SHORT < most_read(request) => line_room(line),
+        _ => 0,
+    }
+}
+
+/// How many bytes a request reads, if it is lawful.
+fn most_read(request: &Request) -> usize
+    ensures { result ≡ reply_room request.now }
+{
+    match request {
+        Request::Read { n, .. } | Request::Modify { n, .. } => usize::from(*n),
+        Request::BlockRead { n, count, .. } => usize::from(*n) * usize::from(*count),
+        Request::Write { .. } | Request::BlockWrite { .. } | Request::BlockFill { .. } => 0,
+    }
+}
+
+/// How many bytes a line reads by a request over the bus.
+pub fn line_room(line: &Line) -> usize
+    ensures { result ≡ line_room line.now }
+{
+    match line {
+        Line::Bus(request) => match Plan::of(request) {
+            Ok(plan) => plan.reply_room(),
+            Err(_) => 0,
+        },
+        _ => 0,
+    }
+}

@@ -1,0 +1,157 @@
+//! What is attempted for a line, before its first call.
+ghost use Rattle.std.specs.Prelude.{◌≡◌, ◌<◌, ◌≤◌, [], length, Ok};
+ghost use Rattle.vme_block.specs.Rooms.{short_room};
+ghost use Rattle.vme_cycle.specs.declared.request.Request.TheVariants.{Read};
+ghost use Rattle.vme_cycle.specs.Requests.{reply_room};
+ghost use Rattle.vme_cycle.specs.Lawful.{Transfer as LawfulRequest, transfer_of};
+ghost use Rattle.vme_script.specs.Boards.{entries_of};
+ghost use Rattle.vme_master.specs.Machine.{bus_task};
+ghost use Rattle.vme_shared.specs.Mailboxes.{IsAsked};
+ghost use Rattle.vme_line_task.specs.Scripts.{slot_at, level_at, mailbox_at, HasMailbox, HasItsMailbox, Waits, transfer_job, request_attempt, shared_attempt, line_attempt};
+ghost use Rattle.vme_line_task.specs.Rooms.{room_of_request, line_room};
+ghost use Rattle.vme_line_task.specs.Machine.{fresh_of};
+
+use crate::attempt::AttemptTask;
+use crate::wait::WaitTask;
+use vme_block::Room;
+use vme_cycle::{CycleFault, Request};
+use vme_lanes::{Datum, copy_bytes};
+use vme_lines::Line;
+use vme_master::Task;
+use vme_script::Config;
+use vme_shared::{Mailbox, SharedRequest, SharedTask};
+
+/// What is attempted for a line of a board's processor, or the refusal of its request. What a request
+/// over the bus reads goes into the room.
+pub(crate) fn attempt_of<'a>(
+    config: &'a Config,
+    board: usize,
+    line: &'a Line,
+    room: Room,
+) -> Result<AttemptTask<'a>, CycleFault>
+    requires board { board < length config.now.boards }
+    requires mailbox { HasItsMailbox config.now line.now }
+    requires none { room.items ≡ [] }
+    requires room { line_room line.now ≤ room.room }
+    ensures { result ≡ fresh_of (line_attempt config.now board line.now) }
+{
+    match line {
+        Line::Bus(request) => Ok(AttemptTask::Moves(transfer(config, board, request, room)?)),
+        Line::Local(cmd) => Ok(AttemptTask::Moves(Task::local(board, cmd.copy()))),
+        Line::Await { am, addr, bytes } => waits(config, board, *am, *addr, bytes),
+        Line::Lock { am, addr } => shares(
+            config,
+            board,
+            SharedRequest::Lock {
+                am: *am,
+                addr: *addr,
+            },
+        ),
+        Line::Unlock { am, addr } => shares(
+            config,
+            board,
+            SharedRequest::Unlock {
+                am: *am,
+                addr: *addr,
+            },
+        ),
+        Line::Put { mailbox, word } => {
+            let mailbox = mailbox_at(config, *mailbox);
+            shares(
+                config,
+                board,
+                SharedRequest::Put {
+                    mailbox,
+                    word: *word,
+                },
+            )
+        }
+        Line::Take { mailbox } => {
+            let mailbox = mailbox_at(config, *mailbox);
+            shares(config, board, SharedRequest::Take { mailbox })
+        }
+    }
+}
+
+/// The task of a request of a board's processor, or the refusal of the request.
+#[inline(always)]
+pub(crate) fn transfer<'a>(
+    config: &Config,
+    board: usize,
+    request: &'a Request,
+    room: Room,
+) -> Result<Task<'a>, CycleFault>
+    requires board { board < length config.now.boards }
+    requires none { room.items ≡ [] }
+    requires room { room_of_request (transfer_of request.now) ≤ room.room }
+    ensures { result ≡ bus_task (entries_of config.now.boards) (slot_at config.now board)
+        (level_at config.now board) (transfer_of request.now) }
+{
+    let slot = config.slot(board);
+    let level = config.level(board);
+    Task::start(config.map(), slot, level, request, room)
+}
+
+/// A read over the bus that is to find these bytes.
+#[inline(never)]
+fn waits<'a>(
+    config: &Config,
+    board: usize,
+    am: u8,
+    addr: u32,
+    bytes: &Datum,
+) -> Result<AttemptTask<'a>, CycleFault>
+    requires { board < length config.now.boards }
+    ensures { result
+        ≡ fresh_of (request_attempt (λ t. Waits (transfer_job config.now board t) bytes.now.items)
+        (transfer_of (Read am addr (length bytes.now.items)))) }
+{
+    let n = bytes.as_slice().len() as u8;
+    let task = short_transfer(config, board, Request::Read { am, addr, n })?;
+    let want = copy_bytes(bytes);
+    Ok(AttemptTask::Waits(WaitTask::of(task, want)))
+}
+
+/// The task of a request of a board's processor that reads few bytes, or the refusal of the request.
+fn short_transfer<'a>(
+    config: &Config,
+    board: usize,
+    request: Request,
+) -> Result<Task<'a>, CycleFault>
+    requires board { board < length config.now.boards }
+    requires room { (t : LawfulRequest) → transfer_of request ≡ Ok t → reply_room t.request ≤ short_room }
+    ensures { result ≡ bus_task (entries_of config.now.boards) (slot_at config.now board)
+        (level_at config.now board) (transfer_of request) }
+{
+    Task::start_own(
+        config.map(),
+        config.slot(board),
+        config.level(board),
+        request,
+    )
+}
+
+/// What is asked of a lock or a mailbox.
+#[inline(never)]
+fn shares<'a>(
+    config: &'a Config,
+    board: usize,
+    request: SharedRequest,
+) -> Result<AttemptTask<'a>, CycleFault>
+    requires board { board < length config.now.boards }
+    requires request { IsAsked request }
+    ensures { result ≡ fresh_of (shared_attempt config.now board request) }
+{
+    let slot = config.slot(board);
+    let level = config.level(board);
+    let task = SharedTask::start(config.map(), slot, level, request)?;
+    Ok(AttemptTask::Shares(task))
+}
+
+/// The mailbox with a number, counted from 1 on.
+fn mailbox_at(config: &Config, number: u8) -> Mailbox
+    requires { HasMailbox config.now number }
+    ensures { result ≡ mailbox_at config.now number }
+{
+    config.mailboxes()[usize::from(number) - 1]
+}

@@ -1,0 +1,238 @@
+ghost use Rattle.std.specs.Prelude.{◌≡◌, ◌≢◌, ◌<◌, ◌≤◌, ◌∷◌, [], ℕ, length, option_map, option_copied, is_some, slice_get, Some, None, IfSome};
+ghost use Rattle.vme_core.specs.Calls.{Call, call_of, machine_step};
+ghost use Rattle.vme_core.specs.Deeds.{call_asked, target_of_call, CanCount};
+ghost use Rattle.vme_core.specs.Machines.{whos};
+ghost use Rattle.vme_lines.specs.declared.line.Line.{Line as AnyLine};
+ghost use Rattle.vme_script.specs.Configurations.{Configuration};
+ghost use Rattle.vme_master.specs.Tables.{Given};
+ghost use Rattle.vme_line_task.specs.Scripts.{HasItsMailbox, lines_at};
+ghost use Rattle.vme_line_task.specs.Rooms.{line_room};
+ghost use Rattle.vme_line_task.specs.Tables.{Rests, next_given};
+ghost use Rattle.vme_line_task.specs.Machine.{line_started, line_advance, line_to_do, line_taken, line_given, attempts_left, IsLineBelow};
+ghost use Rattle.vme_line_task.specs.declared.attempt.AttemptTask.TheVariants as tries;
+ghost use Rattle.vme_line_task.specs.declared.task.LineTask.TheVariants.{Tries};
+ghost use Rattle.vme_line_task.specs.Events.{next_in, call_in, answer_in, IsEventBelow, IsTodoBelow};
+
+use crate::attempt::{AttemptTask, Attempts};
+use crate::start::{attempt_of, transfer};
+use crate::todo::LineTodo;
+use vme_block::Room;
+use vme_core::{Core, Deed, Event, EventReply};
+use vme_cycle::CycleFault;
+use vme_lines::Line;
+use vme_master::{Outcome, Task};
+use vme_script::Config;
+use vme_shared::LineReply;
+
+/// A line of a script at work.
+#[derive(Debug, Drop)]
+pub enum LineTask<'a> {
+    /// Its request is refused.
+    Refused(CycleFault),
+    /// Attempts at it, one after another.
+    Tries(Attempts<'a>),
+    /// Its answer was taken.
+    Over,
+}
+
+impl<'a> LineTask<'a> {
+    /// A line of the script of a board's processor, by its place among those that ask for something,
+    /// before its first call. What it reads by a request over the bus goes into the room.
+    #[inline(always)]
+    #[tactic(auto, using(crate::proofs::Below::started_below))]
+    pub fn start(config: &'a Config, board: usize, line: usize, room: Room) -> LineTask<'a>
+        requires board { board < length config.now.boards }
+        requires line { line < length (lines_at config.now board) }
+        requires none { room.items ≡ [] }
+        requires room { (one : AnyLine) → slice_get (lines_at config.now board) line ≡ Some one →
+            line_room one ≤ room.room }
+        ensures line { (one : AnyLine) → slice_get (lines_at config.now board) line ≡ Some one →
+            result ≡ line_started config.now board one }
+        ensures there { IsLineBelow (length config.now.boards) result }
+    {
+        let boards = config.boards();
+        prove!(board < boards);
+        LineTask::of(config, board, config.script(board).line(line), room)
+    }
+
+    /// What the line does next. The first call is given nothing, and each later one the reply to the
+    /// event that the call before it gave out. Where the line has ended, its answer is taken.
+    pub fn next(&mut self, given: Option<EventReply>) -> LineTodo
+        ensures task { self.new ≡ line_taken (line_advance self.old given) }
+        ensures todo { next_in result ≡ line_to_do (line_advance self.old given) }
+        ensures table { (config : Configuration) (board : ℕ) (line : AnyLine) (before : Given) →
+            self.old ≡ line_given config board line before →
+            next_in result ≡ next_given config board line (given ∷ before) }
+        ensures below { (n : ℕ) → IsLineBelow n self.old → IsLineBelow n self.new }
+        ensures there { (n : ℕ) → IsLineBelow n self.old → IsTodoBelow n result }
+    {
+        self.give(given.as_ref());
+        self.todo()
+    }
+
+    /// The first half of `next`, for a driver that asks for the event or the answer apart: the line is
+    /// given nothing at first, and then each time the reply to its event.
+    #[inline(always)]
+    pub fn give(&mut self, given: Option<&EventReply>)
+        ensures task { self.new ≡ line_advance self.old (option_copied given.entry) }
+        ensures begun { line_to_do self.new ≢ Rests }
+        ensures below { (n : ℕ) → IsLineBelow n self.old → IsLineBelow n self.new }
+    {
+        if let LineTask::Tries(attempts) = self {
+            attempts.give(given);
+        }
+    }
+
+    /// The event that it makes next, where it has begun and has not ended.
+    pub fn event(&self) -> Option<Event>
+        ensures event { option_map call_of result ≡ call_in (line_to_do self.now) }
+        ensures there { (n : ℕ) → IsLineBelow n self.now → IfSome result (IsEventBelow n) }
+    {
+        match self {
+            LineTask::Refused(_) | LineTask::Over => None,
+            LineTask::Tries(attempts) => attempts.attempt.event(),
+        }
+    }
+
+    /// What that event asks, apart from the lines of a cycle.
+    #[inline(always)]
+    pub fn deed(&self) -> Option<Deed<'_>>
+        ensures { option_map call_asked result ≡ call_in (line_to_do self.now) }
+    {
+        let LineTask::Tries(attempts) = self else {
+            return None;
+        };
+        attempts.attempt.deed()
+    }
+
+    /// Makes its call on boards and arbiter, where it makes one, and is given the reply: as by `deed`
+    /// and `give`, but faster.
+    #[inline(always)]
+    pub fn make(&mut self, core: &mut Core, who: usize)
+        requires who { who < whos core.old }
+        requires can { IfSome (call_in (line_to_do self.old)) (λ call. CanCount core.old (target_of_call call)) }
+        ensures machine { (call : Call) → call_in (line_to_do self.old) ≡ Some call →
+            core.new ≡ (machine_step core.old who call).0 }
+        ensures task { (call : Call) → call_in (line_to_do self.old) ≡ Some call →
+            self.new ≡ line_advance self.old (Some (machine_step core.old who call).1) }
+        ensures begun { (call : Call) → call_in (line_to_do self.old) ≡ Some call → line_to_do self.new ≢ Rests }
+        ensures nothing { call_in (line_to_do self.old) ≡ None → (core.new ≡ core.old) × (self.new ≡ self.old) }
+        ensures below { (call : Call) (n : ℕ) → call_in (line_to_do self.old) ≡ Some call →
+            IsLineBelow n self.old → IsLineBelow n self.new }
+        ensures boards { length core.new.boards ≡ length core.old.boards }
+        ensures whos { whos core.new ≡ whos core.old }
+    {
+        if let LineTask::Tries(attempts) = self {
+            attempts.make(core, who);
+        }
+    }
+
+    /// Whether it has ended. A driver that asks this first moves no answer that is none.
+    #[inline(always)]
+    pub fn is_over(&self) -> bool
+        ensures { result ≡ is_some (answer_in (line_to_do self.now)) }
+    {
+        match self {
+            LineTask::Refused(_) | LineTask::Over => true,
+            LineTask::Tries(attempts) => attempts.attempt.is_over(),
+        }
+    }
+
+    /// How many attempts at it there may be yet, the one at work among them. Where this falls as it is
+    /// given a reply, another attempt has begun, for which a driver on a thread may wait.
+    pub fn attempts_left(&self) -> u32
+        ensures { result ≡ attempts_left self.now }
+    {
+        match self {
+            LineTask::Refused(_) | LineTask::Over => 0,
+            LineTask::Tries(attempts) => attempts.left,
+        }
+    }
+
+    /// Takes its answer, where it has ended. A line is denied any further answer, unless it is refused.
+    #[inline(never)]
+    pub fn take_answer(&mut self) -> Option<LineReply>
+        ensures answer { result ≡ answer_in (line_to_do self.old) }
+        ensures task { self.new ≡ line_taken self.old }
+    {
+        match self {
+            LineTask::Refused(fault) => Some(LineReply::Refused(*fault)),
+            LineTask::Tries(attempts) if attempts.attempt.is_over() => {
+                let answer = attempts.attempt.take_answer();
+                *self = LineTask::Over;
+                answer
+            }
+            LineTask::Tries(_) => None,
+            LineTask::Over => Some(LineReply::Transfer(Outcome::Denied)),
+        }
+    }
+
+    fn todo(&mut self) -> LineTodo
+        requires { line_to_do self.old ≢ Rests }
+        ensures todo { next_in result ≡ line_to_do self.old }
+        ensures task { self.new ≡ line_taken self.old }
+    {
+        match self.event() {
+            Some(event) => LineTodo::Call(event),
+            None => LineTodo::Ended(self.take_answer().unwrap()),
+        }
+    }
+
+    /// A line of a board's processor before its first call.
+    #[inline(always)]
+    #[tactic(auto, unfolding(crate::specs::Machine::line_started))]
+    fn of(config: &'a Config, board: usize, line: &'a Line, room: Room) -> LineTask<'a>
+        requires board { board < length config.now.boards }
+        requires mailbox { HasItsMailbox config.now line.now }
+        requires none { room.items ≡ [] }
+        requires room { line_room line.now ≤ room.room }
+        ensures { result ≡ line_started config.now board line.now }
+    {
+        match line {
+            Line::Bus(request) => match transfer(config, board, request, room) {
+                Ok(task) => once(task, config.tries()),
+                Err(fault) => LineTask::Refused(fault),
+            },
+            Line::Local(cmd) => once(Task::local(board, cmd.copy()), config.tries()),
+            _ => LineTask::of_any(config, board, line, room),
+        }
+    }
+
+    /// The same of any line. Out of line, so that a task that is attempted once is made in its place.
+    #[inline(never)]
+    #[tactic(auto, unfolding(crate::specs::Machine::line_started))]
+    fn of_any(config: &'a Config, board: usize, line: &'a Line, room: Room) -> LineTask<'a>
+        requires board { board < length config.now.boards }
+        requires mailbox { HasItsMailbox config.now line.now }
+        requires none { room.items ≡ [] }
+        requires room { line_room line.now ≤ room.room }
+        ensures { result ≡ line_started config.now board line.now }
+    {
+        match attempt_of(config, board, line, room) {
+            Ok(attempt) => LineTask::Tries(Attempts {
+                attempt,
+                left: config.tries(),
+            }),
+            Err(fault) => LineTask::Refused(fault),
+        }
+    }
+}
+
+/// A transfer or a command, with the attempts that there may be at a line.
+#[inline(always)]
+fn once(task: Task<'_>, left: u32) -> LineTask<'_>
+    ensures { result ≡ Tries (record { attempt = tries.Moves task.entry; left = left }) }
+{
+    LineTask::Tries(Attempts {
+        attempt: AttemptTask::Moves(task),
+        left,
+    })
+}
+
+/// The number of lines of the script of a board's processor that ask for something.
+pub fn line_count(config: &Config, board: usize) -> usize
+    requires { board < length config.now.boards }
+    ensures { result ≡ length (lines_at config.now board) }
+{
+    config.script(board).len()
+}

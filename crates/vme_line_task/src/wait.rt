@@ -1,0 +1,125 @@
+//! Reads that are to find bytes.
+ghost use Rattle.std.specs.Prelude.{◌≡◌, ◌≢◌, ◌≤◌, if◌then◌else◌, option_map, option_copied, is_some};
+ghost use Rattle.std.specs.Str.{bytes_eq};
+ghost use Rattle.vme_block.specs.Rooms.{short_room};
+ghost use Rattle.vme_core.specs.Calls.{call_of};
+ghost use Rattle.vme_core.specs.Deeds.{call_asked};
+ghost use Rattle.vme_master.specs.Machine.{advance, fresh_task, to_do, job_room};
+ghost use Rattle.vme_shared.specs.declared.reply.LineReply.TheVariants.{Met, Timeout};
+ghost use Rattle.vme_line_task.specs.Tables.{Rests, waits_next, next_asks_again};
+ghost use Rattle.vme_line_task.specs.Events.{call_in, answer_in};
+
+use std::marker::Model;
+use vme_core::{Deed, Event, EventReply};
+use vme_lanes::Datum;
+use vme_master::{Outcome, Task};
+use vme_shared::LineReply;
+
+/// A read that is to find bytes: so few that they lie in the task itself.
+#[derive(Debug, Drop)]
+pub struct WaitTask<'a> {
+    task: Task<'a>,
+    want: Datum,
+}
+
+impl<'a> Model for WaitTask<'a> {
+    ghost use Rattle.std.specs.Prelude.{◌≤◌};
+    ghost use Rattle.vme_block.specs.Rooms.{short_room};
+    ghost use Rattle.vme_master.specs.Machine.{job_room};
+    ghost use Rattle.vme_line_task.specs.Waits.{WaitView};
+
+    ghost Value = { WaitView };
+
+    ghost view = { λ w. record { task = w.task; want = w.want } };
+
+    ghost invariant = { λ w. job_room w.task.job ≤ short_room };
+}
+
+impl<'a> WaitTask<'a> {
+    /// A read, by its task, with the bytes that it is to find.
+    pub(crate) fn of(task: Task<'a>, want: Datum) -> WaitTask<'a>
+        requires { job_room task.job ≤ short_room }
+        ensures task { result.task ≡ task.entry }
+        ensures want { result.want ≡ want }
+    {
+        WaitTask { task, want }
+    }
+
+    /// It is given nothing at first, and then the reply to each of its events.
+    #[inline(never)]
+    #[tactic(auto, using(vme_master::proofs::Stands::job_stays))]
+    pub(crate) fn give(&mut self, given: Option<&EventReply>)
+        ensures task { self.new ≡ record self.old { task = advance self.old.task (option_copied given.entry) } }
+        ensures begun { waits_next self.new.want.items (to_do self.new.task) ≢ Rests }
+    {
+        self.task.give(given);
+    }
+
+    /// The event that it makes next, if it makes one.
+    pub(crate) fn event(&self) -> Option<Event>
+        ensures { option_map call_of result ≡ call_in (waits_next self.now.want.items (to_do self.now.task)) }
+    {
+        self.task.event()
+    }
+
+    /// What that event asks, apart from the lines of a cycle.
+    #[inline(never)]
+    pub(crate) fn deed(&self) -> Option<Deed<'_>>
+        ensures { option_map call_asked result ≡ call_in (waits_next self.now.want.items (to_do self.now.task)) }
+    {
+        self.task.deed()
+    }
+
+    /// Whether it has ended.
+    pub(crate) fn is_over(&self) -> bool
+        ensures { result ≡ is_some (answer_in (waits_next self.now.want.items (to_do self.now.task))) }
+    {
+        self.task.is_over()
+    }
+
+    /// Whether it has ended with other bytes than it is to find.
+    #[inline(never)]
+    pub(crate) fn asks_again(&self) -> bool
+        ensures { result ≡ next_asks_again (waits_next self.now.want.items (to_do self.now.task)) }
+    {
+        match self.task.read() {
+            Some(bytes) => !self.is_met(bytes),
+            None => false,
+        }
+    }
+
+    /// Its answer, where it has ended: whether the bytes are those that it is to find.
+    pub(crate) fn take_answer(&mut self) -> Option<LineReply>
+        ensures { result ≡ answer_in (waits_next self.old.want.items (to_do self.old.task)) }
+    {
+        match self.task.take_outcome()? {
+            Outcome::Read(bytes) => Some(self.found(bytes.as_slice())),
+            outcome => Some(LineReply::Transfer(outcome)),
+        }
+    }
+
+    /// The same read before its first call, to be done once more.
+    pub(crate) fn again(&mut self)
+        ensures { self.new ≡ record self.old { task = fresh_task self.old.task.job } }
+    {
+        self.task.again();
+    }
+
+    /// The answer of a read of these bytes.
+    fn found(&self, bytes: &[u8]) -> LineReply
+        ensures { result ≡ (if bytes_eq bytes.now self.now.want.items then Met else Timeout) }
+    {
+        if self.is_met(bytes) {
+            LineReply::Met
+        } else {
+            LineReply::Timeout
+        }
+    }
+
+    /// Whether these bytes are those that it is to find.
+    fn is_met(&self, bytes: &[u8]) -> bool
+        ensures { result ≡ bytes_eq bytes.now self.now.want.items }
+    {
+        bytes == self.want.as_slice()
+    }
+}

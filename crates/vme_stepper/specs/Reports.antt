@@ -1,0 +1,48 @@
+-- What a run on one thread is told as.
+use Rattle.std.specs.Prelude.{ℕ, List, [], ◌∷◌}
+use Rattle.vme_memory.specs.Boards.{Board}
+use Rattle.vme_core.specs.Tallies.{Tally}
+use Rattle.vme_shared.specs.declared.reply.LineReply.{LineReply}
+use Rattle.vme_shared.specs.declared.reply.LineReply.TheVariants.{Unfinished}
+use Rattle.vme_shared.specs.declared.status.Status.{Status}
+use Rattle.vme_report.specs.Boards.{BoardText}
+use Rattle.vme_report.specs.Reports.{report_text, report_status}
+use Rattle.vme_script.specs.declared.board.BoardConfig.{BoardConfig}
+use Rattle.vme_script.specs.declared.script.ScriptLine.{ScriptLine}
+use Rattle.vme_script.specs.Configurations.{Configuration}
+use Rattle.vme_line_task.specs.Courses.{Course}
+use Rattle.vme_stepper.specs.Turns.{World, world_after}
+
+-- the numbers of a script's lines, each with its answer; a line without one is unfinished (this project's own)
+abbrev pub told_lines : List ScriptLine → List LineReply → List (ℕ × LineReply)
+told_lines [] ended = []
+told_lines (line ∷ script) [] = (line.number, Unfinished) ∷ told_lines script []
+told_lines (line ∷ script) (answer ∷ ended) = (line.number, answer) ∷ told_lines script ended
+
+-- what is told of a board (this project's own)
+abbrev pub told_board : BoardConfig → List ScriptLine → Course → Tally Board → BoardText
+told_board board script c tally = record {
+  slot = board.slot;
+  lines = told_lines script c.ended;
+  bytes = tally.object.bytes;
+  steps = tally.steps;
+  made = tally.made;
+}
+
+-- what is told of boards, in order of slots (this project's own)
+abbrev pub told_boards : List BoardConfig → List (List ScriptLine) → List Course → List (Tally Board) → List BoardText
+told_boards (board ∷ boards) (script ∷ scripts) (c ∷ courses) (tally ∷ tallies) =
+    told_board board script c tally ∷ told_boards boards scripts courses tallies
+told_boards boards scripts courses tallies = []
+
+-- what is told of a world (this project's own)
+abbrev pub told_world : Configuration → World → List BoardText
+told_world config world = told_boards config.boards config.scripts world.courses world.machine.boards
+
+-- the text of a run of these slots' turns (this project's own)
+abbrev pub run_text : Configuration → List ℕ → List ℕ
+run_text config slots = report_text (told_world config (world_after config slots))
+
+-- whether each line has a good answer (this project's own)
+abbrev pub run_status : Configuration → List ℕ → Status
+run_status config slots = report_status (told_world config (world_after config slots))

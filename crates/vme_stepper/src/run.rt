@@ -1,0 +1,60 @@
+//! Runs of scripts, and their reports.
+ghost use Rattle.std.specs.Prelude.{◌≡◌, ◌≢◌, false, IfOk, IfErr, OnOk, OnErr};
+ghost use Rattle.std.specs.Io.KnownBytes.{Appends};
+ghost use Rattle.vme_io.specs.Fronts.{AppendsFront};
+ghost use Rattle.vme_report.specs.Ends.{is_write_end};
+ghost use Rattle.vme_stepper.specs.Schedules.{file_turns};
+ghost use Rattle.vme_stepper.specs.Reports.{run_text, run_status};
+
+use crate::driver::Driver;
+use std::alloc::Global;
+use vme_io::Sink;
+use vme_report::RunFault;
+use vme_script::Config;
+use vme_shared::Status;
+
+/// Runs the scripts by turns of these slots, one after another, and writes the report; or a front
+/// of it before a fault. A turn of a slot without a board, or with no line left, does nothing.
+///
+/// No turn takes memory. `Memory` comes where a growth is refused.
+pub fn run_steps<W: Sink>(
+    alloc: Global,
+    config: &Config,
+    slots: &[u16],
+    sink: &mut W,
+) -> Result<Status, RunFault>
+    requires { W.is_marked sink.old ≡ false }
+    ensures text { OnOk result
+        (Appends (W.contents sink.old) (W.contents sink.new) (run_text config.now slots.now)) }
+    ensures front { OnErr result
+        (AppendsFront (W.contents sink.old) (W.contents sink.new) (run_text config.now slots.now)) }
+    ensures status { IfOk result (λ status. status ≡ run_status config.now slots.now) }
+    ensures write { W.is_marked sink.new ≡ is_write_end result }
+    ensures faults { IfErr result (λ fault. (fault ≢ RunFault.Thread) × (fault ≢ RunFault.Spent)) }
+{
+    let Ok(mut driver) = Driver::new(alloc, config) else {
+        return Err(RunFault::Memory);
+    };
+    driver.run(config, slots);
+    driver.report(alloc, config, sink)
+}
+
+/// Runs the scripts by the turns of the configuration's file: those of its schedule, and then its
+/// rounds over all slots in order. These are laid out nowhere, so that the memory is the same
+/// however many they are.
+pub fn run_file<W: Sink>(alloc: Global, config: &Config, sink: &mut W) -> Result<Status, RunFault>
+    requires { W.is_marked sink.old ≡ false }
+    ensures text { OnOk result (Appends (W.contents sink.old) (W.contents sink.new)
+        (run_text config.now (file_turns config.now))) }
+    ensures front { OnErr result (AppendsFront (W.contents sink.old) (W.contents sink.new)
+        (run_text config.now (file_turns config.now))) }
+    ensures status { IfOk result (λ status. status ≡ run_status config.now (file_turns config.now)) }
+    ensures write { W.is_marked sink.new ≡ is_write_end result }
+    ensures faults { IfErr result (λ fault. (fault ≢ RunFault.Thread) × (fault ≢ RunFault.Spent)) }
+{
+    let Ok(mut driver) = Driver::new(alloc, config) else {
+        return Err(RunFault::Memory);
+    };
+    driver.run_file(config);
+    driver.report(alloc, config, sink)
+}
