@@ -7,8 +7,6 @@ mod block;
 mod fault;
 mod held;
 mod room;
-#[cfg(test)]
-mod tests;
 
 pub use block::{BLOCK_LIMIT, Block};
 pub use fault::BlockFault;

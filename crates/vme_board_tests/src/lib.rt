@@ -14,3 +14,5 @@ mod maps;
 mod memories;
 #[cfg(test)]
 mod wide;
+#[cfg(test)]
+mod blocks;

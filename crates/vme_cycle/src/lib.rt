@@ -3,7 +3,11 @@
 //! profile of the data transfer bus of ANSI/IEEE Std 1014-1987, chapter 2.
 #![tactic(auto)]
 
+mod block;
+mod block_buffer;
+mod block_fault;
 mod fault;
+mod held;
 mod laws;
 mod modify;
 mod plan;
@@ -11,11 +15,14 @@ mod request;
 mod signals;
 mod transfer;
 
+pub use block::{BLOCK_LIMIT, Block};
+pub use block_buffer::Room;
+pub use block_fault::BlockFault;
 pub use fault::CycleFault;
+pub use held::SHORT;
 pub use laws::{bytes_are_their_number, sums_are_modulo};
 pub use modify::Modify;
 pub use plan::Plan;
 pub use request::Request;
 pub use signals::Signals;
 pub use transfer::Transfer;
-pub use vme_block::Block;

@@ -3,7 +3,7 @@ ghost use Rattle.vme_cycle.specs.Counts.{is_datum_len, is_block_count, is_wide_c
 ghost use Rattle.vme_cycle.specs.Lawful.{location_for};
 
 use crate::modify::Modify;
-use vme_block::Block;
+use crate::block::Block;
 use vme_lanes::{Datum, Location};
 
 /// How many addresses lie between the boundaries that no block crosses.

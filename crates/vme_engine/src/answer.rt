@@ -1,6 +1,6 @@
 //! What a line is answered, and what it does to the board.
 ghost use Rattle.std.specs.Prelude.{ℕ, ◌≡◌, ◌+◌, ◌++◌, ◌<◌, ◌≤◌, length, Some, IfOk, IfSome, OnOk};
-ghost use Rattle.vme_block.specs.Rooms.{block_limit};
+ghost use Rattle.vme_cycle.specs.BlockBuffers.{block_limit};
 ghost use Rattle.vme_cycle.specs.Requests.{addr_of, function_of, datum_len, count_of, address_of};
 ghost use Rattle.vme_cycle.specs.SignalLines.{row_len, len_at};
 ghost use Rattle.vme_cycle.specs.Plans.{signals_of};
@@ -11,11 +11,8 @@ ghost use Rattle.vme_engine.specs.Answers.{outcome_of, final_signals, offset_of,
 use crate::bus::Bus;
 use crate::request::request_of;
 use std::alloc::AllocError;
-use vme_block::Room;
-use vme_cycle::{Plan, Request, Signals};
-use vme_lines::{
-    print_berr, print_done, print_line_refusal, print_old, print_read, print_refusal, print_signals,
-};
+use vme_cycle::{Plan, Request, Room, Signals};
+use vme_lines::{print_berr, print_done, print_line_refusal, print_old, print_read, print_refusal, print_signals};
 use vme_memory::Reply;
 use vme_shared::Status;
 

@@ -9,7 +9,7 @@ ghost use Rattle.vme_program.specs.Ends.{IsReadingFault, ReadsPastLimit, is_read
 use crate::answer::answer_line;
 use crate::bus::Bus;
 use std::alloc::Global;
-use vme_block::{BLOCK_LIMIT, Room};
+use vme_cycle::{BLOCK_LIMIT, Room};
 use vme_io::{Sink, Source, write_all};
 use vme_program::{ProgramFault, read_input};
 use vme_shared::Status;

@@ -1,7 +1,7 @@
 -- What a read that is to find bytes reads: few bytes.
 use Rattle.std.proofs.Common.{◌≡◌, ℕ, ◌≤◌, List, length, Result, Ok, Err, ap, subst, ◌∙◌}
 use Rattle.arrayvec.specs.ArrayVec.{ArrayVec}
-use Rattle.vme_block.specs.Rooms.{short_room}
+use Rattle.vme_cycle.specs.BlockBuffers.{short_room}
 use Rattle.vme_cycle.specs.declared.fault.CycleFault.{CycleFault}
 use Rattle.vme_cycle.specs.declared.request.Request.TheVariants.{Read}
 use Rattle.vme_cycle.specs.Requests.{reply_room}

@@ -1,6 +1,6 @@
 -- Room for the bytes that the lines of a script read.
 use Rattle.std.specs.Prelude.{ℕ, Bool, true, false, List, [], ◌∷◌, map, max, Result, Ok, Err}
-use Rattle.vme_block.specs.Rooms.{RoomView, short_room}
+use Rattle.vme_cycle.specs.BlockBuffers.{RoomView, short_room}
 use Rattle.vme_cycle.specs.declared.fault.CycleFault.{CycleFault}
 use Rattle.vme_cycle.specs.Requests.{reply_room}
 use Rattle.vme_cycle.specs.Lawful.{Transfer, transfer_of}

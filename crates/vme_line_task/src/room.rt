@@ -1,14 +1,13 @@
 //! Room for the bytes that the lines of a script read.
 ghost use Rattle.std.specs.Prelude.{◌≡◌, ◌<◌, ◌≤◌, ◌∷◌, length, IfOk};
-ghost use Rattle.vme_block.specs.Rooms.{short_room};
+ghost use Rattle.vme_cycle.specs.BlockBuffers.{short_room};
 ghost use Rattle.vme_cycle.specs.Requests.{reply_room};
 ghost use Rattle.vme_line_task.specs.Rooms.{line_room, rooms_of};
 
 use std::alloc::{AllocError, Global};
 use std::marker::Model;
 use std::vec::IntoIter;
-use vme_block::{Room, SHORT};
-use vme_cycle::{Plan, Request};
+use vme_cycle::{Plan, Request, Room, SHORT};
 use vme_lines::Line;
 use vme_script::Script;
 
@@ -25,7 +24,7 @@ pub struct Rooms {
 impl Model for Rooms {
     ghost use Rattle.std.specs.Prelude.{◌≡◌, List, length};
     ghost use Rattle.std.specs.Vec.Iter.{into_iter_items, into_iter_len};
-    ghost use Rattle.vme_block.specs.Rooms.{RoomView};
+    ghost use Rattle.vme_cycle.specs.BlockBuffers.{RoomView};
     ghost use Rattle.vme_line_task.specs.Rooms.{rooms_kept};
 
     ghost Value = { List RoomView };

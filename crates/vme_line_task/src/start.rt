@@ -1,6 +1,6 @@
 //! What is attempted for a line, before its first call.
 ghost use Rattle.std.specs.Prelude.{◌≡◌, ◌<◌, ◌≤◌, [], length, Ok};
-ghost use Rattle.vme_block.specs.Rooms.{short_room};
+ghost use Rattle.vme_cycle.specs.BlockBuffers.{short_room};
 ghost use Rattle.vme_cycle.specs.declared.request.Request.TheVariants.{Read};
 ghost use Rattle.vme_cycle.specs.Requests.{reply_room};
 ghost use Rattle.vme_cycle.specs.Lawful.{Transfer as LawfulRequest, transfer_of};
@@ -13,9 +13,8 @@ ghost use Rattle.vme_line_task.specs.Machine.{fresh_of};
 
 use crate::attempt::AttemptTask;
 use crate::wait::WaitTask;
-use vme_block::Room;
-use vme_cycle::{CycleFault, Request};
-use vme_lanes::{Datum, copy_bytes};
+use vme_cycle::{CycleFault, Request, Room};
+use vme_lanes::{copy_bytes, Datum};
 use vme_lines::Line;
 use vme_master::Task;
 use vme_script::Config;

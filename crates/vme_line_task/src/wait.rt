@@ -1,7 +1,7 @@
 //! Reads that are to find bytes.
 ghost use Rattle.std.specs.Prelude.{◌≡◌, ◌≢◌, ◌≤◌, if◌then◌else◌, option_map, option_copied, is_some};
 ghost use Rattle.std.specs.Str.{bytes_eq};
-ghost use Rattle.vme_block.specs.Rooms.{short_room};
+ghost use Rattle.vme_cycle.specs.BlockBuffers.{short_room};
 ghost use Rattle.vme_core.specs.Calls.{call_of};
 ghost use Rattle.vme_core.specs.Deeds.{call_asked};
 ghost use Rattle.vme_master.specs.Machine.{advance, fresh_task, to_do, job_room};
@@ -24,7 +24,7 @@ pub struct WaitTask<'a> {
 
 impl<'a> Model for WaitTask<'a> {
     ghost use Rattle.std.specs.Prelude.{◌≤◌};
-    ghost use Rattle.vme_block.specs.Rooms.{short_room};
+    ghost use Rattle.vme_cycle.specs.BlockBuffers.{short_room};
     ghost use Rattle.vme_master.specs.Machine.{job_room};
     ghost use Rattle.vme_line_task.specs.Waits.{WaitView};
 

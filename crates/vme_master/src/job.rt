@@ -1,5 +1,5 @@
 ghost use Rattle.std.specs.Prelude.{◌≡◌, ◌<◌, ◌≤◌, ℕ, List, length, Some, IsTrue, option_map};
-ghost use Rattle.vme_block.specs.Rooms.{block_limit};
+ghost use Rattle.vme_cycle.specs.BlockBuffers.{block_limit};
 ghost use Rattle.vme_cycle.specs.Requests.{count_of};
 ghost use Rattle.vme_memory.specs.Locals.{command_given};
 ghost use Rattle.vme_core.specs.Calls.{OnBoard, call_of};
@@ -13,9 +13,8 @@ use crate::aim::Aim;
 use crate::outcome::Outcome;
 use crate::phase::Phase;
 use vme_arbiter::{ArbCmd, ArbReply};
-use vme_block::Room;
+use vme_cycle::{Modify, Room, Transfer};
 use vme_core::{DatumCycle, Deed, Event};
-use vme_cycle::{Modify, Transfer};
 use vme_lanes::Datum;
 use vme_memory::{BoardCmd, Reply};
 

@@ -1,4 +1,4 @@
-use vme_block::Block;
+use vme_cycle::Block;
 use vme_lanes::Datum;
 
 /// What comes of a task: a transfer over the bus, or a command to a board's local port.

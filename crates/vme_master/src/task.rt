@@ -1,5 +1,5 @@
 ghost use Rattle.std.specs.Prelude.{◌≡◌, ◌≢◌, ◌<◌, ◌≤◌, ◌+◌, [], ◌∷◌, ◌++◌, length, Ok, Some, None, IfSome, IsTrue, option_map, option_copied, is_some};
-ghost use Rattle.vme_block.specs.Rooms.{short_room};
+ghost use Rattle.vme_cycle.specs.BlockBuffers.{short_room};
 ghost use Rattle.vme_cycle.specs.Requests.{reply_room};
 ghost use Rattle.vme_cycle.specs.Lawful.{Transfer as LawfulRequest, transfer_of};
 ghost use Rattle.vme_core.specs.declared.event.EventReply.TheVariants as told;
@@ -20,9 +20,8 @@ use crate::todo::Todo;
 use std::marker::Model;
 use std::mem;
 use vme_arbiter::{ArbCmd, ArbReply};
-use vme_block::Room;
+use vme_cycle::{CycleFault, Request, Room, Transfer};
 use vme_core::{Core, Deed, Event, EventReply};
-use vme_cycle::{CycleFault, Request, Transfer};
 use vme_decode::AddressMap;
 use vme_memory::{BoardCmd, Reply};
 

@@ -1,7 +1,7 @@
 -- The room of the next line of a lane.
 use Rattle.std.proofs.Common.{◌≡◌, ℕ, ◌<◌, List, ◌∷◌, length, drop, arith}
 use Rattle.std.proofs.lemmas.List.{length-map}
-use Rattle.vme_block.specs.Rooms.{RoomView}
+use Rattle.vme_cycle.specs.BlockBuffers.{RoomView}
 use Rattle.vme_shared.specs.declared.reply.LineReply.{LineReply}
 use Rattle.vme_script.specs.declared.script.ScriptLine.{ScriptLine}
 use Rattle.vme_script.specs.Configurations.{Configuration}

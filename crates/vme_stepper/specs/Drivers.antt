@@ -1,6 +1,6 @@
 -- The world as the driver keeps it, with tasks in place of replies: for this crate's own functions.
 use Rattle.std.specs.Prelude.{ℕ, ◌≡◌, ◌+◌, ◌<◌, ◌≤◌, List, [], ◌∷◌, length, drop, slice_get, slice_set, slice_index_or, Option, Some, None, IfSome}
-use Rattle.vme_block.specs.Rooms.{RoomView}
+use Rattle.vme_cycle.specs.BlockBuffers.{RoomView}
 use Rattle.vme_memory.specs.Boards.{Board}
 use Rattle.vme_core.specs.declared.event.EventReply.{EventReply}
 use Rattle.vme_core.specs.Tallies.{Tally}

@@ -8,7 +8,7 @@ use Rattle.vme_shared.specs.declared.reply.LineReply.{LineReply}
 use Rattle.vme_lines.specs.declared.line.Line.{Line}
 use Rattle.vme_script.specs.declared.script.ScriptLine.{ScriptLine}
 use Rattle.vme_script.specs.Configurations.{Configuration}
-use Rattle.vme_block.specs.Rooms.{RoomView}
+use Rattle.vme_cycle.specs.BlockBuffers.{RoomView}
 use Rattle.vme_line_task.specs.Scripts.{script_at, lines_at}
 use Rattle.vme_line_task.specs.Rooms.{line_room, rooms_of}
 use Rattle.vme_line_task.specs.Courses.{LineCourse, IsCourse}

@@ -3,7 +3,7 @@ use Rattle.std.proofs.Common.{◌≡◌, ℕ, ◌≤◌, List, ◌∷◌, length
 use Rattle.std.specs.Prelude.{MatchOption, codes}
 use Rattle.std.proofs.lemmas.Bool.{le-ltb}
 use Rattle.arrayvec.specs.ArrayVec.{ArrayVec}
-use Rattle.vme_block.specs.Rooms.{BlockBytes}
+use Rattle.vme_cycle.specs.BlockBuffers.{BlockBytes}
 use Rattle.vme_cycle.specs.declared.modify.Modify.{Modify}
 use Rattle.vme_cycle.specs.declared.request.Request.TheVariants as requests
 use Rattle.vme_memory.specs.declared.command.BoardCmd.TheVariants as commands

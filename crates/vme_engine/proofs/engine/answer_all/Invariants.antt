@@ -1,7 +1,7 @@
 use Rattle.std.proofs.Common.{◌≡◌, ◌≤◌, ◌++◌, List, ℕ}
 use Rattle.std.specs.Io.KnownBytes.{Appends}
 use Rattle.std.specs.Str.Lines.{lines}
-use Rattle.vme_block.specs.Rooms.{block_limit}
+use Rattle.vme_cycle.specs.BlockBuffers.{block_limit}
 use Rattle.vme_engine.specs.Engine.{text_of, status_after, cycles_text, cycles_status}
 use Rattle.vme_shared.specs.Statuses.{worse_of}
 use Rattle.vme_engine.proofs.engine.answer_all.Given as goal

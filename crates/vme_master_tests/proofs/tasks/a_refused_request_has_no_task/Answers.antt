@@ -1,6 +1,6 @@
 -- Four bytes have room.
 use Rattle.std.proofs.Common.{◌≡◌, ap, arith}
-use Rattle.vme_block.specs.Rooms.{RoomView}
+use Rattle.vme_cycle.specs.BlockBuffers.{RoomView}
 use Rattle.vme_cycle.specs.Requests.{reply_room}
 use Rattle.vme_cycle.proofs.Transfers.{comes_from}
 use Rattle.vme_master_tests.proofs.tasks.a_refused_request_has_no_task.Goals as goal

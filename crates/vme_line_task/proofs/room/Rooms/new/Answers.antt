@@ -1,7 +1,7 @@
 use Rattle.std.proofs.Common.{ap, ◌∙◌, ◌++◌, ◌∷◌, [], refl, arith, Vec, Global}
 use Rattle.std.proofs.lemmas.Bool.{lt-ltb, le-ltb}
 use Rattle.std.proofs.lemmas.List.{take_all}
-use Rattle.vme_block.specs.declared.room.Room.{Room}
+use Rattle.vme_cycle.specs.declared.block_buffer.Room.{Room}
 use Rattle.vme_line_task.specs.Rooms.{line_room, rooms_of}
 use Rattle.vme_line_task.proofs.LineRooms.{kept_none, kept_all, one_long, one_short}
 use Rattle.vme_line_task.proofs.room.Rooms.new.Goals as goal

@@ -1,8 +1,8 @@
 -- Bytes that are held, and the room for them: for this crate's own functions.
 use Rattle.std.specs.Prelude.{ℕ, ◌≤◌, List, length, vec_capacity}
-use Rattle.vme_block.specs.declared.held.Held.{Held}
-use Rattle.vme_block.specs.declared.held.Held.TheVariants.{Short, Long}
-use Rattle.vme_block.specs.Rooms.{RoomView, short_room}
+use Rattle.vme_cycle.specs.declared.held.Held.{Held}
+use Rattle.vme_cycle.specs.declared.held.Held.TheVariants.{Short, Long}
+use Rattle.vme_cycle.specs.BlockBuffers.{RoomView, short_room}
 
 -- the bytes (this project's own)
 abbrev pub held_bytes : Held → List ℕ

@@ -1,6 +1,6 @@
 //! Bytes that lie in the value itself, or on the heap.
 ghost use Rattle.std.specs.Prelude.{◌≡◌, ◌+◌, ◌≤◌, [], ◌++◌, length};
-ghost use Rattle.vme_block.specs.Held.{held_bytes, held_room, IsRoomy};
+ghost use Rattle.vme_cycle.specs.BlockReprs.{held_bytes, held_room, IsRoomy};
 
 use arrayvec::ArrayVec;
 

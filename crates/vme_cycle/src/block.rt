@@ -1,11 +1,11 @@
 ghost use Rattle.std.specs.Prelude.{◌≡◌, ◌<◌, ◌≤◌, ◌↔◌, [], length, Err, IfOk, IsOk};
-ghost use Rattle.vme_block.specs.Rooms.{short_room, block_limit};
-ghost use Rattle.vme_block.specs.Held.{held_bytes};
-ghost use Rattle.vme_block.specs.declared.fault.BlockFault.TheVariants.{TooLong};
+ghost use Rattle.vme_cycle.specs.BlockBuffers.{short_room, block_limit};
+ghost use Rattle.vme_cycle.specs.BlockReprs.{held_bytes};
+ghost use Rattle.vme_cycle.specs.declared.block_fault.BlockFault.TheVariants.{TooLong};
 
-use crate::fault::BlockFault;
+use crate::block_fault::BlockFault;
 use crate::held::Held;
-use crate::room::Room;
+use crate::block_buffer::Room;
 use arrayvec::ArrayVec;
 use std::alloc::Global;
 use std::marker::Model;
@@ -21,11 +21,11 @@ pub struct Block {
 
 impl Model for Block {
     ghost use Rattle.std.specs.Prelude.{◌≤◌, length};
-    ghost use Rattle.vme_block.specs.Rooms.{BlockBytes, block_limit};
+    ghost use Rattle.vme_cycle.specs.BlockBuffers.{BlockBytes, block_limit};
 
     ghost Value = { BlockBytes };
 
-    ghost use Rattle.vme_block.specs.Held.{held_bytes};
+    ghost use Rattle.vme_cycle.specs.BlockReprs.{held_bytes};
 
     ghost view = { λ b. record { items = held_bytes b.held } };
 

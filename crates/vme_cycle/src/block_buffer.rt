@@ -1,5 +1,5 @@
 ghost use Rattle.std.specs.Prelude.{◌≡◌, ◌+◌, ◌≤◌, [], ◌++◌, length, max, IfOk, IsOk};
-ghost use Rattle.vme_block.specs.Rooms.{short_room, block_limit};
+ghost use Rattle.vme_cycle.specs.BlockBuffers.{short_room, block_limit};
 
 use crate::block::Block;
 use crate::held::{Held, SHORT};
@@ -15,11 +15,11 @@ pub struct Room {
 }
 
 impl Model for Room {
-    ghost use Rattle.vme_block.specs.Rooms.{RoomView};
+    ghost use Rattle.vme_cycle.specs.BlockBuffers.{RoomView};
 
     ghost Value = { RoomView };
 
-    ghost use Rattle.vme_block.specs.Held.{IsRoom, room_view};
+    ghost use Rattle.vme_cycle.specs.BlockReprs.{IsRoom, room_view};
 
     ghost view = { λ r. room_view r.held };
 

@@ -1,5 +1,5 @@
 //! Rooms and blocks of a few bytes and of many, each once.
-use crate::{BLOCK_LIMIT, Block, BlockFault, Room};
+use vme_cycle::{Block, BLOCK_LIMIT, BlockFault, Room};
 use std::test::Fail;
 
 #[test]
