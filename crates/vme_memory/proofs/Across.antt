@@ -1,8 +1,8 @@
 -- Bytes from any offset on, in one word of a board or in two.
 use Rattle.std.proofs.Common.{◌≡◌, ℕ, zero, suc, ◌+◌, ◌-◌, ◌*◌, ◌/◌, ◌%◌, ◌^◌, ◌<◌, ◌≤◌, List, ◌++◌, length, take, get_or, set, slice_range, refl, ap, sym, ◌∙◌, arith}
 use Rattle.std.proofs.lemmas.List.{length-take-le}
-use Rattle.vme_word.specs.Words.{bytes_after_write, word_bytes, bytes_of_words}
-use Rattle.vme_word.proofs.Shifts.{halves}
+use Rattle.vme_memory.specs.Words.{bytes_after_write, word_bytes, bytes_of_words}
+use Rattle.vme_memory.proofs.Shifts.{halves}
 use Rattle.vme_memory.proofs.Words.{word_len, words_len, read_at, read_on, written_at, written_on}
 
 -- bytes of the first word alone

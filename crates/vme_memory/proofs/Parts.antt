@@ -2,8 +2,8 @@
 use Rattle.std.proofs.Common.{◌≡◌, ℕ, ◌+◌, ◌/◌, ◌%◌, ◌<◌, ◌≤◌, List, length, get_or, set, slice_range, ap, sym, ◌∙◌, arith}
 use Rattle.vme_lanes.specs.declared.location.Location.{Location}
 use Rattle.vme_lanes.specs.Rows.{row_of}
-use Rattle.vme_word.specs.Words.{bytes_after_write, word_bytes, bytes_of_words, part_of}
-use Rattle.vme_word.proofs.Enables.{row_within, part_len}
+use Rattle.vme_memory.specs.Words.{bytes_after_write, word_bytes, bytes_of_words, part_of}
+use Rattle.vme_memory.proofs.Enables.{row_within, part_len}
 use Rattle.vme_memory.proofs.Words.{read_at, written_at}
 
 -- a word that is merged, among its words

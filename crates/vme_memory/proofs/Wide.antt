@@ -1,7 +1,7 @@
 -- Two words, one behind the other: eight bytes at a multiple of four, and four bytes that lie over both.
 use Rattle.std.proofs.Common.{◌≡◌, ℕ, ◌+◌, ◌-◌, ◌*◌, ◌/◌, ◌%◌, ◌<◌, ◌≤◌, List, ◌++◌, length, get_or, set, slice_range, refl, ap, sym, ◌∙◌, arith}
 use Rattle.std.proofs.lemmas.List.{length-set}
-use Rattle.vme_word.specs.Words.{bytes_after_write, word_bytes, bytes_of_words}
+use Rattle.vme_memory.specs.Words.{bytes_after_write, word_bytes, bytes_of_words}
 use Rattle.vme_memory.proofs.Words.{word_len, words_len, read_in_word, read_on, word_changed, written_on, written_inside}
 
 -- a word is its four bytes

@@ -6,7 +6,7 @@ use Rattle.std.proofs.lemmas.List.{set_split, take-append-drop, length-take-le, 
 use Rattle.std.proofs.lemmas.List.Concat.{flat_map-append}
 use Rattle.std.proofs.lemmas.Option.{slice_get_past}
 use Rattle.std.proofs.Math.Seq.{take-add, take-append-add}
-use Rattle.vme_word.specs.Words.{bytes_after_write, word_bytes, bytes_of_words}
+use Rattle.vme_memory.specs.Words.{bytes_after_write, word_bytes, bytes_of_words}
 
 -- a word has four bytes
 pub word_len : (word : ℕ) → length (word_bytes word) ≡ 4

@@ -1,6 +1,6 @@
 -- A board's memory: its bytes by offset, and its class.
 use Rattle.std.specs.Prelude.{ℕ, ◌%◌, nat_le, Bool, ◌==◌, ◌&&◌, List, replicate}
-pub use Rattle.vme_word.specs.Words.{bytes_after_write}
+pub use Rattle.vme_memory.specs.Words.{bytes_after_write}
 use Rattle.vme_memory.specs.declared.class.Class.{Class}
 
 -- the bytes, each at its offset, and what the slave is able to answer (this project's own)

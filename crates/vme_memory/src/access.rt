@@ -9,7 +9,7 @@ use crate::board::ByteMemory;
 use crate::reply::Reply;
 use vme_cycle::Modify;
 use vme_lanes::Location;
-use vme_word::placed_word;
+use crate::word::placed_word;
 
 /// How many bytes a datum has at most that goes over four data lanes.
 const LANES: usize = 4;

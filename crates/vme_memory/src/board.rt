@@ -1,6 +1,6 @@
 ghost use Rattle.std.specs.Prelude.{ℕ, ◌≡◌, ◌↔◌, ◌+◌, ◌%◌, ◌≤◌, length, take, drop, slice_get, true, false, Some, IsTrue, ◌&&◌, ◌||◌, not, IfOk, OnOk, IsErrOf};
 ghost use Rattle.vme_lanes.specs.Rows.{row_of};
-ghost use Rattle.vme_word.specs.Words.{part_of};
+ghost use Rattle.vme_memory.specs.Words.{part_of};
 ghost use Rattle.vme_cycle.specs.SignalLines.{len_at};
 ghost use Rattle.vme_memory.specs.Classes.{answers_quads, is_block_place, is_modify_place, is_local_len};
 ghost use Rattle.vme_memory.specs.Boards.{is_board_size, zeros};
@@ -13,7 +13,7 @@ use std::alloc::Global;
 use std::marker::Model;
 use vme_cycle::{Modify, Signals};
 use vme_lanes::{DataLines, Datum, Location, pick_wide};
-use vme_word::{driven_word, placed_word};
+use crate::word::{driven_word, placed_word};
 
 /// Why there is no memory of a size.
 #[derive(Clone, Copy, Debug, PartialEq, Eq)]
@@ -262,7 +262,7 @@ impl ByteMemory {
     }
 
     #[inline(always)]
-    #[tactic(auto, using(crate::proofs::Places::not_wide, vme_word::proofs::Enables::part_len))]
+    #[tactic(auto, using(crate::proofs::Places::not_wide, crate::proofs::Enables::part_len))]
     pub(crate) fn write(&mut self, block: bool, location: Location, at: u32, word: u32) -> Reply
         requires { (row_of location).first ≡ at % 4 }
         ensures reply { result ≡ (step self.old (write_command block at (part_of location word))).0 }

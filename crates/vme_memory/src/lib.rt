@@ -10,6 +10,7 @@ mod command;
 mod laws;
 mod reply;
 mod storage;
+mod word;
 
 pub use access::Access;
 pub use board::{ByteMemory, MemoryFault};
@@ -20,3 +21,7 @@ pub use laws::{
 };
 pub use reply::Reply;
 pub use storage::Row;
+pub use word::{
+    byte_in, bytes_at, bytes_of, bytes_of_pair, driven_word, first_bytes, leading_word, merge,
+    merge_across, merge_from, pair_of, placed_word, word_across, word_of,
+};

@@ -1,6 +1,6 @@
 ghost use Rattle.std.specs.Prelude.{◌≡◌, ◌+◌, ◌%◌, ◌≤◌, ◌<◌, true, IfOk, length, take, drop, slice_get, slice_range};
 ghost use Rattle.vme_lanes.specs.Rows.{row_of};
-ghost use Rattle.vme_word.specs.Words.{bytes_after_write, part_of, word_bytes};
+ghost use Rattle.vme_memory.specs.Words.{bytes_after_write, part_of, word_bytes};
 ghost use Rattle.vme_memory.specs.Boards.{is_board_size, zeros};
 
 use arrayvec::ArrayVec;
@@ -8,10 +8,7 @@ use std::alloc::{AllocError, Global};
 use std::cmp::min;
 use std::marker::Model;
 use vme_lanes::{Datum, Location};
-use vme_word::{
-    byte_in, bytes_at, bytes_of, bytes_of_pair, first_bytes, leading_word, merge, merge_across,
-    merge_from, pair_of, word_across, word_of,
-};
+use crate::word::{byte_in, bytes_at, bytes_of, bytes_of_pair, first_bytes, leading_word, merge, merge_across, merge_from, pair_of, word_across, word_of};
 
 /// Sixteen bytes of a memory, or those that are left.
 pub type Row = ArrayVec<u8, 16>;
@@ -26,7 +23,7 @@ pub(crate) struct Storage {
 impl Model for Storage {
     ghost use Rattle.std.specs.Prelude.{ℕ, List, ◌≡◌, ◌*◌, true, length};
     ghost use Rattle.vme_memory.specs.Boards.{is_board_size};
-    ghost use Rattle.vme_word.specs.Words.{bytes_of_words};
+    ghost use Rattle.vme_memory.specs.Words.{bytes_of_words};
 
     ghost Value = { List ℕ };
 

@@ -1,6 +1,6 @@
 -- The bytes of the words so far.
 use Rattle.std.proofs.Common.{◌≡◌, ◌≤◌, ◌-◌, ◌*◌, take, drop, length}
-use Rattle.vme_word.specs.Words.{bytes_of_words}
+use Rattle.vme_memory.specs.Words.{bytes_of_words}
 use Rattle.vme_memory.proofs.storage.Storage.row.Given as goal
 
 abbrev pub invariant-loop-i : goal.invariant-loop-i

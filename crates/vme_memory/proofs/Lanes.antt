@@ -5,8 +5,8 @@ use Rattle.vme_lanes.specs.declared.location.Location.{Location}
 use Rattle.vme_lanes.specs.declared.location.Location.TheVariants.{Byte0, Byte1, Byte2, Byte3, Bytes01, Bytes23, Bytes03, Bytes02, Bytes13, Bytes12}
 use Rattle.vme_lanes.specs.Rows.{row_of}
 use Rattle.vme_lanes.specs.Lanes.{carries, bytes_on}
-use Rattle.vme_word.specs.Words.{word_bytes, part_of}
-use Rattle.vme_word.proofs.Enables.{part_len}
+use Rattle.vme_memory.specs.Words.{word_bytes, part_of}
+use Rattle.vme_memory.proofs.Enables.{part_len}
 
 -- an even byte is on D15-D08, an odd one on D07-D00
 in_half :

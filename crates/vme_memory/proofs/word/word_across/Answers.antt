@@ -1,7 +1,7 @@
 -- The upper half of both words, shifted, has the bytes from a place on.
-use Rattle.vme_word.proofs.Shifts.{upper_bytes}
+use Rattle.vme_memory.proofs.Shifts.{upper_bytes}
 use Rattle.std.proofs.Common.{arith}
-use Rattle.vme_word.proofs.word.word_across.Goals as goal
+use Rattle.vme_memory.proofs.word.word_across.Goals as goal
 
 pub returns : goal.returns
 returns c =

@@ -1,8 +1,8 @@
 -- The bytes of a number that was made of four bytes are these.
 use Rattle.std.proofs.Common.{rules}
 use Rattle.std.proofs.lemmas.Nat.{be_bytes_4}
-use Rattle.vme_word.specs.Words.{word_bytes}
-use Rattle.vme_word.proofs.word.word_of.Goals as goal
+use Rattle.vme_memory.specs.Words.{word_bytes}
+use Rattle.vme_memory.proofs.word.word_of.Goals as goal
 
 pub returns : goal.returns
 unfolding word_bytes

@@ -1,7 +1,7 @@
 -- What the lanes carry is a part of a word, as long as the location.
 use Rattle.std.proofs.Common.{rules}
-use Rattle.vme_word.proofs.Lanes.{by_halves, by_places, lanes_len}
-use Rattle.vme_word.proofs.word.driven_word.Goals as goal
+use Rattle.vme_memory.proofs.Lanes.{by_halves, by_places, lanes_len}
+use Rattle.vme_memory.proofs.word.driven_word.Goals as goal
 
 pub returns-then-of-clause-bytes : goal.returns-then-of-clause-bytes
 returns-then-of-clause-bytes c =

@@ -7,7 +7,7 @@ use Rattle.std.proofs.lemmas.Nat.{or_shr, and_shr, or_mod, and_mod, and_mask}
 use Rattle.vme_lanes.specs.declared.location.Location.{Location}
 use Rattle.vme_lanes.specs.declared.location.Location.TheVariants.{Byte0, Byte1, Byte2, Byte3, Bytes01, Bytes23, Bytes03, Bytes02, Bytes13, Bytes12}
 use Rattle.vme_lanes.specs.Rows.{row_of}
-use Rattle.vme_word.specs.Words.{bytes_after_write, word_bytes, part_of, enables_of}
+use Rattle.vme_memory.specs.Words.{bytes_after_write, word_bytes, part_of, enables_of}
 
 -- the bytes of a number that has some bits of another
 byte_or : (a b k : ℕ) → bit_or a b / 2 ^ k % 2 ^ 8 ≡ bit_or (a / 2 ^ k % 2 ^ 8) (b / 2 ^ k % 2 ^ 8)

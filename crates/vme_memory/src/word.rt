@@ -1,7 +1,7 @@
 ghost use Rattle.std.specs.Prelude.{◌≡◌, ◌+◌, ◌≤◌, ◌<◌, Some, unwrap_or, IsTrue, length, take, ◌++◌, slice_get, slice_range};
 ghost use Rattle.vme_lanes.specs.Rows.{row_of};
 ghost use Rattle.vme_lanes.specs.Lanes.{carries, bytes_on};
-ghost use Rattle.vme_word.specs.Words.{bytes_after_write, word_bytes, part_of, enables_of};
+ghost use Rattle.vme_memory.specs.Words.{bytes_after_write, word_bytes, part_of, enables_of};
 
 use vme_lanes::{DataLines, Datum, Location, Strobes};
 

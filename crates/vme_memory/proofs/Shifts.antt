@@ -7,8 +7,8 @@ use Rattle.std.proofs.lemmas.Nat.{or_comm, or_shifted}
 use Rattle.vme_lanes.specs.declared.location.Location.{Location}
 use Rattle.vme_lanes.specs.declared.location.Location.TheVariants.{Byte0, Byte1, Byte2, Byte3, Bytes01, Bytes23, Bytes03, Bytes02, Bytes13, Bytes12}
 use Rattle.vme_lanes.specs.Rows.{row_of}
-use Rattle.vme_word.specs.Words.{bytes_after_write, word_bytes, part_of, enables_of}
-use Rattle.vme_word.proofs.Enables.{merged, merged_bytes, four}
+use Rattle.vme_memory.specs.Words.{bytes_after_write, word_bytes, part_of, enables_of}
+use Rattle.vme_memory.proofs.Enables.{merged, merged_bytes, four}
 
 -- lists that agree place by place
 one : (a e : ℕ) → a ≡ e → (a ∷ []) ≡ (e ∷ [])

@@ -1,8 +1,8 @@
 -- The word is merged under the byte enables of the location.
 use Rattle.std.proofs.Common.{ap, ◌∙◌}
-use Rattle.vme_word.specs.Words.{word_bytes}
-use Rattle.vme_word.proofs.Enables.{merged, merged_bytes}
-use Rattle.vme_word.proofs.word.merge.Goals as goal
+use Rattle.vme_memory.specs.Words.{word_bytes}
+use Rattle.vme_memory.proofs.Enables.{merged, merged_bytes}
+use Rattle.vme_memory.proofs.word.merge.Goals as goal
 
 pub returns : goal.returns
 returns c =
