@@ -2,6 +2,6 @@
 //! which words go through, and the law that a mailbox is a queue.
 #![tactic(auto)]
 
-mod laws;
+mod mailbox_laws;
 
-pub use laws::{a_word_goes_through, mailboxes_are_queues};
+pub use mailbox_laws::{a_word_goes_through, mailboxes_are_queues};

@@ -9,9 +9,9 @@ use Rattle.vme_cycle.specs.Functions.{number_bytes}
 use Rattle.vme_memory.specs.declared.reply.Reply.TheVariants.{Berr}
 use Rattle.vme_memory.specs.Boards.{Board}
 use Rattle.vme_memory.specs.Steps.{Read, Write, Modify, fits, has_cycle, can_answer, step}
-use Rattle.vme_mailbox.specs.Mailboxes as places
-use Rattle.vme_mailbox.specs.Mailboxes.{BoardMailbox, LiesIn, end_of}
-use Rattle.vme_mailbox.proofs.Places.{rest_below}
+use Rattle.vme_shared.specs.MailboxSteps as places
+use Rattle.vme_shared.specs.MailboxSteps.{BoardMailbox, LiesIn, end_of}
+use Rattle.vme_shared.proofs.Places.{rest_below}
 use Rattle.vme_shared.specs.declared.stage.Stage.{Stage}
 use Rattle.vme_shared.specs.declared.stage.Stage.TheVariants.{Locks, ReadsPutCount, ReadsTakeCount, WritesWord, RaisesPutCount, ReadsWord, RaisesTakeCount, Unlocks}
 use Rattle.vme_shared.specs.Mailboxes.{raised}

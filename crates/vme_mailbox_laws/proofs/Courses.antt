@@ -17,10 +17,10 @@ use Rattle.vme_master.specs.declared.job.Job.TheVariants.{Bus}
 use Rattle.vme_master.specs.Jobs.{ask_call, look_call, done_call, aim_outcome}
 use Rattle.vme_master.specs.Tables as tasks
 use Rattle.vme_master.specs.Tables.{Next, Given, next_of}
-use Rattle.vme_mailbox.specs.Mailboxes.{BoardMailbox}
-use Rattle.vme_mailbox.specs.Phases.{Phase, Idle, after_command}
-use Rattle.vme_mailbox.specs.Words.{put_by, taken_by}
-use Rattle.vme_mailbox.proofs.Quiet.{no_put, no_taken}
+use Rattle.vme_shared.specs.MailboxSteps.{BoardMailbox}
+use Rattle.vme_shared.specs.Phases.{Phase, Idle, after_command}
+use Rattle.vme_shared.specs.Words.{put_by, taken_by}
+use Rattle.vme_shared.proofs.Quiet.{no_put, no_taken}
 use Rattle.vme_shared.specs.declared.mailbox.Mailbox.{Mailbox}
 use Rattle.vme_shared.specs.declared.outcome.SharedOutcome.{SharedOutcome}
 use Rattle.vme_shared.specs.declared.request.SharedRequest.{SharedRequest}

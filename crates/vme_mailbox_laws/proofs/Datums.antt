@@ -22,7 +22,7 @@ use Rattle.vme_master.specs.Jobs.{bus_job}
 use Rattle.vme_master.specs.Tables as tasks
 use Rattle.vme_master.specs.Tables.{Next, Given, data_in, next_of}
 use Rattle.vme_master.proofs.Tenures.{data_go_on}
-use Rattle.vme_mailbox.specs.Mailboxes.{BoardMailbox, LiesIn, touches}
+use Rattle.vme_shared.specs.MailboxSteps.{BoardMailbox, LiesIn, touches}
 use Rattle.vme_shared.specs.declared.mailbox.Mailbox.{Mailbox}
 use Rattle.vme_shared.specs.declared.request.SharedRequest.{SharedRequest}
 use Rattle.vme_shared.specs.declared.request.SharedRequest.TheVariants as asked

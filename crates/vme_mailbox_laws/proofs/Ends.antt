@@ -3,9 +3,9 @@ use Rattle.std.proofs.Common.{◌≡◌, ℕ, true, List, Option, refl, ap, subs
 use Rattle.std.specs.Prelude.{is_some}
 use Rattle.vme_master.specs.declared.job.Job.{Job}
 use Rattle.vme_master.specs.Tables.{Given, next_of}
-use Rattle.vme_mailbox.specs.Mailboxes.{BoardMailbox}
-use Rattle.vme_mailbox.specs.Phases.{Phase}
-use Rattle.vme_mailbox.specs.Words.{put_by, taken_by}
+use Rattle.vme_shared.specs.MailboxSteps.{BoardMailbox}
+use Rattle.vme_shared.specs.Phases.{Phase}
+use Rattle.vme_shared.specs.Words.{put_by, taken_by}
 use Rattle.vme_shared.specs.declared.outcome.SharedOutcome.{SharedOutcome}
 use Rattle.vme_shared.specs.declared.request.SharedRequest.{SharedRequest}
 use Rattle.vme_shared.specs.declared.stage.Stage.{Stage}

@@ -10,10 +10,10 @@ use Rattle.vme_memory.specs.declared.reply.Reply.TheVariants.{Bytes, Done, Berr}
 use Rattle.vme_memory.specs.Data.{reply_len, has_form}
 use Rattle.vme_master.specs.declared.outcome.Outcome.{Outcome}
 use Rattle.vme_master.specs.Jobs.{aim_outcome}
-use Rattle.vme_mailbox.specs.Mailboxes as places
-use Rattle.vme_mailbox.specs.Mailboxes.{BoardMailbox, touches}
-use Rattle.vme_mailbox.specs.Phases.{Phase, Idle, Locked, First, Both, Written, Fetched, Counted, has_room, is_unlock, Writes, access_of, next_phase, after_command}
-use Rattle.vme_mailbox.specs.Words.{put_by, taken_by}
+use Rattle.vme_shared.specs.MailboxSteps as places
+use Rattle.vme_shared.specs.MailboxSteps.{BoardMailbox, touches}
+use Rattle.vme_shared.specs.Phases.{Phase, Idle, Locked, First, Both, Written, Fetched, Counted, has_room, is_unlock, Writes, access_of, next_phase, after_command}
+use Rattle.vme_shared.specs.Words.{put_by, taken_by}
 use Rattle.vme_shared.specs.declared.mailbox.Mailbox.{Mailbox}
 use Rattle.vme_shared.specs.declared.outcome.SharedOutcome.{SharedOutcome}
 use Rattle.vme_shared.specs.declared.outcome.SharedOutcome.TheVariants as shared

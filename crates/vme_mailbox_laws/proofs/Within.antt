@@ -4,8 +4,8 @@ use Rattle.std.proofs.lemmas.Bool.{cases_Bool, and_parts, ltb-true, ltb-false}
 use Rattle.vme_memory.specs.Steps.{Command}
 use Rattle.vme_core.specs.Calls.{OnBoard}
 use Rattle.vme_master.specs.Tables.{Given}
-use Rattle.vme_mailbox.specs.Mailboxes.{BoardMailbox, end_of, touches, offset_of, len_of}
-use Rattle.vme_mailbox.proofs.Places.{rest_below}
+use Rattle.vme_shared.specs.MailboxSteps.{BoardMailbox, end_of, touches, offset_of, len_of}
+use Rattle.vme_shared.proofs.Places.{rest_below}
 use Rattle.vme_shared.specs.declared.mailbox.Mailbox.{Mailbox}
 use Rattle.vme_shared.specs.declared.stage.Stage.{Stage}
 use Rattle.vme_shared.specs.declared.stage.Stage.TheVariants.{Locks, ReadsPutCount, ReadsTakeCount, WritesWord, RaisesPutCount, ReadsWord, RaisesTakeCount, Unlocks}

@@ -11,9 +11,9 @@ use Rattle.vme_core.specs.declared.event.EventReply.TheVariants as told
 use Rattle.vme_core.specs.Calls.{OnBoard}
 use Rattle.vme_master.specs.Jobs.{fits}
 use Rattle.vme_master.specs.Tables.{Given}
-use Rattle.vme_mailbox.specs.Layout.{mailbox_len}
-use Rattle.vme_mailbox.specs.Mailboxes.{BoardMailbox, end_of, offset_of, len_of}
-use Rattle.vme_mailbox.specs.Phases.{Phase, Idle, First, after_command}
+use Rattle.vme_shared.specs.Layout.{mailbox_len}
+use Rattle.vme_shared.specs.MailboxSteps.{BoardMailbox, end_of, offset_of, len_of}
+use Rattle.vme_shared.specs.Phases.{Phase, Idle, First, after_command}
 use Rattle.vme_shared.specs.declared.mailbox.Mailbox.{Mailbox}
 use Rattle.vme_shared.specs.declared.outcome.SharedOutcome.{SharedOutcome}
 use Rattle.vme_shared.specs.declared.outcome.SharedOutcome.TheVariants as shared

@@ -6,9 +6,9 @@ use Rattle.vme_object.specs.declared.history.Entry.{Entry}
 use Rattle.vme_object.specs.History.{own}
 use Rattle.vme_memory.specs.declared.command.BoardCmd.{BoardCmd}
 use Rattle.vme_memory.specs.declared.reply.Reply.{Reply}
-use Rattle.vme_mailbox.specs.Mailboxes.{BoardMailbox}
-use Rattle.vme_mailbox.specs.Phases.{Phase, after_entry}
-use Rattle.vme_mailbox.specs.Words.{phases_after, words_along}
+use Rattle.vme_shared.specs.MailboxSteps.{BoardMailbox}
+use Rattle.vme_shared.specs.Phases.{Phase, after_entry}
+use Rattle.vme_shared.specs.Words.{phases_after, words_along}
 use Rattle.vme_queues.specs.Groups.{own_words_from}
 
 pub own_words : (who : ℕ) (by : Option Phase → Option Phase → List ℕ) (m : BoardMailbox) (phases : ℕ → Option Phase)

@@ -9,14 +9,14 @@ use Rattle.vme_memory.specs.declared.reply.Reply.{Reply}
 use Rattle.vme_memory.specs.Boards.{Board}
 use Rattle.vme_memory.specs.Steps.{Command, step, answer}
 use Rattle.vme_memory.specs.Locals.{board_step, answer_given, command_given}
-use Rattle.vme_mailbox.specs.Mailboxes.{BoardMailbox, touches}
-use Rattle.vme_mailbox.specs.Phases.{Phase, Idle, access_of, next_phase, after_command, after_entry}
-use Rattle.vme_mailbox.specs.Words.{put_by, taken_by, phases_after}
-use Rattle.vme_mailbox.proofs.Steps.{did}
-use Rattle.vme_mailbox.proofs.Kept.{Kept, Stands, held_by, kept_same, stands_same}
-use Rattle.vme_mailbox.proofs.Rows.{Went, went}
-use Rattle.vme_mailbox.proofs.Quiet.{Quiet, quiet, quiet_same, busy, no_put, no_taken, stayed}
-use Rattle.vme_mailbox.proofs.Ordered.{Holds}
+use Rattle.vme_shared.specs.MailboxSteps.{BoardMailbox, touches}
+use Rattle.vme_shared.specs.Phases.{Phase, Idle, access_of, next_phase, after_command, after_entry}
+use Rattle.vme_shared.specs.Words.{put_by, taken_by, phases_after}
+use Rattle.vme_shared.proofs.MailboxSteps.{did}
+use Rattle.vme_shared.proofs.Kept.{Kept, Stands, held_by, kept_same, stands_same}
+use Rattle.vme_shared.proofs.Rows.{Went, went}
+use Rattle.vme_shared.proofs.Quiet.{Quiet, quiet, quiet_same, busy, no_put, no_taken, stayed}
+use Rattle.vme_shared.proofs.Ordered.{Holds}
 
 -- what is there
 some_value : (phase : Option Phase) → is_some phase ≡ true → (p : Phase) × (phase ≡ Some p)

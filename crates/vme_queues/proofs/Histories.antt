@@ -11,12 +11,12 @@ use Rattle.vme_memory.specs.declared.class.Class.{Class}
 use Rattle.vme_memory.specs.Boards.{Board, bytes_after_write}
 use Rattle.vme_memory.specs.Steps.{Command, LocalRead, LocalWrite, LocalModify, Read, Write, Modify, BlockRead, BlockWrite, can_answer, effect_of, step, answer}
 use Rattle.vme_memory.specs.Locals.{board_step, answer_given, command_given}
-use Rattle.vme_mailbox.specs.Mailboxes.{BoardMailbox, LiesIn, offset_of, len_of}
-use Rattle.vme_mailbox.specs.Phases.{Phase, Idle, Locked, First, Both, Written, Fetched, Counted, after_entry, phase_after}
-use Rattle.vme_mailbox.specs.Words.{put_by, taken_by, phases_after, words_along}
-use Rattle.vme_mailbox.proofs.Steps.{Changes, changes}
-use Rattle.vme_mailbox.proofs.Kept.{Kept, Stands}
-use Rattle.vme_mailbox.proofs.Ordered.{Holds}
+use Rattle.vme_shared.specs.MailboxSteps.{BoardMailbox, LiesIn, offset_of, len_of}
+use Rattle.vme_shared.specs.Phases.{Phase, Idle, Locked, First, Both, Written, Fetched, Counted, after_entry, phase_after}
+use Rattle.vme_shared.specs.Words.{put_by, taken_by, phases_after, words_along}
+use Rattle.vme_shared.proofs.MailboxSteps.{Changes, changes}
+use Rattle.vme_shared.proofs.Kept.{Kept, Stands}
+use Rattle.vme_shared.proofs.Ordered.{Holds}
 use Rattle.vme_mailbox_laws.specs.Along.{IsCount}
 use Rattle.vme_queues.proofs.Held.{entry_holds}
 use Rattle.vme_queues.proofs.Through.{IsAnswered, Wanted, behind, Through}

@@ -13,7 +13,7 @@ use Rattle.vme_memory.specs.declared.class.Width8To32.{Width8To32}
 use Rattle.vme_memory.specs.declared.class.Width8To32.TheVariants.{D08, D16, D32}
 use Rattle.vme_memory.specs.Boards.{zeros}
 use Rattle.vme_memory.specs.Classes.{answers_quads}
-use Rattle.vme_mailbox.specs.Mailboxes.{LiesIn}
+use Rattle.vme_shared.specs.MailboxSteps.{LiesIn}
 use Rattle.vme_shared.specs.declared.mailbox.Mailbox.{Mailbox}
 use Rattle.vme_shared.specs.Mailboxes.{mailbox_refusal}
 use Rattle.vme_mailbox_laws.specs.Along.{LiesAt}

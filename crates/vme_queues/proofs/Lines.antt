@@ -14,9 +14,9 @@ use Rattle.vme_core.specs.declared.event.EventReply.{EventReply}
 use Rattle.vme_core.specs.declared.event.EventReply.TheVariants as told
 use Rattle.vme_core.specs.Runs.{Move, move, board_entry, board_part}
 use Rattle.vme_core.specs.Calls.{Call, OnBoard, call_of}
-use Rattle.vme_mailbox.specs.Mailboxes.{BoardMailbox, touches}
-use Rattle.vme_mailbox.specs.Phases.{Phase, Idle, after_command}
-use Rattle.vme_mailbox.specs.Words.{put_by, taken_by}
+use Rattle.vme_shared.specs.MailboxSteps.{BoardMailbox, touches}
+use Rattle.vme_shared.specs.Phases.{Phase, Idle, after_command}
+use Rattle.vme_shared.specs.Words.{put_by, taken_by}
 use Rattle.vme_shared.specs.declared.request.SharedRequest.{SharedRequest}
 use Rattle.vme_shared.specs.declared.outcome.SharedOutcome.{SharedOutcome}
 use Rattle.vme_shared.specs.declared.outcome.SharedOutcome.TheVariants as shared

@@ -4,13 +4,13 @@ use Rattle.std.proofs.lemmas.Grind.{same_number_lists}
 use Rattle.std.proofs.lemmas.List.{get_or-replicate, get_or-take, get_or-drop, length-replicate}
 use Rattle.vme_cycle.specs.Functions.{number_of}
 use Rattle.vme_memory.specs.Boards.{Board, zeros}
-use Rattle.vme_mailbox.specs.Layout.{mailbox_len}
-use Rattle.vme_mailbox.specs.Mailboxes.{BoardMailbox, IsNewMailbox}
-use Rattle.vme_mailbox.specs.Phases.{Idle}
-use Rattle.vme_mailbox.specs.Words.{all_idle}
-use Rattle.vme_mailbox.proofs.Bytes.{number_in}
-use Rattle.vme_mailbox.proofs.Steps.{read_len}
-use Rattle.vme_mailbox.proofs.Ordered.{Holds}
+use Rattle.vme_shared.specs.Layout.{mailbox_len}
+use Rattle.vme_shared.specs.MailboxSteps.{BoardMailbox, IsNewMailbox}
+use Rattle.vme_shared.specs.Phases.{Idle}
+use Rattle.vme_shared.specs.Words.{all_idle}
+use Rattle.vme_shared.proofs.Bytes.{number_in}
+use Rattle.vme_shared.proofs.MailboxSteps.{read_len}
+use Rattle.vme_shared.proofs.Ordered.{Holds}
 
 -- a byte of a mailbox of zeros
 zero_byte : (bytes : List ℕ) (at len k : ℕ) → slice_range bytes at (at + len) ≡ zeros len → k < len → get_or bytes (at + k) 0 ≡ 0

@@ -24,7 +24,7 @@ use Rattle.vme_decode.specs.declared.fault.MapFault.{MapFault}
 use Rattle.vme_decode.specs.declared.fault.MapFault.TheVariants.{Misaligned, OutsideSpace, Overlap}
 use Rattle.vme_decode.specs.Entries.{end_of}
 use Rattle.vme_decode.proofs.Selection.{place_falls}
-use Rattle.vme_mailbox.specs.Mailboxes.{BoardMailbox}
+use Rattle.vme_shared.specs.MailboxSteps.{BoardMailbox}
 use Rattle.vme_shared.specs.declared.mailbox.Mailbox.{Mailbox}
 use Rattle.vme_shared.specs.Mailboxes.{IsMailbox, word_at, set_lock, read_word, refusal_in, mailbox_refusal}
 use Rattle.vme_mailbox_laws.specs.Along.{LiesAt}

@@ -12,9 +12,9 @@ use Rattle.vme_memory.specs.declared.reply.Reply.{Reply}
 use Rattle.vme_memory.specs.Boards.{Board}
 use Rattle.vme_memory.specs.Locals.{board_step}
 use Rattle.vme_core.specs.Runs.{Move}
-use Rattle.vme_mailbox.specs.Mailboxes.{BoardMailbox, IsNewMailbox}
-use Rattle.vme_mailbox.specs.Phases.{Idle, IsProper}
-use Rattle.vme_mailbox.specs.Words.{put_by, taken_by, all_idle, words_along}
+use Rattle.vme_shared.specs.MailboxSteps.{BoardMailbox, IsNewMailbox}
+use Rattle.vme_shared.specs.Phases.{Idle, IsProper}
+use Rattle.vme_shared.specs.Words.{put_by, taken_by, all_idle, words_along}
 use Rattle.vme_shared.specs.declared.reply.LineReply.{LineReply}
 use Rattle.vme_lines.specs.declared.line.Line.{Line}
 use Rattle.vme_script.specs.Configurations.{Configuration}

@@ -7,9 +7,9 @@ use Rattle.vme_memory.specs.declared.command.BoardCmd.{BoardCmd}
 use Rattle.vme_memory.specs.declared.reply.Reply.{Reply}
 use Rattle.vme_memory.specs.Boards.{Board}
 use Rattle.vme_memory.specs.Locals.{board_step}
-use Rattle.vme_mailbox.specs.Mailboxes.{BoardMailbox, LiesIn}
-use Rattle.vme_mailbox.specs.Phases.{Phase, after_entry}
-use Rattle.vme_mailbox.specs.Words.{put_by, taken_by}
+use Rattle.vme_shared.specs.MailboxSteps.{BoardMailbox, LiesIn}
+use Rattle.vme_shared.specs.Phases.{Phase, after_entry}
+use Rattle.vme_shared.specs.Words.{put_by, taken_by}
 use Rattle.vme_mailbox_laws.specs.Along.{IsCount}
 
 -- an entry has the reply of some memory in which the mailbox lies

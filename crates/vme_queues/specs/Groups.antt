@@ -3,9 +3,9 @@ use Rattle.std.specs.Prelude.{ℕ, ◌==◌, if◌then◌else◌, List, [], ◌�
 use Rattle.vme_object.specs.declared.history.Entry.{Entry}
 use Rattle.vme_memory.specs.declared.command.BoardCmd.{BoardCmd}
 use Rattle.vme_memory.specs.declared.reply.Reply.{Reply}
-use Rattle.vme_mailbox.specs.Mailboxes.{BoardMailbox}
-use Rattle.vme_mailbox.specs.Phases.{Phase, after_entry}
-use Rattle.vme_mailbox.specs.Words.{put_by, taken_by, all_idle, phases_after}
+use Rattle.vme_shared.specs.MailboxSteps.{BoardMailbox}
+use Rattle.vme_shared.specs.Phases.{Phase, after_entry}
+use Rattle.vme_shared.specs.Words.{put_by, taken_by, all_idle, phases_after}
 
 -- the words that the entries of one put or take among the entries of all, in order, from these phases on
 -- (this project's own)

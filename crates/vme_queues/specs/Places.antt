@@ -1,5 +1,5 @@
 -- Where a declared mailbox lies in its board.
-use Rattle.vme_mailbox.specs.Mailboxes.{BoardMailbox}
+use Rattle.vme_shared.specs.MailboxSteps.{BoardMailbox}
 use Rattle.vme_shared.specs.declared.mailbox.Mailbox.{Mailbox}
 use Rattle.vme_boxes.specs.declared.place.Place.{Place}
 

@@ -9,7 +9,7 @@ use Rattle.std.proofs.lemmas.Option.{slice_get-map}
 use Rattle.vme_config_toml.specs.declared.file.MailboxTable.{MailboxTable}
 use Rattle.vme_shared.specs.declared.mailbox.Mailbox.{Mailbox}
 use Rattle.vme_boxes.specs.declared.place.Place.{Place}
-use Rattle.vme_mailbox.specs.Layout.{mailbox_len}
+use Rattle.vme_shared.specs.Layout.{mailbox_len}
 use Rattle.vme_boxes.specs.Mailboxes.{mailbox_of, holds_mailboxes}
 use Rattle.vme_boxes.specs.Places.{place_of, is_within, share}
 use Rattle.vme_boxes.proofs.Numbers.{numbers_known}

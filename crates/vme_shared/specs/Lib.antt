@@ -1,3 +1,8 @@
+pub mod Layout
+pub mod MailboxSteps
+pub mod Phases
+pub mod Words
+pub mod Example
 pub mod Statuses
 pub mod Mailboxes
 pub mod Steps

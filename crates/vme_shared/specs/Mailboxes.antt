@@ -7,7 +7,7 @@ use Rattle.vme_cycle.specs.declared.request.Request.TheVariants as cycles
 use Rattle.vme_cycle.specs.Functions.{number_bytes}
 use Rattle.vme_cycle.specs.Refusals.{first_of}
 use Rattle.vme_cycle.specs.Lawful.{transfer_of}
-use Rattle.vme_mailbox.specs.Layout.{put_count_from, take_count_from, word_from, mailbox_len}
+use Rattle.vme_shared.specs.Layout.{put_count_from, take_count_from, word_from, mailbox_len}
 use Rattle.vme_shared.specs.declared.mailbox.Mailbox.{Mailbox}
 use Rattle.vme_shared.specs.declared.request.SharedRequest.{SharedRequest}
 use Rattle.vme_shared.specs.declared.request.SharedRequest.TheVariants.{Lock, Unlock, Put, Take}

@@ -5,7 +5,7 @@ use Rattle.std.proofs.lemmas.Option.{get_or_from_slice_get, slice_get_within, sl
 use Rattle.vme_object.specs.declared.history.Entry.{Entry}
 use Rattle.vme_memory.specs.declared.command.BoardCmd.{BoardCmd}
 use Rattle.vme_memory.specs.declared.reply.Reply.{Reply}
-use Rattle.vme_mailbox.specs.Mailboxes.{BoardMailbox, LiesIn}
+use Rattle.vme_shared.specs.MailboxSteps.{BoardMailbox, LiesIn}
 use Rattle.vme_shared.specs.declared.mailbox.Mailbox.{Mailbox}
 use Rattle.vme_boxes.specs.declared.place.Place.{Place}
 use Rattle.vme_boxes.specs.Places.{place_of}

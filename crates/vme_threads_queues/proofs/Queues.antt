@@ -5,10 +5,10 @@ use Rattle.vme_object.specs.History.{Begins}
 use Rattle.vme_object.specs.Each.{Each}
 use Rattle.vme_memory.specs.declared.command.BoardCmd.{BoardCmd}
 use Rattle.vme_memory.specs.declared.reply.Reply.{Reply}
-use Rattle.vme_mailbox.specs.Mailboxes.{BoardMailbox, LiesIn}
-use Rattle.vme_mailbox.specs.Phases.{IsProper}
-use Rattle.vme_mailbox.specs.Words.{put_by, taken_by, words_put, words_taken, all_idle}
-use Rattle.vme_mailbox.proofs.Opening.{is_queue}
+use Rattle.vme_shared.specs.MailboxSteps.{BoardMailbox, LiesIn}
+use Rattle.vme_shared.specs.Phases.{IsProper}
+use Rattle.vme_shared.specs.Words.{put_by, taken_by, words_put, words_taken, all_idle}
+use Rattle.vme_shared.proofs.Opening.{is_queue}
 use Rattle.vme_script.specs.declared.board.BoardConfig.{BoardConfig}
 use Rattle.vme_script.specs.Configurations.{Configuration, opening_memory}
 use Rattle.vme_script.specs.Lawful.{IsLawful}

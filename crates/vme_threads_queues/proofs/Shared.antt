@@ -10,8 +10,8 @@ use Rattle.vme_object.specs.Each.{Each}
 use Rattle.vme_memory.specs.declared.command.BoardCmd.{BoardCmd}
 use Rattle.vme_memory.specs.declared.reply.Reply.{Reply}
 use Rattle.vme_memory.specs.Boards.{zeros}
-use Rattle.vme_mailbox.specs.Layout.{mailbox_len}
-use Rattle.vme_mailbox.specs.Mailboxes.{BoardMailbox, LiesIn, IsNewMailbox, end_of}
+use Rattle.vme_shared.specs.Layout.{mailbox_len}
+use Rattle.vme_shared.specs.MailboxSteps.{BoardMailbox, LiesIn, IsNewMailbox, end_of}
 use Rattle.vme_arbiter.specs.declared.command.ArbCmd.{ArbCmd}
 use Rattle.vme_arbiter.specs.declared.command.ArbReply.{ArbReply}
 use Rattle.vme_arbiter.specs.declared.command.ArbReply.TheVariants as turned

@@ -3,8 +3,8 @@ use Rattle.std.proofs.Common.{◌≡◌, ℕ, ◌+◌, ◌<◌, ◌≤◌, true,
 use Rattle.std.specs.Prelude.{nat_lt, ◌&&◌, min, max}
 use Rattle.std.proofs.lemmas.Bool.{and_parts, and_from, ltb-true, lt-ltb, eq-eqb, true≢false, false_from_ne_true}
 use Rattle.vme_memory.specs.Steps.{Command}
-use Rattle.vme_mailbox.specs.Layout.{mailbox_len}
-use Rattle.vme_mailbox.specs.Mailboxes.{BoardMailbox, end_of, offset_of, len_of, touches}
+use Rattle.vme_shared.specs.Layout.{mailbox_len}
+use Rattle.vme_shared.specs.MailboxSteps.{BoardMailbox, end_of, offset_of, len_of, touches}
 use Rattle.vme_boxes.specs.declared.place.Place.{Place}
 use Rattle.vme_boxes.specs.Places.{share}
 

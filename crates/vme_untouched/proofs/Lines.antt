@@ -11,7 +11,7 @@ use Rattle.vme_cycle.specs.declared.request.Request.TheVariants as requests
 use Rattle.vme_decode.specs.declared.entry.Entry.{Entry}
 use Rattle.vme_memory.specs.Steps.{Command}
 use Rattle.vme_core.specs.Calls.{OnBoard}
-use Rattle.vme_mailbox.specs.Mailboxes.{touches}
+use Rattle.vme_shared.specs.MailboxSteps.{touches}
 use Rattle.vme_shared.specs.declared.mailbox.Mailbox.{Mailbox}
 use Rattle.vme_shared.specs.declared.request.SharedRequest.{SharedRequest}
 use Rattle.vme_shared.specs.declared.request.SharedRequest.TheVariants as asked

@@ -14,7 +14,7 @@ use Rattle.vme_memory.specs.Steps.{Command, LocalRead, LocalWrite, LocalModify}
 use Rattle.vme_core.specs.Calls.{Call, OnBoard}
 use Rattle.vme_master.specs.Jobs.{local_job}
 use Rattle.vme_master.proofs.Locals.{local_calls}
-use Rattle.vme_mailbox.specs.Mailboxes.{offset_of, len_of}
+use Rattle.vme_shared.specs.MailboxSteps.{offset_of, len_of}
 use Rattle.vme_shared.specs.declared.request.SharedRequest.{SharedRequest}
 use Rattle.vme_shared.specs.declared.request.SharedRequest.TheVariants as asked
 use Rattle.vme_shared.specs.Mailboxes.{set_lock, clear_lock, refusal_in, shared_refusal}

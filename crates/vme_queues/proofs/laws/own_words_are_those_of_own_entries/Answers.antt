@@ -1,4 +1,4 @@
-use Rattle.vme_mailbox.specs.Words.{put_by, taken_by, all_idle}
+use Rattle.vme_shared.specs.Words.{put_by, taken_by, all_idle}
 use Rattle.vme_queues.proofs.Groups.{own_words}
 use Rattle.vme_queues.proofs.laws.own_words_are_those_of_own_entries.Goals as goal
 

@@ -1,7 +1,7 @@
 use Rattle.std.proofs.Common.{◌∙◌}
-use Rattle.vme_mailbox.specs.Words.{put_by, taken_by, all_idle}
+use Rattle.vme_shared.specs.Words.{put_by, taken_by, all_idle}
 use Rattle.vme_queues.proofs.Groups.{own_words}
-use Rattle.vme_mailbox.proofs.Opening.{is_queue}
+use Rattle.vme_shared.proofs.Opening.{is_queue}
 use Rattle.vme_queues.proofs.Shared.{proper, put_told, taken_told}
 use Rattle.vme_queues.proofs.laws.scripts_go_by_the_rows.Goals as goal
 

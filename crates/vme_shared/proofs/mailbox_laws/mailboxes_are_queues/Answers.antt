@@ -1,5 +1,5 @@
-use Rattle.vme_mailbox.proofs.Opening.{is_queue}
-use Rattle.vme_mailbox.proofs.laws.mailboxes_are_queues.Goals as goal
+use Rattle.vme_shared.proofs.Opening.{is_queue}
+use Rattle.vme_shared.proofs.mailbox_laws.mailboxes_are_queues.Goals as goal
 
 pub returns-clause-order : goal.returns-clause-order
 returns-clause-order c = λ board m h new legal proper. (is_queue board m h new legal proper).order

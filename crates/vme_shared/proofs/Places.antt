@@ -2,7 +2,7 @@
 use Rattle.std.proofs.Common.{◌≡◌, ℕ, ◌+◌, ◌*◌, ◌/◌, ◌%◌, ◌≤◌, ◌<◌, ◌⊎◌, arith, inl, inr}
 use Rattle.std.proofs.Math.Nat.{mul-le-mul_left}
 use Rattle.std.proofs.lemmas.Bool.{cases_lt, cases_order}
-use Rattle.vme_mailbox.specs.Mailboxes.{BoardMailbox, word_at, end_of}
+use Rattle.vme_shared.specs.MailboxSteps.{BoardMailbox, word_at, end_of}
 
 -- the rest of a number by the slots is below them
 pub rest_below : (n slots : ℕ) → 1 ≤ slots → n % slots < slots

@@ -5,10 +5,10 @@ ghost use Rattle.vme_memory.specs.declared.command.BoardCmd.{BoardCmd};
 ghost use Rattle.vme_memory.specs.declared.reply.Reply.{Reply};
 ghost use Rattle.vme_memory.specs.Boards.{Board};
 ghost use Rattle.vme_memory.specs.Locals.{board_step};
-ghost use Rattle.vme_mailbox.specs.Mailboxes.{BoardMailbox, IsNewMailbox};
-ghost use Rattle.vme_mailbox.specs.Phases.{IsProper};
-ghost use Rattle.vme_mailbox.specs.Words.{words_put, words_taken};
-ghost use Rattle.vme_mailbox.specs.Example.{example_board, example_mailbox, example_history, early_count_history};
+ghost use Rattle.vme_shared.specs.MailboxSteps.{BoardMailbox, IsNewMailbox};
+ghost use Rattle.vme_shared.specs.Phases.{IsProper};
+ghost use Rattle.vme_shared.specs.Words.{words_put, words_taken};
+ghost use Rattle.vme_shared.specs.Example.{example_board, example_mailbox, example_history, early_count_history};
 
 /// A mailbox is a queue: in every legal history of its board in which each master goes by the rows,
 /// from a new mailbox on, the words that are taken are the first of the words that are put, in their

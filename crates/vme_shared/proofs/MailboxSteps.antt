@@ -11,9 +11,9 @@ use Rattle.vme_memory.specs.declared.reply.Reply.{Reply}
 use Rattle.vme_memory.specs.declared.reply.Reply.TheVariants.{Berr}
 use Rattle.vme_memory.specs.Boards.{Board, bytes_after_write}
 use Rattle.vme_memory.specs.Steps.{Command, LocalRead, LocalWrite, LocalModify, Read, Write, Modify, BlockRead, BlockWrite, can_answer, effect_of, fits, step, bytes_at}
-use Rattle.vme_mailbox.specs.Mailboxes.{offset_of, len_of}
-use Rattle.vme_mailbox.specs.Phases.{Access, Sets, Reads, Writes, Others, access_of}
-use Rattle.vme_mailbox.proofs.Bytes.{number_in}
+use Rattle.vme_shared.specs.MailboxSteps.{offset_of, len_of}
+use Rattle.vme_shared.specs.Phases.{Access, Sets, Reads, Writes, Others, access_of}
+use Rattle.vme_shared.proofs.Bytes.{number_in}
 
 -- some of the bytes are new ones
 pub record Overwrites (bytes : List ℕ) (at len : ℕ) (after : List ℕ) : Type 0 where

@@ -3,8 +3,8 @@ use Rattle.std.specs.Prelude.{ℕ, ◌==◌, if◌then◌else◌, List, [], ◌�
 use Rattle.vme_object.specs.declared.history.Entry.{Entry}
 use Rattle.vme_memory.specs.declared.command.BoardCmd.{BoardCmd}
 use Rattle.vme_memory.specs.declared.reply.Reply.{Reply}
-use Rattle.vme_mailbox.specs.Mailboxes.{BoardMailbox}
-use Rattle.vme_mailbox.specs.Phases.{Phase, Idle, Written, Fetched, Counted, after_entry}
+use Rattle.vme_shared.specs.MailboxSteps.{BoardMailbox}
+use Rattle.vme_shared.specs.Phases.{Phase, Idle, Written, Fetched, Counted, after_entry}
 
 -- the word that is put where a phase goes over into another: the one that was written, once its count is (this project's own)
 abbrev pub put_by : Option Phase → Option Phase → List ℕ

@@ -10,9 +10,9 @@ use Rattle.vme_memory.specs.Boards.{zeros}
 use Rattle.vme_memory.specs.Locals.{board_step, answer_given}
 use Rattle.vme_lanes.specs.Rows.{location_at, location_sensed}
 use Rattle.vme_cycle.specs.Plans.{location_from, signals_of}
-use Rattle.vme_mailbox.specs.Phases.{IsProper, Idle, phase_after}
-use Rattle.vme_mailbox.specs.Words.{words_put, words_taken}
-use Rattle.vme_mailbox.specs.Example.{example_board, example_mailbox, example_history, early_count_history}
+use Rattle.vme_shared.specs.Phases.{IsProper, Idle, phase_after}
+use Rattle.vme_shared.specs.Words.{words_put, words_taken}
+use Rattle.vme_shared.specs.Example.{example_board, example_mailbox, example_history, early_count_history}
 
 pub example_legal : IsLegal board_step example_board example_history
 unfolding zeros answer_given location_at location_sensed location_from signals_of

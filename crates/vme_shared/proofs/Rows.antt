@@ -5,13 +5,13 @@ use Rattle.std.proofs.lemmas.Bool.{cases_Bool, and_parts, eqb-true, eqb-false, l
 use Rattle.std.proofs.lemmas.List.{append-nil, length_push, get_or_push, get_or_append_left, take-append-le, take_more}
 use Rattle.vme_cycle.specs.Functions.{with_top_bit}
 use Rattle.vme_memory.specs.Boards.{bytes_after_write}
-use Rattle.vme_mailbox.specs.Mailboxes.{BoardMailbox, lock_at, put_count_at, take_count_at, word_at}
-use Rattle.vme_mailbox.specs.Phases.{Phase, Idle, Locked, First, Both, Written, Fetched, Counted, Access, Sets, Reads, Writes, has_room, is_unlock, next_phase}
-use Rattle.vme_mailbox.specs.Words.{put_by, taken_by}
-use Rattle.vme_mailbox.proofs.Bytes.{number_in, number_new, number_apart}
-use Rattle.vme_mailbox.proofs.Places.{word_within, words_apart}
-use Rattle.vme_mailbox.proofs.Steps.{Did}
-use Rattle.vme_mailbox.proofs.Kept.{Kept, IsHeld, Stands, kept_same, lock_set, lock_written, reached_is}
+use Rattle.vme_shared.specs.MailboxSteps.{BoardMailbox, lock_at, put_count_at, take_count_at, word_at}
+use Rattle.vme_shared.specs.Phases.{Phase, Idle, Locked, First, Both, Written, Fetched, Counted, Access, Sets, Reads, Writes, has_room, is_unlock, next_phase}
+use Rattle.vme_shared.specs.Words.{put_by, taken_by}
+use Rattle.vme_shared.proofs.Bytes.{number_in, number_new, number_apart}
+use Rattle.vme_shared.proofs.Places.{word_within, words_apart}
+use Rattle.vme_shared.proofs.MailboxSteps.{Did}
+use Rattle.vme_shared.proofs.Kept.{Kept, IsHeld, Stands, kept_same, lock_set, lock_written, reached_is}
 
 -- the words after an access, what the bytes hold of them, and where its master stands
 pub record Went (m : BoardMailbox) (after put taken : List ℕ) (phase next : Phase) : Type 0 where

@@ -2,11 +2,11 @@
 use Rattle.std.proofs.Common.{◌≡◌, ℕ, ◌+◌, ◌-◌, ◌^◌, ◌≤◌, ◌<◌, ◌⊎◌, Bool, true, false, List, [], ◌∷◌, length, take, get_or, slice_range, refl, ◌∙◌, arith, inl, inr, Some}
 use Rattle.vme_cycle.specs.Functions.{number_of, with_top_bit}
 use Rattle.vme_memory.specs.Boards.{bytes_after_write}
-use Rattle.vme_mailbox.specs.Mailboxes.{BoardMailbox, lock_at, put_count_at, take_count_at, word_at, end_of}
-use Rattle.vme_mailbox.specs.Phases.{Phase, Idle, Locked, First, Both, Written, Fetched, Counted, reached}
-use Rattle.vme_mailbox.proofs.Bytes.{number_in, number_new, number_apart}
-use Rattle.vme_mailbox.proofs.Places.{word_within}
-use Rattle.vme_mailbox.proofs.Steps.{read_len}
+use Rattle.vme_shared.specs.MailboxSteps.{BoardMailbox, lock_at, put_count_at, take_count_at, word_at, end_of}
+use Rattle.vme_shared.specs.Phases.{Phase, Idle, Locked, First, Both, Written, Fetched, Counted, reached}
+use Rattle.vme_shared.proofs.Bytes.{number_in, number_new, number_apart}
+use Rattle.vme_shared.proofs.Places.{word_within}
+use Rattle.vme_shared.proofs.MailboxSteps.{read_len}
 
 -- the counts are those of the words put and taken; what was taken was put first, and what was not yet taken stands at its places
 pub record Kept (m : BoardMailbox) (bytes put taken : List ℕ) : Type 0 where

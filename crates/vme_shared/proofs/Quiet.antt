@@ -5,13 +5,13 @@ use Rattle.std.proofs.lemmas.Bool.{and_parts, and_cases, eqb-true, ltb-false}
 use Rattle.vme_cycle.specs.Functions.{with_top_bit}
 use Rattle.vme_memory.specs.Boards.{Board, bytes_after_write}
 use Rattle.vme_memory.specs.Steps.{Command, step}
-use Rattle.vme_mailbox.specs.Mailboxes.{BoardMailbox, lock_at, end_of, offset_of, len_of, touches}
-use Rattle.vme_mailbox.specs.Phases.{Phase, Idle, Locked, First, Both, Written, Fetched, Counted, Access, Sets, Reads, Writes, Others, next_phase}
-use Rattle.vme_mailbox.specs.Words.{put_by, taken_by}
-use Rattle.vme_mailbox.proofs.Bytes.{number_in, number_apart, write_nothing}
-use Rattle.vme_mailbox.proofs.Steps.{Did, Changes, changes}
-use Rattle.vme_mailbox.proofs.Kept.{Kept, IsHeld, Stands, SameNumbers, kept_same, stands_same, same_beside, lock_set, reached_is}
-use Rattle.vme_mailbox.proofs.Rows.{Went, same_words}
+use Rattle.vme_shared.specs.MailboxSteps.{BoardMailbox, lock_at, end_of, offset_of, len_of, touches}
+use Rattle.vme_shared.specs.Phases.{Phase, Idle, Locked, First, Both, Written, Fetched, Counted, Access, Sets, Reads, Writes, Others, next_phase}
+use Rattle.vme_shared.specs.Words.{put_by, taken_by}
+use Rattle.vme_shared.proofs.Bytes.{number_in, number_apart, write_nothing}
+use Rattle.vme_shared.proofs.MailboxSteps.{Did, Changes, changes}
+use Rattle.vme_shared.proofs.Kept.{Kept, IsHeld, Stands, SameNumbers, kept_same, stands_same, same_beside, lock_set, reached_is}
+use Rattle.vme_shared.proofs.Rows.{Went, same_words}
 
 -- all numbers, that of the lock too
 pub record Quiet (m : BoardMailbox) (bytes after : List ℕ) : Type 0 where

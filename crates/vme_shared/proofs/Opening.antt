@@ -9,13 +9,13 @@ use Rattle.vme_memory.specs.declared.command.BoardCmd.{BoardCmd}
 use Rattle.vme_memory.specs.declared.reply.Reply.{Reply}
 use Rattle.vme_memory.specs.Boards.{Board, zeros}
 use Rattle.vme_memory.specs.Locals.{board_step}
-use Rattle.vme_mailbox.specs.Layout.{mailbox_len}
-use Rattle.vme_mailbox.specs.Mailboxes.{BoardMailbox, IsNewMailbox}
-use Rattle.vme_mailbox.specs.Phases.{Idle, IsProper}
-use Rattle.vme_mailbox.specs.Words.{all_idle, words_put, words_taken}
-use Rattle.vme_mailbox.proofs.Bytes.{number_in}
-use Rattle.vme_mailbox.proofs.Steps.{read_len}
-use Rattle.vme_mailbox.proofs.Ordered.{Holds, IsQueue, ordered}
+use Rattle.vme_shared.specs.Layout.{mailbox_len}
+use Rattle.vme_shared.specs.MailboxSteps.{BoardMailbox, IsNewMailbox}
+use Rattle.vme_shared.specs.Phases.{Idle, IsProper}
+use Rattle.vme_shared.specs.Words.{all_idle, words_put, words_taken}
+use Rattle.vme_shared.proofs.Bytes.{number_in}
+use Rattle.vme_shared.proofs.MailboxSteps.{read_len}
+use Rattle.vme_shared.proofs.Ordered.{Holds, IsQueue, ordered}
 
 -- a byte of a mailbox of zeros
 zero_byte : (bytes : List ℕ) (at len k : ℕ) → slice_range bytes at (at + len) ≡ zeros len → k < len → get_or bytes (at + k) 0 ≡ 0

@@ -1,5 +1,5 @@
-use Rattle.vme_mailbox.proofs.Example.{example_legal, example_proper, example_put, example_taken, early_legal, early_improper}
-use Rattle.vme_mailbox.proofs.laws.a_word_goes_through.Goals as goal
+use Rattle.vme_shared.proofs.Example.{example_legal, example_proper, example_put, example_taken, early_legal, early_improper}
+use Rattle.vme_shared.proofs.mailbox_laws.a_word_goes_through.Goals as goal
 
 pub returns-clause-legal : goal.returns-clause-legal
 returns-clause-legal c = example_legal

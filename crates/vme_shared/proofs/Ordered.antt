@@ -10,13 +10,13 @@ use Rattle.vme_memory.specs.declared.reply.Reply.{Reply}
 use Rattle.vme_memory.specs.Boards.{Board}
 use Rattle.vme_memory.specs.Steps.{Command, step, answer}
 use Rattle.vme_memory.specs.Locals.{board_step, answer_given, command_given}
-use Rattle.vme_mailbox.specs.Mailboxes.{BoardMailbox, touches}
-use Rattle.vme_mailbox.specs.Phases.{Phase, Idle, access_of, next_phase, after_command, after_entry, phase_after}
-use Rattle.vme_mailbox.specs.Words.{put_by, taken_by, phases_after, words_from}
-use Rattle.vme_mailbox.proofs.Steps.{did}
-use Rattle.vme_mailbox.proofs.Kept.{Kept, Stands, held_by, kept_same, stands_same}
-use Rattle.vme_mailbox.proofs.Rows.{Went, went}
-use Rattle.vme_mailbox.proofs.Quiet.{Quiet, quiet, quiet_same, busy, no_put, no_taken, stayed}
+use Rattle.vme_shared.specs.MailboxSteps.{BoardMailbox, touches}
+use Rattle.vme_shared.specs.Phases.{Phase, Idle, access_of, next_phase, after_command, after_entry, phase_after}
+use Rattle.vme_shared.specs.Words.{put_by, taken_by, phases_after, words_from}
+use Rattle.vme_shared.proofs.MailboxSteps.{did}
+use Rattle.vme_shared.proofs.Kept.{Kept, Stands, held_by, kept_same, stands_same}
+use Rattle.vme_shared.proofs.Rows.{Went, went}
+use Rattle.vme_shared.proofs.Quiet.{Quiet, quiet, quiet_same, busy, no_put, no_taken, stayed}
 
 -- one master at most is not idle, and the bytes are what they are where it stands
 pub record Holds (m : BoardMailbox) (bytes put taken : List ℕ) (phases : ℕ → Option Phase) : Type 0 where

@@ -17,7 +17,7 @@ use Rattle.vme_memory.specs.declared.command.BoardCmd.TheVariants.{Cycle}
 use Rattle.vme_memory.specs.declared.reply.Reply.{Reply}
 use Rattle.vme_memory.specs.declared.reply.Reply.TheVariants.{Bytes, Done}
 use Rattle.vme_memory.specs.Boards.{Board, zeros}
-use Rattle.vme_mailbox.specs.Mailboxes.{BoardMailbox}
+use Rattle.vme_shared.specs.MailboxSteps.{BoardMailbox}
 
 -- a board of 24 zero bytes that answers quad bytes and read-modify-writes (this project's own)
 abbrev pub example_board : Board

@@ -9,7 +9,7 @@ use Rattle.vme_memory.specs.declared.reply.Reply.{Reply}
 use Rattle.vme_memory.specs.declared.reply.Reply.TheVariants.{Bytes, Done}
 use Rattle.vme_memory.specs.Steps.{Command, Read, Write, Modify}
 use Rattle.vme_memory.specs.Locals.{command_given}
-use Rattle.vme_mailbox.specs.Mailboxes.{BoardMailbox, lock_at, put_count_at, take_count_at, word_at, touches}
+use Rattle.vme_shared.specs.MailboxSteps.{BoardMailbox, lock_at, put_count_at, take_count_at, word_at, touches}
 
 -- where a master stands with a mailbox: it does not hold it; it has the lock; it has read the put count, p, and then the take
 -- count, t; it has written the word x with number p, or read the word x with number t; and it has raised the count

@@ -3,7 +3,7 @@ use Rattle.std.specs.Prelude.{ℕ, ◌≡◌, ◌+◌, ◌%◌, ◌≤◌, nat_l
 use Rattle.vme_memory.specs.declared.class.Width8To32.TheVariants.{D32}
 use Rattle.vme_memory.specs.Boards.{Board, zeros}
 use Rattle.vme_memory.specs.Steps.{Command, LocalRead, LocalWrite, LocalModify, Read, Write, Modify, BlockRead, BlockWrite, bytes_at}
-use Rattle.vme_mailbox.specs.Layout.{put_count_from, take_count_from, word_from, mailbox_len}
+use Rattle.vme_shared.specs.Layout.{put_count_from, take_count_from, word_from, mailbox_len}
 
 -- a mailbox in a board's memory: the offset of its first byte, and how many words it has room for (this project's own)
 pub record BoardMailbox : Type 0 where
