@@ -17,8 +17,8 @@ use Rattle.vme_shared.specs.MailboxSteps.{LiesIn}
 use Rattle.vme_shared.specs.declared.mailbox.Mailbox.{Mailbox}
 use Rattle.vme_shared.specs.Mailboxes.{mailbox_refusal}
 use Rattle.vme_mailbox_laws.specs.Along.{LiesAt}
-use Rattle.vme_boxes.specs.declared.place.Place.{Place}
-use Rattle.vme_boxes.specs.Places.{place_by, place_at, place_of}
+use Rattle.vme_script.specs.declared.place.Place.{Place}
+use Rattle.vme_script.specs.Places.{place_by, place_at, place_of}
 use Rattle.vme_queues.specs.Places.{on_board}
 use Rattle.vme_queues.proofs.Refusals.{not_refused}
 use Rattle.vme_script.specs.declared.board.BoardConfig.{BoardConfig}

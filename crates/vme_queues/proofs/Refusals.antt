@@ -28,7 +28,7 @@ use Rattle.vme_shared.specs.MailboxSteps.{BoardMailbox}
 use Rattle.vme_shared.specs.declared.mailbox.Mailbox.{Mailbox}
 use Rattle.vme_shared.specs.Mailboxes.{IsMailbox, word_at, set_lock, read_word, refusal_in, mailbox_refusal}
 use Rattle.vme_mailbox_laws.specs.Along.{LiesAt}
-use Rattle.vme_boxes.specs.Mailboxes.{is_mailbox_code}
+use Rattle.vme_script.specs.Mailboxes.{is_mailbox_code}
 
 -- a code that reads as a row of data or short access
 record IsReached (am : ℕ) : Type 0 where

@@ -16,7 +16,7 @@ use Rattle.vme_script.specs.Answers.{◌>>=◌, refuse}
 use Rattle.vme_config_toml.specs.Files.{FileValues}
 use Rattle.vme_script.specs.Boards.{range_refused, boards_after, entries_of, map_of}
 use Rattle.vme_script.specs.Arbiters.{kind_named}
-use Rattle.vme_script.specs.Mailboxes.{mailboxes_of}
+use Rattle.vme_script.specs.MailboxRefusals.{mailboxes_of}
 use Rattle.vme_script.specs.Schedules.{has_boards, turns_of, lawful_schedule, schedule_of}
 use Rattle.vme_script.specs.Scripts.{scripts_of}
 use Rattle.vme_script.specs.Configurations.{Configuration, configuration_of}

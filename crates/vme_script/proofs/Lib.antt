@@ -1,3 +1,7 @@
+pub mod Numbers
+pub mod Places
+pub mod Untouched
+pub mod Asked
 pub mod Lists
 pub mod Maps
 pub mod Facts

@@ -10,10 +10,10 @@ use Rattle.vme_lines.specs.Grammar.{line_of, IsOwnLine}
 use Rattle.vme_lines.proofs.Spelling.{line_is_own}
 use Rattle.vme_decode.specs.declared.entry.Entry.{Entry}
 use Rattle.vme_shared.specs.declared.mailbox.Mailbox.{Mailbox}
-use Rattle.vme_boxes.specs.declared.boxes.Boxes.TheVariants.{Declared}
-use Rattle.vme_boxes.specs.declared.rules.Rules.{Rules}
-use Rattle.vme_boxes.specs.Names.{may_ask}
-use Rattle.vme_boxes.specs.Rules.{boxes_of, touches, asked_within, line_within}
+use Rattle.vme_script.specs.declared.boxes.Boxes.TheVariants.{Declared}
+use Rattle.vme_script.specs.declared.rules.Rules.{Rules}
+use Rattle.vme_script.specs.Names.{may_ask}
+use Rattle.vme_script.specs.Rules.{boxes_of, touches, asked_within, line_within}
 use Rattle.vme_script.specs.declared.fault.ConfigFault.{ConfigFault}
 use Rattle.vme_script.specs.declared.fault.ScriptRefusal.{ScriptRefusal}
 use Rattle.vme_script.specs.declared.script.ScriptLine.{ScriptLine}

@@ -8,18 +8,18 @@ use Rattle.std.proofs.lemmas.List.Folds.{list_any-append}
 use Rattle.std.proofs.lemmas.Option.{slice_get-map}
 use Rattle.vme_config_toml.specs.declared.file.MailboxTable.{MailboxTable}
 use Rattle.vme_shared.specs.declared.mailbox.Mailbox.{Mailbox}
-use Rattle.vme_boxes.specs.declared.place.Place.{Place}
+use Rattle.vme_script.specs.declared.place.Place.{Place}
 use Rattle.vme_shared.specs.Layout.{mailbox_len}
-use Rattle.vme_boxes.specs.Mailboxes.{mailbox_of, holds_mailboxes}
-use Rattle.vme_boxes.specs.Places.{place_of, is_within, share}
-use Rattle.vme_boxes.proofs.Numbers.{numbers_known}
-use Rattle.vme_boxes.proofs.Places.{shared_both_ways, ends_within}
+use Rattle.vme_script.specs.Mailboxes.{mailbox_of, holds_mailboxes}
+use Rattle.vme_script.specs.Places.{place_of, is_within, share}
+use Rattle.vme_script.proofs.Numbers.{numbers_known}
+use Rattle.vme_script.proofs.Places.{shared_both_ways, ends_within}
 use Rattle.vme_script.specs.declared.board.BoardConfig.{BoardConfig}
 use Rattle.vme_script.specs.declared.fault.ConfigFault.{ConfigFault}
 use Rattle.vme_script.specs.declared.fault.ConfigFault.TheVariants.{BadMailbox}
 use Rattle.vme_script.specs.Answers.{◌>>=◌, refuse}
 use Rattle.vme_script.specs.Boards.{range_refused, entries_of}
-use Rattle.vme_script.specs.Mailboxes.{declared_mailbox, mailboxes_after, mailboxes_of}
+use Rattle.vme_script.specs.MailboxRefusals.{declared_mailbox, mailboxes_after, mailboxes_of}
 use Rattle.vme_script.specs.Lawful.{IsLawfulMailbox}
 use Rattle.vme_script.proofs.Facts.{is_lawful, true_from_not}
 use Rattle.vme_script.proofs.Maps.{end_of_range}

@@ -4,9 +4,9 @@ use Rattle.std.proofs.lemmas.List.{append-nil}
 use Rattle.vme_lines.specs.declared.line.Line.{Line}
 use Rattle.vme_lines.specs.declared.fault.LineFault.{LineFault}
 use Rattle.vme_lines.specs.Grammar.{line_of}
-use Rattle.vme_boxes.specs.declared.rules.Rules.{Rules}
-use Rattle.vme_boxes.specs.Rules.{refusal_of, line_within}
-use Rattle.vme_boxes.proofs.Asked.{empty, forbidden, allowed}
+use Rattle.vme_script.specs.declared.rules.Rules.{Rules}
+use Rattle.vme_script.specs.Rules.{refusal_of, line_within}
+use Rattle.vme_script.proofs.Asked.{empty, forbidden, allowed}
 use Rattle.vme_script.specs.declared.fault.ScriptRefusal.{ScriptRefusal}
 use Rattle.vme_script.specs.declared.fault.ScriptRefusal.TheVariants.{BadLine}
 use Rattle.vme_script.specs.declared.script.ScriptLine.{ScriptLine}

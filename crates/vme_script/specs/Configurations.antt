@@ -12,7 +12,7 @@ use Rattle.vme_script.specs.Boards.{boards_after, entries_of, map_of}
 use Rattle.vme_script.specs.Arbiters.{kind_named}
 use Rattle.vme_script.specs.Schedules.{schedule_of}
 use Rattle.vme_shared.specs.declared.mailbox.Mailbox.{Mailbox}
-use Rattle.vme_script.specs.Mailboxes.{mailboxes_of}
+use Rattle.vme_script.specs.MailboxRefusals.{mailboxes_of}
 use Rattle.vme_script.specs.Scripts.{scripts_of}
 
 -- boards in order of slots, the scripts of their processors beside them, how these are driven, and the mailboxes that scripts

@@ -6,12 +6,12 @@ use Rattle.vme_lines.specs.Grammar.{IsOwnLine}
 use Rattle.vme_memory.specs.Boards.{is_board_size}
 use Rattle.vme_shared.specs.declared.mailbox.Mailbox.{Mailbox}
 use Rattle.vme_shared.specs.Mailboxes.{IsMailbox}
-use Rattle.vme_boxes.specs.declared.boxes.Boxes.TheVariants.{Declared}
-use Rattle.vme_boxes.specs.declared.place.Place.{Place}
-use Rattle.vme_boxes.specs.Mailboxes.{is_mailbox_code, holds_mailboxes}
-use Rattle.vme_boxes.specs.Names.{may_ask}
-use Rattle.vme_boxes.specs.Places.{place_of, share}
-use Rattle.vme_boxes.specs.Rules.{touches}
+use Rattle.vme_script.specs.declared.boxes.Boxes.TheVariants.{Declared}
+use Rattle.vme_script.specs.declared.place.Place.{Place}
+use Rattle.vme_script.specs.Mailboxes.{is_mailbox_code, holds_mailboxes}
+use Rattle.vme_script.specs.Names.{may_ask}
+use Rattle.vme_script.specs.Places.{place_of, share}
+use Rattle.vme_script.specs.Rules.{touches}
 use Rattle.vme_script.specs.declared.board.BoardConfig.{BoardConfig}
 use Rattle.vme_script.specs.declared.script.ScriptLine.{ScriptLine}
 use Rattle.vme_script.specs.Boards.{entries_of}

@@ -1,8 +1,14 @@
+pub mod Mailboxes
+pub mod Places
+pub mod Names
+pub mod Bytes
+pub mod Declarations
+pub mod Rules
 pub mod Answers
 pub mod Boards
 pub mod Arbiters
 pub mod Schedules
-pub mod Mailboxes
+pub mod MailboxRefusals
 pub mod Scripts
 pub mod Configurations
 pub mod Readings

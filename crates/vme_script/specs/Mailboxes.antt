@@ -1,41 +1,32 @@
--- Lawful mailboxes: those that a file declares, or the refusal of them.
-use Rattle.std.specs.Prelude.{nat_lt, not, List, [], ◌∷◌, ◌++◌, length, slice_get, Result, Ok}
+-- Which numbers are a mailbox's.
+use Rattle.std.specs.Prelude.{ℕ, ◌≡◌, ◌≤◌, ◌%◌, nat_le, ◌==◌, ◌&&◌, Bool, true, [], ◌∷◌, Option, Some}
 use Rattle.std.specs.List.{list_any}
-use Rattle.std.specs.Option.{ok_or}
+use Rattle.vme_memory.specs.declared.class.Class.{Class}
+use Rattle.vme_memory.specs.Classes.{answers_quads}
 use Rattle.vme_config_toml.specs.declared.file.MailboxTable.{MailboxTable}
+use Rattle.vme_config_toml.specs.Keys.{◌>>=◌, when}
 use Rattle.vme_shared.specs.declared.mailbox.Mailbox.{Mailbox}
-use Rattle.vme_boxes.specs.declared.place.Place.{Place}
-use Rattle.vme_boxes.specs.Mailboxes.{mailbox_of, holds_mailboxes}
-use Rattle.vme_boxes.specs.Places.{place_of, is_within, share}
-use Rattle.vme_script.specs.declared.board.BoardConfig.{BoardConfig}
-use Rattle.vme_script.specs.declared.fault.ConfigFault.{ConfigFault}
-use Rattle.vme_script.specs.declared.fault.ConfigFault.TheVariants.{BadMailbox}
-use Rattle.vme_script.specs.Answers.{◌>>=◌, refuse}
-use Rattle.vme_script.specs.Boards.{entries_of}
 
--- the mailbox that a table declares beside some bytes that others have, with its own bytes. It is refused for its code, its
--- address and its slots; where its bytes do not lie wholly within one board that its code selects; where that board is not able
--- to hold it; and where it shares a byte with an earlier one (this project's own)
-unfoldable pub declared_mailbox : List BoardConfig → List Place → MailboxTable → Result (Mailbox × Place) ConfigFault
-declared_mailbox boards earlier table = do
-  mailbox ← ok_or (mailbox_of table) BadMailbox
-  place ← ok_or (place_of (entries_of boards) mailbox) BadMailbox
-  board ← ok_or (slice_get boards place.board) BadMailbox
-  _ ← refuse (not (is_within place board.entry.size)) BadMailbox
-  _ ← refuse (not (holds_mailboxes board.class)) BadMailbox
-  _ ← refuse (list_any (share place) earlier) BadMailbox
-  Ok (mailbox, place)
+-- whether a code is one of data or short access, by which a mailbox is reached (IEEE 1014, section 2.2.2)
+abbrev pub is_mailbox_code : ℕ → Bool
+is_mailbox_code am = list_any (λ code. code == am) (0x09 ∷ 0x0d ∷ 0x29 ∷ 0x2d ∷ 0x39 ∷ 0x3d ∷ [])
 
--- the mailboxes that tables declare, each beside those before it (this project's own)
-abbrev pub mailboxes_after : List BoardConfig → List Place → List MailboxTable → Result (List Mailbox) ConfigFault
-mailboxes_after boards earlier [] = Ok []
-mailboxes_after boards earlier (table ∷ more) = do
-  first ← declared_mailbox boards earlier table
-  others ← mailboxes_after boards (earlier ++ first.1 ∷ []) more
-  Ok (first.0 ∷ others)
+-- the mailbox that a table tells: its code is one by which a mailbox is reached, its address a multiple of four, and it has 1
+-- to 64 slots (this project's own)
+unfoldable pub mailbox_of : MailboxTable → Option Mailbox
+mailbox_of table = do
+  _ ← when (is_mailbox_code table.am)
+  _ ← when (table.addr % 4 == 0)
+  _ ← when (nat_le 1 table.slots && nat_le table.slots 64)
+  Some (record { am = table.am; addr = table.addr; slots = table.slots })
 
--- the mailboxes of a file: at most sixteen (this project's own)
-unfoldable pub mailboxes_of : List BoardConfig → List MailboxTable → Result (List Mailbox) ConfigFault
-mailboxes_of boards tables = do
-  _ ← refuse (nat_lt 16 (length tables)) BadMailbox
-  mailboxes_after boards [] tables
+-- a mailbox has the numbers of one (this project's own)
+pub record HasNumbers (mailbox : Mailbox) : Type 0 where
+  pub code : is_mailbox_code mailbox.am ≡ true
+  pub aligned : mailbox.addr % 4 ≡ 0
+  pub some_slot : 1 ≤ mailbox.slots
+  pub few_slots : mailbox.slots ≤ 64
+
+-- whether a board is able to hold mailboxes: it answers quad bytes and read-modify-writes (this project's own)
+abbrev pub holds_mailboxes : Class → Bool
+holds_mailboxes class = answers_quads class.width && class.rmw

@@ -6,9 +6,9 @@ use Rattle.vme_lines.specs.declared.line.Line.{Line}
 use Rattle.vme_lines.specs.declared.fault.LineFault.{LineFault}
 use Rattle.vme_decode.specs.declared.entry.Entry.{Entry}
 use Rattle.vme_shared.specs.declared.mailbox.Mailbox.{Mailbox}
-use Rattle.vme_boxes.specs.declared.rules.Rules.{Rules}
-use Rattle.vme_boxes.specs.declared.rules.Rules.TheVariants.{ByItself, InFile}
-use Rattle.vme_boxes.specs.Rules.{line_within}
+use Rattle.vme_script.specs.declared.rules.Rules.{Rules}
+use Rattle.vme_script.specs.declared.rules.Rules.TheVariants.{ByItself, InFile}
+use Rattle.vme_script.specs.Rules.{line_within}
 use Rattle.vme_script.specs.declared.fault.ConfigFault.{ConfigFault}
 use Rattle.vme_script.specs.declared.fault.ConfigFault.TheVariants.{BadScript}
 use Rattle.vme_script.specs.declared.fault.ScriptFault.{ScriptFault}

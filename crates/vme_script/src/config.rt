@@ -7,7 +7,7 @@ ghost use Rattle.vme_script.specs.Configurations.{configuration_of, opening_memo
 ghost use Rattle.vme_script.specs.Lawful.{IsLawful};
 
 use crate::arbiter::kind_named;
-use crate::board::{BoardConfig, board_configs, map_of};
+use crate::board::{board_configs, BoardConfig, map_of};
 use crate::fault::{ConfigFault, ScriptFault};
 use crate::mailboxes::mailboxes_of;
 use crate::schedule::schedule_of;
@@ -15,7 +15,7 @@ use crate::script::Script;
 use std::alloc::Global;
 use std::marker::Model;
 use vme_arbiter::{Arbiter, ArbiterKind};
-use vme_boxes::{Declared, Rules};
+use crate::rules::{Declared, Rules};
 use vme_core::OutOfMemory;
 use vme_decode::AddressMap;
 use vme_config_toml::{BoardTable, FileTable};

@@ -5,16 +5,26 @@
 
 mod arbiter;
 mod board;
+mod boxes;
+mod bytes;
 mod config;
 mod fault;
+mod laws;
+mod mailbox;
 mod mailboxes;
+mod place;
 mod read;
+mod rules;
 mod schedule;
 mod script;
 
 pub use board::BoardConfig;
 pub use config::Config;
 pub use fault::{ConfigFault, ScriptFault, ScriptRefusal};
+pub use laws::{places_are_told_by_addresses, tables_tell_lawful_numbers};
+pub use mailbox::{holds_mailboxes, mailbox_of};
+pub use place::Place;
+pub use rules::{Declared, Rules};
 pub use script::{Script, ScriptLine};
 pub use vme_core::OutOfMemory;
 pub use vme_lines::{Line, LineFault, parse_line};

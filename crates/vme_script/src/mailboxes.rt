@@ -2,12 +2,13 @@
 ghost use Rattle.std.specs.Prelude.{◌≡◌, ◌≤◌, length, IfOk};
 ghost use Rattle.vme_script.specs.Answers.{Gives};
 ghost use Rattle.vme_script.specs.Boards.{entries_of};
-ghost use Rattle.vme_script.specs.Mailboxes.{declared_mailbox, mailboxes_of};
+ghost use Rattle.vme_script.specs.MailboxRefusals.{declared_mailbox, mailboxes_of};
 
 use crate::board::BoardConfig;
 use crate::fault::ConfigFault;
 use std::alloc::Global;
-use vme_boxes::{Place, holds_mailboxes, mailbox_of};
+use crate::place::Place;
+use crate::mailbox::{holds_mailboxes, mailbox_of};
 use vme_decode::AddressMap;
 use vme_config_toml::MailboxTable;
 use vme_shared::Mailbox;
@@ -16,7 +17,7 @@ use vme_shared::Mailbox;
 const MOST_MAILBOXES: usize = 16;
 
 /// The mailbox that a table declares beside some bytes that others have, with its own bytes.
-#[tactic(auto, unfolding(crate::specs::Mailboxes::declared_mailbox))]
+#[tactic(auto, unfolding(crate::specs::MailboxRefusals::declared_mailbox))]
 fn declared_mailbox(
     boards: &[BoardConfig],
     map: &AddressMap,
@@ -42,7 +43,7 @@ fn declared_mailbox(
 }
 
 /// The mailboxes of a file, on boards that this is the map of.
-#[tactic(auto, unfolding(crate::specs::Mailboxes::mailboxes_of))]
+#[tactic(auto, unfolding(crate::specs::MailboxRefusals::mailboxes_of))]
 pub(crate) fn mailboxes_of(
     alloc: Global,
     boards: &[BoardConfig],

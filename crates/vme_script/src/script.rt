@@ -1,13 +1,13 @@
 //! Scripts: what the lines of a text ask for.
 ghost use Rattle.std.specs.Prelude.{◌≡◌, ◌<◌, ◌≤◌, ◌∷◌, ◌++◌, [], nat_lt, length, slice_get, Some, Ok, Err, IfOk, IfErr, map};
 ghost use Rattle.std.specs.Str.Lines.{lines};
-ghost use Rattle.vme_boxes.specs.Rules.{refusal_of};
+ghost use Rattle.vme_script.specs.Rules.{refusal_of};
 ghost use Rattle.vme_script.specs.Scripts.{script_of, script_within, lines_from, IsRefusalOf, IsTaken};
 
 use crate::fault::{ScriptFault, ScriptRefusal};
 use std::alloc::{AllocError, Global};
 use std::marker::Model;
-use vme_boxes::Rules;
+use crate::rules::Rules;
 use vme_lines::{Line, LineFault, parse_line};
 use vme_usual::usual_line;
 use vme_words::Lines;
@@ -122,7 +122,7 @@ fn take_line(
 /// The same, however the line is spelled.
 #[cold]
 #[inline(never)]
-#[tactic(auto, using(crate::proofs::Taking::kept, crate::proofs::Taking::passed_over, vme_boxes::proofs::Asked::refused))]
+#[tactic(auto, using(crate::proofs::Taking::kept, crate::proofs::Taking::passed_over, crate::proofs::Asked::refused))]
 fn take_any(
     lines: &mut Vec<ScriptLine>,
     number: u16,

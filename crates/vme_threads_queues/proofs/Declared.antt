@@ -7,8 +7,8 @@ use Rattle.vme_memory.specs.declared.command.BoardCmd.{BoardCmd}
 use Rattle.vme_memory.specs.declared.reply.Reply.{Reply}
 use Rattle.vme_shared.specs.MailboxSteps.{BoardMailbox, LiesIn}
 use Rattle.vme_shared.specs.declared.mailbox.Mailbox.{Mailbox}
-use Rattle.vme_boxes.specs.declared.place.Place.{Place}
-use Rattle.vme_boxes.specs.Places.{place_of}
+use Rattle.vme_script.specs.declared.place.Place.{Place}
+use Rattle.vme_script.specs.Places.{place_of}
 use Rattle.vme_script.specs.declared.board.BoardConfig.{BoardConfig}
 use Rattle.vme_script.specs.Boards.{entries_of}
 use Rattle.vme_script.specs.Configurations.{Configuration, opening_memory}

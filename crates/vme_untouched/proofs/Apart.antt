@@ -5,8 +5,8 @@ use Rattle.std.proofs.lemmas.Bool.{and_parts, and_from, ltb-true, lt-ltb, eq-eqb
 use Rattle.vme_memory.specs.Steps.{Command}
 use Rattle.vme_shared.specs.Layout.{mailbox_len}
 use Rattle.vme_shared.specs.MailboxSteps.{BoardMailbox, end_of, offset_of, len_of, touches}
-use Rattle.vme_boxes.specs.declared.place.Place.{Place}
-use Rattle.vme_boxes.specs.Places.{share}
+use Rattle.vme_script.specs.declared.place.Place.{Place}
+use Rattle.vme_script.specs.Places.{share}
 
 -- a command to the board at a place has its bytes among these
 pub record IsAmong (bytes : Place) (board : ℕ) (c : Command) : Type 0 where

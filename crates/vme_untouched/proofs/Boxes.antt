@@ -13,10 +13,10 @@ use Rattle.vme_shared.specs.declared.mailbox.Mailbox.{Mailbox}
 use Rattle.vme_shared.specs.declared.request.SharedRequest.{SharedRequest}
 use Rattle.vme_mailbox_laws.specs.Along.{mailbox_in, IsWithin}
 use Rattle.vme_mailbox_laws.proofs.Within.{within}
-use Rattle.vme_boxes.specs.declared.boxes.Boxes.TheVariants.{Declared}
-use Rattle.vme_boxes.specs.declared.place.Place.{Place}
-use Rattle.vme_boxes.specs.Names.{has_box}
-use Rattle.vme_boxes.specs.Places.{place_by, place_at, place_of, share}
+use Rattle.vme_script.specs.declared.boxes.Boxes.TheVariants.{Declared}
+use Rattle.vme_script.specs.declared.place.Place.{Place}
+use Rattle.vme_script.specs.Names.{has_box}
+use Rattle.vme_script.specs.Places.{place_by, place_at, place_of, share}
 use Rattle.vme_script.specs.Boards.{entries_of}
 use Rattle.vme_script.specs.Configurations.{Configuration}
 use Rattle.vme_script.specs.Lawful.{IsLawful, IsLawfulMailbox}

@@ -20,8 +20,8 @@ use Rattle.vme_master.specs.Jobs.{bus_job}
 use Rattle.vme_master.specs.Tables.{Given, Makes, data_in, next_of}
 use Rattle.vme_master.proofs.Tenures.{data_go_on}
 use Rattle.vme_shared.specs.MailboxSteps.{offset_of, len_of}
-use Rattle.vme_boxes.specs.declared.place.Place.{Place}
-use Rattle.vme_boxes.specs.Bytes.{transfer_bytes, request_bytes}
+use Rattle.vme_script.specs.declared.place.Place.{Place}
+use Rattle.vme_script.specs.Bytes.{transfer_bytes, request_bytes}
 use Rattle.vme_untouched.proofs.Apart.{IsAmong}
 
 -- the command of a datum is at the datum's place

@@ -20,14 +20,14 @@ use Rattle.vme_mailbox_laws.specs.Along.{mailbox_in}
 use Rattle.vme_lines.specs.Grammar.{IsOwnLine}
 use Rattle.vme_lines.specs.declared.line.Line.{Line}
 use Rattle.vme_lines.specs.declared.line.Line.TheVariants as lines
-use Rattle.vme_boxes.specs.declared.boxes.Boxes.TheVariants.{Declared}
-use Rattle.vme_boxes.specs.declared.place.Place.{Place}
-use Rattle.vme_boxes.specs.Bytes.{request_bytes, local_bytes}
-use Rattle.vme_boxes.specs.Declarations.{Declaration}
-use Rattle.vme_boxes.specs.Names.{has_box, may_ask}
-use Rattle.vme_boxes.specs.Places.{share}
-use Rattle.vme_boxes.specs.Rules as rules
-use Rattle.vme_boxes.specs.Rules.{is_of_mailbox, are_of_mailboxes}
+use Rattle.vme_script.specs.declared.boxes.Boxes.TheVariants.{Declared}
+use Rattle.vme_script.specs.declared.place.Place.{Place}
+use Rattle.vme_script.specs.Bytes.{request_bytes, local_bytes}
+use Rattle.vme_script.specs.Declarations.{Declaration}
+use Rattle.vme_script.specs.Names.{has_box, may_ask}
+use Rattle.vme_script.specs.Places.{share}
+use Rattle.vme_script.specs.Rules as rules
+use Rattle.vme_script.specs.Rules.{is_of_mailbox, are_of_mailboxes}
 use Rattle.vme_script.specs.declared.script.ScriptLine.{ScriptLine}
 use Rattle.vme_script.specs.Boards.{entries_of}
 use Rattle.vme_script.specs.Configurations.{Configuration}

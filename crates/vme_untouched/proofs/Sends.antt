@@ -22,8 +22,8 @@ use Rattle.vme_mailbox_laws.specs.Along.{GoesTo}
 use Rattle.vme_mailbox_laws.proofs.Datums.{taken, given_back}
 use Rattle.vme_lines.specs.Grammar.{IsOwnLine}
 use Rattle.vme_lines.specs.declared.line.Line.TheVariants as lines
-use Rattle.vme_boxes.specs.declared.place.Place.{Place}
-use Rattle.vme_boxes.specs.Bytes.{transfer_bytes, request_bytes, local_bytes}
+use Rattle.vme_script.specs.declared.place.Place.{Place}
+use Rattle.vme_script.specs.Bytes.{transfer_bytes, request_bytes, local_bytes}
 use Rattle.vme_script.specs.Boards.{entries_of}
 use Rattle.vme_script.specs.Configurations.{Configuration}
 use Rattle.vme_line_task.specs.Scripts.{Moves, Waits, Shares, slot_at, level_at, transfer_job, request_attempt, unless_refused, shared_job, shared_attempt}

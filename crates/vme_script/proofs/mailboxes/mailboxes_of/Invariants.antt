@@ -1,5 +1,5 @@
 use Rattle.std.proofs.Common.{◌≡◌, [], length, drop}
-use Rattle.vme_script.specs.Mailboxes.{mailboxes_after}
+use Rattle.vme_script.specs.MailboxRefusals.{mailboxes_after}
 use Rattle.vme_script.proofs.Lists.{with_answers}
 use Rattle.vme_script.proofs.mailboxes.mailboxes_of.Given as goal
 

@@ -1,9 +1,9 @@
 -- Where no mailbox is declared no line touches one.
 use Rattle.std.proofs.Common.{◌≡◌, false, [], Option, None, Some, refl}
 use Rattle.std.specs.Option.{option_map_or}
-use Rattle.vme_boxes.specs.declared.place.Place.{Place}
-use Rattle.vme_boxes.specs.Declarations.{Declaration}
-use Rattle.vme_boxes.specs.Rules.{are_of_mailboxes}
+use Rattle.vme_script.specs.declared.place.Place.{Place}
+use Rattle.vme_script.specs.Declarations.{Declaration}
+use Rattle.vme_script.specs.Rules.{are_of_mailboxes}
 
 -- no byte is one of no mailbox
 pub none_touched : (file : Declaration) (bytes : Option Place) → file.mailboxes ≡ [] → false ≡ option_map_or (are_of_mailboxes file) bytes false

@@ -2,7 +2,7 @@
 ghost use Rattle.std.specs.Prelude.{◌≡◌, length};
 ghost use Rattle.vme_cycle.specs.declared.request.Request.TheVariants.{Read};
 ghost use Rattle.vme_shared.specs.Mailboxes.{set_lock, clear_lock};
-ghost use Rattle.vme_boxes.specs.Bytes.{request_bytes, local_bytes};
+ghost use Rattle.vme_script.specs.Bytes.{request_bytes, local_bytes};
 
 use crate::place::Place;
 use vme_cycle::{Modify, Plan, Request};

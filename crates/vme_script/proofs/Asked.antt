@@ -3,8 +3,8 @@ use Rattle.std.proofs.Common.{◌≡◌, ℕ, List, None, Some, Ok, Err, refl}
 use Rattle.vme_lines.specs.declared.line.Line.{Line}
 use Rattle.vme_lines.specs.declared.fault.LineFault.{LineFault}
 use Rattle.vme_lines.specs.Grammar.{line_of}
-use Rattle.vme_boxes.specs.declared.rules.Rules.{Rules}
-use Rattle.vme_boxes.specs.Rules.{refusal_of, line_within}
+use Rattle.vme_script.specs.declared.rules.Rules.{Rules}
+use Rattle.vme_script.specs.Rules.{refusal_of, line_within}
 
 -- a line that is refused by itself
 pub refused : (rules : Rules) (text : List ℕ) (fault : LineFault) → line_of text ≡ Err fault → line_within rules text ≡ Err fault

@@ -1,7 +1,7 @@
 //! Where bytes lie on the boards.
 ghost use Rattle.std.specs.Prelude.{◌≡◌, ◌+◌, ◌<◌, length, IfSome};
 ghost use Rattle.std.specs.List.{list_any};
-ghost use Rattle.vme_boxes.specs.Places.{place_at, place_of, is_within, share};
+ghost use Rattle.vme_script.specs.Places.{place_at, place_of, is_within, share};
 
 use vme_am::Am;
 use vme_decode::AddressMap;

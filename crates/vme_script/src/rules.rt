@@ -1,8 +1,8 @@
 //! What a line may ask where mailboxes are declared.
 ghost use Rattle.std.specs.Prelude.{◌≡◌, false};
 ghost use Rattle.std.specs.Option.{option_map_or};
-ghost use Rattle.vme_boxes.specs.Bytes.{line_bytes};
-ghost use Rattle.vme_boxes.specs.Rules.{boxes_of, is_of_mailbox, are_of_mailboxes, touches, refusal_of};
+ghost use Rattle.vme_script.specs.Bytes.{line_bytes};
+ghost use Rattle.vme_script.specs.Rules.{boxes_of, is_of_mailbox, are_of_mailboxes, touches, refusal_of};
 
 use crate::boxes::Boxes;
 use crate::bytes::{await_bytes, local_bytes, lock_bytes, request_bytes, unlock_bytes};
@@ -24,7 +24,7 @@ pub struct Declared<'a> {
 }
 
 impl<'a> Model for Declared<'a> {
-    ghost use Rattle.vme_boxes.specs.Declarations.{Declaration};
+    ghost use Rattle.vme_script.specs.Declarations.{Declaration};
 
     ghost Value = { Declaration };
 

@@ -7,7 +7,7 @@ use Rattle.vme_decode.specs.declared.entry.Entry.{Entry}
 use Rattle.vme_decode.specs.Select.{selection_at}
 use Rattle.vme_shared.specs.Layout.{mailbox_len}
 use Rattle.vme_shared.specs.declared.mailbox.Mailbox.{Mailbox}
-use Rattle.vme_boxes.specs.declared.place.Place.{Place}
+use Rattle.vme_script.specs.declared.place.Place.{Place}
 
 -- so many bytes from an address on, on the board that a code and that address select (this project's own)
 abbrev pub place_by : List Entry → Result CodeRow AmFault → ℕ → ℕ → Option Place

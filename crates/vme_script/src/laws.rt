@@ -5,9 +5,9 @@ ghost use Rattle.vme_decode.specs.declared.entry.Entry.{Entry};
 ghost use Rattle.vme_decode.specs.Entries.{end_of};
 ghost use Rattle.vme_config_toml.specs.declared.file.MailboxTable.{MailboxTable};
 ghost use Rattle.vme_shared.specs.declared.mailbox.Mailbox.{Mailbox};
-ghost use Rattle.vme_boxes.specs.declared.place.Place.{Place};
-ghost use Rattle.vme_boxes.specs.Mailboxes.{mailbox_of, HasNumbers};
-ghost use Rattle.vme_boxes.specs.Places.{place_at, share};
+ghost use Rattle.vme_script.specs.declared.place.Place.{Place};
+ghost use Rattle.vme_script.specs.Mailboxes.{mailbox_of, HasNumbers};
+ghost use Rattle.vme_script.specs.Places.{place_at, share};
 
 /// A mailbox that a table tells has the numbers of one.
 pub fn tables_tell_lawful_numbers()

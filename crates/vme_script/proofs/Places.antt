@@ -12,8 +12,8 @@ use Rattle.vme_decode.specs.declared.entry.Entry.{Entry}
 use Rattle.vme_decode.specs.Entries.{end_of}
 use Rattle.vme_decode.specs.Select.{selection_at, FallsTo}
 use Rattle.vme_decode.proofs.Selection.{place_falls}
-use Rattle.vme_boxes.specs.declared.place.Place.{Place}
-use Rattle.vme_boxes.specs.Places.{place_by, place_at, share}
+use Rattle.vme_script.specs.declared.place.Place.{Place}
+use Rattle.vme_script.specs.Places.{place_by, place_at, share}
 
 -- bytes share one with others as those share one with them
 pub shared_both_ways : (a b : Place) → share a b ≡ share b a

@@ -8,15 +8,15 @@ use Rattle.vme_lines.specs.declared.fault.LineFault.{LineFault}
 use Rattle.vme_lines.specs.declared.fault.LineFault.TheVariants.{BadNumber, MailboxBytes}
 use Rattle.vme_lines.specs.Grammar.{line_of}
 use Rattle.vme_shared.specs.declared.mailbox.Mailbox.{Mailbox}
-use Rattle.vme_boxes.specs.declared.boxes.Boxes.{Boxes}
-use Rattle.vme_boxes.specs.declared.boxes.Boxes.TheVariants as boxes
-use Rattle.vme_boxes.specs.declared.place.Place.{Place}
-use Rattle.vme_boxes.specs.declared.rules.Rules.{Rules}
-use Rattle.vme_boxes.specs.declared.rules.Rules.TheVariants.{ByItself, InFile}
-use Rattle.vme_boxes.specs.Declarations.{Declaration}
-use Rattle.vme_boxes.specs.Bytes.{line_bytes}
-use Rattle.vme_boxes.specs.Names.{may_ask}
-use Rattle.vme_boxes.specs.Places.{place_of, share}
+use Rattle.vme_script.specs.declared.boxes.Boxes.{Boxes}
+use Rattle.vme_script.specs.declared.boxes.Boxes.TheVariants as boxes
+use Rattle.vme_script.specs.declared.place.Place.{Place}
+use Rattle.vme_script.specs.declared.rules.Rules.{Rules}
+use Rattle.vme_script.specs.declared.rules.Rules.TheVariants.{ByItself, InFile}
+use Rattle.vme_script.specs.Declarations.{Declaration}
+use Rattle.vme_script.specs.Bytes.{line_bytes}
+use Rattle.vme_script.specs.Names.{may_ask}
+use Rattle.vme_script.specs.Places.{place_of, share}
 
 -- the mailboxes that a script may name: in a file those that it declares (this project's own)
 abbrev pub boxes_of : Rules → Boxes

@@ -1,6 +1,6 @@
 //! Which numbers are a mailbox's.
 ghost use Rattle.std.specs.Prelude.{◌≡◌};
-ghost use Rattle.vme_boxes.specs.Mailboxes.{mailbox_of, holds_mailboxes};
+ghost use Rattle.vme_script.specs.Mailboxes.{mailbox_of, holds_mailboxes};
 
 use vme_config_toml::MailboxTable;
 use vme_memory::{Class, Width8To32};

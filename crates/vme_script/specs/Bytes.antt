@@ -13,7 +13,7 @@ use Rattle.vme_memory.specs.declared.command.BoardCmd.TheVariants.{LocalRead, Lo
 use Rattle.vme_lines.specs.declared.line.Line.{Line}
 use Rattle.vme_lines.specs.declared.line.Line.TheVariants.{Bus, Local, Await, Lock, Unlock, Put, Take}
 use Rattle.vme_shared.specs.Mailboxes.{set_lock, clear_lock}
-use Rattle.vme_boxes.specs.declared.place.Place.{Place}
+use Rattle.vme_script.specs.declared.place.Place.{Place}
 
 -- the bytes of a lawful request, whatever it is answered: all of them count on the board that the first one selects, and a
 -- request that is refused has none (this project's own)

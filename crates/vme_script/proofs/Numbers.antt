@@ -5,7 +5,7 @@ use Rattle.std.proofs.lemmas.Bool.{and_parts, leb-true, eqb-true}
 use Rattle.vme_config_toml.specs.declared.file.MailboxTable.{MailboxTable}
 use Rattle.vme_config_toml.specs.Keys.{◌>>=◌, when}
 use Rattle.vme_shared.specs.declared.mailbox.Mailbox.{Mailbox}
-use Rattle.vme_boxes.specs.Mailboxes.{is_mailbox_code, mailbox_of, HasNumbers}
+use Rattle.vme_script.specs.Mailboxes.{is_mailbox_code, mailbox_of, HasNumbers}
 
 -- what passes three tests passes each
 three_tests :

@@ -2,8 +2,8 @@
 use Rattle.std.specs.Prelude.{ℕ, nat_le, Bool, true, ◌&&◌}
 use Rattle.vme_lines.specs.declared.line.Line.{Line}
 use Rattle.vme_lines.specs.declared.line.Line.TheVariants.{Bus, Local, Await, Lock, Unlock, Put, Take}
-use Rattle.vme_boxes.specs.declared.boxes.Boxes.{Boxes}
-use Rattle.vme_boxes.specs.declared.boxes.Boxes.TheVariants.{Any, Declared}
+use Rattle.vme_script.specs.declared.boxes.Boxes.{Boxes}
+use Rattle.vme_script.specs.declared.boxes.Boxes.TheVariants.{Any, Declared}
 
 -- whether a mailbox may be named by this number: the declared ones have the numbers from 1 on (this project's own)
 abbrev pub has_box : Boxes → ℕ → Bool

@@ -1,6 +1,6 @@
 //! Which mailboxes a line may name.
 ghost use Rattle.std.specs.Prelude.{◌≡◌};
-ghost use Rattle.vme_boxes.specs.Names.{has_box, may_ask};
+ghost use Rattle.vme_script.specs.Names.{has_box, may_ask};
 
 use vme_lines::Line;
 

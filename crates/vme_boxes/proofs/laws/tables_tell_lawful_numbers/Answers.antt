@@ -1,5 +1,0 @@
-use Rattle.vme_boxes.proofs.Numbers.{numbers_known}
-use Rattle.vme_boxes.proofs.laws.tables_tell_lawful_numbers.Goals as goal
-
-pub returns : goal.returns
-returns c = numbers_known
