@@ -3,7 +3,7 @@ use std::test::Fail;
 use vme_cycle::{Modify, Request};
 use vme_lines::{Line, LineFault, parse_line, print_berr};
 use vme_memory::BoardCmd;
-use vme_words::Lines;
+use vme_lexer::Lines;
 
 #[test]
 fn cuts_lines(rt: HostRuntime) -> Result<(), Fail> {

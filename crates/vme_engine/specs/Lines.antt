@@ -7,7 +7,7 @@ use Rattle.vme_lines.specs.declared.fault.LineFault.{LineFault}
 use Rattle.vme_lines.specs.declared.fault.LineFault.TheVariants.{LineTooLong, UnknownWord}
 use Rattle.vme_lines.specs.declared.line.Line.{Line}
 use Rattle.vme_lines.specs.declared.line.Line.TheVariants.{Bus, Local, Await, Lock, Unlock, Put, Take}
-use Rattle.vme_words.specs.Words.{words_of}
+use Rattle.vme_lexer.specs.Words.{words_of}
 use Rattle.vme_lines.specs.Grammar.{line_of}
 
 -- whether a request begins with this word (this project's own)

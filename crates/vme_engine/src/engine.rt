@@ -13,7 +13,7 @@ use vme_cycle::{BLOCK_LIMIT, Room};
 use vme_io::{Sink, Source, write_all};
 use vme_program::{ProgramFault, read_input};
 use vme_shared::Status;
-use vme_words::Lines;
+use vme_lexer::Lines;
 
 /// The greatest number of bytes of an input.
 pub const INPUT_LIMIT: usize = 1_048_576;

@@ -1,12 +1,12 @@
 //! Which lines `vme cycles` knows: requests to the bus, and no others.
 ghost use Rattle.std.specs.Prelude.{◌≡◌, slice_get};
-ghost use Rattle.vme_words.specs.Words.{words_of};
+ghost use Rattle.vme_lexer.specs.Words.{words_of};
 ghost use Rattle.vme_engine.specs.Lines.{is_request_word, is_other_word, request_of};
 
 use vme_cycle::Request;
 use vme_lines::{LINE_LIMIT, Line, LineFault};
 use vme_usual::read_line;
-use vme_words::first_word;
+use vme_lexer::first_word;
 
 /// The request that a line asks for. A word that only scripts know is unknown, whatever follows it.
 #[tactic(auto, unfolding(crate::specs::Lines::request_of))]

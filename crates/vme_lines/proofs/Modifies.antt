@@ -12,7 +12,7 @@ use Rattle.vme_lines.specs.declared.line.Line.TheVariants as lines
 use Rattle.vme_lines.specs.declared.form.Form.TheVariants as form
 use Rattle.vme_lines.specs.declared.function.Function.{Function}
 use Rattle.vme_lines.specs.declared.function.Function.TheVariants.{Set, Exchange, Add, Compare}
-use Rattle.vme_numbers.specs.Numbers.{hex_number, small_number, local_number, exact_bytes}
+use Rattle.vme_lexer.specs.Numbers.{hex_number, small_number, local_number, exact_bytes}
 use Rattle.vme_lines.specs.Operands.{Operands, no_operands}
 use Rattle.vme_lines.specs.Fields.{with_field}
 use Rattle.vme_lines.specs.Forms.{field_at, function_places, fields_of, function_at}

@@ -10,7 +10,7 @@ use Rattle.vme_lines.specs.declared.form.Form.TheVariants.{Read, Write, BlockRea
 use Rattle.vme_lines.specs.declared.function.Function.{Function}
 use Rattle.vme_lines.specs.declared.function.Function.TheVariants.{Set, Exchange, Add, Compare}
 use Rattle.vme_lines.specs.declared.line.Line.{Line}
-use Rattle.vme_words.specs.Words.{words_of}
+use Rattle.vme_lexer.specs.Words.{words_of}
 use Rattle.vme_lines.specs.Operands.{Operands, no_operands}
 use Rattle.vme_lines.specs.Fields.{with_field}
 use Rattle.vme_lines.specs.Forms.{Place, Word, Of, places, name_of, field_at, fields_of, forms, line_at}

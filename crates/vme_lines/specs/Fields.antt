@@ -4,7 +4,7 @@ use Rattle.std.specs.Option.{option_map}
 use Rattle.vme_lines.specs.declared.fault.LineFault.{LineFault}
 use Rattle.vme_lines.specs.declared.fault.LineFault.TheVariants.{UnknownWord, BadCode, BadAddress, BadNumber, BadBytes}
 use Rattle.vme_lines.specs.Operands.{Operands}
-use Rattle.vme_numbers.specs.Numbers.{hex_number, hex_bytes, exact_bytes, local_bytes, small_number, local_number, decimal_number}
+use Rattle.vme_lexer.specs.Numbers.{hex_number, hex_bytes, exact_bytes, local_bytes, small_number, local_number, decimal_number}
 
 -- what stands in a place of a line after its first word: the name of a function, by which the line's form is known already; the
 -- code of an address modifier; an address; an offset of the local port; the number of bytes of a datum, on the bus and on the

@@ -9,7 +9,7 @@ use Rattle.vme_lines.specs.declared.form.Form.{Form}
 use Rattle.vme_lines.specs.declared.line.Line.{Line}
 use Rattle.vme_lines.specs.declared.line.Line.TheVariants.{Bus, Local, Await, Lock, Unlock, Put, Take}
 use Rattle.vme_memory.specs.declared.command.BoardCmd.TheVariants.{LocalRead, LocalWrite, LocalModify, Cycle}
-use Rattle.vme_words.specs.Words.{words_of}
+use Rattle.vme_lexer.specs.Words.{words_of}
 use Rattle.vme_lines.specs.Operands.{Operands, no_operands}
 use Rattle.vme_lines.specs.Fields.{Field, with_field, fault_of}
 use Rattle.vme_lines.specs.Forms.{Place, Word, Of, places, fields_of, forms, line_at}

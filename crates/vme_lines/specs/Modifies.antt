@@ -12,7 +12,7 @@ use Rattle.vme_lines.specs.declared.fault.LineFault.{LineFault}
 use Rattle.vme_lines.specs.declared.fault.LineFault.TheVariants.{WordCount, BadCode, BadAddress, BadNumber, BadBytes}
 use Rattle.vme_lines.specs.declared.function.Function.{Function}
 use Rattle.vme_lines.specs.declared.function.Function.TheVariants.{Set, Exchange, Add, Compare}
-use Rattle.vme_numbers.specs.Numbers.{hex_number, small_number, local_number, exact_bytes}
+use Rattle.vme_lexer.specs.Numbers.{hex_number, small_number, local_number, exact_bytes}
 use Rattle.vme_lines.specs.Grammar.{◌>>=◌, refuse}
 use Rattle.vme_lines.specs.Naming.{function_of}
 

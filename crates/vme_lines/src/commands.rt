@@ -1,7 +1,7 @@
 //! Lines that ask the own board for something by its local port, by the words after their first.
 ghost use Rattle.std.specs.Prelude.{◌≡◌};
 ghost use Rattle.vme_lines.specs.declared.form.Form.TheVariants as form;
-ghost use Rattle.vme_words.specs.Words.{words};
+ghost use Rattle.vme_lexer.specs.Words.{words};
 ghost use Rattle.vme_lines.specs.Naming.{line_by};
 ghost use Rattle.vme_lines.specs.Modifies.{local_modify_line};
 
@@ -10,8 +10,7 @@ use crate::fault::LineFault;
 use crate::function::Function;
 use crate::line::Line;
 use vme_memory::BoardCmd;
-use vme_numbers::{hex_number, local_bytes, local_number};
-use vme_words::Words;
+use vme_lexer::{hex_number, local_bytes, local_number, Words};
 
 /// `lr`
 #[inline(always)]

@@ -1,10 +1,10 @@
 //! Words counted: just so many of them, or so many and those after them.
 ghost use Rattle.std.specs.Prelude.{◌≡◌, ◌==◌, ◌∷◌, [], false, MatchOption, length};
 ghost use Rattle.std.specs.Option.{option_map};
-ghost use Rattle.vme_words.specs.Words.{words};
+ghost use Rattle.vme_lexer.specs.Words.{words};
 ghost use Rattle.vme_lines.specs.Modifies.{three_and_more, four_and_more};
 
-use vme_words::Words;
+use vme_lexer::Words;
 
 #[inline(always)]
 pub(crate) fn one_word(mut operands: Words<'_>) -> Option<&[u8]>

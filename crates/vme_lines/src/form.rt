@@ -1,6 +1,6 @@
 //! The forms of lines.
 ghost use Rattle.std.specs.Prelude.{◌≡◌, ◌∷◌};
-ghost use Rattle.vme_words.specs.Words.{words};
+ghost use Rattle.vme_lexer.specs.Words.{words};
 ghost use Rattle.vme_lines.specs.Grammar.{line_of_words};
 ghost use Rattle.vme_lines.specs.Naming.{form_named, line_named};
 
@@ -10,7 +10,7 @@ use crate::function::Function;
 use crate::line::Line;
 use crate::requests::{await_bytes, block_fill, block_read, block_write, modify, read, write};
 use crate::shared::{lock, put, take, unlock};
-use vme_words::Words;
+use vme_lexer::Words;
 
 /// The form of a line: what its first word says and, where it names a function, that.
 #[derive(Clone, Copy)]

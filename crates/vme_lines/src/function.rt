@@ -1,15 +1,14 @@
 //! The functions of a read-modify-write, as words name them.
 ghost use Rattle.std.specs.Prelude.{◌≡◌, ◌==◌, Some, length};
 ghost use Rattle.std.specs.Option.{option_map};
-ghost use Rattle.vme_words.specs.Words.{words};
+ghost use Rattle.vme_lexer.specs.Words.{words};
 ghost use Rattle.vme_lines.specs.Naming.{function_of};
 ghost use Rattle.vme_lines.specs.Modifies.{operand_count, operand, modify_of};
 
 use crate::fault::LineFault;
 use vme_cycle::Modify;
 use vme_lanes::Datum;
-use vme_numbers::exact_bytes;
-use vme_words::Words;
+use vme_lexer::{exact_bytes, Words};
 
 /// The function of a read-modify-write.
 #[derive(Clone, Copy)]

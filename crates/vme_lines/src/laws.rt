@@ -1,7 +1,7 @@
 //! What holds of the grammar as a whole. Each function's contract is a law; its body does nothing.
 ghost use Rattle.std.specs.Prelude.{◌≡◌, ℕ, ◌≤◌, ◌↔◌, List, length, Some, Ok};
 ghost use Rattle.vme_lines.specs.declared.line.Line.{Line};
-ghost use Rattle.vme_words.specs.Words.{words_of};
+ghost use Rattle.vme_lexer.specs.Words.{words_of};
 ghost use Rattle.vme_lines.specs.Grammar.{line_of, Spell, IsOwnLine};
 
 /// A line is read exactly where its words spell it: they fill the places of a form, one each. So

@@ -7,7 +7,7 @@ use crate::form::line_of_words;
 use vme_cycle::Request;
 use vme_lanes::Datum;
 use vme_memory::BoardCmd;
-use vme_words::words_of;
+use vme_lexer::words_of;
 
 /// The greatest number of bytes of a line, without its end.
 pub const LINE_LIMIT: usize = 80;

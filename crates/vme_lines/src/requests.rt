@@ -1,7 +1,7 @@
 //! Lines that ask the bus for something, by the words after their first.
 ghost use Rattle.std.specs.Prelude.{◌≡◌};
 ghost use Rattle.vme_lines.specs.declared.form.Form.TheVariants as form;
-ghost use Rattle.vme_words.specs.Words.{words};
+ghost use Rattle.vme_lexer.specs.Words.{words};
 ghost use Rattle.vme_lines.specs.Naming.{line_by};
 ghost use Rattle.vme_lines.specs.Modifies.{place_of, modify_line};
 
@@ -10,8 +10,7 @@ use crate::fault::LineFault;
 use crate::function::Function;
 use crate::line::Line;
 use vme_cycle::{Block, Request};
-use vme_numbers::{decimal_number, exact_bytes, hex_bytes, hex_number, small_number};
-use vme_words::Words;
+use vme_lexer::{decimal_number, exact_bytes, hex_bytes, hex_number, small_number, Words};
 
 /// The code and the address that two words spell.
 #[inline(always)]

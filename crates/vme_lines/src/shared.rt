@@ -3,15 +3,14 @@ ghost use Rattle.std.specs.Prelude.{◌≡◌};
 ghost use Rattle.std.specs.Option.{ok_or};
 ghost use Rattle.vme_lines.specs.declared.form.Form.TheVariants as form;
 ghost use Rattle.vme_lines.specs.Naming.{line_by};
-ghost use Rattle.vme_numbers.specs.Numbers.{decimal_number};
-ghost use Rattle.vme_words.specs.Words.{words};
+ghost use Rattle.vme_lexer.specs.Numbers.{decimal_number};
+ghost use Rattle.vme_lexer.specs.Words.{words};
 
 use crate::counted::{one_word, two_words};
 use crate::fault::LineFault;
 use crate::line::Line;
 use crate::requests::place_of;
-use vme_numbers::{decimal_number, hex_number};
-use vme_words::Words;
+use vme_lexer::{decimal_number, hex_number, Words};
 
 /// The number of a mailbox.
 #[inline(always)]

@@ -10,7 +10,7 @@ use std::marker::Model;
 use crate::rules::Rules;
 use vme_lines::{Line, LineFault, parse_line};
 use vme_usual::usual_line;
-use vme_words::Lines;
+use vme_lexer::Lines;
 
 /// The greatest number of lines of a script.
 const MOST_LINES: u16 = 1000;

@@ -11,8 +11,8 @@ use Rattle.vme_lines.specs.declared.line.Line.{Line}
 use Rattle.vme_lines.specs.declared.line.Line.TheVariants as lines
 use Rattle.vme_lines.specs.Fields.{with_field}
 use Rattle.vme_lines.specs.Grammar.{form_of, operands_of, line_of_words, line_of}
-use Rattle.vme_numbers.specs.Numbers.{hex_number, hex_bytes, local_bytes, small_number, local_number, decimal_number}
-use Rattle.vme_words.specs.Words.{words, words_of}
+use Rattle.vme_lexer.specs.Numbers.{hex_number, hex_bytes, local_bytes, small_number, local_number, decimal_number}
+use Rattle.vme_lexer.specs.Words.{words, words_of}
 use Rattle.vme_usual.specs.Usual.{Spelled, IsPlace, IsFill, IsFunction, set, exchange, add, compare, Asks}
 use Rattle.vme_usual.proofs.Words.{only_word, small_is_word, local_is_word, bytes_is_word, local_bytes_is_word, decimal_is_word}
 

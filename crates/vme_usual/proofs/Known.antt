@@ -5,8 +5,8 @@ use Rattle.std.specs.Str.{bytes_eq}
 use Rattle.std.proofs.lemmas.Slice.Eq.{bytes_eq-Decides}
 use Rattle.vme_cycle.specs.declared.modify.Modify.TheVariants as modifies
 use Rattle.arrayvec.specs.ArrayVec.{ArrayVec}
-use Rattle.vme_numbers.specs.Numbers.{exact_bytes, decimal_number}
-use Rattle.vme_words.specs.Words.{words}
+use Rattle.vme_lexer.specs.Numbers.{exact_bytes, decimal_number}
+use Rattle.vme_lexer.specs.Words.{words}
 use Rattle.vme_usual.specs.Usual.{IsFill, AreData, IsFunction, set, exchange, add, compare}
 use Rattle.vme_usual.proofs.Words.{IsWord, only_word, first_word, exact_is_word, decimal_is_word}
 use Rattle.vme_usual.proofs.Spelled.{apart}

@@ -1,9 +1,9 @@
 -- Fields before one space are the first words of their texts.
 use Rattle.std.proofs.Common.{◌≡◌, ℕ, ◌<◌, List, ◌∷◌, ◌++◌, take, drop, Option, Some, refl, sym, ap, ◌∙◌, take-append-drop}
-use Rattle.vme_numbers.specs.Numbers.{hex_number, small_number, local_number}
+use Rattle.vme_lexer.specs.Numbers.{hex_number, small_number, local_number}
 use Rattle.vme_usual.specs.Usual.{Spelled}
 use Rattle.vme_usual.proofs.Words.{IsWord, first_word, hex_is_word, small_is_word, local_is_word}
-use Rattle.vme_words.specs.Words.{words}
+use Rattle.vme_lexer.specs.Words.{words}
 
 -- a text of a word, a space and a rest
 pub apart : (len : ℕ) (text word tail rest : List ℕ) → word ≡ take len text → tail ≡ drop len text → tail ≡ 32 ∷ rest → text ≡ word ++ 32 ∷ rest

@@ -8,8 +8,8 @@ use Rattle.std.proofs.lemmas.List.Elements.{All-cons}
 use Rattle.std.proofs.lemmas.List.Splits.{slice_split_at, slice_split_none}
 use Rattle.std.proofs.lemmas.Slice.Eq.{bytes_eq-Decides}
 use Rattle.vme_lines.proofs.Cases.{cases_Option}
-use Rattle.vme_words.specs.Words.{words, is_nonempty}
-use Rattle.vme_numbers.specs.Numbers.{hex_digit, hex_from, hex_number, hex_pairs, hex_bytes, exact_bytes, local_bytes, small_number, local_number, decimal_digit, decimal_from, decimal_number}
+use Rattle.vme_lexer.specs.Words.{words, is_nonempty}
+use Rattle.vme_lexer.specs.Numbers.{hex_digit, hex_from, hex_number, hex_pairs, hex_bytes, exact_bytes, local_bytes, small_number, local_number, decimal_digit, decimal_from, decimal_number}
 
 -- a word with some bytes, none of them a space
 pub record IsWord (word : List ℕ) : Type 0 where

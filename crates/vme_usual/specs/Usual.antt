@@ -5,8 +5,8 @@ use Rattle.vme_cycle.specs.declared.modify.Modify.{Modify}
 use Rattle.vme_cycle.specs.declared.modify.Modify.TheVariants as modifies
 use Rattle.vme_lines.specs.declared.line.Line.{Line}
 use Rattle.vme_lines.specs.Grammar.{line_of_words}
-use Rattle.vme_numbers.specs.Numbers.{hex_number, exact_bytes, decimal_number}
-use Rattle.vme_words.specs.Words.{words}
+use Rattle.vme_lexer.specs.Numbers.{hex_number, exact_bytes, decimal_number}
+use Rattle.vme_lexer.specs.Words.{words}
 
 -- the first word of a text spells a value, and its other words are those of the rest (this project's own)
 pub record Spelled (reads : List ℕ → Option ℕ) (text : List ℕ) (value : ℕ) (rest : List ℕ) : Type 0 where

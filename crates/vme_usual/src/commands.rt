@@ -6,7 +6,7 @@ use crate::data::function;
 use crate::fields::{local_length, number};
 use vme_lines::Line;
 use vme_memory::BoardCmd;
-use vme_numbers::{local_bytes, local_number};
+use vme_lexer::{local_bytes, local_number};
 
 /// `lr`
 #[inline(always)]

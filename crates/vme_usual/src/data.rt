@@ -1,12 +1,12 @@
 //! Data of a known length, and what stands before them.
 ghost use Rattle.std.specs.Prelude.{MatchOption};
 ghost use Rattle.vme_usual.specs.Usual.{IsFill, AreData, IsFunction};
-ghost use Rattle.vme_words.specs.Words.{words};
+ghost use Rattle.vme_lexer.specs.Words.{words};
 
 use crate::bytes::{after_space, four_bytes, is_set};
 use vme_cycle::Modify;
 use vme_lanes::Datum;
-use vme_numbers::{decimal_number, exact_bytes};
+use vme_lexer::{decimal_number, exact_bytes};
 
 /// A number of data and a datum of `n` bytes, with a space between.
 #[inline(always)]

@@ -1,10 +1,10 @@
 //! Fields before one space.
 ghost use Rattle.std.specs.Prelude.{◌≡◌, ◌<◌, ◌≤◌, ◌^◌, MatchOption, IfSome};
-ghost use Rattle.vme_numbers.specs.Numbers.{hex_number, small_number, local_number};
+ghost use Rattle.vme_lexer.specs.Numbers.{hex_number, small_number, local_number};
 ghost use Rattle.vme_usual.specs.Usual.{Spelled, IsPlace};
 
 use crate::bytes::after_space;
-use vme_numbers::{hex_number, local_number, small_number};
+use vme_lexer::{hex_number, local_number, small_number};
 
 /// The number that `N` hexadecimal digits before a space spell, and what stands after the space.
 #[inline(always)]

@@ -6,7 +6,7 @@ use crate::data::{count_and_datum, function};
 use crate::fields::{length, place};
 use vme_cycle::{Block, Request};
 use vme_lines::Line;
-use vme_numbers::{decimal_number, hex_bytes, small_number};
+use vme_lexer::{decimal_number, hex_bytes, small_number};
 
 /// `r`
 #[inline(always)]

@@ -1,0 +1,185 @@
+-- Digits read one after another.
+use Rattle.std.proofs.Common.{◌≡◌, ℕ, zero, suc, ◌+◌, ◌*◌, ◌^◌, ◌%◌, ◌<◌, ◌≤◌, Bool, true, false, ◌&&◌, nat_eq, List, [], ◌∷◌, ◌++◌, length, get_or, drop, Option, None, Some, option_map, refl, sym, ap, ◌∙◌, append_assoc, arith, inl, inr, ◌⊎◌}
+use Rattle.std.specs.Prelude.{MatchOption, nat_lt, if◌then◌else◌}
+use Rattle.std.proofs.lemmas.Bool.{cases_eq, cases_lt, eqb-true, ltb-true}
+use Rattle.std.proofs.Math.Nat.{pow-succ', pow-le-pow_right}
+use Rattle.vme_cycle.proofs.Numbers.{below_power}
+use Rattle.vme_lexer.specs.Numbers.{hex_digit, hex_from, hex_pairs, hex_bytes}
+
+-- what a byte counts as: its digit, or more than eight digits spell
+abbrev pub Counts : Option ℕ → ℕ → Type 0
+Counts digit count = MatchOption digit (count ≡ 2 ^ 32) (λ d. (count ≡ d) × (d < 16))
+
+-- whether it counts as that
+abbrev pub is_count : Option ℕ → ℕ → Bool
+is_count None count = nat_eq count 4294967296
+is_count (Some d) count = nat_eq count d && nat_lt d 16
+
+both_true : (x y : Bool) → (x && y) ≡ true → (x ≡ true) × (y ≡ true)
+both_true true true both = (refl, refl)
+both_true true false both = cc
+both_true false true both = cc
+both_true false false both = cc
+
+-- a table counts each byte below n as it should
+unfoldable pub counts_below : List ℕ → ℕ → Bool
+counts_below table zero = true
+counts_below table (suc n) = is_count (hex_digit n) (get_or table n 0) && counts_below table n
+
+pub most_count : (digit : Option ℕ) (count : ℕ) → Counts digit count → count ≤ 2 ^ 32
+most_count None count counts = omega (arith, counts)
+most_count (Some d) count counts = omega (arith, counts.0, counts.1)
+
+count_of : (digit : Option ℕ) (count : ℕ) → is_count digit count ≡ true → Counts digit count
+count_of None count is = eqb-true count 4294967296 is
+count_of (Some d) count is = let both = both_true (nat_eq count d) (nat_lt d 16) is in (eqb-true count d both.0, ltb-true d 16 both.1)
+
+-- so it counts each byte
+pub counts_at : (table : List ℕ) (n c : ℕ) → counts_below table n ≡ true → c < n → Counts (hex_digit c) (get_or table c 0)
+unfolding counts_below
+counts_at table zero c all less = absurd (omega arith)
+counts_at table (suc n) c all less =
+    let both = both_true (is_count (hex_digit n) (get_or table n 0)) (counts_below table n) all in
+    elim (cases_eq c n) [ inl same ↦ rw same (count_of (hex_digit n) (get_or table n 0) both.0) | inr other ↦ counts_at table n c both.1 (omega arith) ]
+
+-- a number below 2 ^ 32 is that of k digits; one that is not tells of a byte that is no digit
+pub record IsRead (n k : ℕ) (rest word : List ℕ) : Type 0 where
+  pub read : n < 2 ^ 32 → hex_from n rest ≡ hex_from 0 word
+  pub small : n < 2 ^ 32 → n < 16 ^ k
+  pub unread : 2 ^ 32 ≤ n → hex_from 0 word ≡ None
+  pub room : n + 2 ^ 32 ≤ 2 ^ 32 * 16 ^ k
+
+sixteenfold : (k : ℕ) → 16 ^ (k + 1) ≡ 16 * 16 ^ k
+sixteenfold k = ap (λ j. 16 ^ j) (omega arith) ∙ pow-succ' 16 k
+
+read_by :
+    (n k c count : ℕ) (rest word : List ℕ) (digit : Option ℕ) → k < 8 → hex_digit c ≡ digit → Counts digit count → IsRead n k (c ∷ rest) word
+    → IsRead (16 * n + count) (k + 1) rest word
+read_by n k c count rest word None few none counts so = record {
+  read = λ less. absurd (omega (arith, less, counts));
+  small = λ less. absurd (omega (arith, less, counts));
+  unread = λ more. elim (cases_lt n (2 ^ 32)) [ inl less ↦ sym (so.read less) ∙ rw none refl | inr le ↦ so.unread le ];
+  room = let more : 16 ^ (k + 1) ≡ 16 * 16 ^ k = sixteenfold k in omega (arith, counts, so.room, more);
+}
+read_by n k c count rest word (Some d) few some counts so =
+    let more : 16 ^ (k + 1) ≡ 16 * 16 ^ k = sixteenfold k in
+    let step : hex_from n (c ∷ rest) ≡ hex_from (16 * n + d) rest = rw some refl in record {
+      read = λ less. ap (λ m. hex_from (16 * n + m) rest) counts.0 ∙ sym step ∙ so.read (omega (arith, less));
+      small = λ less. let low = so.small (omega (arith, less)) in omega (arith, counts.0, counts.1, low, more);
+      unread = λ much. elim (cases_lt n (2 ^ 32)) [
+        | inl less ↦ absurd (let low = below_power 16 n k 7 (omega arith) (so.small less) (omega (arith, few)) in omega (arith, counts.0, counts.1, low, much))
+        | inr le ↦ so.unread le
+      ];
+      room = omega (arith, counts.0, counts.1, so.room, more);
+    }
+
+-- the number has room for a digit more
+pub room_for : (n k count : ℕ) (digit : Option ℕ) → k < 8 → Counts digit count → n + 2 ^ 32 ≤ 2 ^ 32 * 16 ^ k → 16 * n + count < 2 ^ 64
+room_for n k count digit few counts room =
+    let high : 16 ^ k ≤ 16 ^ 7 = pow-le-pow_right {n = 16} (omega arith) {i = k} {j = 7} (omega (arith, few)) in
+    let low : count ≤ 2 ^ 32 = most_count digit count counts in
+    omega (arith, high, room, low)
+
+-- a byte more is read
+pub read_more :
+    (n k c count : ℕ) (rest word : List ℕ) → k < 8 → Counts (hex_digit c) count → IsRead n k (c ∷ rest) word → IsRead (16 * n + count) (k + 1) rest word
+read_more n k c count rest word few counts so = read_by n k c count rest word (hex_digit c) few refl counts so
+
+-- some bytes, and then those that were read
+abbrev pub with_front : List ℕ → Option (List ℕ) → Option (List ℕ)
+with_front front bytes = option_map (λ bs. front ++ bs) bytes
+
+-- bytes before the bytes that were read
+with_front-append : (front bytes : List ℕ) (read : Option (List ℕ)) → with_front (front ++ bytes) read ≡ with_front front (with_front bytes read)
+with_front-append front bytes None = refl
+with_front-append front bytes (Some bs) = ap Some (append_assoc front bytes bs)
+
+-- a pair of digits is one byte more
+pub hex_pairs-more :
+    (bytes new rest tail : List ℕ) (high low : ℕ) → 2 ≤ length rest → hex_digit (get_or rest 0 0) ≡ Some high → hex_digit (get_or rest 1 0) ≡ Some low
+    → new ≡ bytes ++ (16 * high + low) ∷ [] → tail ≡ drop 2 rest → with_front new (hex_pairs tail) ≡ with_front bytes (hex_pairs rest)
+hex_pairs-more bytes new [] tail high low long first second pushed cut = absurd (omega arith)
+hex_pairs-more bytes new (c ∷ []) tail high low long first second pushed cut = absurd (omega arith)
+hex_pairs-more bytes new (c ∷ d ∷ cs) tail high low long first second pushed cut =
+    ap (λ b. with_front b (hex_pairs tail)) pushed
+    ∙ ap (λ t. with_front (bytes ++ (16 * high + low) ∷ []) (hex_pairs t)) cut
+    ∙ with_front-append bytes ((16 * high + low) ∷ []) (hex_pairs cs)
+    ∙ rw (first, second) refl
+
+-- a sum below 2 ^ 32 is that of bytes, which go on as the rest; one that is not tells of a byte of the word that is no digit
+pub record IsSpelled (bytes : List ℕ) (sum : ℕ) (rest word : List ℕ) : Type 0 where
+  pub spelled : sum < 2 ^ 32 → with_front bytes (hex_pairs rest) ≡ hex_pairs word
+  pub small : sum < 2 ^ 32 → sum ≤ 255 * length bytes
+  pub unspelled : 2 ^ 32 ≤ sum → hex_pairs word ≡ None
+  pub room : sum ≤ 17 * 2 ^ 32 * length bytes
+
+-- two bytes that are no pair of digits
+unpaired :
+    (rest : List ℕ) (first second : Option ℕ) → 2 ≤ length rest → hex_digit (get_or rest 0 0) ≡ first → hex_digit (get_or rest 1 0) ≡ second
+    → (first ≡ None) ⊎ (second ≡ None) → hex_pairs rest ≡ None
+unpaired [] first second long one two none = absurd (omega arith)
+unpaired (c ∷ []) first second long one two none = absurd (omega arith)
+unpaired (c ∷ d ∷ cs) None second long one two none = rw one refl
+unpaired (c ∷ d ∷ cs) (Some a) None long one two none = rw (one, two) refl
+unpaired (c ∷ d ∷ cs) (Some a) (Some b) long one two (inl none) = cc
+unpaired (c ∷ d ∷ cs) (Some a) (Some b) long one two (inr none) = cc
+
+-- a pair that is none
+spelled_none :
+    (bytes new : List ℕ) (sum pair : ℕ) (rest tail word : List ℕ) → 2 ^ 32 ≤ pair → pair ≤ 17 * 2 ^ 32 → hex_pairs rest ≡ None → length new ≡ length bytes + 1
+    → IsSpelled bytes sum rest word → IsSpelled new (sum + pair) tail word
+spelled_none bytes new sum pair rest tail word much most none longer so = record {
+  spelled = λ less. absurd (omega (arith, less, much));
+  small = λ less. absurd (omega (arith, less, much));
+  unspelled = λ more. elim (cases_lt sum (2 ^ 32)) [ inl less ↦ sym (so.spelled less) ∙ ap (with_front bytes) none | inr le ↦ so.unspelled le ];
+  room = omega (arith, so.room, most, longer);
+}
+
+spelled_by :
+    (bytes new : List ℕ) (sum high low : ℕ) (rest tail word : List ℕ) (first second : Option ℕ) → length bytes < 256 → 2 ≤ length rest
+    → hex_digit (get_or rest 0 0) ≡ first → hex_digit (get_or rest 1 0) ≡ second → Counts first high → Counts second low
+    → new ≡ bytes ++ ((16 * high + low) % 256) ∷ [] → tail ≡ drop 2 rest
+    → length new ≡ length bytes + 1 → IsSpelled bytes sum rest word → IsSpelled new (sum + (16 * high + low)) tail word
+spelled_by bytes new sum high low rest tail word None second few long one two high_is low_is pushed cut longer so =
+    let most = most_count second low low_is in
+    spelled_none bytes new sum (16 * high + low) rest tail word (omega (arith, high_is)) (omega (arith, high_is, most)) (unpaired rest None second long one two (inl refl)) longer so
+spelled_by bytes new sum high low rest tail word (Some a) None few long one two high_is low_is pushed cut longer so =
+    spelled_none bytes new sum (16 * high + low) rest tail word (omega (arith, low_is)) (omega (arith, high_is.0, high_is.1, low_is))
+    (unpaired rest (Some a) None long one two (inr refl)) longer so
+spelled_by bytes new sum high low rest tail word (Some a) (Some b) few long one two high_is low_is pushed cut longer so =
+    let pair : (16 * high + low) % 256 ≡ 16 * a + b = omega (arith, high_is.0, high_is.1, low_is.0, low_is.1) in record {
+      spelled = λ less.
+          hex_pairs-more bytes new rest tail a b long one two (pushed ∙ ap (λ n. bytes ++ n ∷ []) pair) cut ∙ so.spelled (omega (arith, less));
+      small = λ less. let before = so.small (omega (arith, less)) in omega (arith, before, longer, high_is.0, high_is.1, low_is.0, low_is.1);
+      unspelled = λ more. elim (cases_lt sum (2 ^ 32)) [
+        | inl less ↦ absurd (let before = so.small less in omega (arith, before, few, more, high_is.0, high_is.1, low_is.0, low_is.1))
+        | inr le ↦ so.unspelled le
+      ];
+      room = omega (arith, so.room, longer, high_is.0, high_is.1, low_is.0, low_is.1);
+    }
+
+-- a pair more is spelled
+pub spelled_more :
+    (bytes new : List ℕ) (sum high low : ℕ) (rest tail word : List ℕ) → length bytes < 256 → 2 ≤ length rest → Counts (hex_digit (get_or rest 0 0)) high
+    → Counts (hex_digit (get_or rest 1 0)) low → new ≡ bytes ++ ((16 * high + low) % 256) ∷ [] → tail ≡ drop 2 rest → length new ≡ length bytes + 1
+    → IsSpelled bytes sum rest word → IsSpelled new (sum + (16 * high + low)) tail word
+spelled_more bytes new sum high low rest tail word few long high_is low_is pushed cut longer so =
+    spelled_by bytes new sum high low rest tail word _ _ few long refl refl high_is low_is pushed cut longer so
+
+-- a word is none of bytes where its last digit is alone, or a byte of it is no digit
+pub unspelled_word :
+    (bytes : List ℕ) (sum : ℕ) (rest word : List ℕ) → length rest < 2 → (length rest ≡ 0 → 2 ^ 32 ≤ sum) → IsSpelled bytes sum rest word
+    → hex_pairs word ≡ None
+unspelled_word bytes sum [] word short none so = so.unspelled (none refl)
+unspelled_word bytes sum (c ∷ []) word short none so =
+    elim (cases_lt sum (2 ^ 32)) [ inl less ↦ sym (so.spelled less) | inr le ↦ so.unspelled le ]
+unspelled_word bytes sum (c ∷ d ∷ cs) word short none so = absurd (omega arith)
+
+either_none : (b : Bool) (bytes : Option (List ℕ)) → bytes ≡ None → (if b then bytes else None) ≡ None
+either_none true bytes none = none
+either_none false bytes none = refl
+
+-- so it spells none of any number of bytes
+pub unspelled_bytes : (most : ℕ) (word : List ℕ) → hex_pairs word ≡ None → hex_bytes most word ≡ None
+unfolding hex_bytes
+unspelled_bytes most word none = either_none _ (hex_pairs word) none

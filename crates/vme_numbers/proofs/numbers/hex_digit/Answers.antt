@@ -1,9 +1,0 @@
--- The table is held against the definition at each of the 256 bytes, by computing.
-use Rattle.std.proofs.Common.{refl, arith}
-use Rattle.vme_numbers.specs.declared.numbers.TheConstants.{DIGITS}
-use Rattle.vme_numbers.proofs.Digits.{counts_below, counts_at}
-use Rattle.vme_numbers.proofs.numbers.hex_digit.Goals as goal
-
-pub returns : goal.returns
-unfolding counts_below
-returns c = record { digit = counts_at DIGITS 256 c.args.c refl (omega arith) }
