@@ -1,7 +1,7 @@
 //! Lines read, and texts printed, with values from this project's profile.
 use std::test::Fail;
 use vme_cycle::{Modify, Request};
-use vme_lines::{Line, LineFault, parse_line, print_berr};
+use vme_grammar::{Line, LineFault, parse_line, print_berr};
 use vme_memory::BoardCmd;
 use vme_lexer::Lines;
 

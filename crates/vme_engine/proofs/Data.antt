@@ -3,7 +3,7 @@ use Rattle.std.proofs.Common.{◌≡◌, ℕ, ◌+◌, ◌*◌, ◌-◌, ◌<◌
 use Rattle.vme_cycle.specs.Lawful.{Transfer}
 use Rattle.vme_memory.specs.declared.reply.Reply.{Reply}
 use Rattle.vme_memory.specs.Boards.{Board}
-use Rattle.vme_lines.specs.Texts as outcomes
+use Rattle.vme_grammar.specs.Texts as outcomes
 use Rattle.vme_engine.specs.Answers.{Answer, datum_text, reply_to, outcome_answer, after_text, goes_on, data_answer}
 
 -- a text before a text is one text

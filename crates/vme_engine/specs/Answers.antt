@@ -15,12 +15,12 @@ use Rattle.vme_memory.specs.declared.reply.Reply.{Reply}
 use Rattle.vme_memory.specs.declared.reply.Reply.TheVariants.{Bytes, Done, Berr}
 use Rattle.vme_memory.specs.Boards.{Board}
 use Rattle.vme_memory.specs.Steps.{cycle}
-use Rattle.vme_lines.specs.declared.fault.LineFault.{LineFault}
+use Rattle.vme_grammar.specs.declared.fault.LineFault.{LineFault}
 use Rattle.vme_shared.specs.declared.status.Status.{Status}
 use Rattle.vme_shared.specs.declared.status.Status.TheVariants.{Clean, Marked}
 use Rattle.vme_engine.specs.Lines.{request_of}
-use Rattle.vme_lines.specs.Texts as outcomes
-use Rattle.vme_lines.specs.Texts.{signals_text, Outcome, outcome_text, cycle_fault_text, line_fault_text, output_line}
+use Rattle.vme_grammar.specs.Texts as outcomes
+use Rattle.vme_grammar.specs.Texts.{signals_text, Outcome, outcome_text, cycle_fault_text, line_fault_text, output_line}
 
 -- what a line is answered (this project's own)
 pub record Answer : Type 0 where

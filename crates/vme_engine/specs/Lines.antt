@@ -3,12 +3,12 @@ use Rattle.std.specs.Prelude.{ℕ, nat_lt, if◌then◌else◌, Bool, false, not
 use Rattle.std.specs.List.{list_any}
 use Rattle.std.specs.Str.{bytes_eq}
 use Rattle.vme_cycle.specs.declared.request.Request.{Request}
-use Rattle.vme_lines.specs.declared.fault.LineFault.{LineFault}
-use Rattle.vme_lines.specs.declared.fault.LineFault.TheVariants.{LineTooLong, UnknownWord}
-use Rattle.vme_lines.specs.declared.line.Line.{Line}
-use Rattle.vme_lines.specs.declared.line.Line.TheVariants.{Bus, Local, Await, Lock, Unlock, Put, Take}
+use Rattle.vme_grammar.specs.declared.fault.LineFault.{LineFault}
+use Rattle.vme_grammar.specs.declared.fault.LineFault.TheVariants.{LineTooLong, UnknownWord}
+use Rattle.vme_grammar.specs.declared.line.Line.{Line}
+use Rattle.vme_grammar.specs.declared.line.Line.TheVariants.{Bus, Local, Await, Lock, Unlock, Put, Take}
 use Rattle.vme_lexer.specs.Words.{words_of}
-use Rattle.vme_lines.specs.Grammar.{line_of}
+use Rattle.vme_grammar.specs.Grammar.{line_of}
 
 -- whether a request begins with this word (this project's own)
 abbrev pub is_request_word : List ℕ → Bool

@@ -5,14 +5,14 @@ ghost use Rattle.vme_cycle.specs.Requests.{addr_of, function_of, datum_len, coun
 ghost use Rattle.vme_cycle.specs.SignalLines.{row_len, len_at};
 ghost use Rattle.vme_cycle.specs.Plans.{signals_of};
 ghost use Rattle.vme_memory.specs.Steps.{HasLen};
-ghost use Rattle.vme_lines.specs.Texts.{outcome_text, output_line};
+ghost use Rattle.vme_grammar.specs.Texts.{outcome_text, output_line};
 ghost use Rattle.vme_engine.specs.Answers.{outcome_of, final_signals, offset_of, reply_at, reply_to, write_half_text, datum_text, transfer_answer, request_answer, answer};
 
 use crate::bus::Bus;
 use crate::request::request_of;
 use std::alloc::AllocError;
 use vme_cycle::{Plan, Request, Room, Signals};
-use vme_lines::{print_berr, print_done, print_line_refusal, print_old, print_read, print_refusal, print_signals};
+use vme_grammar::{print_berr, print_done, print_line_refusal, print_old, print_read, print_refusal, print_signals};
 use vme_memory::Reply;
 use vme_shared::Status;
 

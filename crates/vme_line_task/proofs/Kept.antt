@@ -28,9 +28,9 @@ use Rattle.vme_shared.specs.declared.reply.LineReply.TheVariants as replies
 use Rattle.vme_shared.specs.declared.request.SharedRequest.{SharedRequest}
 use Rattle.vme_shared.specs.declared.request.SharedRequest.TheVariants as asked_shared
 use Rattle.vme_shared.specs.Mailboxes.{shared_refusal}
-use Rattle.vme_lines.specs.declared.line.Line.{Line}
-use Rattle.vme_lines.specs.declared.line.Line.TheVariants as lines
-use Rattle.vme_lines.specs.Grammar.{IsOwnLine}
+use Rattle.vme_grammar.specs.declared.line.Line.{Line}
+use Rattle.vme_grammar.specs.declared.line.Line.TheVariants as lines
+use Rattle.vme_grammar.specs.Grammar.{IsOwnLine}
 use Rattle.vme_script.specs.Configurations.{Configuration}
 use Rattle.vme_line_task.specs.Scripts.{Attempt, Moves, Waits, Shares, slot_at, level_at, mailbox_at, transfer_job, request_attempt, unless_refused, shared_job, shared_attempt, line_attempt}
 use Rattle.vme_line_task.specs.Tables.{LineNext, Rests, Makes, Ends, attempt_next, asks_again, Attempts, next_attempt, attempts_of, lawful_next, next_given, line_next, given_of}

@@ -11,7 +11,7 @@ use Rattle.vme_master.proofs.Stands.{by_the_table, given_job}
 use Rattle.vme_shared.specs.Tables.{SharedJob}
 use Rattle.vme_shared.specs.Machine.{shared_fresh, shared_given}
 use Rattle.vme_shared.proofs.Stands.{by_the_given as by_the_steps, given_job as shared_given_job}
-use Rattle.vme_lines.specs.declared.line.Line.{Line}
+use Rattle.vme_grammar.specs.declared.line.Line.{Line}
 use Rattle.vme_script.specs.Configurations.{Configuration}
 use Rattle.vme_line_task.specs.declared.task.LineTask.{LineTask}
 use Rattle.vme_line_task.specs.declared.task.LineTask.TheVariants.{Refused, Tries}

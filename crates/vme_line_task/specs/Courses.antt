@@ -4,7 +4,7 @@ use Rattle.vme_core.specs.declared.event.EventReply.{EventReply}
 use Rattle.vme_core.specs.Calls.{call_of}
 use Rattle.vme_core.specs.Runs.{Move}
 use Rattle.vme_shared.specs.declared.reply.LineReply.{LineReply}
-use Rattle.vme_lines.specs.declared.line.Line.{Line}
+use Rattle.vme_grammar.specs.declared.line.Line.{Line}
 use Rattle.vme_script.specs.Configurations.{Configuration}
 use Rattle.vme_line_task.specs.Scripts.{lines_at}
 use Rattle.vme_line_task.specs.Tables.{Makes, Ends, line_next}

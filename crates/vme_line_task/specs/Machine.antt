@@ -8,7 +8,7 @@ use Rattle.vme_master.specs.Machine.{fresh_task, advance, to_do}
 use Rattle.vme_master.specs.declared.outcome.Outcome.TheVariants as outcomes
 use Rattle.vme_shared.specs.declared.reply.LineReply.TheVariants as replies
 use Rattle.vme_shared.specs.Machine.{shared_fresh, shared_advance, shared_to_do}
-use Rattle.vme_lines.specs.declared.line.Line.{Line}
+use Rattle.vme_grammar.specs.declared.line.Line.{Line}
 use Rattle.vme_script.specs.Configurations.{Configuration}
 use Rattle.vme_line_task.specs.declared.task.LineTask.{LineTask}
 use Rattle.vme_line_task.specs.declared.task.LineTask.TheVariants.{Refused, Tries, Over}

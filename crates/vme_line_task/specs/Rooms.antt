@@ -4,8 +4,8 @@ use Rattle.vme_cycle.specs.BlockBuffers.{RoomView, short_room}
 use Rattle.vme_cycle.specs.declared.fault.CycleFault.{CycleFault}
 use Rattle.vme_cycle.specs.Requests.{reply_room}
 use Rattle.vme_cycle.specs.Lawful.{Transfer, transfer_of}
-use Rattle.vme_lines.specs.declared.line.Line.{Line}
-use Rattle.vme_lines.specs.declared.line.Line.TheVariants.{Bus}
+use Rattle.vme_grammar.specs.declared.line.Line.{Line}
+use Rattle.vme_grammar.specs.declared.line.Line.TheVariants.{Bus}
 use Rattle.vme_script.specs.declared.script.ScriptLine.{ScriptLine}
 
 -- how many bytes a request reads in all: none if it is refused (this project's own)

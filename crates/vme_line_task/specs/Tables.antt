@@ -12,7 +12,7 @@ use Rattle.vme_shared.specs.declared.reply.LineReply.{LineReply}
 use Rattle.vme_shared.specs.declared.reply.LineReply.TheVariants.{Transfer, Refused, Met, Timeout, Shared}
 use Rattle.vme_shared.specs.Tables as shares
 use Rattle.vme_shared.specs.Tables.{SharedNext, shared_next}
-use Rattle.vme_lines.specs.declared.line.Line.{Line}
+use Rattle.vme_grammar.specs.declared.line.Line.{Line}
 use Rattle.vme_script.specs.Configurations.{Configuration}
 use Rattle.vme_line_task.specs.Scripts.{Attempt, Moves, Waits, Shares, line_attempt}
 

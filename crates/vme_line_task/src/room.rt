@@ -8,7 +8,7 @@ use std::alloc::{AllocError, Global};
 use std::marker::Model;
 use std::vec::IntoIter;
 use vme_cycle::{Plan, Request, Room, SHORT};
-use vme_lines::Line;
+use vme_grammar::Line;
 use vme_script::Script;
 
 /// Empty rooms, one for each line of a script that has not begun, in order. Only those that take

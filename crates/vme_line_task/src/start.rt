@@ -15,7 +15,7 @@ use crate::attempt::AttemptTask;
 use crate::wait::WaitTask;
 use vme_cycle::{CycleFault, Request, Room};
 use vme_lanes::{copy_bytes, Datum};
-use vme_lines::Line;
+use vme_grammar::Line;
 use vme_master::Task;
 use vme_script::Config;
 use vme_shared::{Mailbox, SharedRequest, SharedTask};

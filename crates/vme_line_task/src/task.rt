@@ -2,7 +2,7 @@ ghost use Rattle.std.specs.Prelude.{◌≡◌, ◌≢◌, ◌<◌, ◌≤◌, �
 ghost use Rattle.vme_core.specs.Calls.{Call, call_of, machine_step};
 ghost use Rattle.vme_core.specs.Deeds.{call_asked, target_of_call, CanCount};
 ghost use Rattle.vme_core.specs.Machines.{whos};
-ghost use Rattle.vme_lines.specs.declared.line.Line.{Line as AnyLine};
+ghost use Rattle.vme_grammar.specs.declared.line.Line.{Line as AnyLine};
 ghost use Rattle.vme_script.specs.Configurations.{Configuration};
 ghost use Rattle.vme_master.specs.Tables.{Given};
 ghost use Rattle.vme_line_task.specs.Scripts.{HasItsMailbox, lines_at};
@@ -18,7 +18,7 @@ use crate::start::{attempt_of, transfer};
 use crate::todo::LineTodo;
 use vme_cycle::{CycleFault, Room};
 use vme_core::{Core, Deed, Event, EventReply};
-use vme_lines::Line;
+use vme_grammar::Line;
 use vme_master::{Outcome, Task};
 use vme_script::Config;
 use vme_shared::LineReply;

@@ -16,7 +16,7 @@ use Rattle.vme_shared.specs.MailboxSteps.{BoardMailbox, IsNewMailbox}
 use Rattle.vme_shared.specs.Phases.{Idle, IsProper}
 use Rattle.vme_shared.specs.Words.{put_by, taken_by, all_idle, words_along}
 use Rattle.vme_shared.specs.declared.reply.LineReply.{LineReply}
-use Rattle.vme_lines.specs.declared.line.Line.{Line}
+use Rattle.vme_grammar.specs.declared.line.Line.{Line}
 use Rattle.vme_script.specs.Configurations.{Configuration}
 use Rattle.vme_line_task.specs.Scripts.{lines_at}
 use Rattle.vme_queues.specs.Names.{lines_put, lines_taken, IsMailboxOf}

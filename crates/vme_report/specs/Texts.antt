@@ -9,8 +9,8 @@ use Rattle.vme_shared.specs.declared.outcome.SharedOutcome.{SharedOutcome}
 use Rattle.vme_shared.specs.declared.outcome.SharedOutcome.TheVariants as shared
 use Rattle.vme_shared.specs.declared.reply.LineReply.{LineReply}
 use Rattle.vme_shared.specs.declared.reply.LineReply.TheVariants.{Transfer, Refused, Met, Timeout, Shared, Unfinished}
-use Rattle.vme_lines.specs.Texts as texts
-use Rattle.vme_lines.specs.Texts.{hex_text, outcome_text, cycle_fault_text, output_line}
+use Rattle.vme_grammar.specs.Texts as texts
+use Rattle.vme_grammar.specs.Texts.{hex_text, outcome_text, cycle_fault_text, output_line}
 
 -- the slot of a script and the number of its line (this project's own)
 abbrev pub place_text : ℕ → ℕ → List ℕ

@@ -1,12 +1,12 @@
 //! The lines of a report, appended to a buffer.
 ghost use Rattle.std.specs.Prelude.{◌≡◌, ◌<◌, ◌++◌, length, take, flat_map, OnOk, OnErr};
 ghost use Rattle.std.specs.Fmt.{decimal};
-ghost use Rattle.vme_lines.specs.Texts.{output_line};
+ghost use Rattle.vme_grammar.specs.Texts.{output_line};
 ghost use Rattle.vme_report.specs.Texts.{place_text, transfer_text, shared_text, reply_text, line_text, count_text, counts_text, is_blank, row_text};
 ghost use Rattle.vme_shared.specs.declared.outcome.SharedOutcome.TheVariants.{Took};
 
 use std::alloc::AllocError;
-use vme_lines::{print_berr, print_done, print_hex, print_old, print_read, print_refusal};
+use vme_grammar::{print_berr, print_done, print_hex, print_old, print_read, print_refusal};
 use vme_master::Outcome;
 use vme_shared::{LineReply, SharedOutcome};
 

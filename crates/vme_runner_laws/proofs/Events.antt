@@ -28,8 +28,8 @@ use Rattle.vme_master.specs.Laws.{IsNextDatum}
 use Rattle.vme_master.proofs.Rooms.{datum_is}
 use Rattle.vme_master.proofs.Tenures.{data_go_on}
 use Rattle.vme_master.proofs.Locals.{local_calls}
-use Rattle.vme_lines.specs.declared.line.Line.{Line}
-use Rattle.vme_lines.specs.declared.line.Line.TheVariants as lines
+use Rattle.vme_grammar.specs.declared.line.Line.{Line}
+use Rattle.vme_grammar.specs.declared.line.Line.TheVariants as lines
 use Rattle.vme_script.specs.Boards.{entries_of}
 use Rattle.vme_script.specs.Configurations.{Configuration}
 use Rattle.vme_script.specs.Lawful.{IsLawful}

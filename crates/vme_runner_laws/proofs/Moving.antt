@@ -15,7 +15,7 @@ use Rattle.vme_core.specs.Calls.{Call, OnBoard, OnBus, call_of, board_after, mac
 use Rattle.vme_core.proofs.Calls.{did_call}
 use Rattle.vme_core.proofs.Dones.{did_nil}
 use Rattle.vme_shared.specs.declared.reply.LineReply.{LineReply}
-use Rattle.vme_lines.specs.declared.line.Line.{Line}
+use Rattle.vme_grammar.specs.declared.line.Line.{Line}
 use Rattle.vme_script.specs.Configurations.{Configuration}
 use Rattle.vme_script.specs.Lawful.{IsLawful}
 use Rattle.vme_line_task.specs.Scripts.{lines_at}

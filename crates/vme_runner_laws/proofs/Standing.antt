@@ -8,7 +8,7 @@ use Rattle.vme_arbiter.specs.Turns.{StandsAsTold}
 use Rattle.vme_core.specs.declared.event.EventReply.{EventReply}
 use Rattle.vme_core.specs.Calls.{Call}
 use Rattle.vme_shared.specs.declared.reply.LineReply.{LineReply}
-use Rattle.vme_lines.specs.declared.line.Line.{Line}
+use Rattle.vme_grammar.specs.declared.line.Line.{Line}
 use Rattle.vme_script.specs.Configurations.{Configuration}
 use Rattle.vme_line_task.specs.Scripts.{slot_at, lines_at}
 use Rattle.vme_line_task.specs.Tables.{LineNext, Rests, Makes, Ends, line_next}

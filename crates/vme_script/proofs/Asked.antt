@@ -1,8 +1,8 @@
 -- What a line asks for by rules, by what was read of it.
 use Rattle.std.proofs.Common.{◌≡◌, ℕ, List, None, Some, Ok, Err, refl}
-use Rattle.vme_lines.specs.declared.line.Line.{Line}
-use Rattle.vme_lines.specs.declared.fault.LineFault.{LineFault}
-use Rattle.vme_lines.specs.Grammar.{line_of}
+use Rattle.vme_grammar.specs.declared.line.Line.{Line}
+use Rattle.vme_grammar.specs.declared.fault.LineFault.{LineFault}
+use Rattle.vme_grammar.specs.Grammar.{line_of}
 use Rattle.vme_script.specs.declared.rules.Rules.{Rules}
 use Rattle.vme_script.specs.Rules.{refusal_of, line_within}
 

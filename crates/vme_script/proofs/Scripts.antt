@@ -4,10 +4,10 @@ use Rattle.std.specs.Prelude.{nat_le, slice_get}
 use Rattle.std.specs.Str.Lines.{lines}
 use Rattle.std.specs.List.{list_all}
 use Rattle.std.proofs.lemmas.Bool.{cases_Bool, le-leb, lt-ltb, le-ltb, cases_lt}
-use Rattle.vme_lines.specs.declared.line.Line.{Line}
-use Rattle.vme_lines.specs.declared.fault.LineFault.{LineFault}
-use Rattle.vme_lines.specs.Grammar.{line_of, IsOwnLine}
-use Rattle.vme_lines.proofs.Spelling.{line_is_own}
+use Rattle.vme_grammar.specs.declared.line.Line.{Line}
+use Rattle.vme_grammar.specs.declared.fault.LineFault.{LineFault}
+use Rattle.vme_grammar.specs.Grammar.{line_of, IsOwnLine}
+use Rattle.vme_grammar.proofs.Spelling.{line_is_own}
 use Rattle.vme_decode.specs.declared.entry.Entry.{Entry}
 use Rattle.vme_shared.specs.declared.mailbox.Mailbox.{Mailbox}
 use Rattle.vme_script.specs.declared.boxes.Boxes.TheVariants.{Declared}

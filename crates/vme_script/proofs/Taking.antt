@@ -1,9 +1,9 @@
 -- Lines taken one by one are those of the script.
 use Rattle.std.proofs.Common.{◌≡◌, ℕ, ◌+◌, List, [], ◌∷◌, ◌++◌, Option, None, Some, Result, Ok, Err, refl, sym, ap, ◌∙◌, append_assoc}
 use Rattle.std.proofs.lemmas.List.{append-nil}
-use Rattle.vme_lines.specs.declared.line.Line.{Line}
-use Rattle.vme_lines.specs.declared.fault.LineFault.{LineFault}
-use Rattle.vme_lines.specs.Grammar.{line_of}
+use Rattle.vme_grammar.specs.declared.line.Line.{Line}
+use Rattle.vme_grammar.specs.declared.fault.LineFault.{LineFault}
+use Rattle.vme_grammar.specs.Grammar.{line_of}
 use Rattle.vme_script.specs.declared.rules.Rules.{Rules}
 use Rattle.vme_script.specs.Rules.{refusal_of, line_within}
 use Rattle.vme_script.proofs.Asked.{empty, forbidden, allowed}

@@ -10,8 +10,8 @@ use Rattle.vme_decode.specs.declared.entry.Entry.{Entry}
 use Rattle.vme_decode.specs.Select.{selection_at}
 use Rattle.vme_memory.specs.declared.command.BoardCmd.{BoardCmd}
 use Rattle.vme_memory.specs.declared.command.BoardCmd.TheVariants.{LocalRead, LocalWrite, LocalModify, Cycle}
-use Rattle.vme_lines.specs.declared.line.Line.{Line}
-use Rattle.vme_lines.specs.declared.line.Line.TheVariants.{Bus, Local, Await, Lock, Unlock, Put, Take}
+use Rattle.vme_grammar.specs.declared.line.Line.{Line}
+use Rattle.vme_grammar.specs.declared.line.Line.TheVariants.{Bus, Local, Await, Lock, Unlock, Put, Take}
 use Rattle.vme_shared.specs.Mailboxes.{set_lock, clear_lock}
 use Rattle.vme_script.specs.declared.place.Place.{Place}
 

@@ -2,7 +2,7 @@
 use Rattle.std.specs.Prelude.{◌≡◌, ℕ, ◌+◌, ◌<◌, ◌≤◌, nat_le, true, false, List, length, Some, None, slice_get}
 use Rattle.std.specs.List.{list_all}
 use Rattle.vme_decode.specs.Lawful.{first_refusal}
-use Rattle.vme_lines.specs.Grammar.{IsOwnLine}
+use Rattle.vme_grammar.specs.Grammar.{IsOwnLine}
 use Rattle.vme_memory.specs.Boards.{is_board_size}
 use Rattle.vme_shared.specs.declared.mailbox.Mailbox.{Mailbox}
 use Rattle.vme_shared.specs.Mailboxes.{IsMailbox}

@@ -1,7 +1,7 @@
 -- Which mailboxes a line may name: in a file, those that it declares.
 use Rattle.std.specs.Prelude.{ℕ, nat_le, Bool, true, ◌&&◌}
-use Rattle.vme_lines.specs.declared.line.Line.{Line}
-use Rattle.vme_lines.specs.declared.line.Line.TheVariants.{Bus, Local, Await, Lock, Unlock, Put, Take}
+use Rattle.vme_grammar.specs.declared.line.Line.{Line}
+use Rattle.vme_grammar.specs.declared.line.Line.TheVariants.{Bus, Local, Await, Lock, Unlock, Put, Take}
 use Rattle.vme_script.specs.declared.boxes.Boxes.{Boxes}
 use Rattle.vme_script.specs.declared.boxes.Boxes.TheVariants.{Any, Declared}
 

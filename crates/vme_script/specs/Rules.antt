@@ -3,10 +3,10 @@ use Rattle.std.specs.Prelude.{ℕ, Bool, false, if◌then◌else◌, List, lengt
 use Rattle.std.specs.List.{list_any}
 use Rattle.std.specs.Option.{option_map_or}
 use Rattle.vme_decode.specs.declared.entry.Entry.{Entry}
-use Rattle.vme_lines.specs.declared.line.Line.{Line}
-use Rattle.vme_lines.specs.declared.fault.LineFault.{LineFault}
-use Rattle.vme_lines.specs.declared.fault.LineFault.TheVariants.{BadNumber, MailboxBytes}
-use Rattle.vme_lines.specs.Grammar.{line_of}
+use Rattle.vme_grammar.specs.declared.line.Line.{Line}
+use Rattle.vme_grammar.specs.declared.fault.LineFault.{LineFault}
+use Rattle.vme_grammar.specs.declared.fault.LineFault.TheVariants.{BadNumber, MailboxBytes}
+use Rattle.vme_grammar.specs.Grammar.{line_of}
 use Rattle.vme_shared.specs.declared.mailbox.Mailbox.{Mailbox}
 use Rattle.vme_script.specs.declared.boxes.Boxes.{Boxes}
 use Rattle.vme_script.specs.declared.boxes.Boxes.TheVariants as boxes

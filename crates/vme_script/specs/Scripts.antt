@@ -2,8 +2,8 @@
 use Rattle.std.specs.Prelude.{◌≡◌, ℕ, ◌+◌, nat_lt, nat_le, Bool, if◌then◌else◌, List, [], ◌∷◌, ◌++◌, length, Option, Some, None, Result, Ok, Err}
 use Rattle.std.specs.List.{list_all}
 use Rattle.std.specs.Str.Lines.{lines}
-use Rattle.vme_lines.specs.declared.line.Line.{Line}
-use Rattle.vme_lines.specs.declared.fault.LineFault.{LineFault}
+use Rattle.vme_grammar.specs.declared.line.Line.{Line}
+use Rattle.vme_grammar.specs.declared.fault.LineFault.{LineFault}
 use Rattle.vme_decode.specs.declared.entry.Entry.{Entry}
 use Rattle.vme_shared.specs.declared.mailbox.Mailbox.{Mailbox}
 use Rattle.vme_script.specs.declared.rules.Rules.{Rules}

@@ -2,7 +2,7 @@
 ghost use Rattle.std.specs.Prelude.{◌≡◌};
 ghost use Rattle.vme_script.specs.Names.{has_box, may_ask};
 
-use vme_lines::Line;
+use vme_grammar::Line;
 
 /// The mailboxes that a script may name.
 #[derive(Clone, Copy, Debug, PartialEq, Eq)]

@@ -6,7 +6,7 @@ ghost use Rattle.vme_script.specs.Answers.{told_as};
 use std::alloc::{AllocError, AllocFailed};
 use thiserror::Error;
 use vme_config_toml::DocumentFault;
-use vme_lines::LineFault;
+use vme_grammar::LineFault;
 
 /// Why a text is no configuration, in the order in which this is told, memory apart.
 #[derive(Clone, Copy, Debug, PartialEq, Eq, Error)]

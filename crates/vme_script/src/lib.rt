@@ -27,6 +27,6 @@ pub use place::Place;
 pub use rules::{Declared, Rules};
 pub use script::{Script, ScriptLine};
 pub use vme_core::OutOfMemory;
-pub use vme_lines::{Line, LineFault, parse_line};
+pub use vme_grammar::{Line, LineFault, parse_line};
 pub use vme_report::reply_line;
 pub use vme_shared::{LineReply, Mailbox};

@@ -9,7 +9,7 @@ use crate::bytes::{await_bytes, local_bytes, lock_bytes, request_bytes, unlock_b
 use crate::place::Place;
 use std::marker::Model;
 use vme_decode::AddressMap;
-use vme_lines::{Line, LineFault};
+use vme_grammar::{Line, LineFault};
 use vme_shared::Mailbox;
 
 /// What a file declares, as a script in it sees it.

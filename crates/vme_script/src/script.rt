@@ -8,8 +8,7 @@ use crate::fault::{ScriptFault, ScriptRefusal};
 use std::alloc::{AllocError, Global};
 use std::marker::Model;
 use crate::rules::Rules;
-use vme_lines::{Line, LineFault, parse_line};
-use vme_usual::usual_line;
+use vme_grammar::{Line, LineFault, parse_line, usual_line};
 use vme_lexer::Lines;
 
 /// The greatest number of lines of a script.

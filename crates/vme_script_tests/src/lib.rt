@@ -14,3 +14,5 @@ mod readers;
 mod rows;
 #[cfg(test)]
 mod scripts;
+#[cfg(test)]
+mod canonical;

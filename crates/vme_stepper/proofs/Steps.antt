@@ -10,7 +10,7 @@ use Rattle.vme_core.specs.Runs.{Machine}
 use Rattle.vme_core.specs.Calls.{Call, OnBoard, OnBus, board_after, machine_step, command_step, counted_step}
 use Rattle.vme_core.specs.Machines.{steps_of}
 use Rattle.vme_memory.specs.Steps.{Command}
-use Rattle.vme_lines.specs.declared.line.Line.{Line}
+use Rattle.vme_grammar.specs.declared.line.Line.{Line}
 use Rattle.vme_script.specs.Configurations.{Configuration, opening_memory}
 use Rattle.vme_line_task.specs.Tables.{LineNext, Rests, Makes, Ends, line_next}
 use Rattle.vme_line_task.specs.Courses.{Course}

@@ -7,7 +7,7 @@ use Rattle.vme_core.specs.Calls.{Call, machine_step}
 use Rattle.vme_arbiter.specs.Arbitration.{opening_bus}
 use Rattle.vme_core.specs.Machines.{opening}
 use Rattle.vme_shared.specs.declared.reply.LineReply.{LineReply}
-use Rattle.vme_lines.specs.declared.line.Line.{Line}
+use Rattle.vme_grammar.specs.declared.line.Line.{Line}
 use Rattle.vme_script.specs.Configurations.{Configuration, opening_memory}
 use Rattle.vme_line_task.specs.Scripts.{lines_at}
 use Rattle.vme_line_task.specs.Tables.{LineNext, Makes, Ends, line_next}

@@ -8,7 +8,7 @@ use Rattle.vme_core.specs.Calls.{Call}
 use Rattle.vme_core.specs.Deeds.{call_asked}
 use Rattle.vme_core.specs.Runs.{Move, move}
 use Rattle.vme_shared.specs.declared.reply.LineReply.{LineReply}
-use Rattle.vme_lines.specs.declared.line.Line.{Line}
+use Rattle.vme_grammar.specs.declared.line.Line.{Line}
 use Rattle.vme_script.specs.Configurations.{Configuration}
 use Rattle.vme_line_task.specs.declared.task.LineTask.{LineTask}
 use Rattle.vme_line_task.specs.Scripts.{lines_at}

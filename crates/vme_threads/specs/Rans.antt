@@ -8,7 +8,7 @@ use Rattle.vme_shared.specs.declared.reply.LineReply.{LineReply}
 use Rattle.vme_report.specs.declared.fault.RunFault.{RunFault}
 use Rattle.vme_report.specs.declared.fault.RunFault.TheVariants.{Spent}
 use Rattle.vme_port.specs.Passes.{PassView}
-use Rattle.vme_lines.specs.declared.line.Line.{Line}
+use Rattle.vme_grammar.specs.declared.line.Line.{Line}
 use Rattle.vme_script.specs.Configurations.{Configuration}
 use Rattle.vme_line_task.specs.Scripts.{script_at, lines_at}
 use Rattle.vme_line_task.specs.Courses.{LineCourse, IsCourse}

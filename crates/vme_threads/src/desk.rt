@@ -2,7 +2,7 @@ ghost use Rattle.std.specs.Prelude.{◌≡◌, ◌<◌, ◌≤◌, ◌∷◌, []
 ghost use Rattle.vme_core.specs.declared.event.Event.TheVariants as asked;
 ghost use Rattle.vme_core.specs.declared.event.EventReply.TheVariants as told;
 ghost use Rattle.vme_core.specs.Runs.{move};
-ghost use Rattle.vme_lines.specs.declared.line.Line.{Line};
+ghost use Rattle.vme_grammar.specs.declared.line.Line.{Line};
 ghost use Rattle.vme_core.specs.Deeds.{call_asked};
 ghost use Rattle.vme_line_task.specs.Events.{IsCallBelow};
 ghost use Rattle.vme_line_task.specs.Rooms.{line_room};

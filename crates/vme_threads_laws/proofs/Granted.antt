@@ -27,7 +27,7 @@ use Rattle.vme_master.proofs.Locals.{board_fits}
 use Rattle.vme_master.specs.declared.outcome.Outcome.TheVariants.{Denied}
 use Rattle.vme_shared.specs.declared.reply.LineReply.{LineReply}
 use Rattle.vme_shared.specs.declared.reply.LineReply.TheVariants.{Transfer}
-use Rattle.vme_lines.specs.declared.line.Line.{Line}
+use Rattle.vme_grammar.specs.declared.line.Line.{Line}
 use Rattle.vme_script.specs.Configurations.{Configuration, opening_memory}
 use Rattle.vme_script.specs.Lawful.{IsLawful}
 use Rattle.vme_line_task.specs.Scripts.{slot_at, lines_at}

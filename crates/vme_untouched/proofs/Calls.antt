@@ -8,7 +8,7 @@ use Rattle.vme_master.specs.Tables as tasks
 use Rattle.vme_master.specs.Tables.{Given, next_of}
 use Rattle.vme_shared.specs.Tables as shares
 use Rattle.vme_shared.specs.Tables.{SharedJob, shared_next}
-use Rattle.vme_lines.specs.declared.line.Line.{Line}
+use Rattle.vme_grammar.specs.declared.line.Line.{Line}
 use Rattle.vme_script.specs.Configurations.{Configuration}
 use Rattle.vme_line_task.specs.Scripts.{Attempt, Moves, Waits, Shares, line_attempt}
 use Rattle.vme_line_task.specs.Tables.{Makes, attempts_of, lawful_next, next_given, given_of, line_next}

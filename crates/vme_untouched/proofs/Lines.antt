@@ -17,9 +17,9 @@ use Rattle.vme_shared.specs.declared.request.SharedRequest.{SharedRequest}
 use Rattle.vme_shared.specs.declared.request.SharedRequest.TheVariants as asked
 use Rattle.vme_shared.specs.Mailboxes.{set_lock, clear_lock}
 use Rattle.vme_mailbox_laws.specs.Along.{mailbox_in}
-use Rattle.vme_lines.specs.Grammar.{IsOwnLine}
-use Rattle.vme_lines.specs.declared.line.Line.{Line}
-use Rattle.vme_lines.specs.declared.line.Line.TheVariants as lines
+use Rattle.vme_grammar.specs.Grammar.{IsOwnLine}
+use Rattle.vme_grammar.specs.declared.line.Line.{Line}
+use Rattle.vme_grammar.specs.declared.line.Line.TheVariants as lines
 use Rattle.vme_script.specs.declared.boxes.Boxes.TheVariants.{Declared}
 use Rattle.vme_script.specs.declared.place.Place.{Place}
 use Rattle.vme_script.specs.Bytes.{request_bytes, local_bytes}

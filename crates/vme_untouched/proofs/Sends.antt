@@ -20,8 +20,8 @@ use Rattle.vme_shared.specs.declared.request.SharedRequest.TheVariants as asked
 use Rattle.vme_shared.specs.Mailboxes.{set_lock, clear_lock, refusal_in, shared_refusal}
 use Rattle.vme_mailbox_laws.specs.Along.{GoesTo}
 use Rattle.vme_mailbox_laws.proofs.Datums.{taken, given_back}
-use Rattle.vme_lines.specs.Grammar.{IsOwnLine}
-use Rattle.vme_lines.specs.declared.line.Line.TheVariants as lines
+use Rattle.vme_grammar.specs.Grammar.{IsOwnLine}
+use Rattle.vme_grammar.specs.declared.line.Line.TheVariants as lines
 use Rattle.vme_script.specs.declared.place.Place.{Place}
 use Rattle.vme_script.specs.Bytes.{transfer_bytes, request_bytes, local_bytes}
 use Rattle.vme_script.specs.Boards.{entries_of}

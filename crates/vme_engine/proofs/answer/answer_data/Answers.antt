@@ -2,7 +2,7 @@
 use Rattle.std.proofs.Common.{◌≡◌, ◌+◌, ◌<◌, [], ◌++◌, length, length-append, ap, ◌∙◌, sym, arith}
 use Rattle.std.proofs.lemmas.List.{append-nil}
 use Rattle.vme_cycle.specs.Requests.{datum_len, count_of}
-use Rattle.vme_lines.specs.Texts.{Berr, outcome_text, output_line}
+use Rattle.vme_grammar.specs.Texts.{Berr, outcome_text, output_line}
 use Rattle.vme_engine.proofs.Data.{datum_more, room_more}
 use Rattle.vme_engine.proofs.answer.answer_data.Goals as goal
 use Rattle.vme_engine.proofs.answer.answer_data.Goals.{in-Bytes, in-Done}

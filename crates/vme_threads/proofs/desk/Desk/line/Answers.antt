@@ -1,4 +1,4 @@
-use Rattle.vme_lines.specs.declared.line.Line.TheVariants as lines
+use Rattle.vme_grammar.specs.declared.line.Line.TheVariants as lines
 use Rattle.vme_threads.proofs.Once.{line_found, answered_there}
 use Rattle.vme_threads.proofs.desk.Desk.line.Goals as goal
 

@@ -1,0 +1,10 @@
+-- The digits of the last four lanes are their text.
+use Rattle.std.proofs.Common.{◌≡◌, length, rules}
+use Rattle.vme_grammar.proofs.Lanes.{last_four}
+use Rattle.vme_grammar.proofs.print.last_lanes.Goals as goal
+
+pub returns : goal.returns
+returns c =
+    let len : length c.args.lines.lanes ≡ 8 = search rules in
+    last_four c.args.lines.lanes c.lane_digits-first.result c.lane_digits-second.result c.lane_digits-third.result c.lane_digits-last.result len
+    c.lane_digits-first.ensures c.lane_digits-second.ensures c.lane_digits-third.ensures c.lane_digits-last.ensures

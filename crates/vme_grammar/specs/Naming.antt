@@ -1,0 +1,54 @@
+-- How a line is read: its form is found word by word, and then what the words after the first ask for.
+use Rattle.std.specs.Prelude.{ℕ, true, List, [], ◌∷◌, drop, find, slice_get, Option, Some, None, Result, Ok, Err}
+use Rattle.std.specs.Option.{ok_or}
+use Rattle.std.specs.Str.{bytes_eq}
+use Rattle.vme_grammar.specs.declared.line.Line.{Line}
+use Rattle.vme_grammar.specs.declared.fault.LineFault.{LineFault}
+use Rattle.vme_grammar.specs.declared.fault.LineFault.TheVariants.{UnknownWord, WordCount}
+use Rattle.vme_grammar.specs.declared.form.Form.{Form}
+use Rattle.vme_grammar.specs.declared.form.Form.TheVariants.{Read, Write, BlockRead, BlockWrite, BlockFill, Modify, LocalRead, LocalWrite, LocalModify, Await, Lock, Unlock, Put, Take}
+use Rattle.vme_grammar.specs.declared.function.Function.{Function}
+use Rattle.vme_grammar.specs.Forms.{name_of, functions, places, fields_of, forms, line_at}
+use Rattle.vme_grammar.specs.Grammar.{◌>>=◌, go_by, operands_of}
+
+-- the first form whose first word this is (this project's own)
+unfoldable pub form_named : List ℕ → Option Form
+form_named word = find (λ form. go_by true (places form) (word ∷ [])) forms
+
+-- the function that a word names, if there is a word (this project's own)
+unfoldable pub function_of : Option (List ℕ) → Result Function LineFault
+function_of None = Err WordCount
+function_of (Some word) = ok_or (find (λ function. bytes_eq word (name_of function)) functions) UnknownWord
+
+-- a form, with the function that the words after the first name in its place, if it has one (this project's own)
+abbrev pub with_function : Form → List (List ℕ) → Result Form LineFault
+with_function (Modify first) words = do
+  function ← function_of (slice_get words 3)
+  Ok (Modify function)
+with_function (LocalModify first) words = do
+  function ← function_of (slice_get words 2)
+  Ok (LocalModify function)
+with_function Read words = Ok Read
+with_function Write words = Ok Write
+with_function BlockRead words = Ok BlockRead
+with_function BlockWrite words = Ok BlockWrite
+with_function BlockFill words = Ok BlockFill
+with_function LocalRead words = Ok LocalRead
+with_function LocalWrite words = Ok LocalWrite
+with_function Await words = Ok Await
+with_function Lock words = Ok Lock
+with_function Unlock words = Ok Unlock
+with_function Put words = Ok Put
+with_function Take words = Ok Take
+
+-- what a line of a form asks for, by the words after its first (this project's own)
+unfoldable pub line_by : Form → List (List ℕ) → Result Line LineFault
+line_by form words = do
+  operands ← operands_of (drop 1 (fields_of form)) words
+  Ok (line_at form operands)
+
+-- what a line of a form asks for, whose function its words name (this project's own)
+unfoldable pub line_named : Form → List (List ℕ) → Result Line LineFault
+line_named first words = do
+  form ← with_function first words
+  line_by form words

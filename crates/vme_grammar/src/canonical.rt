@@ -1,0 +1,6 @@
+mod bytes;
+mod commands;
+mod data;
+mod fields;
+mod line;
+mod requests;

@@ -1,0 +1,53 @@
+//! What a line asks for.
+ghost use Rattle.std.specs.Prelude.{◌≡◌, MatchOption};
+ghost use Rattle.vme_grammar.specs.Grammar.{line_of};
+
+use crate::canonical::bytes::{after_ait, after_space, two_bytes};
+use crate::canonical::commands::{local_modify, local_read, local_write};
+use crate::canonical::requests::{await_bytes, block_fill, block_read, block_write, modify, read, write};
+use crate::line::{Line, LINE_LIMIT, parse_line};
+use crate::fault::LineFault;
+
+/// What a line in its usual spelling asks for; nothing of another line.
+#[inline(always)]
+pub fn usual_line(line: &[u8]) -> Option<Line>
+    ensures { MatchOption result (Unit {0}) (λ asked. line_of line.now ≡ Ok (Some asked)) }
+{
+    if LINE_LIMIT < line.len() {
+        return None;
+    }
+    let (first, second, text) = two_bytes(line)?;
+    match (first, second) {
+        (b'r', b' ') => read(text),
+        (b'w', b' ') => write(text),
+        (b'm', b' ') => modify(text),
+        (b'b', b'r') => block_read(after_space(text)?),
+        (b'b', b'w') => block_write(after_space(text)?),
+        (b'b', b'f') => block_fill(after_space(text)?),
+        (b'l', b'r') => local_read(after_space(text)?),
+        (b'l', b'w') => local_write(after_space(text)?),
+        (b'l', b'm') => local_modify(after_space(text)?),
+        (b'a', b'w') => await_bytes(after_ait(text)?),
+        _ => None,
+    }
+}
+
+/// What any line asks for, read word by word.
+#[cold]
+#[inline(never)]
+fn any_line(line: &[u8]) -> Result<Option<Line>, LineFault>
+    ensures { result ≡ line_of line.now }
+{
+    parse_line(line)
+}
+
+/// Reads a line, without its end, as `parse_line` does: one in its usual spelling in one pass.
+#[inline(always)]
+pub fn read_line(line: &[u8]) -> Result<Option<Line>, LineFault>
+    ensures line { result ≡ line_of line.now }
+{
+    match usual_line(line) {
+        Some(asked) => Ok(Some(asked)),
+        None => any_line(line),
+    }
+}

@@ -1,0 +1,24 @@
+//! Lines of requests: what each line asks of the data transfer bus (ANSI/IEEE Std 1014-1987,
+//! chapter 2), and the texts of signals, outcomes and refusals. It knows no board and no device.
+#![tactic(auto)]
+
+mod canonical;
+mod commands;
+mod counted;
+mod fault;
+mod form;
+mod function;
+mod laws;
+mod line;
+mod print;
+mod requests;
+mod shared;
+
+pub use canonical::line::{read_line, usual_line};
+pub use fault::LineFault;
+pub use laws::lines_are_spelled;
+pub use line::{LINE_LIMIT, Line, parse_line};
+pub use print::{
+    print_berr, print_done, print_hex, print_line_refusal, print_old, print_read, print_refusal,
+    print_signals,
+};

@@ -1,0 +1,309 @@
+//! The text of signals, outcomes and refusals, appended to a buffer: a whole line, or nothing where
+//! there is no memory for it.
+ghost use Rattle.std.specs.Prelude.{◌≡◌, ◌+◌, ◌*◌, ◌<◌, ◌≤◌, ◌++◌, length, true, false, vec_len, vec_capacity, OnOk, OnErr, codes};
+ghost use Rattle.std.specs.Int.{w32, to_be_bytes};
+ghost use Rattle.vme_lanes.specs.Rows.{row_of};
+ghost use Rattle.vme_grammar.specs.Texts.{digit, hex_byte, hex_text, level_text, lane_text, lanes_text, told_lanes, address_text, strobes_text, signals_text, Read, Done, Old, Berr, more_bytes, outcome_text, cycle_fault_text, line_fault_text, output_line};
+
+use crate::fault::LineFault;
+use std::alloc::AllocError;
+use vme_am::AmFault;
+use vme_cycle::{CycleFault, Signals};
+use vme_lanes::{DataLines, Location};
+
+const DIGITS: [u8; 16] = *b"0123456789abcdef";
+
+fn digit(n: u8) -> u8
+    requires { n < 16 }
+    ensures { result ≡ digit n }
+{
+    DIGITS[usize::from(n)]
+}
+
+/// Takes room for so many bytes and for two digits for each of some others.
+fn take_room(text: &mut Vec<u8>, fixed: usize, bytes: &[u8]) -> Result<(), AllocError>
+    ensures room { OnOk result
+        (vec_len text.new + (fixed + 2 * length bytes.now) ≤ vec_capacity text.new) }
+    ensures kept { text.new.items ≡ text.old.items }
+{
+    let digits = bytes.len().checked_mul(2).ok_or(AllocError)?;
+    let room = fixed.checked_add(digits).ok_or(AllocError)?;
+    text.reserve(room)
+}
+
+/// Appends a text for which there is room.
+fn push_text(text: &mut Vec<u8>, more: &[u8])
+    requires { vec_len text.old + length more.now ≤ vec_capacity text.old }
+    ensures items { text.new.items ≡ text.old.items ++ more.now }
+    ensures len { vec_len text.new ≡ vec_len text.old + length more.now }
+    ensures capacity { vec_capacity text.old ≤ vec_capacity text.new }
+{
+    text.extend_from_slice(more).unwrap();
+}
+
+/// Appends bytes for whose digits there is room.
+fn push_hex_bytes(text: &mut Vec<u8>, bytes: &[u8])
+    requires { vec_len text.old + 2 * length bytes.now ≤ vec_capacity text.old }
+    ensures items { text.new.items ≡ text.old.items ++ hex_text bytes.now }
+    ensures len { vec_len text.new ≡ vec_len text.old + 2 * length bytes.now }
+    ensures capacity { vec_capacity text.old ≤ vec_capacity text.new }
+{
+    for byte in bytes {
+        push_text(text, &hex_digits(*byte));
+    }
+}
+
+/// Appends bytes as two digits each.
+pub fn print_hex(text: &mut Vec<u8>, bytes: &[u8]) -> Result<(), AllocError>
+    ensures text { OnOk result (text.new.items ≡ text.old.items ++ hex_text bytes.now) }
+    ensures kept { OnErr result (text.new.items ≡ text.old.items) }
+{
+    take_room(text, 0, bytes)?;
+    push_hex_bytes(text, bytes);
+    Ok(())
+}
+
+fn hex_digits(byte: u8) -> [u8; 2]
+    ensures { result ≡ hex_byte byte }
+{
+    [digit(byte / 16), digit(byte % 16)]
+}
+
+/// The code, and the name of the address lines behind it, in one piece.
+#[rattlefmt::skip]
+fn code_text(code: u8) -> [u8; 8]
+    ensures { result ≡ codes "am=" ++ (hex_byte code ++ codes " a=") }
+{
+    [b'a', b'm', b'=', digit(code / 16), digit(code % 16), b' ', b'a', b'=']
+}
+
+/// The address lines as an address of eight digits.
+#[rattlefmt::skip]
+fn address_digits(addr: u32) -> [u8; 8]
+    ensures { result ≡ hex_text (to_be_bytes w32 addr) }
+{
+    let [first, second, third, last] = addr.to_be_bytes();
+    [
+        digit(first / 16), digit(first % 16), digit(second / 16), digit(second % 16),
+        digit(third / 16), digit(third % 16), digit(last / 16), digit(last % 16),
+    ]
+}
+
+/// Appends the code and the address lines, for which there is room.
+#[tactic(auto, unfolding(crate::specs::Texts::address_text))]
+fn push_address(text: &mut Vec<u8>, code: u8, addr: u32)
+    requires { vec_len text.old + 16 ≤ vec_capacity text.old }
+    ensures items { text.new.items ≡ text.old.items ++ address_text code addr }
+    ensures len { vec_len text.new ≡ vec_len text.old + 16 }
+    ensures capacity { vec_capacity text.old ≤ vec_capacity text.new }
+{
+    push_text(text, &code_text(code));
+    push_text(text, &address_digits(addr));
+}
+
+/// The levels of the data strobes, A01 and LWORD* of a location, in one piece.
+#[tactic(auto, unfolding(crate::specs::Texts::strobes_text))]
+fn strobes_text(location: Location) -> &'static [u8; 26]
+    ensures { result.now ≡ strobes_text (row_of location).strobes }
+{
+    match location {
+        Location::Byte0 => b" ds1=0 ds0=1 a01=0 lword=1",
+        Location::Byte1 => b" ds1=1 ds0=0 a01=0 lword=1",
+        Location::Byte2 => b" ds1=0 ds0=1 a01=1 lword=1",
+        Location::Byte3 => b" ds1=1 ds0=0 a01=1 lword=1",
+        Location::Bytes01 => b" ds1=0 ds0=0 a01=0 lword=1",
+        Location::Bytes23 => b" ds1=0 ds0=0 a01=1 lword=1",
+        Location::Bytes03 => b" ds1=0 ds0=0 a01=0 lword=0",
+        Location::Bytes02 => b" ds1=0 ds0=1 a01=0 lword=0",
+        Location::Bytes13 => b" ds1=1 ds0=0 a01=0 lword=0",
+        Location::Bytes12 => b" ds1=0 ds0=0 a01=1 lword=0",
+    }
+}
+
+/// The level of WRITE*, and the name of the data lines behind it, in one piece.
+fn write_text(high: bool) -> &'static [u8; 14]
+    ensures { result.now ≡ level_text (codes " write=") high ++ codes " data=" }
+{
+    if high {
+        b" write=1 data="
+    } else {
+        b" write=0 data="
+    }
+}
+
+fn lane_digits(lane: Option<u8>) -> [u8; 2]
+    ensures { result ≡ lane_text lane }
+{
+    match lane {
+        Some(byte) => hex_digits(byte),
+        None => *b"--",
+    }
+}
+
+/// The digits of the last four lanes.
+#[rattlefmt::skip]
+fn last_lanes(lines: DataLines) -> [u8; 8]
+    ensures { result ≡ lanes_text (told_lanes false lines.lanes) }
+{
+    let [_, _, _, _, first, second, third, last] = lines.lanes;
+    let (first, second) = (lane_digits(first), lane_digits(second));
+    let (third, last) = (lane_digits(third), lane_digits(last));
+    [first[0], first[1], second[0], second[1], third[0], third[1], last[0], last[1]]
+}
+
+/// The digits of all lanes.
+#[rattlefmt::skip]
+#[inline(never)]
+fn all_lanes(lines: DataLines) -> [u8; 16]
+    ensures { result ≡ lanes_text (told_lanes true lines.lanes) }
+{
+    let [first, second, third, fourth, fifth, sixth, seventh, last] = lines.lanes;
+    let (first, second) = (lane_digits(first), lane_digits(second));
+    let (third, fourth) = (lane_digits(third), lane_digits(fourth));
+    let (fifth, sixth) = (lane_digits(fifth), lane_digits(sixth));
+    let (seventh, last) = (lane_digits(seventh), lane_digits(last));
+    [
+        first[0], first[1], second[0], second[1], third[0], third[1], fourth[0], fourth[1],
+        fifth[0], fifth[1], sixth[0], sixth[1], seventh[0], seventh[1], last[0], last[1],
+    ]
+}
+
+/// The greatest length of the line of the signals of a cycle.
+const SIGNALS_LEN: usize = 73;
+
+/// Appends the line of the signals of a cycle.
+#[tactic(auto, unfolding(crate::specs::Texts::signals_text, crate::specs::Texts::levels_text, crate::specs::Texts::data_text))]
+pub fn print_signals(text: &mut Vec<u8>, signals: &Signals) -> Result<(), AllocError>
+    ensures text { OnOk result
+        (text.new.items ≡ text.old.items ++ output_line (signals_text signals.now)) }
+    ensures kept { OnErr result (text.new.items ≡ text.old.items) }
+{
+    text.reserve(SIGNALS_LEN)?;
+    push_address(text, signals.am().code(), signals.addr());
+    push_text(text, strobes_text(signals.location()));
+    push_text(text, write_text(signals.write()));
+    if signals.am().wide() {
+        push_text(text, &all_lanes(signals.lines()));
+    } else {
+        push_text(text, &last_lanes(signals.lines()));
+    }
+    push_text(text, b"\n");
+    Ok(())
+}
+
+/// Appends the line of a transfer that read these bytes.
+#[tactic(auto, unfolding(crate::specs::Texts::outcome_text))]
+pub fn print_read(text: &mut Vec<u8>, bytes: &[u8]) -> Result<(), AllocError>
+    ensures text { OnOk result
+        (text.new.items ≡ text.old.items ++ output_line (outcome_text (Read bytes.now))) }
+    ensures kept { OnErr result (text.new.items ≡ text.old.items) }
+{
+    take_room(text, 6, bytes)?;
+    push_text(text, b"read ");
+    push_hex_bytes(text, bytes);
+    push_text(text, b"\n");
+    Ok(())
+}
+
+/// Appends the line of a read-modify-write that found these bytes.
+#[tactic(auto, unfolding(crate::specs::Texts::outcome_text))]
+pub fn print_old(text: &mut Vec<u8>, bytes: &[u8]) -> Result<(), AllocError>
+    ensures text { OnOk result
+        (text.new.items ≡ text.old.items ++ output_line (outcome_text (Old bytes.now))) }
+    ensures kept { OnErr result (text.new.items ≡ text.old.items) }
+{
+    take_room(text, 5, bytes)?;
+    push_text(text, b"old ");
+    push_hex_bytes(text, bytes);
+    push_text(text, b"\n");
+    Ok(())
+}
+
+/// Appends the line of a transfer that wrote all its data.
+#[tactic(auto, unfolding(crate::specs::Texts::outcome_text))]
+pub fn print_done(text: &mut Vec<u8>) -> Result<(), AllocError>
+    ensures text { OnOk result (text.new.items ≡ text.old.items ++ output_line (outcome_text Done)) }
+    ensures kept { OnErr result (text.new.items ≡ text.old.items) }
+{
+    text.extend_from_slice(b"done\n")
+}
+
+/// Appends the line of a transfer that ended with a bus error after `count` data, and what it had
+/// read by then.
+#[tactic(auto, unfolding(crate::specs::Texts::outcome_text))]
+pub fn print_berr(text: &mut Vec<u8>, count: u16, bytes: &[u8]) -> Result<(), AllocError>
+    ensures text { OnOk result
+        (text.new.items ≡ text.old.items ++ output_line (outcome_text (Berr count bytes.now))) }
+    ensures kept { OnErr result (text.new.items ≡ text.old.items) }
+{
+    let mut buffer = itoa::Buffer::new();
+    let number = buffer.format(count).as_bytes();
+    take_room(text, 7 + number.len(), bytes)?;
+    push_text(text, b"berr ");
+    push_text(text, number);
+    push_more_bytes(text, bytes);
+    push_text(text, b"\n");
+    Ok(())
+}
+
+/// Appends a space and some bytes, where there are any.
+fn push_more_bytes(text: &mut Vec<u8>, bytes: &[u8])
+    requires { vec_len text.old + (1 + 2 * length bytes.now) ≤ vec_capacity text.old }
+    ensures items { text.new.items ≡ text.old.items ++ more_bytes bytes.now }
+    ensures len { vec_len text.new ≤ vec_len text.old + (1 + 2 * length bytes.now) }
+    ensures capacity { vec_capacity text.old ≤ vec_capacity text.new }
+{
+    if !bytes.is_empty() {
+        push_text(text, b" ");
+        push_hex_bytes(text, bytes);
+    }
+}
+
+/// Appends the line that tells why a request is refused.
+pub fn print_refusal(text: &mut Vec<u8>, fault: CycleFault) -> Result<(), AllocError>
+    ensures text { OnOk result
+        (text.new.items ≡ text.old.items ++ output_line (codes "refused " ++ cycle_fault_text fault)) }
+    ensures kept { OnErr result (text.new.items ≡ text.old.items) }
+{
+    text.extend_from_slice(&refusal(fault))
+}
+
+fn refusal(fault: CycleFault) -> [u8; 11]
+    ensures { result ≡ output_line (codes "refused " ++ cycle_fault_text fault) }
+{
+    match fault {
+        CycleFault::Code(AmFault::TooLarge) => *b"refused K9\n",
+        CycleFault::Code(AmFault::UserDefined) => *b"refused K2\n",
+        CycleFault::Code(AmFault::Reserved) => *b"refused K1\n",
+        CycleFault::WrongKindOfCode => *b"refused K5\n",
+        CycleFault::ProgramModify => *b"refused K7\n",
+        CycleFault::BadCount => *b"refused K8\n",
+        CycleFault::OutsideSpace => *b"refused K4\n",
+        CycleFault::NoCycle => *b"refused K3\n",
+        CycleFault::CrossesBoundary => *b"refused K6\n",
+    }
+}
+
+/// Appends the line that tells why a line is refused.
+pub fn print_line_refusal(text: &mut Vec<u8>, fault: LineFault) -> Result<(), AllocError>
+    ensures text { OnOk result (text.new.items
+        ≡ text.old.items ++ output_line (codes "line refused " ++ line_fault_text fault)) }
+    ensures kept { OnErr result (text.new.items ≡ text.old.items) }
+{
+    text.extend_from_slice(&line_refusal(fault))
+}
+
+fn line_refusal(fault: LineFault) -> [u8; 16]
+    ensures { result ≡ output_line (codes "line refused " ++ line_fault_text fault) }
+{
+    match fault {
+        LineFault::LineTooLong => *b"line refused S1\n",
+        LineFault::UnknownWord => *b"line refused S2\n",
+        LineFault::WordCount => *b"line refused S3\n",
+        LineFault::BadCode => *b"line refused S4\n",
+        LineFault::BadAddress => *b"line refused S5\n",
+        LineFault::BadNumber => *b"line refused S6\n",
+        LineFault::BadBytes => *b"line refused S7\n",
+        LineFault::MailboxBytes => *b"line refused S9\n",
+    }
+}

@@ -1,0 +1,67 @@
+//! Lines that ask for a lock or a mailbox, by the words after their first.
+ghost use Rattle.std.specs.Prelude.{◌≡◌};
+ghost use Rattle.std.specs.Option.{ok_or};
+ghost use Rattle.vme_grammar.specs.declared.form.Form.TheVariants as form;
+ghost use Rattle.vme_grammar.specs.Naming.{line_by};
+ghost use Rattle.vme_lexer.specs.Numbers.{decimal_number};
+ghost use Rattle.vme_lexer.specs.Words.{words};
+
+use crate::counted::{one_word, two_words};
+use crate::fault::LineFault;
+use crate::line::Line;
+use crate::requests::place_of;
+use vme_lexer::{decimal_number, hex_number, Words};
+
+/// The number of a mailbox.
+#[inline(always)]
+fn mailbox_of(number: &[u8]) -> Result<u8, LineFault>
+    ensures { result ≡ ok_or (decimal_number 2 number.now) LineFault.BadNumber }
+{
+    let mailbox = decimal_number(2, number).ok_or(LineFault::BadNumber)?;
+    Ok(mailbox as u8)
+}
+
+/// `lock`
+#[inline(always)]
+#[tactic(auto, unfolding(crate::specs::Naming::line_by, crate::specs::Grammar::operands_of, crate::specs::Fields::with_field, crate::specs::Modifies::place_of))]
+pub(crate) fn lock(operands: Words<'_>) -> Result<Line, LineFault>
+    ensures { result ≡ line_by form.Lock (words operands.entry.rest.now) }
+{
+    let (am, addr) = two_words(operands).ok_or(LineFault::WordCount)?;
+    let (am, addr) = place_of(am, addr)?;
+    Ok(Line::Lock { am, addr })
+}
+
+/// `unlock`
+#[inline(always)]
+#[tactic(auto, unfolding(crate::specs::Naming::line_by, crate::specs::Grammar::operands_of, crate::specs::Fields::with_field, crate::specs::Modifies::place_of))]
+pub(crate) fn unlock(operands: Words<'_>) -> Result<Line, LineFault>
+    ensures { result ≡ line_by form.Unlock (words operands.entry.rest.now) }
+{
+    let (am, addr) = two_words(operands).ok_or(LineFault::WordCount)?;
+    let (am, addr) = place_of(am, addr)?;
+    Ok(Line::Unlock { am, addr })
+}
+
+/// `put`
+#[inline(always)]
+#[tactic(auto, unfolding(crate::specs::Naming::line_by, crate::specs::Grammar::operands_of, crate::specs::Fields::with_field))]
+pub(crate) fn put(operands: Words<'_>) -> Result<Line, LineFault>
+    ensures { result ≡ line_by form.Put (words operands.entry.rest.now) }
+{
+    let (mailbox, word) = two_words(operands).ok_or(LineFault::WordCount)?;
+    let mailbox = mailbox_of(mailbox)?;
+    let word = hex_number(8, word).ok_or(LineFault::BadBytes)?;
+    Ok(Line::Put { mailbox, word })
+}
+
+/// `take`
+#[inline(always)]
+#[tactic(auto, unfolding(crate::specs::Naming::line_by, crate::specs::Grammar::operands_of, crate::specs::Fields::with_field))]
+pub(crate) fn take(operands: Words<'_>) -> Result<Line, LineFault>
+    ensures { result ≡ line_by form.Take (words operands.entry.rest.now) }
+{
+    let mailbox = one_word(operands).ok_or(LineFault::WordCount)?;
+    let mailbox = mailbox_of(mailbox)?;
+    Ok(Line::Take { mailbox })
+}

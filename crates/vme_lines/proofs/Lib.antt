@@ -1,5 +1,0 @@
-pub mod Cases
-pub mod Naming
-pub mod Modifies
-pub mod Spelling
-mod Lanes
