@@ -1,4 +1,0 @@
-pub mod Numbers
-pub mod Places
-pub mod Untouched
-pub mod Asked

@@ -1,9 +1,0 @@
-pub mod Bytes
-pub mod Places
-pub mod Steps
-pub mod Kept
-pub mod Rows
-pub mod Quiet
-pub mod Ordered
-pub mod Opening
-pub mod Example

@@ -1,3 +1,0 @@
-pub mod Enables
-pub mod Shifts
-mod Lanes
