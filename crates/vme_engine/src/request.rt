@@ -4,7 +4,7 @@ ghost use Rattle.vme_lexer.specs.Words.{words_of};
 ghost use Rattle.vme_engine.specs.Lines.{is_request_word, is_other_word, request_of};
 
 use vme_cycle::Request;
-use vme_grammar::{Line, LINE_LIMIT, LineFault, read_line};
+use vme_grammar::{Line, LINE_LIMIT, LineFault, parse_line};
 use vme_lexer::first_word;
 
 /// The request that a line asks for. A word that only scripts know is unknown, whatever follows it.
@@ -18,7 +18,7 @@ pub(crate) fn request_of(line: &[u8]) -> Result<Option<Request>, LineFault>
     if begins_otherwise(line) {
         return Err(LineFault::UnknownWord);
     }
-    match read_line(line)? {
+    match parse_line(line)? {
         None => Ok(None),
         Some(Line::Bus(request)) => Ok(Some(request)),
         Some(_) => Err(LineFault::UnknownWord),

@@ -14,10 +14,10 @@ mod print;
 mod requests;
 mod shared;
 
-pub use canonical::line::{read_line, usual_line};
+pub use canonical::{parse_canonical, parse_line};
 pub use fault::LineFault;
 pub use laws::lines_are_spelled;
-pub use line::{LINE_LIMIT, Line, parse_line};
+pub use line::{LINE_LIMIT, Line, parse_words};
 pub use print::{
     print_berr, print_done, print_hex, print_line_refusal, print_old, print_read, print_refusal,
     print_signals,

@@ -34,7 +34,7 @@ pub enum Line {
 /// Reads a line, without its end. An empty line, a line of spaces and a comment ask for nothing.
 #[inline(always)]
 #[tactic(auto, unfolding(crate::specs::Grammar::line_of))]
-pub fn parse_line(line: &[u8]) -> Result<Option<Line>, LineFault>
+pub fn parse_words(line: &[u8]) -> Result<Option<Line>, LineFault>
     ensures line { result ≡ line_of line.now }
 {
     if LINE_LIMIT < line.len() {

@@ -8,7 +8,7 @@ use crate::fault::{ScriptFault, ScriptRefusal};
 use std::alloc::{AllocError, Global};
 use std::marker::Model;
 use crate::rules::Rules;
-use vme_grammar::{Line, LineFault, parse_line, usual_line};
+use vme_grammar::{Line, LineFault, parse_words, parse_canonical};
 use vme_lexer::Lines;
 
 /// The greatest number of lines of a script.
@@ -112,7 +112,7 @@ fn take_line(
 ) -> Result<Option<LineFault>, AllocError>
     ensures { IfOk result (IsTaken rules.now number text.now lines.old.items lines.new.items) }
 {
-    match usual_line(text) {
+    match parse_canonical(text) {
         Some(line) => keep(lines, ScriptLine { number, line }, rules),
         None => take_any(lines, number, text, rules),
     }
@@ -130,7 +130,7 @@ fn take_any(
 ) -> Result<Option<LineFault>, AllocError>
     ensures { IfOk result (IsTaken rules.now number text.now lines.old.items lines.new.items) }
 {
-    match parse_line(text) {
+    match parse_words(text) {
         Ok(Some(line)) => keep(lines, ScriptLine { number, line }, rules),
         Ok(None) => Ok(None),
         Err(fault) => Ok(Some(fault)),

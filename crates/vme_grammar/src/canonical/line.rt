@@ -5,12 +5,12 @@ ghost use Rattle.vme_grammar.specs.Grammar.{line_of};
 use crate::canonical::bytes::{after_ait, after_space, two_bytes};
 use crate::canonical::commands::{local_modify, local_read, local_write};
 use crate::canonical::requests::{await_bytes, block_fill, block_read, block_write, modify, read, write};
-use crate::line::{Line, LINE_LIMIT, parse_line};
+use crate::line::{Line, LINE_LIMIT, parse_words};
 use crate::fault::LineFault;
 
 /// What a line in its usual spelling asks for; nothing of another line.
 #[inline(always)]
-pub fn usual_line(line: &[u8]) -> Option<Line>
+pub fn parse_canonical(line: &[u8]) -> Option<Line>
     ensures { MatchOption result (Unit {0}) (λ asked. line_of line.now ≡ Ok (Some asked)) }
 {
     if LINE_LIMIT < line.len() {
@@ -38,15 +38,15 @@ pub fn usual_line(line: &[u8]) -> Option<Line>
 fn any_line(line: &[u8]) -> Result<Option<Line>, LineFault>
     ensures { result ≡ line_of line.now }
 {
-    parse_line(line)
+    parse_words(line)
 }
 
-/// Reads a line, without its end, as `parse_line` does: one in its usual spelling in one pass.
+/// Reads a line, without its end, as `parse_words` does: one in its usual spelling in one pass.
 #[inline(always)]
-pub fn read_line(line: &[u8]) -> Result<Option<Line>, LineFault>
+pub fn parse_line(line: &[u8]) -> Result<Option<Line>, LineFault>
     ensures line { result ≡ line_of line.now }
 {
-    match usual_line(line) {
+    match parse_canonical(line) {
         Some(asked) => Ok(Some(asked)),
         None => any_line(line),
     }

@@ -2,7 +2,7 @@
 use Rattle.std.proofs.Common.{◌∷◌, ◌++◌, refl, arith}
 use Rattle.std.specs.Prelude.{codes}
 use Rattle.vme_grammar.proofs.Forms.{headed}
-use Rattle.vme_grammar.proofs.canonical.line.usual_line.Goals as goal
+use Rattle.vme_grammar.proofs.canonical.line.parse_canonical.Goals as goal
 
 pub returns-in-114-eq32 : goal.returns-in-114-eq32
 returns-in-114-eq32 c =
