@@ -2,7 +2,7 @@
 //! tables of the standard and of this project's profile.
 use crate::engine::check;
 use std::test::Fail;
-use vme_engine::Status;
+use vme_engines::Status;
 
 /// A write of four bytes, and each of them read.
 static QUAD: &str = "w 0d 00000004 01020304

@@ -2,7 +2,7 @@
 //! profile.
 use crate::engine::check;
 use std::test::Fail;
-use vme_engine::Status;
+use vme_engines::Status;
 
 static ANSWERED: [(&str, &str, Status); 5] = [
     (

@@ -7,7 +7,7 @@ use std::sync::Wait;
 use std::test::Fail;
 use std::thread::Threads;
 use vme_io::{Io, RoomSink, SliceSource};
-use vme_program::{ProgramFault, Status};
+use vme_engines::{ProgramFault, Status};
 
 /// Reads the input of a row, a byte a call, of which so many come before the reader fails: nothing
 /// is written.

@@ -2,8 +2,7 @@
 use crate::rows::TWO_WRITERS;
 use std::test::Fail;
 use vme_io::{RoomSink, SliceSource};
-use vme_program::{ProgramFault, Status, exit_status};
-use vme_run::run_engine;
+use vme_engines::{exit_status, ProgramFault, run_engine, Status};
 
 /// Run with memory refused: just that is told, or that a thread has none, with nothing written or a
 /// front of the report; else the whole report stands.

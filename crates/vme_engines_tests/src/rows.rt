@@ -4,11 +4,8 @@ ghost use Rattle.std.specs.Prelude.{◌≡◌, false};
 use std::alloc::Global;
 use std::sync::Wait;
 use std::thread::Threads;
-use vme_engine::cycles_engine;
+use vme_engines::{cycles_engine, ProgramFault, run_engine, Status, step_engine};
 use vme_io::{Sink, Source};
-use vme_program::{ProgramFault, Status};
-use vme_run::run_engine;
-use vme_step::step_engine;
 
 /// An engine of the program.
 #[derive(Clone, Copy, Debug)]

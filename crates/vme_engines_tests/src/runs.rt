@@ -2,8 +2,7 @@
 use std::alloc::{AllocError, Global};
 use std::test::Fail;
 use vme_io::{RoomSink, SliceSource};
-use vme_program::Status;
-use vme_run::run_engine;
+use vme_engines::{run_engine, Status};
 
 /// Two processors that wait for each other's byte.
 static WAITING: &str = "tries = 1000000

@@ -2,9 +2,8 @@
 use crate::rows::{TORN_BLOCK, TORN_BLOCK_REPORT};
 use std::test::Fail;
 use vme_io::{RoomSink, SliceSource};
-use vme_program::{FILE_LIMIT, ProgramFault, Status, exit_status};
+use vme_engines::{exit_status, FILE_LIMIT, ProgramFault, Status, step_engine};
 use vme_script::ConfigFault;
-use vme_step::step_engine;
 
 #[test]
 fn limits_its_input(rt: HostRuntime) -> Result<(), Fail> {

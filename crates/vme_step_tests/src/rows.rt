@@ -3,8 +3,7 @@ use std::alloc::Global;
 use std::process::Abort;
 use std::test::Fail;
 use vme_io::{RoomSink, SliceSource};
-use vme_program::Status;
-use vme_step::step_engine;
+use vme_engines::{Status, step_engine};
 
 /// A file, its report, and whether every line has a good answer.
 pub struct Row {

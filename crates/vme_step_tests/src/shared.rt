@@ -1,7 +1,7 @@
 //! Files whose processors share a lock or a mailbox, with their reports.
 use crate::rows::{Row, check};
 use std::test::Fail;
-use vme_program::Status;
+use vme_engines::Status;
 
 /// One takes the lock; the other finds it busy, and may try once; then the first gives it back.
 const LOCKS: Row = Row {

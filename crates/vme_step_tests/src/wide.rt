@@ -1,9 +1,8 @@
 //! Blocks of eight bytes a datum.
-use crate::rows::{Row, check};
+use crate::rows::{check, Row};
 use std::test::Fail;
 use vme_io::{RoomSink, SliceSource};
-use vme_program::Status;
-use vme_step::step_engine;
+use vme_engines::{Status, step_engine};
 
 /// A datum of which the board has four bytes alone: the bus error is a step of it.
 const HALF_PAST_THE_END: Row = Row {

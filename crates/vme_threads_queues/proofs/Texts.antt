@@ -16,7 +16,7 @@ use Rattle.vme_script.specs.Configurations.{Configuration, configuration_of}
 use Rattle.vme_script.specs.Lawful.{IsLawful}
 use Rattle.vme_script.specs.Readings.{configuration_in}
 use Rattle.vme_script.proofs.Lawful.{configuration_known}
-use Rattle.vme_run.specs.Tellings.{TellsRun}
+use Rattle.vme_engines.specs.Tellings.{TellsRun}
 use Rattle.vme_threads_queues.specs.Declared.{IsDeclaredIn}
 use Rattle.vme_threads_queues.proofs.Queues.{IsQueue}
 use Rattle.vme_threads_queues.proofs.Declared.{declared_queue, there}

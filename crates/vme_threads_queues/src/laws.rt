@@ -16,7 +16,7 @@ ghost use Rattle.vme_queues.specs.Groups.{own_words_put, own_words_taken};
 ghost use Rattle.vme_threads.specs.declared.report.Report.{Report};
 ghost use Rattle.vme_threads.specs.Rans.{answers_in};
 ghost use Rattle.vme_threads.specs.Reports.{IsReportOf};
-ghost use Rattle.vme_run.specs.Tellings.{TellsRun};
+ghost use Rattle.vme_engines.specs.Tellings.{TellsRun};
 ghost use Rattle.vme_threads_queues.specs.Declared.{IsDeclaredIn};
 
 /// However the processors' threads ran, each mailbox that a lawful configuration declares is a

@@ -1,0 +1,17 @@
+use Rattle.std.proofs.Common.{◌≡◌, ◌≤◌, ◌++◌, List, ℕ}
+use Rattle.std.specs.Io.KnownBytes.{Appends}
+use Rattle.std.specs.Str.Lines.{lines}
+use Rattle.vme_cycle.specs.BlockBuffers.{block_limit}
+use Rattle.vme_engines.specs.Cycles.{text_of, status_after, cycles_text, cycles_status}
+use Rattle.vme_shared.specs.Statuses.{worse_of}
+use Rattle.vme_engines.proofs.cycles.answer_all.Given as goal
+
+-- what was written and what is gathered, with the answers to the lines that are left, is the whole text, and so is the status
+abbrev pub invariant-loop-line : goal.invariant-loop-line
+invariant-loop-line g l = record {
+  text : (front : List ℕ) × Appends (g.W.Sink.contents l.fn.writer) (g.W.Sink.contents l.writer) front
+      × ((front ++ l.text.items) ++ text_of l.bus (lines l.line-iterator.rest.now) ≡ cycles_text l.fn.input);
+  status : worse_of l.status (status_after l.bus (lines l.line-iterator.rest.now)) ≡ cycles_status l.fn.input;
+  room : block_limit ≤ l.replied.room;
+  mark : g.W.Sink.is_marked l.writer ≡ g.W.Sink.is_marked l.fn.writer;
+}

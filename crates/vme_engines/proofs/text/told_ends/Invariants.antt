@@ -1,0 +1,13 @@
+use Rattle.std.proofs.Common.{◌≡◌, ◌++◌, length, map}
+use Rattle.vme_engines.specs.Tellings.{ends_told}
+use Rattle.vme_engines.proofs.text.told_ends.Given as goal
+
+-- the boards so far, with those that are left, are all
+abbrev pub invariant-loop-end : goal.invariant-loop-end
+invariant-loop-end l = record {
+  told : l.boards.items ++ ends_told l.ends (map (λ one. one.items) l.lines) ≡ ends_told l.fn.ends (map (λ one. one.items) l.fn.lines);
+  same : length l.lines ≡ length l.ends;
+}
+
+abbrev pub decreases-loop-end : goal.decreases-loop-end
+decreases-loop-end l = length l.ends

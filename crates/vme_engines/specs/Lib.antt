@@ -1,0 +1,8 @@
+pub mod Tellings
+pub mod StepFaults
+pub mod CyclesFaults
+pub mod Lines
+pub mod Answers
+pub mod Cycles
+pub mod Faults
+pub mod Files

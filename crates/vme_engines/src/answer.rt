@@ -1,0 +1,189 @@
+//! What a line is answered, and what it does to the board.
+ghost use Rattle.std.specs.Prelude.{ℕ, ◌≡◌, ◌+◌, ◌++◌, ◌<◌, ◌≤◌, length, Some, IfOk, IfSome, OnOk};
+ghost use Rattle.vme_cycle.specs.BlockBuffers.{block_limit};
+ghost use Rattle.vme_cycle.specs.Requests.{addr_of, function_of, datum_len, count_of, address_of};
+ghost use Rattle.vme_cycle.specs.SignalLines.{row_len, len_at};
+ghost use Rattle.vme_cycle.specs.Plans.{signals_of};
+ghost use Rattle.vme_memory.specs.Steps.{HasLen};
+ghost use Rattle.vme_grammar.specs.Texts.{outcome_text, output_line};
+ghost use Rattle.vme_engines.specs.Answers.{outcome_of, final_signals, offset_of, reply_at, reply_to, write_half_text, datum_text, transfer_answer, request_answer, answer};
+
+use crate::bus::Bus;
+use crate::request::request_of;
+use std::alloc::AllocError;
+use vme_cycle::{Plan, Request, Room, Signals};
+use vme_grammar::{print_berr, print_done, print_line_refusal, print_old, print_read, print_refusal, print_signals};
+use vme_memory::Reply;
+use vme_shared::Status;
+
+/// Answers a line: appends its text, and leaves the board as the line's cycle does. What the data
+/// of its transfer reply is gathered in a room that is used again for each line.
+#[tactic(auto, unfolding(crate::specs::Answers::answer))]
+pub(crate) fn answer_line(
+    bus: &mut Bus,
+    line: &[u8],
+    replied: &mut Room,
+    text: &mut Vec<u8>,
+) -> Result<Status, AllocError>
+    requires { block_limit ≤ replied.old.room }
+    ensures room { replied.new.room ≡ replied.old.room }
+    ensures text { OnOk result (text.new.items ≡ text.old.items ++ (answer bus.old line.now).text) }
+    ensures board { OnOk result (bus.new ≡ (answer bus.old line.now).board) }
+    ensures status { IfOk result (λ status. status ≡ (answer bus.old line.now).status) }
+{
+    match request_of(line) {
+        Ok(None) => Ok(Status::Clean),
+        Ok(Some(request)) => answer_request(bus, &request, replied, text),
+        Err(fault) => {
+            print_line_refusal(text, fault)?;
+            Ok(Status::Marked)
+        }
+    }
+}
+
+fn answer_request(
+    bus: &mut Bus,
+    request: &Request,
+    replied: &mut Room,
+    text: &mut Vec<u8>,
+) -> Result<Status, AllocError>
+    requires { block_limit ≤ replied.old.room }
+    ensures room { replied.new.room ≡ replied.old.room }
+    ensures text { OnOk result
+        (text.new.items ≡ text.old.items ++ (request_answer bus.old request.now).text) }
+    ensures board { OnOk result (bus.new ≡ (request_answer bus.old request.now).board) }
+    ensures status { IfOk result (λ status. status ≡ (request_answer bus.old request.now).status) }
+{
+    match Plan::of(request) {
+        Ok(plan) => answer_data(bus, &plan, replied, text),
+        Err(fault) => {
+            print_refusal(text, fault)?;
+            Ok(Status::Marked)
+        }
+    }
+}
+
+/// Answers each datum in turn, until the last or the first that is answered by a bus error.
+#[tactic(auto, unfolding(crate::specs::Answers::transfer_answer))]
+fn answer_data(
+    bus: &mut Bus,
+    plan: &Plan<'_>,
+    replied: &mut Room,
+    text: &mut Vec<u8>,
+) -> Result<Status, AllocError>
+    requires { block_limit ≤ replied.old.room }
+    ensures room { replied.new.room ≡ replied.old.room }
+    ensures text { OnOk result (text.new.items ≡ text.old.items ++ (transfer_answer bus.old plan.now).text) }
+    ensures board { OnOk result (bus.new ≡ (transfer_answer bus.old plan.now).board) }
+    ensures status { IfOk result (λ status. status ≡ (transfer_answer bus.old plan.now).status) }
+{
+    let count = plan.len();
+    let offset = offset_of(bus, plan);
+    replied.clear();
+    for i in 0..count {
+        match answer_datum(bus, plan, i, offset, text)? {
+            Reply::Bytes(datum) => replied.push_all(datum.as_slice()),
+            Reply::Done => {}
+            Reply::Berr => {
+                print_berr(text, i, replied.as_slice())?;
+                return Ok(Status::Marked);
+            }
+        }
+    }
+    print_outcome(text, plan, replied.as_slice())?;
+    Ok(Status::Clean)
+}
+
+/// The offset of the first byte of a plan, where it selects the board.
+fn offset_of(bus: &Bus, plan: &Plan<'_>) -> Option<u32>
+    requires { 0 < count_of plan.now.request }
+    ensures value { result ≡ offset_of plan.now }
+    ensures within { IfSome result (λ offset.
+        (offset < 4096) × (offset ≡ addr_of plan.now.request)) }
+{
+    bus.select(&plan.signals(0))
+}
+
+/// Makes the cycle of datum `i` and appends its signals, those of both halves of a
+/// read-modify-write.
+fn answer_datum(
+    bus: &mut Bus,
+    plan: &Plan<'_>,
+    i: u16,
+    offset: Option<u32>,
+    text: &mut Vec<u8>,
+) -> Result<Reply, AllocError>
+    requires in_count { i < count_of plan.now.request }
+    requires offset { offset ≡ offset_of plan.now }
+    requires within { IfSome offset (λ offset.
+        (offset < 4096) × (offset ≡ addr_of plan.now.request)) }
+    ensures text { OnOk result (text.new.items ≡ text.old.items
+        ++ datum_text plan.now i (reply_to bus.old plan.now i).0) }
+    ensures reply { IfOk result (λ reply. reply ≡ (reply_to bus.old plan.now i).0) }
+    ensures board { OnOk result (bus.new ≡ (reply_to bus.old plan.now i).1) }
+    ensures len { IfOk result (λ reply. HasLen reply (datum_len plan.now.request)) }
+{
+    let signals = plan.signals(i);
+    let reply = reply_at(bus, plan, i, offset, &signals);
+    print_signals(text, &final_signals(signals, &reply))?;
+    print_write_half(text, plan, &reply)?;
+    Ok(reply)
+}
+
+/// Appends the write half of a read-modify-write that found some bytes.
+fn print_write_half(text: &mut Vec<u8>, plan: &Plan<'_>, reply: &Reply) -> Result<(), AllocError>
+    requires { HasLen reply.now (datum_len plan.now.request) }
+    ensures { OnOk result (text.new.items ≡ text.old.items
+        ++ write_half_text plan.now (function_of plan.now.request) reply.now) }
+{
+    let Some(f) = plan.modify() else {
+        return Ok(());
+    };
+    match reply {
+        Reply::Bytes(old) => print_signals(text, &plan.write_half(&f.value(old))),
+        Reply::Done | Reply::Berr => Ok(()),
+    }
+}
+
+/// Appends the outcome of a transfer whose data were all answered, with what they replied.
+fn print_outcome(text: &mut Vec<u8>, plan: &Plan<'_>, replied: &[u8]) -> Result<(), AllocError>
+    ensures { OnOk result
+        (text.new.items ≡ text.old.items ++ output_line (outcome_text (outcome_of plan.now replied.now))) }
+{
+    if plan.reads() {
+        print_read(text, replied)
+    } else if plan.modify().is_some() {
+        print_old(text, replied)
+    } else {
+        print_done(text)
+    }
+}
+
+/// What the lines show in the end: in a read what the board drives.
+fn final_signals(signals: Signals, reply: &Reply) -> Signals
+    requires { (len : ℕ) × (row_len signals.am.wide signals.strobes ≡ Some len) × HasLen reply.now len }
+    ensures { result ≡ final_signals signals reply.now }
+{
+    match reply {
+        Reply::Bytes(datum) => signals.answered(datum.as_slice()),
+        Reply::Done | Reply::Berr => signals,
+    }
+}
+
+/// The reply to datum `i` of the board where it is selected, and else that of the bus timer.
+fn reply_at(bus: &mut Bus, plan: &Plan<'_>, i: u16, offset: Option<u32>, signals: &Signals) -> Reply
+    requires signals { signals.now ≡ signals_of plan.now i }
+    requires in_count { i < count_of plan.now.request }
+    requires len { len_at signals.now (address_of plan.now.request i) ≡ Some (datum_len plan.now.request) }
+    requires within { IfSome offset (λ offset.
+        (offset < 4096) × (offset ≡ addr_of plan.now.request)) }
+    ensures reply { result ≡ (reply_at bus.old plan.now i offset).0 }
+    ensures board { bus.new ≡ (reply_at bus.old plan.now i offset).1 }
+    ensures len { HasLen result (datum_len plan.now.request) }
+{
+    let Some(offset) = offset else {
+        return Reply::Berr;
+    };
+    let at = offset + u32::from(i) * u32::from(plan.datum_len());
+    bus.cycle(signals, at, plan.modify())
+}

@@ -1,0 +1,98 @@
+//! The engine of `vme cycles`: from the bytes of its input to the bytes of its output.
+ghost use Rattle.std.specs.Prelude.{◌≡◌, ◌<◌, ◌≤◌, Err, false, true, length, vec_len, IfOk, IfErr, IfSome, OnOk, OnErr};
+ghost use Rattle.std.specs.Io.KnownBytes.{Appends};
+ghost use Rattle.vme_io.specs.Fronts.{AppendsFront};
+ghost use Rattle.vme_engines.specs.Cycles.{cycles_text, cycles_status};
+ghost use Rattle.vme_engines.specs.CyclesFaults.{IsAnswerFault, IsCyclesFault};
+ghost use Rattle.vme_engines.specs.Faults.{IsReadingFault, ReadsPastLimit, is_read_failure, is_write_failure};
+
+use crate::answer::answer_line;
+use crate::bus::Bus;
+use std::alloc::Global;
+use vme_cycle::{BLOCK_LIMIT, Room};
+use vme_io::{Sink, Source, write_all};
+use crate::fault::ProgramFault;
+use crate::input::read_input;
+use vme_shared::Status;
+use vme_lexer::Lines;
+
+/// The greatest number of bytes of an input.
+pub const INPUT_LIMIT: usize = 1_048_576;
+
+/// How many bytes of text are gathered before they are written.
+const WRITE_SIZE: usize = 65_536;
+
+/// Answers each line of the input, in order.
+///
+/// The input is read first, to its end or to one byte past `INPUT_LIMIT`; nothing is written
+/// before that. Of a reader or a writer that tells no bytes only the faults are promised.
+pub fn cycles_engine<R: Source, W: Sink>(
+    alloc: Global,
+    reader: &mut R,
+    writer: &mut W,
+) -> Result<Status, ProgramFault>
+    requires reader_unmarked { R.is_marked reader.old ≡ false }
+    requires writer_unmarked { W.is_marked writer.old ≡ false }
+
+    // What is written is the text of the input, or a front of it before a fault.
+    ensures text { IfSome (R.remaining reader.old) (λ input.
+        OnOk result (Appends (W.contents writer.old) (W.contents writer.new) (cycles_text input))) }
+    ensures front { IfSome (R.remaining reader.old) (λ input.
+        OnErr result (AppendsFront (W.contents writer.old) (W.contents writer.new) (cycles_text input))) }
+    ensures nothing { IsReadingFault result → writer.new ≡ writer.old }
+    ensures status { IfSome (R.remaining reader.old) (λ input.
+        IfOk result (λ status. status ≡ cycles_status input)) }
+
+    // When each fault comes; `Memory` comes where a growth is refused.
+    ensures read { R.is_marked reader.new ≡ is_read_failure result }
+    ensures too_long { result ≡ Err ProgramFault.TooLong →
+        IfSome (R.remaining reader.old) (λ input. INPUT_LIMIT < length input) }
+    ensures no_further { result ≡ Err ProgramFault.TooLong →
+        ReadsPastLimit INPUT_LIMIT (R.remaining reader.old) (R.remaining reader.new) }
+    ensures within { IfSome (R.remaining reader.old) (λ input.
+        OnOk result (length input ≤ INPUT_LIMIT)) }
+    ensures write { W.is_marked writer.new ≡ is_write_failure result }
+    ensures faults { IfErr result IsCyclesFault }
+{
+    let input = read_input(alloc, reader, INPUT_LIMIT)?;
+    answer_all(alloc, input.as_slice(), writer)
+}
+
+/// Answers each line of a text. Its answers are gathered and written in large pieces.
+fn answer_all<W: Sink>(alloc: Global, input: &[u8], writer: &mut W) -> Result<Status, ProgramFault>
+    requires { W.is_marked writer.old ≡ false }
+    ensures text { OnOk result
+        (Appends (W.contents writer.old) (W.contents writer.new) (cycles_text input.now)) }
+    ensures front { OnErr result
+        (AppendsFront (W.contents writer.old) (W.contents writer.new) (cycles_text input.now)) }
+    ensures status { IfOk result (λ status. status ≡ cycles_status input.now) }
+    ensures write { W.is_marked writer.new ≡ is_write_failure result }
+    ensures faults { IfErr result IsAnswerFault }
+{
+    let mut bus = Bus::new(alloc)?;
+    let mut replied = Room::with_room(alloc, BLOCK_LIMIT)?;
+    let mut text = Vec::with_capacity(alloc, WRITE_SIZE)?;
+    let mut status = Status::Clean;
+    for line in Lines::new(input) {
+        status = status.worse(answer_line(&mut bus, line, &mut replied, &mut text)?);
+        if WRITE_SIZE <= text.len() {
+            write_text(writer, text.as_slice())?;
+            text.clear();
+        }
+    }
+    write_text(writer, text.as_slice())?;
+    Ok(status)
+}
+
+fn write_text<W: Sink>(writer: &mut W, text: &[u8]) -> Result<(), ProgramFault>
+    ensures bytes { OnOk result (Appends (W.contents writer.old) (W.contents writer.new) text.now) }
+    ensures front { OnErr result (AppendsFront (W.contents writer.old) (W.contents writer.new) text.now) }
+    ensures unmarked { OnOk result (W.is_marked writer.new ≡ W.is_marked writer.old) }
+    ensures marked { OnErr result (W.is_marked writer.new ≡ true) }
+    ensures faults { IfErr result (λ fault. fault ≡ ProgramFault.Write) }
+{
+    match write_all(writer, text) {
+        Ok(()) => Ok(()),
+        Err(_) => Err(ProgramFault::Write),
+    }
+}

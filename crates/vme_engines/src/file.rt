@@ -1,0 +1,49 @@
+//! A configuration file as the input of an engine.
+ghost use Rattle.std.specs.Prelude.{◌≡◌, ◌<◌, ◌≤◌, Err, false, length, IfOk, IfErr, IfSome, OnOk};
+ghost use Rattle.vme_script.specs.declared.fault.ConfigFault.{ConfigFault};
+ghost use Rattle.vme_engines.specs.Faults.{IsConfigFault, IsFileFault, ReadsPastLimit, is_read_failure};
+ghost use Rattle.vme_engines.specs.Files.{Configures, IsRefusedAs};
+
+use crate::fault::ProgramFault;
+use crate::input::read_input;
+use std::alloc::Global;
+use vme_io::Source;
+use vme_script::{Config, ConfigFault};
+
+/// The greatest number of bytes of a configuration file.
+pub const FILE_LIMIT: usize = 2_097_152;
+
+/// Reads a configuration file, to its end or to one byte past `FILE_LIMIT`. `Memory` comes where a
+/// growth is refused.
+pub fn read_config<R: Source>(alloc: Global, reader: &mut R) -> Result<Config, ProgramFault>
+    requires unmarked { R.is_marked reader.old ≡ false }
+    ensures config { IfOk result (λ config.
+        IfSome (R.remaining reader.old) (λ input. Configures input config)) }
+    ensures refused { (fault : ConfigFault) → result ≡ Err (ProgramFault.Config fault) →
+        IfSome (R.remaining reader.old) (λ input. IsRefusedAs input fault) }
+    ensures within { IfSome (R.remaining reader.old) (λ input.
+        OnOk result (length input ≤ FILE_LIMIT)) }
+    ensures too_long { result ≡ Err ProgramFault.TooLong →
+        IfSome (R.remaining reader.old) (λ input. FILE_LIMIT < length input) }
+    ensures no_further { result ≡ Err ProgramFault.TooLong →
+        ReadsPastLimit FILE_LIMIT (R.remaining reader.old) (R.remaining reader.new) }
+    ensures read { R.is_marked reader.new ≡ is_read_failure result }
+    ensures faults { IfErr result IsFileFault }
+{
+    let input = read_input(alloc, reader, FILE_LIMIT)?;
+    configured(alloc, input.as_slice())
+}
+
+/// What the bytes of a file configure.
+fn configured(alloc: Global, input: &[u8]) -> Result<Config, ProgramFault>
+    ensures config { IfOk result (Configures input.now) }
+    ensures refused { (fault : ConfigFault) →
+        result ≡ Err (ProgramFault.Config fault) → IsRefusedAs input.now fault }
+    ensures faults { IfErr result IsConfigFault }
+{
+    match Config::read(alloc, input) {
+        Ok(config) => Ok(config),
+        Err(ConfigFault::OutOfMemory) => Err(ProgramFault::Memory),
+        Err(fault) => Err(ProgramFault::Config(fault)),
+    }
+}

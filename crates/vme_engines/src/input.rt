@@ -1,0 +1,46 @@
+//! The input of an engine as a whole.
+ghost use Rattle.std.specs.Prelude.{◌≡◌, ◌<◌, ◌≤◌, ◌^◌, Err, false, length, vec_len, IfOk, IfErr, IfSome};
+ghost use Rattle.vme_engines.specs.Faults.{IsInputFault, ReadsPastLimit, is_read_failure};
+
+use crate::fault::ProgramFault;
+use std::alloc::Global;
+use vme_io::Source;
+
+/// How many bytes are read at a time.
+const READ_SIZE: usize = 16_384;
+
+/// Reads to the end, or to one byte past the limit. `Memory` comes where a growth is refused.
+pub fn read_input<R: Source>(
+    alloc: Global,
+    reader: &mut R,
+    limit: usize,
+) -> Result<Vec<u8>, ProgramFault>
+    requires unmarked { R.is_marked reader.old ≡ false }
+    requires limit { limit < 2 ^ 32 }
+    ensures whole { IfOk result (λ input.
+        IfSome (R.remaining reader.old) (λ bytes. bytes ≡ input.items)) }
+    ensures within { IfOk result (λ input. vec_len input ≤ limit) }
+    ensures too_long { result ≡ Err ProgramFault.TooLong →
+        IfSome (R.remaining reader.old) (λ bytes. limit < length bytes) }
+    ensures no_further { result ≡ Err ProgramFault.TooLong →
+        ReadsPastLimit limit (R.remaining reader.old) (R.remaining reader.new) }
+    ensures read { R.is_marked reader.new ≡ is_read_failure result }
+    ensures faults { IfErr result IsInputFault }
+{
+    let mut input = Vec::new(alloc);
+    let mut chunk = [0; READ_SIZE];
+    loop {
+        let room = READ_SIZE.min(limit + 1 - input.len());
+        let buffer = &mut chunk[..room];
+        let Ok(count) = reader.read(buffer) else {
+            return Err(ProgramFault::Read);
+        };
+        if count == 0 {
+            return Ok(input);
+        }
+        input.extend_from_slice(buffer.split_at(count).0)?;
+        if limit < input.len() {
+            return Err(ProgramFault::TooLong);
+        }
+    }
+}

@@ -1,0 +1,42 @@
+//! Which lines `vme cycles` knows: requests to the bus, and no others.
+ghost use Rattle.std.specs.Prelude.{◌≡◌, slice_get};
+ghost use Rattle.vme_lexer.specs.Words.{words_of};
+ghost use Rattle.vme_engines.specs.Lines.{is_request_word, is_other_word, request_of};
+
+use vme_cycle::Request;
+use vme_grammar::{Line, LINE_LIMIT, LineFault, parse_line};
+use vme_lexer::first_word;
+
+/// The request that a line asks for. A word that only scripts know is unknown, whatever follows it.
+#[tactic(auto, unfolding(crate::specs::Lines::request_of))]
+pub(crate) fn request_of(line: &[u8]) -> Result<Option<Request>, LineFault>
+    ensures { result ≡ request_of line.now }
+{
+    if LINE_LIMIT < line.len() {
+        return Err(LineFault::LineTooLong);
+    }
+    if begins_otherwise(line) {
+        return Err(LineFault::UnknownWord);
+    }
+    match parse_line(line)? {
+        None => Ok(None),
+        Some(Line::Bus(request)) => Ok(Some(request)),
+        Some(_) => Err(LineFault::UnknownWord),
+    }
+}
+
+/// Whether a line's first word begins no request.
+fn begins_otherwise(line: &[u8]) -> bool
+    ensures { result ≡ is_other_word (slice_get (words_of line.now) 0) }
+{
+    match first_word(line) {
+        Some(word) => !is_request_word(word),
+        None => false,
+    }
+}
+
+fn is_request_word(word: &[u8]) -> bool
+    ensures { result ≡ is_request_word word.now }
+{
+    matches!(word, b"r" | b"w" | b"br" | b"bw" | b"bf" | b"m")
+}

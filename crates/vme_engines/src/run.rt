@@ -1,0 +1,67 @@
+//! From the bytes of a configuration file to the bytes of a report of its run.
+ghost use Rattle.std.specs.Prelude.{ℕ, ◌≡◌, ◌<◌, ◌≤◌, List, Err, false, length, IfOk, IfErr, IfSome, OnOk, OnErr};
+ghost use Rattle.std.specs.Io.KnownBytes.{Appends};
+ghost use Rattle.vme_script.specs.declared.fault.ConfigFault.{ConfigFault};
+ghost use Rattle.vme_engines.specs.Faults.{IsReadingFault, ReadsPastLimit, is_read_failure, is_write_failure};
+ghost use Rattle.vme_engines.specs.Files.{IsRefusedAs};
+ghost use Rattle.vme_engines.specs.Tellings.{TellsRun, WritesFront};
+
+use crate::text::report_text;
+use std::alloc::Global;
+use std::sync::Wait;
+use std::thread::Threads;
+use vme_io::{Sink, Source};
+use crate::file::{FILE_LIMIT, read_config};
+use crate::crate::ProgramFault;
+use crate::vme_shared::Status;
+use vme_threads::{Gate, run_threads};
+
+/// A gate that lets every line through.
+#[derive(Clone, Copy, Debug)]
+struct OpenGate;
+
+impl Gate for OpenGate {
+    fn before(&self, _slot: u16, _line: u16) {}
+
+    fn after(&self, _slot: u16, _line: u16) {}
+}
+
+/// Runs the scripts of a configuration file, each on a thread of its own, and writes the report.
+///
+/// The input is read first, to its end or to one byte past `FILE_LIMIT`; nothing is written before
+/// all threads are at their ends. Of a reader or a writer that tells no bytes only the faults are
+/// promised. That threads run at the same time, and that a call is ever served, no contract says.
+pub fn run_engine<T: Threads + Wait + Sync, R: Source, W: Sink>(
+    rt: &T,
+    alloc: Global,
+    reader: &mut R,
+    writer: &mut W,
+) -> Result<Status, ProgramFault>
+    requires reader_unmarked { R.is_marked reader.old ≡ false }
+    requires writer_unmarked { W.is_marked writer.old ≡ false }
+
+    // What is written is the text of a report of such a run, or a front of it before a fault.
+    ensures text { IfSome (R.remaining reader.old) (λ input. IfOk result (λ status.
+        (text : List ℕ) × TellsRun input text status × Appends (W.contents writer.old) (W.contents writer.new) text)) }
+    ensures front { IfSome (R.remaining reader.old) (λ input.
+        OnErr result (WritesFront input (W.contents writer.old) (W.contents writer.new))) }
+    ensures nothing { IsReadingFault result → writer.new ≡ writer.old }
+
+    // When each fault comes; `Memory` comes where a growth is refused, `Thread` where a thread could
+    // not be started, and `Spent` where an object has made as many steps as can be counted.
+    ensures refused { (fault : ConfigFault) → result ≡ Err (ProgramFault.Config fault) →
+        IfSome (R.remaining reader.old) (λ input. IsRefusedAs input fault) }
+    ensures read { R.is_marked reader.new ≡ is_read_failure result }
+    ensures too_long { result ≡ Err ProgramFault.TooLong →
+        IfSome (R.remaining reader.old) (λ input. FILE_LIMIT < length input) }
+    ensures no_further { result ≡ Err ProgramFault.TooLong →
+        ReadsPastLimit FILE_LIMIT (R.remaining reader.old) (R.remaining reader.new) }
+    ensures within { IfSome (R.remaining reader.old) (λ input.
+        OnOk result (length input ≤ FILE_LIMIT)) }
+    ensures write { W.is_marked writer.new ≡ is_write_failure result }
+{
+    let config = read_config(alloc, reader)?;
+    let report = run_threads(rt, alloc, &config, &OpenGate)?;
+    let status = report_text(alloc, &report, writer)?;
+    Ok(status)
+}

@@ -1,0 +1,60 @@
+//! From the bytes of a configuration file to the bytes of the report.
+ghost use Rattle.std.specs.Prelude.{◌≡◌, ◌<◌, ◌≤◌, Err, false, length, IfOk, IfErr, IfSome, OnOk, OnErr};
+ghost use Rattle.std.specs.Io.KnownBytes.{Appends};
+ghost use Rattle.vme_io.specs.Fronts.{AppendsFront};
+ghost use Rattle.vme_script.specs.declared.fault.ConfigFault.{ConfigFault};
+ghost use Rattle.vme_script.specs.Configurations.{Configuration};
+ghost use Rattle.vme_engines.specs.Faults.{IsReadingFault, ReadsPastLimit, is_read_failure, is_write_failure};
+ghost use Rattle.vme_stepper.specs.Schedules.{file_turns};
+ghost use Rattle.vme_stepper.specs.Reports.{run_text, run_status};
+ghost use Rattle.vme_engines.specs.Files.{Configures, IsRefusedAs};
+ghost use Rattle.vme_engines.specs.StepFaults.{IsStepFault};
+
+use std::alloc::Global;
+use vme_io::{Sink, Source};
+use crate::file::{FILE_LIMIT, read_config};
+use crate::crate::ProgramFault;
+use crate::vme_shared::Status;
+use vme_stepper::run_file;
+
+/// Runs the scripts of a configuration file by its schedule and then its rounds, and writes the
+/// report.
+///
+/// The input is read first, to its end or to one byte past `FILE_LIMIT`; nothing is written before
+/// the run is at its end. Of a reader or a writer that tells no bytes only the faults are promised.
+pub fn step_engine<R: Source, W: Sink>(
+    alloc: Global,
+    reader: &mut R,
+    writer: &mut W,
+) -> Result<Status, ProgramFault>
+    requires reader_unmarked { R.is_marked reader.old ≡ false }
+    requires writer_unmarked { W.is_marked writer.old ≡ false }
+
+    // What is written is the text of the run that the file asks for, or a front of it before a fault.
+    ensures read { IfSome (R.remaining reader.old) (λ input.
+        IfOk result (λ _. (config : Configuration) × Configures input config)) }
+    ensures text { (config : Configuration) → IfSome (R.remaining reader.old) (λ input. Configures input config →
+        OnOk result (Appends (W.contents writer.old) (W.contents writer.new) (run_text config (file_turns config)))) }
+    ensures front { (config : Configuration) → IfSome (R.remaining reader.old) (λ input. Configures input config →
+        OnErr result (AppendsFront (W.contents writer.old) (W.contents writer.new) (run_text config (file_turns config)))) }
+    ensures status { (config : Configuration) → IfSome (R.remaining reader.old) (λ input. Configures input config →
+        IfOk result (λ status. status ≡ run_status config (file_turns config))) }
+    ensures nothing { IsReadingFault result → writer.new ≡ writer.old }
+
+    // When each fault comes; `Memory` comes where a growth is refused.
+    ensures refused { (fault : ConfigFault) → result ≡ Err (ProgramFault.Config fault) →
+        IfSome (R.remaining reader.old) (λ input. IsRefusedAs input fault) }
+    ensures read_fault { R.is_marked reader.new ≡ is_read_failure result }
+    ensures too_long { result ≡ Err ProgramFault.TooLong →
+        IfSome (R.remaining reader.old) (λ input. FILE_LIMIT < length input) }
+    ensures no_further { result ≡ Err ProgramFault.TooLong →
+        ReadsPastLimit FILE_LIMIT (R.remaining reader.old) (R.remaining reader.new) }
+    ensures within { IfSome (R.remaining reader.old) (λ input.
+        OnOk result (length input ≤ FILE_LIMIT)) }
+    ensures write { W.is_marked writer.new ≡ is_write_failure result }
+    ensures faults { IfErr result IsStepFault }
+{
+    let config = read_config(alloc, reader)?;
+    let status = run_file(alloc, &config, writer)?;
+    Ok(status)
+}

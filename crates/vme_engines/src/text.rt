@@ -1,0 +1,77 @@
+//! The text of a report.
+ghost use Rattle.std.specs.Prelude.{◌≡◌, ◌≢◌, false, length, map, IfOk, IfErr, OnOk, OnErr};
+ghost use Rattle.std.specs.Io.KnownBytes.{Appends};
+ghost use Rattle.vme_io.specs.Fronts.{AppendsFront};
+ghost use Rattle.vme_report.specs.Ends.{is_write_end};
+ghost use Rattle.vme_report.specs.Reports.{report_text, report_status};
+ghost use Rattle.vme_engines.specs.Tellings.{ends_told, told_report};
+
+use std::alloc::{AllocError, Global};
+use vme_io::Sink;
+use vme_report::{BoardReport, RunFault, write_report};
+use vme_shared::{LineReply, Status};
+use vme_threads::{BoardEnd, Report};
+
+/// Writes the text of a report, or a front of it before a fault. `Memory` comes where a growth is
+/// refused.
+pub fn report_text<W: Sink>(
+    alloc: Global,
+    report: &Report,
+    sink: &mut W,
+) -> Result<Status, RunFault>
+    requires unmarked { W.is_marked sink.old ≡ false }
+    requires lists { length report.now.lines.items ≡ length report.now.boards.items }
+    ensures text { OnOk result
+        (Appends (W.contents sink.old) (W.contents sink.new) (report_text (told_report report.now))) }
+    ensures front { OnErr result
+        (AppendsFront (W.contents sink.old) (W.contents sink.new) (report_text (told_report report.now))) }
+    ensures status { IfOk result (λ status. status ≡ report_status (told_report report.now)) }
+    ensures write { W.is_marked sink.new ≡ is_write_end result }
+    ensures faults { IfErr result (λ fault. (fault ≢ RunFault.Thread) × (fault ≢ RunFault.Spent)) }
+{
+    let boards = told_ends(alloc, &report.boards, &report.lines)?;
+    let status = write_report(alloc, &boards, sink)?;
+    Ok(status)
+}
+
+/// What is told of boards, by their ends and the lines of their processors.
+fn told_ends<'a>(
+    alloc: Global,
+    ends: &'a [BoardEnd],
+    lines: &'a [Vec<(u16, LineReply)>],
+) -> Result<Vec<BoardReport<'a>>, AllocError>
+    requires { length lines.now ≡ length ends.now }
+    ensures { IfOk result (λ boards. boards.items ≡ ends_told ends.now (map (λ one. one.items) lines.now)) }
+{
+    let mut boards = Vec::with_capacity(alloc, ends.len())?;
+    let mut ends = ends;
+    let mut lines = lines;
+    while let Some((end, more)) = ends.split_first() {
+        let Some((own, rest)) = lines.split_first() else {
+            break;
+        };
+        boards.push(told_end(end, own.as_slice()))?;
+        ends = more;
+        lines = rest;
+    }
+    Ok(boards)
+}
+
+/// What is told of a board.
+fn told_end<'a>(end: &'a BoardEnd, lines: &'a [(u16, LineReply)]) -> BoardReport<'a>
+    ensures { result ≡ record {
+      slot = end.now.slot;
+      lines = lines.now;
+      bytes = end.now.memory.bytes;
+      steps = end.now.steps;
+      made = end.now.made.items;
+    } }
+{
+    BoardReport {
+        slot: end.slot,
+        lines,
+        memory: &end.memory,
+        steps: end.steps,
+        made: end.made.as_slice(),
+    }
+}
