@@ -2,9 +2,16 @@
 //! of its phases, and what comes of them is told as it is.
 #![tactic(auto)]
 
-mod laws;
+mod isolation_laws;
+mod queue_laws;
+mod task_laws;
 
-pub use laws::{
+pub use isolation_laws::declared_mailboxes_are_left_alone;
+pub use queue_laws::{
+    declared_mailboxes_lie_in_their_boards, own_words_are_those_of_own_entries,
+    scripts_go_by_the_rows,
+};
+pub use task_laws::{
     locks_touch_their_byte_alone, puts_and_takes_go_by_the_rows,
     puts_and_takes_stay_in_their_mailbox, puts_and_takes_touch_their_mailbox_alone,
 };

@@ -1,0 +1,25 @@
+use Rattle.std.proofs.Common.{◌∙◌}
+use Rattle.vme_shared.specs.Words.{put_by, taken_by, all_idle}
+use Rattle.vme_mailbox_laws.proofs.Groups.{own_words}
+use Rattle.vme_shared.proofs.Opening.{is_queue}
+use Rattle.vme_mailbox_laws.proofs.Shared.{proper, put_told, taken_told}
+use Rattle.vme_mailbox_laws.proofs.queue_laws.scripts_go_by_the_rows.Goals as goal
+
+pub returns-clause-proper : goal.returns-clause-proper
+returns-clause-proper c = proper
+
+pub returns-clause-order : goal.returns-clause-order
+returns-clause-order c = λ config box board m memory h runs answers is new legal share.
+    (is_queue memory m h new legal (proper config box board m memory h runs answers is new legal share)).order
+
+pub returns-clause-room : goal.returns-clause-room
+returns-clause-room c = λ config box board m memory h runs answers is new legal share.
+    (is_queue memory m h new legal (proper config box board m memory h runs answers is new legal share)).room
+
+pub returns-clause-put : goal.returns-clause-put
+returns-clause-put c = λ config box board m memory h runs answers is new legal share who d below.
+    own_words who put_by m all_idle h ∙ put_told config box board m memory h runs answers is new legal share who d below
+
+pub returns-clause-taken : goal.returns-clause-taken
+returns-clause-taken c = λ config box board m memory h runs answers is new legal share who d below.
+    own_words who taken_by m all_idle h ∙ taken_told config box board m memory h runs answers is new legal share who d below

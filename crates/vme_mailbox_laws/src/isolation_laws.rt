@@ -1,0 +1,18 @@
+ghost use Rattle.std.specs.Prelude.{◌≡◌, ◌+◌, ℕ, Some, slice_get};
+ghost use Rattle.vme_shared.specs.declared.mailbox.Mailbox.{Mailbox};
+ghost use Rattle.vme_script.specs.Configurations.{Configuration};
+ghost use Rattle.vme_script.specs.Lawful.{IsLawful, IsLawfulMailbox};
+ghost use Rattle.vme_line_task.specs.Scripts.{lines_at};
+ghost use Rattle.vme_mailbox_laws.specs.Places.{on_board};
+ghost use Rattle.vme_mailbox_laws.specs.Names.{AllLeave};
+
+/// Each line of each script of a lawful configuration names a declared mailbox by its number, as a
+/// put and a take of it do, or leaves it alone: whatever replies the line has, no command of it to the
+/// board of the mailbox touches a byte there.
+pub fn declared_mailboxes_are_left_alone()
+    ensures lines { (config : Configuration) (k who : ℕ) (mailbox : Mailbox) → IsLawful config →
+        slice_get config.mailboxes k ≡ Some mailbox →
+        (fine : IsLawfulMailbox config.boards mailbox) →
+        AllLeave config who (k + 1) fine.place.board (on_board mailbox fine.place)
+        (lines_at config who) }
+{}

@@ -1,0 +1,76 @@
+ghost use Rattle.std.specs.Prelude.{◌≡◌, ◌+◌, ◌≤◌, ℕ, List, Some, None, length};
+ghost use Rattle.vme_object.specs.declared.history.Entry.{Entry};
+ghost use Rattle.vme_object.specs.History.{IsLegal, own, Begins};
+ghost use Rattle.vme_object.specs.Each.{Each};
+ghost use Rattle.vme_memory.specs.declared.command.BoardCmd.{BoardCmd};
+ghost use Rattle.vme_memory.specs.declared.reply.Reply.{Reply};
+ghost use Rattle.vme_memory.specs.Boards.{Board};
+ghost use Rattle.vme_memory.specs.Locals.{board_step};
+ghost use Rattle.vme_core.specs.Runs.{Move};
+ghost use Rattle.vme_shared.specs.MailboxSteps.{BoardMailbox, LiesIn, IsNewMailbox};
+ghost use Rattle.vme_shared.specs.Phases.{Idle, IsProper};
+ghost use Rattle.vme_shared.specs.Words.{put_by, taken_by, words_put, words_taken, words_along};
+ghost use Rattle.vme_mailbox_laws.specs.Groups.{own_words_put, own_words_taken};
+ghost use Rattle.vme_shared.specs.declared.reply.LineReply.{LineReply};
+ghost use Rattle.vme_mailbox_laws.specs.Along.{LiesAt};
+ghost use Rattle.vme_shared.specs.declared.mailbox.Mailbox.{Mailbox};
+ghost use Rattle.vme_shared.specs.Mailboxes.{mailbox_refusal};
+ghost use Rattle.vme_script.specs.Boards.{entries_of};
+ghost use Rattle.vme_script.specs.Configurations.{Configuration, opening_memory};
+ghost use Rattle.vme_script.specs.Lawful.{IsLawful, IsLawfulMailbox};
+ghost use Rattle.vme_line_task.specs.Scripts.{lines_at};
+ghost use Rattle.vme_mailbox_laws.specs.Places.{on_board};
+ghost use Rattle.vme_mailbox_laws.specs.Names.{lines_put, lines_taken, IsMailboxOf};
+ghost use Rattle.vme_mailbox_laws.specs.Runs.{ShareHistory};
+
+/// However the runs of the processors' scripts share a board's history, it is proper for a mailbox
+/// there that the lines which name it alone touch. The words that are taken are the first of the
+/// words that are put; and the words of each processor's own puts and takes, in order, are those that
+/// the answers of its lines tell.
+pub fn scripts_go_by_the_rows()
+    ensures proper { (config : Configuration) (box board : ℕ) (m : BoardMailbox) (memory : Board)
+        (h : List (Entry BoardCmd Reply)) (runs : List (List Move)) (answers : List (List LineReply)) →
+        IsMailboxOf config box board m → IsNewMailbox memory m → IsLegal board_step memory h →
+        ShareHistory config board h runs answers → IsProper m h }
+    ensures order { (config : Configuration) (box board : ℕ) (m : BoardMailbox) (memory : Board)
+        (h : List (Entry BoardCmd Reply)) (runs : List (List Move)) (answers : List (List LineReply)) →
+        IsMailboxOf config box board m → IsNewMailbox memory m → IsLegal board_step memory h →
+        ShareHistory config board h runs answers → Begins (words_taken m h) (words_put m h) }
+    ensures room { (config : Configuration) (box board : ℕ) (m : BoardMailbox) (memory : Board)
+        (h : List (Entry BoardCmd Reply)) (runs : List (List Move)) (answers : List (List LineReply)) →
+        IsMailboxOf config box board m → IsNewMailbox memory m → IsLegal board_step memory h →
+        ShareHistory config board h runs answers →
+        length (words_put m h) ≤ length (words_taken m h) + m.slots }
+    ensures put { (config : Configuration) (box board : ℕ) (m : BoardMailbox) (memory : Board)
+        (h : List (Entry BoardCmd Reply)) (runs : List (List Move)) (answers : List (List LineReply)) →
+        IsMailboxOf config box board m → IsNewMailbox memory m → IsLegal board_step memory h →
+        ShareHistory config board h runs answers →
+        Each (λ who told. own_words_put who m h ≡ lines_put box (lines_at config who) told) answers }
+    ensures taken { (config : Configuration) (box board : ℕ) (m : BoardMailbox) (memory : Board)
+        (h : List (Entry BoardCmd Reply)) (runs : List (List Move)) (answers : List (List LineReply)) →
+        IsMailboxOf config box board m → IsNewMailbox memory m → IsLegal board_step memory h →
+        ShareHistory config board h runs answers →
+        Each (λ who told. own_words_taken who m h ≡ lines_taken box (lines_at config who) told) answers }
+{}
+
+/// The words of one master among all words of a history are those of its own entries by themselves.
+pub fn own_words_are_those_of_own_entries()
+    ensures put { (who : ℕ) (m : BoardMailbox) (h : List (Entry BoardCmd Reply)) →
+        own_words_put who m h ≡ words_along put_by m (Some Idle) (own who h) }
+    ensures taken { (who : ℕ) (m : BoardMailbox) (h : List (Entry BoardCmd Reply)) →
+        own_words_taken who m h ≡ words_along taken_by m (Some Idle) (own who h) }
+{}
+
+/// The mailboxes of a lawful configuration lie at the boards where they are declared, each of their
+/// bytes, and wholly in the boards' memories, which answer their accesses. No put or take of one is
+/// refused.
+pub fn declared_mailboxes_lie_in_their_boards()
+    ensures addresses { (config : Configuration) (mailbox : Mailbox) → IsLawful config →
+        (fine : IsLawfulMailbox config.boards mailbox) →
+        LiesAt (entries_of config.boards) mailbox fine.place.board (on_board mailbox fine.place) }
+    ensures memory { (config : Configuration) (mailbox : Mailbox) → IsLawful config →
+        (fine : IsLawfulMailbox config.boards mailbox) →
+        LiesIn (opening_memory fine.board) (on_board mailbox fine.place) }
+    ensures accepted { (config : Configuration) (mailbox : Mailbox) → IsLawful config →
+        IsLawfulMailbox config.boards mailbox → mailbox_refusal mailbox ≡ None }
+{}

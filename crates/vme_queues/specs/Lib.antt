@@ -1,4 +1,0 @@
-pub mod Names
-pub mod Runs
-pub mod Groups
-pub mod Places

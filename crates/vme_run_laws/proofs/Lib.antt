@@ -1,0 +1,15 @@
+pub mod Shared
+pub mod Queues
+pub mod Declared
+pub mod Texts
+pub mod Finished
+pub mod Turns
+pub mod Granted
+pub mod Places
+pub mod Called
+pub mod Standing
+pub mod Turned
+pub mod Runs
+pub mod Events
+pub mod Moving
+pub mod Followed

@@ -1,0 +1,45 @@
+-- What a file configures is lawful, so its mailboxes are queues in what is told of its run.
+use Rattle.std.proofs.Common.{◌≡◌, ℕ, ◌+◌, ◌<◌, List, length, Option, Some, None, Ok}
+use Rattle.std.specs.Option.{ok_or}
+use Rattle.toml.specs.Data.{Members}
+use Rattle.toml.specs.Parse.{parse_document}
+use Rattle.vme_object.specs.declared.history.Entry.{Entry}
+use Rattle.vme_memory.specs.declared.command.BoardCmd.{BoardCmd}
+use Rattle.vme_memory.specs.declared.reply.Reply.{Reply}
+use Rattle.vme_shared.specs.MailboxSteps.{BoardMailbox}
+use Rattle.vme_shared.specs.declared.status.Status.{Status}
+use Rattle.vme_config_toml.specs.Files.{FileValues}
+use Rattle.vme_config_toml.specs.Keys.{file_values}
+use Rattle.vme_script.specs.declared.fault.ConfigFault.TheVariants.{BadKey}
+use Rattle.vme_script.specs.Answers.{◌>>=◌}
+use Rattle.vme_script.specs.Configurations.{Configuration, configuration_of}
+use Rattle.vme_script.specs.Lawful.{IsLawful}
+use Rattle.vme_script.specs.Readings.{configuration_in}
+use Rattle.vme_script.proofs.Lawful.{configuration_known}
+use Rattle.vme_engines.specs.Tellings.{TellsRun}
+use Rattle.vme_run_laws.specs.Declared.{IsDeclaredIn}
+use Rattle.vme_run_laws.proofs.Queues.{IsQueue}
+use Rattle.vme_run_laws.proofs.Declared.{declared_queue, there}
+
+by_values : (values : Option FileValues) (config : Configuration) → (ok_or values BadKey >>= configuration_of) ≡ Ok config
+    → IsLawful config
+by_values None config is = absurd cc
+by_values (Some file) config is = configuration_known file config is
+
+pub read_lawful : (document : Option Members) (config : Configuration) → configuration_in document ≡ Ok config → IsLawful config
+unfolding configuration_in
+read_lawful None config is = absurd cc
+read_lawful (Some keys) config is = by_values (file_values keys) config is
+
+module _ (input text : List ℕ) (status : Status) (told : TellsRun input text status) where
+  pub told_lawful : IsLawful told.config
+  told_lawful = read_lawful (parse_document input) told.config told.configures.1
+
+  -- so each mailbox that it declares is a queue in the report that is told
+  pub told_queue : (box : ℕ) (m : BoardMailbox) (h : List (Entry BoardCmd Reply))
+      → IsDeclaredIn told.config told.report told.run box m h → IsQueue told.config told.report box m h
+  told_queue box m h at = declared_queue told.config told.report told.run box m h told_lawful at
+
+  pub told_there : (k : ℕ) → k < length told.config.mailboxes
+      → (m : BoardMailbox) × (h : List (Entry BoardCmd Reply)) × IsDeclaredIn told.config told.report told.run (k + 1) m h
+  told_there k less = there told.config told.report told.run k told_lawful less

@@ -1,0 +1,20 @@
+use Rattle.vme_run_laws.proofs.Declared.{there, declared_queue}
+use Rattle.vme_run_laws.proofs.queue_laws.declared_mailboxes_are_queues.Goals as goal
+
+pub returns-clause-each : goal.returns-clause-each
+returns-clause-each c = λ config report is k lawful less. there config report is k lawful less
+
+pub returns-clause-proper : goal.returns-clause-proper
+returns-clause-proper c = λ config report is box m h lawful at. (declared_queue config report is box m h lawful at).goes
+
+pub returns-clause-order : goal.returns-clause-order
+returns-clause-order c = λ config report is box m h lawful at. (declared_queue config report is box m h lawful at).order
+
+pub returns-clause-room : goal.returns-clause-room
+returns-clause-room c = λ config report is box m h lawful at. (declared_queue config report is box m h lawful at).room
+
+pub returns-clause-put : goal.returns-clause-put
+returns-clause-put c = λ config report is box m h lawful at. (declared_queue config report is box m h lawful at).put
+
+pub returns-clause-taken : goal.returns-clause-taken
+returns-clause-taken c = λ config report is box m h lawful at. (declared_queue config report is box m h lawful at).taken

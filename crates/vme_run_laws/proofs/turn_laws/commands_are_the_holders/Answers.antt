@@ -1,0 +1,17 @@
+use Rattle.vme_run_laws.proofs.Runs.{after_stand, holder_is, granted_is}
+use Rattle.vme_stepper.specs.Turns.{world_after}
+use Rattle.vme_run_laws.proofs.turn_laws.commands_are_the_holders.Goals as goal
+
+pub returns-clause-orderly : goal.returns-clause-orderly
+returns-clause-orderly c = λ config slots lawful. (after_stand config slots lawful).orderly
+
+pub returns-clause-holder : goal.returns-clause-holder
+returns-clause-holder c = λ config slots slot board place command lawful is.
+    holder_is config (world_after config slots) slot board place command lawful (after_stand config slots lawful) is
+
+pub returns-clause-granted : goal.returns-clause-granted
+returns-clause-granted c = λ config slots slot board call lawful is.
+    granted_is config (world_after config slots) slot board call lawful (after_stand config slots lawful) is
+
+pub returns-clause-answers : goal.returns-clause-answers
+returns-clause-answers c = λ config slots board course lawful found. ((after_stand config slots lawful).each board course found).granted

@@ -1,0 +1,32 @@
+-- A declared mailbox in a report.
+use Rattle.std.specs.Prelude.{ℕ, ◌≡◌, ◌+◌, ◌<◌, List, length, slice_get, Some}
+use Rattle.vme_object.specs.declared.history.Entry.{Entry}
+use Rattle.vme_memory.specs.declared.command.BoardCmd.{BoardCmd}
+use Rattle.vme_memory.specs.declared.reply.Reply.{Reply}
+use Rattle.vme_shared.specs.MailboxSteps.{BoardMailbox}
+use Rattle.vme_shared.specs.declared.mailbox.Mailbox.{Mailbox}
+use Rattle.vme_script.specs.declared.place.Place.{Place}
+use Rattle.vme_script.specs.Places.{place_of}
+use Rattle.vme_script.specs.declared.board.BoardConfig.{BoardConfig}
+use Rattle.vme_script.specs.Boards.{entries_of}
+use Rattle.vme_script.specs.Configurations.{Configuration}
+use Rattle.vme_mailbox_laws.specs.Places.{on_board}
+use Rattle.vme_threads.specs.declared.report.BoardEnd.{BoardEnd}
+use Rattle.vme_threads.specs.declared.report.Report.{Report}
+use Rattle.vme_threads.specs.Reports.{IsReportOf}
+
+-- a configuration declares a mailbox under a number, from 1 on; its bytes lie so on their board; and this is the history of that
+-- board in a report (this project's own)
+pub record IsDeclaredIn (config : Configuration) (report : Report) (is : IsReportOf config report) (box : ℕ) (m : BoardMailbox)
+    (h : List (Entry BoardCmd Reply)) : Type 0 where
+  pub index : ℕ
+  pub number : box ≡ index + 1
+  pub mailbox : Mailbox
+  pub declared : slice_get config.mailboxes index ≡ Some mailbox
+  pub place : Place
+  pub placed : place_of (entries_of config.boards) mailbox ≡ Some place
+  pub bytes : m ≡ on_board mailbox place
+  pub own : BoardConfig
+  pub end : BoardEnd
+  pub below : place.board < length config.boards
+  pub history : h ≡ (is.boards.each place.board own end below).history.history

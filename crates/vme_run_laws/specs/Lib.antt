@@ -1,0 +1,5 @@
+pub mod Declared
+pub mod Finished
+pub mod Granted
+pub mod TurnCalls
+pub mod Moves

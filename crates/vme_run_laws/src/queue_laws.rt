@@ -1,0 +1,75 @@
+ghost use Rattle.std.specs.Prelude.{◌≡◌, ◌+◌, ◌≤◌, ◌<◌, ℕ, List, length};
+ghost use Rattle.vme_object.specs.declared.history.Entry.{Entry};
+ghost use Rattle.vme_object.specs.History.{Begins};
+ghost use Rattle.vme_object.specs.Each.{Each};
+ghost use Rattle.vme_memory.specs.declared.command.BoardCmd.{BoardCmd};
+ghost use Rattle.vme_memory.specs.declared.reply.Reply.{Reply};
+ghost use Rattle.vme_shared.specs.MailboxSteps.{BoardMailbox};
+ghost use Rattle.vme_shared.specs.Phases.{IsProper};
+ghost use Rattle.vme_shared.specs.Words.{words_put, words_taken};
+ghost use Rattle.vme_shared.specs.declared.status.Status.{Status};
+ghost use Rattle.vme_script.specs.Configurations.{Configuration};
+ghost use Rattle.vme_script.specs.Lawful.{IsLawful};
+ghost use Rattle.vme_line_task.specs.Scripts.{lines_at};
+ghost use Rattle.vme_mailbox_laws.specs.Names.{lines_put, lines_taken};
+ghost use Rattle.vme_mailbox_laws.specs.Groups.{own_words_put, own_words_taken};
+ghost use Rattle.vme_threads.specs.declared.report.Report.{Report};
+ghost use Rattle.vme_threads.specs.Rans.{answers_in};
+ghost use Rattle.vme_threads.specs.Reports.{IsReportOf};
+ghost use Rattle.vme_engines.specs.Tellings.{TellsRun};
+ghost use Rattle.vme_run_laws.specs.Declared.{IsDeclaredIn};
+
+/// However the processors' threads ran, each mailbox that a lawful configuration declares is a
+/// queue. The history of its board in a report is proper for it; the words that are taken are the
+/// first of the words that are put, and at most as many more are put as it has slots; and the words
+/// of each processor's own puts and takes, in order, are those that the report's lines tell.
+pub fn declared_mailboxes_are_queues()
+    ensures each { (config : Configuration) (report : Report) (is : IsReportOf config report) (k : ℕ) →
+        IsLawful config → k < length config.mailboxes →
+        (m : BoardMailbox) × (h : List (Entry BoardCmd Reply)) × IsDeclaredIn config report is (k + 1) m h }
+    ensures proper { (config : Configuration) (report : Report) (is : IsReportOf config report) (box : ℕ)
+        (m : BoardMailbox) (h : List (Entry BoardCmd Reply)) → IsLawful config → IsDeclaredIn config report is box m h →
+        IsProper m h }
+    ensures order { (config : Configuration) (report : Report) (is : IsReportOf config report) (box : ℕ)
+        (m : BoardMailbox) (h : List (Entry BoardCmd Reply)) → IsLawful config → IsDeclaredIn config report is box m h →
+        Begins (words_taken m h) (words_put m h) }
+    ensures room { (config : Configuration) (report : Report) (is : IsReportOf config report) (box : ℕ)
+        (m : BoardMailbox) (h : List (Entry BoardCmd Reply)) → IsLawful config → IsDeclaredIn config report is box m h →
+        length (words_put m h) ≤ length (words_taken m h) + m.slots }
+    ensures put { (config : Configuration) (report : Report) (is : IsReportOf config report) (box : ℕ)
+        (m : BoardMailbox) (h : List (Entry BoardCmd Reply)) → IsLawful config → IsDeclaredIn config report is box m h →
+        Each (λ who lines. own_words_put who m h ≡ lines_put box (lines_at config who) (answers_in lines.items))
+        report.lines.items }
+    ensures taken { (config : Configuration) (report : Report) (is : IsReportOf config report) (box : ℕ)
+        (m : BoardMailbox) (h : List (Entry BoardCmd Reply)) → IsLawful config → IsDeclaredIn config report is box m h →
+        Each (λ who lines. own_words_taken who m h ≡ lines_taken box (lines_at config who) (answers_in lines.items))
+        report.lines.items }
+{}
+
+/// What `run_engine` writes at `Ok` is the text of a report of the configuration that its input is
+/// (`TellsRun`). That configuration is lawful, so each mailbox that its input declares is such a
+/// queue in that report.
+pub fn texts_tell_of_queues()
+    ensures lawful { (input text : List ℕ) (status : Status) → (told : TellsRun input text status) →
+        IsLawful told.config }
+    ensures each { (input text : List ℕ) (status : Status) (told : TellsRun input text status) (k : ℕ) →
+        k < length told.config.mailboxes →
+        (m : BoardMailbox) × (h : List (Entry BoardCmd Reply)) × IsDeclaredIn told.config told.report told.run (k + 1) m h }
+    ensures proper { (input text : List ℕ) (status : Status) (told : TellsRun input text status) (box : ℕ)
+        (m : BoardMailbox) (h : List (Entry BoardCmd Reply)) → IsDeclaredIn told.config told.report told.run box m h →
+        IsProper m h }
+    ensures order { (input text : List ℕ) (status : Status) (told : TellsRun input text status) (box : ℕ)
+        (m : BoardMailbox) (h : List (Entry BoardCmd Reply)) → IsDeclaredIn told.config told.report told.run box m h →
+        Begins (words_taken m h) (words_put m h) }
+    ensures room { (input text : List ℕ) (status : Status) (told : TellsRun input text status) (box : ℕ)
+        (m : BoardMailbox) (h : List (Entry BoardCmd Reply)) → IsDeclaredIn told.config told.report told.run box m h →
+        length (words_put m h) ≤ length (words_taken m h) + m.slots }
+    ensures put { (input text : List ℕ) (status : Status) (told : TellsRun input text status) (box : ℕ)
+        (m : BoardMailbox) (h : List (Entry BoardCmd Reply)) → IsDeclaredIn told.config told.report told.run box m h →
+        Each (λ who lines. own_words_put who m h ≡ lines_put box (lines_at told.config who) (answers_in lines.items))
+        told.report.lines.items }
+    ensures taken { (input text : List ℕ) (status : Status) (told : TellsRun input text status) (box : ℕ)
+        (m : BoardMailbox) (h : List (Entry BoardCmd Reply)) → IsDeclaredIn told.config told.report told.run box m h →
+        Each (λ who lines. own_words_taken who m h ≡ lines_taken box (lines_at told.config who) (answers_in lines.items))
+        told.report.lines.items }
+{}

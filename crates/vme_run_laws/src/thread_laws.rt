@@ -1,0 +1,41 @@
+ghost use Rattle.std.specs.Prelude.{◌≢◌, ℕ, List, All};
+ghost use Rattle.vme_object.specs.declared.history.Entry.{Entry};
+ghost use Rattle.vme_object.specs.History.{IsLegal};
+ghost use Rattle.vme_object.specs.Each.{Each};
+ghost use Rattle.vme_arbiter.specs.declared.command.ArbCmd.{ArbCmd};
+ghost use Rattle.vme_arbiter.specs.declared.command.ArbReply.{ArbReply};
+ghost use Rattle.vme_arbiter.specs.declared.command.ArbReply.TheVariants.{Denied};
+ghost use Rattle.vme_arbiter.specs.declared.kind.ArbiterKind.{ArbiterKind};
+ghost use Rattle.vme_arbiter.specs.Arbitration.{opening_bus, turn_step};
+ghost use Rattle.vme_arbiter.specs.Turns.{TakeTurns};
+ghost use Rattle.vme_script.specs.Configurations.{Configuration};
+ghost use Rattle.vme_script.specs.Lawful.{IsLawful};
+ghost use Rattle.vme_threads.specs.declared.report.Report.{Report};
+ghost use Rattle.vme_threads.specs.Reports.{IsReportOf};
+ghost use Rattle.vme_run_laws.specs.Finished.{AreFinished};
+ghost use Rattle.vme_run_laws.specs.Granted.{AreGranted};
+
+/// No line of a report is unfinished: each came to its own end.
+pub fn each_line_comes_to_its_end()
+    ensures { (config : Configuration) (report : Report) → IsReportOf config report →
+        Each (λ who lines. AreFinished lines.items) report.lines.items }
+{}
+
+/// No line of a report is denied the bus: each slot asks, looks and is done as it was told, so the
+/// arbiter denies nobody.
+pub fn no_line_is_denied()
+    ensures { (config : Configuration) (report : Report) → IsLawful config → IsReportOf config report →
+        Each (λ who lines. AreGranted lines.items) report.lines.items }
+{}
+
+/// The arbiter, of either kind, denies nobody. In a legal history of it from a free bus, where each
+/// processor's commands name one slot, its own, and its asks a level, both in range, and where each
+/// goes by its last reply, no reply is `Denied`. Nor is one in the history that a report's processors
+/// share.
+pub fn the_arbiter_denies_nobody()
+    ensures law { (kind : ArbiterKind) (k : ℕ) (slots : ℕ → ℕ) (h : List (Entry ArbCmd ArbReply)) →
+        IsLegal turn_step (opening_bus kind) h → TakeTurns k slots h →
+        All (λ e. e.reply ≢ Denied) h }
+    ensures report { (config : Configuration) (report : Report) → IsLawful config →
+        (is : IsReportOf config report) → All (λ e. e.reply ≢ Denied) is.bus.1.history }
+{}

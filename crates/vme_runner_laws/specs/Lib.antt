@@ -1,2 +1,0 @@
-pub mod TurnCalls
-pub mod Moves

@@ -1,3 +1,0 @@
-pub mod Finished
-pub mod Turns
-pub mod Granted

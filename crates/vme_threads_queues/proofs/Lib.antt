@@ -1,4 +1,0 @@
-pub mod Shared
-pub mod Queues
-pub mod Declared
-pub mod Texts

@@ -1,6 +1,0 @@
-pub mod Apart
-pub mod Data
-pub mod Calls
-pub mod Sends
-pub mod Boxes
-pub mod Lines
