@@ -5,14 +5,24 @@
 #[cfg(test)]
 mod arbitration;
 #[cfg(test)]
+mod blocks;
+#[cfg(test)]
 mod cores;
 #[cfg(test)]
 mod counters;
+#[cfg(test)]
+mod denials;
 #[cfg(test)]
 mod maps;
 #[cfg(test)]
 mod memories;
 #[cfg(test)]
-mod wide;
+mod shared_course;
 #[cfg(test)]
-mod blocks;
+mod shared_tasks;
+#[cfg(test)]
+mod transfers;
+#[cfg(test)]
+mod wide;
+
+

@@ -5,3 +5,7 @@
 mod replies;
 #[cfg(test)]
 mod reports;
+#[cfg(test)]
+mod turns;
+
+

@@ -5,7 +5,15 @@
 #[cfg(test)]
 mod bytes;
 #[cfg(test)]
+mod canonical;
+#[cfg(test)]
 mod files;
+#[cfg(test)]
+mod line_buffers;
+#[cfg(test)]
+mod line_calls;
+#[cfg(test)]
+mod lines;
 #[cfg(test)]
 mod mailboxes;
 #[cfg(test)]
@@ -15,4 +23,6 @@ mod rows;
 #[cfg(test)]
 mod scripts;
 #[cfg(test)]
-mod canonical;
+mod shared_lines;
+
+

@@ -1,0 +1,74 @@
+//! Replies that do not fit, are absent or come early, and denials of the arbiter.
+use crate::shared_course::{BOARDS, Given, MAILBOX, expect_end, replied, told};
+use std::process::Abort;
+use std::test::Fail;
+use vme_arbiter::ArbReply;
+use vme_core::EventReply;
+use vme_decode::AddressMap;
+use vme_shared::{PutTask, SharedOutcome};
+
+/// Asks for the lock, is granted the bus, and stands at the cycle on the board.
+fn at_the_lock(task: &mut PutTask<'_>) {
+    let _ = task.next(None);
+    let _ = task.next(told(ArbReply::Granted));
+}
+
+/// The lock was free, and the put count is asked for.
+fn at_the_put_count(task: &mut PutTask<'_>) {
+    at_the_lock(task);
+    let _ = task.next(replied(Given::Bytes(&[0])));
+    let _ = task.next(told(ArbReply::Freed));
+    let _ = task.next(told(ArbReply::Granted));
+}
+
+fn expect_denied(rt: &impl Abort, task: &mut PutTask<'_>, given: Option<EventReply>) {
+    let end = task.next(given);
+    assert_eq!(rt; expect_end(rt, &end), SharedOutcome::Denied);
+    let end = task.next(told(ArbReply::Freed));
+    assert_eq!(rt; expect_end(rt, &end), SharedOutcome::Denied);
+    task.again();
+}
+
+#[test]
+fn what_does_not_fit_is_denied(rt: HostRuntime) -> Result<(), Fail> {
+    let map = AddressMap::new(rt.alloc(), &BOARDS)?;
+    let mut task = PutTask::start(&map, 2, 3, MAILBOX, 1)?;
+    for given in [Given::Bytes(&[]), Given::Bytes(&[0, 0]), Given::Done] {
+        at_the_lock(&mut task);
+        expect_denied(&rt, &mut task, replied(given));
+    }
+    for given in [
+        Given::Bytes(&[0]),
+        Given::Bytes(&[0, 0, 0, 0, 0]),
+        Given::Done,
+    ] {
+        at_the_put_count(&mut task);
+        expect_denied(&rt, &mut task, replied(given));
+    }
+    at_the_put_count(&mut task);
+    expect_denied(&rt, &mut task, told(ArbReply::Granted));
+    at_the_put_count(&mut task);
+    expect_denied(&rt, &mut task, None);
+    Ok(())
+}
+
+#[test]
+fn what_comes_early_is_denied(rt: HostRuntime) -> Result<(), Fail> {
+    let map = AddressMap::new(rt.alloc(), &BOARDS)?;
+    let mut task = PutTask::start(&map, 2, 3, MAILBOX, 1)?;
+    expect_denied(&rt, &mut task, told(ArbReply::Granted));
+    expect_denied(&rt, &mut task, replied(Given::Done));
+    Ok(())
+}
+
+#[test]
+fn a_denial_of_the_arbiter_ends_all(rt: HostRuntime) -> Result<(), Fail> {
+    let map = AddressMap::new(rt.alloc(), &BOARDS)?;
+    let mut task = PutTask::start(&map, 2, 3, MAILBOX, 1)?;
+    let _ = task.next(None);
+    expect_denied(&rt, &mut task, told(ArbReply::Denied));
+    at_the_lock(&mut task);
+    let _ = task.next(replied(Given::Bytes(&[0])));
+    expect_denied(&rt, &mut task, told(ArbReply::Denied));
+    Ok(())
+}

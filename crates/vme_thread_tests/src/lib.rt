@@ -1,0 +1,24 @@
+//! Tests of scripts on threads: processors that wait for each other, that are held at a line, and that
+//! read blocks. They stand apart so that `vme_threads` is not proved twice.
+#![tactic(auto)]
+
+#[cfg(test)]
+mod blocks;
+#[cfg(test)]
+mod holds;
+#[cfg(test)]
+mod locks;
+#[cfg(test)]
+mod mailboxes;
+#[cfg(test)]
+mod meetings;
+#[cfg(test)]
+mod sharing_gates;
+#[cfg(test)]
+mod sum_gates;
+#[cfg(test)]
+mod sums;
+#[cfg(test)]
+mod workers;
+
+

@@ -1,0 +1,74 @@
+//! Processors that hold a lock each in turn: while one has it, no other writes.
+use crate::sharing_gates::Open;
+use std::alloc::{AllocError, Global};
+use std::process::Abort;
+use std::test::Fail;
+use vme_master::Outcome;
+use vme_script::Config;
+use vme_shared::{LineReply, SharedOutcome};
+use vme_threads::run_threads;
+
+/// Nobody is starved by a rotating arbiter.
+static HEAD: &str = "arbiter = \"rotating\"\ntries = 1000000\n";
+
+/// Four processors, with the mark of each.
+static BOARDS: [(&str, u8); 4] = [
+    ("slot = 1\nbase = 0x0000\nlevel = 0\n", 1),
+    ("slot = 2\nbase = 0x1000\nlevel = 1\n", 2),
+    ("slot = 3\nbase = 0x2000\nlevel = 2\n", 3),
+    ("slot = 4\nbase = 0x3000\nlevel = 3\n", 4),
+];
+
+/// How often each has the lock.
+const TIMES: usize = 50;
+
+/// A file in which each, with the lock, writes its mark to one byte and reads it again.
+fn file(alloc: Global) -> Result<String, AllocError> {
+    let mut text = String::new(alloc);
+    text.push_str(HEAD)?;
+    for (board, mark) in &BOARDS {
+        text.push_str("[[board]]\n")?;
+        text.push_str(board)?;
+        text.push_str("size = 16\nscript = '''\n")?;
+        let write = format!(in alloc; "w 09 00000008 {mark:02x}\n")?;
+        for _ in 0..TIMES {
+            text.push_str("lock 09 00000000\n")?;
+            text.push_str(write.as_str())?;
+            text.push_str("r 09 00000008 1\nunlock 09 00000000\n")?;
+        }
+        text.push_str("'''\n")?;
+    }
+    Ok(text)
+}
+
+/// Each time the lock was taken, the mark was found as it was written, and the lock given back.
+fn expect_marks(rt: &impl Abort, lines: &[(u16, LineReply)], mark: u8) {
+    assert_eq!(rt; lines.len(), 4 * TIMES);
+    for turn in lines.chunks(4) {
+        let [(_, taken), (_, written), (_, read), (_, freed)] = turn else {
+            panic!(rt; "four lines a time")
+        };
+        assert_eq!(rt; *taken, LineReply::Shared(SharedOutcome::Taken));
+        assert_eq!(rt; *written, LineReply::Transfer(Outcome::Done));
+        let LineReply::Transfer(Outcome::Read(bytes)) = read else {
+            panic!(rt; "nothing was read")
+        };
+        assert_eq!(rt; bytes.as_slice(), [mark].as_slice());
+        assert_eq!(rt; *freed, LineReply::Shared(SharedOutcome::Unlocked));
+    }
+}
+
+#[test]
+fn a_lock_keeps_the_others_out(rt: HostRuntime) -> Result<(), Fail> {
+    let text = file(rt.alloc())?;
+    let Ok(config) = Config::read(rt.alloc(), text.as_bytes()) else {
+        panic!(&rt; "refused")
+    };
+    let Ok(report) = run_threads(&rt, rt.alloc(), &config, &Open) else {
+        panic!(&rt; "no report")
+    };
+    for (lines, (_, mark)) in report.lines.iter().zip(BOARDS.iter()) {
+        expect_marks(&rt, lines.as_slice(), *mark);
+    }
+    Ok(())
+}

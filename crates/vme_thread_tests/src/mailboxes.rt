@@ -1,0 +1,169 @@
+//! Two processors put words into one mailbox, and a third takes them.
+use crate::sharing_gates::Open;
+use std::alloc::{AllocError, Global};
+use std::process::Abort;
+use std::sync::Wait;
+use std::test::Fail;
+use std::thread::{Threads, map_indices};
+use vme_script::Config;
+use vme_shared::{LineReply, SharedOutcome};
+use vme_threads::{Report, run_threads};
+
+/// A mailbox of four words, in a board that all reach; nobody is starved by a rotating arbiter.
+static HEAD: &str = "arbiter = \"rotating\"
+tries = 1000000
+[[mailbox]]
+am = 9
+addr = 0
+slots = 4
+[[board]]
+slot = 1
+base = 0
+size = 64
+";
+
+/// The processors that put, with the first word of each, and the one that takes.
+static PUTTERS: [(&str, u32); 2] = [
+    ("slot = 2\nbase = 0x1000\nlevel = 2\n", 0x200),
+    ("slot = 3\nbase = 0x2000\nlevel = 1\n", 0x300),
+];
+
+static TAKER: &str = "slot = 4\nbase = 0x3000\nlevel = 0\n";
+
+/// How many words each of the two puts, one after another.
+const MANY: u32 = 100;
+
+/// How many each of them puts where the same file runs a thousand times.
+const FEW: u32 = 5;
+
+/// How many threads run that file at the same time, each of which starts those of its processors. A
+/// processor that waits gives way to another, so on a busy machine one run alone would take long.
+const AT_ONCE: usize = 20;
+
+/// How often each of them does.
+const TIMES: usize = 50;
+
+/// The two counts of the mailbox in the end, of many words and of few.
+const MANY_COUNTED: [u8; 8] = [0, 0, 0, 0xc8, 0, 0, 0, 0xc8];
+
+const FEW_COUNTED: [u8; 8] = [0, 0, 0, 0x0a, 0, 0, 0, 0x0a];
+
+/// Where these stand.
+const COUNTS_AT: u32 = 4;
+
+/// A file of these processors, where each of the two puts so many words.
+fn file(alloc: Global, words: u32) -> Result<String, AllocError> {
+    let mut text = String::new(alloc);
+    text.push_str(HEAD)?;
+    for (board, first) in &PUTTERS {
+        text.push_str("[[board]]\n")?;
+        text.push_str(board)?;
+        text.push_str("size = 16\nscript = '''\n")?;
+        for word in *first..first.wrapping_add(words) {
+            text.push_str(format!(in alloc; "put 1 {word:08x}\n")?.as_str())?;
+        }
+        text.push_str("'''\n")?;
+    }
+    text.push_str("[[board]]\n")?;
+    text.push_str(TAKER)?;
+    text.push_str("size = 16\nscript = '''\n")?;
+    for _ in 0..words.wrapping_mul(2) {
+        text.push_str("take 1\n")?;
+    }
+    text.push_str("'''\n")?;
+    Ok(text)
+}
+
+/// Each of these lines put its word.
+fn expect_put(rt: &impl Abort, lines: &[(u16, LineReply)], words: u32) {
+    assert_eq!(rt; lines.len(), words as usize);
+    for (_, reply) in lines {
+        assert_eq!(rt; *reply, LineReply::Shared(SharedOutcome::Put));
+    }
+}
+
+/// These lines took every word once, and those of one processor in the order in which it put them.
+fn expect_taken(rt: &impl Abort, lines: &[(u16, LineReply)], words: u32) {
+    let [(_, first), (_, second)] = PUTTERS;
+    let mut firsts = first;
+    let mut seconds = second;
+    for (_, reply) in lines {
+        let LineReply::Shared(SharedOutcome::Took(word)) = reply else {
+            panic!(rt; "nothing was taken")
+        };
+        if *word == firsts {
+            firsts = firsts.wrapping_add(1);
+        } else {
+            assert_eq!(rt; *word, seconds);
+            seconds = seconds.wrapping_add(1);
+        }
+    }
+    assert_eq!(rt; firsts, first.wrapping_add(words));
+    assert_eq!(rt; seconds, second.wrapping_add(words));
+}
+
+/// The mailbox has counted all words twice, as put and as taken.
+fn expect_counts(rt: &impl Abort, report: &Report, counts: &[u8]) {
+    let Some(board) = report.boards.first() else {
+        panic!(rt; "no board")
+    };
+    for (offset, byte) in (COUNTS_AT..).zip(counts.iter()) {
+        assert_eq!(rt; board.memory.byte(offset), Some(*byte));
+    }
+}
+
+/// All of that, where each of the two put so many words.
+fn expect_queue(rt: &impl Abort, report: &Report, words: u32, counts: &[u8]) {
+    let [_, first, second, taker] = report.lines.as_slice() else {
+        panic!(rt; "four processors")
+    };
+    expect_put(rt, first.as_slice(), words);
+    expect_put(rt, second.as_slice(), words);
+    expect_taken(rt, taker.as_slice(), words);
+    expect_counts(rt, report, counts);
+}
+
+/// The configuration in which each of the two puts so many words.
+fn passing(rt: &impl Abort, alloc: Global, words: u32) -> Result<Config, AllocError> {
+    let text = file(alloc, words)?;
+    let Ok(config) = Config::read(alloc, text.as_bytes()) else {
+        panic!(rt; "refused")
+    };
+    Ok(config)
+}
+
+/// Runs it, and looks at what came of it.
+fn pass_on<R: Threads + Wait + Abort + Sync>(
+    rt: &R,
+    alloc: Global,
+    config: &Config,
+    words: u32,
+    counts: &[u8],
+) {
+    let Ok(report) = run_threads(rt, alloc, config, &Open) else {
+        panic!(rt; "no report")
+    };
+    expect_queue(rt, &report, words, counts);
+}
+
+/// Runs the file of few words over and over.
+fn pass_on_again<R: Threads + Wait + Abort + Sync>(rt: &R, alloc: Global, config: &Config) {
+    for _ in 0..TIMES {
+        pass_on(rt, alloc, config, FEW, FEW_COUNTED.as_slice());
+    }
+}
+
+#[test]
+fn each_word_is_taken_once_and_in_order(rt: HostRuntime) -> Result<(), Fail> {
+    let config = passing(&rt, rt.alloc(), MANY)?;
+    pass_on(&rt, rt.alloc(), &config, MANY, MANY_COUNTED.as_slice());
+    Ok(())
+}
+
+#[test]
+fn so_it_is_in_each_of_a_thousand_runs(rt: HostRuntime) -> Result<(), Fail> {
+    let alloc = rt.alloc();
+    let config = passing(&rt, alloc, FEW)?;
+    map_indices(&rt, alloc, AT_ONCE, &|_| pass_on_again(&rt, alloc, &config))?;
+    Ok(())
+}

@@ -1,0 +1,217 @@
+//! Processors that add to one word: four of them, and as many as there are slots.
+use crate::sum_gates::Open;
+use std::alloc::{AllocError, Global};
+use std::process::Abort;
+use std::sync::Wait;
+use std::test::Fail;
+use std::thread::Threads;
+use vme_master::Outcome;
+use vme_script::Config;
+use vme_shared::LineReply;
+use vme_threads::{Report, run_threads};
+
+/// How often each adds one where few lines do.
+const FEW: u16 = 100;
+
+/// How often each adds one where its script is as long as it may be.
+const MOST: u16 = 1000;
+
+/// Where the word is in its board.
+const OFFSET: u32 = 16;
+
+/// The slot and the base of each board.
+static PLACES: [&str; 21] = [
+    "slot = 1\nbase = 0x0000",
+    "slot = 2\nbase = 0x1000",
+    "slot = 3\nbase = 0x2000",
+    "slot = 4\nbase = 0x3000",
+    "slot = 5\nbase = 0x4000",
+    "slot = 6\nbase = 0x5000",
+    "slot = 7\nbase = 0x6000",
+    "slot = 8\nbase = 0x7000",
+    "slot = 9\nbase = 0x8000",
+    "slot = 10\nbase = 0x9000",
+    "slot = 11\nbase = 0xa000",
+    "slot = 12\nbase = 0xb000",
+    "slot = 13\nbase = 0xc000",
+    "slot = 14\nbase = 0xd000",
+    "slot = 15\nbase = 0xe000",
+    "slot = 16\nbase = 0xf000",
+    "slot = 17\nbase = 0x10000",
+    "slot = 18\nbase = 0x11000",
+    "slot = 19\nbase = 0x12000",
+    "slot = 20\nbase = 0x13000",
+    "slot = 21\nbase = 0x14000",
+];
+
+/// How the boards share the bus: the arbiter's kind, and the levels that the slots ask on in turn.
+struct Bus {
+    arbiter: &'static str,
+    levels: [&'static str; 4],
+}
+
+/// By priority, with all slots on the greatest level.
+const BY_PRIORITY: Bus = Bus {
+    arbiter: "arbiter = 'priority'\n",
+    levels: ["", "", "", ""],
+};
+
+/// In rotation, with the slots spread over the levels.
+const ROTATING: Bus = Bus {
+    arbiter: "arbiter = 'rotating'\n",
+    levels: ["level = 3\n", "level = 2\n", "level = 1\n", "level = 0\n"],
+};
+
+/// A file of the first `count` boards on a bus, each with so many lines.
+fn boards(alloc: Global, bus: &Bus, count: usize, lines: u16) -> Result<String, AllocError> {
+    let mut text = String::new(alloc);
+    text.push_str(bus.arbiter)?;
+    for (number, place) in PLACES.iter().enumerate() {
+        if count <= number {
+            break;
+        }
+        text.push_str("[[board]]\n")?;
+        text.push_str(bus.levels[number % 4])?;
+        text.push_str(place)?;
+        text.push_str("\nsize = 32\nscript = \"\"\"\n")?;
+        for _ in 0..lines {
+            text.push_str("m 09 00000010 4 add 00000001\n")?;
+        }
+        text.push_str("\"\"\"\n")?;
+    }
+    Ok(text)
+}
+
+/// A big-endian number.
+fn number_of(bytes: &[u8]) -> u32 {
+    let mut number = 0_u32;
+    for byte in bytes {
+        number = number.wrapping_mul(256).wrapping_add(u32::from(*byte));
+    }
+    number
+}
+
+/// What the lines of a report found, in order of size.
+fn found(alloc: Global, report: &Report) -> Result<Vec<u32>, AllocError> {
+    let mut numbers = Vec::new(alloc);
+    for lines in &report.lines {
+        for (_, reply) in lines {
+            if let LineReply::Transfer(Outcome::Old(bytes)) = reply {
+                numbers.push(number_of(bytes.as_slice()))?;
+            }
+        }
+    }
+    numbers.sort()?;
+    Ok(numbers)
+}
+
+/// The word's board made a step for each line, as many for each processor, and the others none; the
+/// arbiter made at least two for each line.
+fn expect_steps(rt: &impl Abort, report: &Report, sum: u32, lines: u16) {
+    let [board, others @ ..] = report.boards.as_slice() else {
+        panic!(rt; "no board")
+    };
+    assert_eq!(rt; board.steps, u64::from(sum));
+    for made in &board.made {
+        assert_eq!(rt; *made, u64::from(lines));
+    }
+    for other in others {
+        assert_eq!(rt; other.steps, 0);
+    }
+    let mut arbiter_steps = 0_u64;
+    for made in &report.arbiter_made {
+        assert!(rt; 2 * u64::from(lines) <= *made);
+        arbiter_steps = arbiter_steps.wrapping_add(*made);
+    }
+    assert_eq!(rt; report.arbiter_steps, arbiter_steps);
+}
+
+/// The word that the board has in the end.
+fn expect_word(rt: &impl Abort, report: &Report, word: [u8; 4]) {
+    let Some(board) = report.boards.first() else {
+        panic!(rt; "no board")
+    };
+    for (offset, byte) in (OFFSET..).zip(word.iter()) {
+        assert_eq!(rt; board.memory.byte(offset), Some(*byte));
+    }
+}
+
+/// So many boards that add, so often each, over a bus.
+fn adding(
+    rt: &impl Abort,
+    alloc: Global,
+    bus: &Bus,
+    count: usize,
+    lines: u16,
+) -> Result<Config, AllocError> {
+    let text = boards(alloc, bus, count, lines)?;
+    let Ok(config) = Config::read(alloc, text.as_bytes()) else {
+        panic!(rt; "refused")
+    };
+    Ok(config)
+}
+
+/// Each number below that of the word is found once, and the word is what the board has in the end.
+fn expect_sum(
+    rt: &impl Abort,
+    alloc: Global,
+    report: &Report,
+    word: [u8; 4],
+    lines: u16,
+) -> Result<(), AllocError> {
+    let sum = number_of(word.as_slice());
+    let numbers = found(alloc, report)?;
+    assert_eq!(rt; numbers.len(), sum as usize);
+    for (i, number) in numbers.iter().enumerate() {
+        assert_eq!(rt; *number as usize, i);
+    }
+    expect_steps(rt, report, sum, lines);
+    expect_word(rt, report, word);
+    Ok(())
+}
+
+/// So many boards add over a bus, so often each, and come to this word.
+fn add_up<R: Threads + Wait + Abort + Sync>(
+    rt: &R,
+    alloc: Global,
+    bus: &Bus,
+    count: usize,
+    lines: u16,
+    word: [u8; 4],
+) -> Result<(), AllocError> {
+    let config = adding(rt, alloc, bus, count, lines)?;
+    let Ok(report) = run_threads(rt, alloc, &config, &Open) else {
+        panic!(rt; "no report")
+    };
+    expect_sum(rt, alloc, &report, word, lines)
+}
+
+#[test]
+fn four_boards_add(rt: HostRuntime) -> Result<(), Fail> {
+    add_up(&rt, rt.alloc(), &BY_PRIORITY, 4, FEW, [0, 0, 0x01, 0x90])?;
+    Ok(())
+}
+
+#[test]
+fn four_boards_add_with_the_longest_scripts(rt: HostRuntime) -> Result<(), Fail> {
+    add_up(&rt, rt.alloc(), &BY_PRIORITY, 4, MOST, [0, 0, 0x0f, 0xa0])?;
+    Ok(())
+}
+
+#[test]
+fn four_boards_add_in_rotation(rt: HostRuntime) -> Result<(), Fail> {
+    add_up(&rt, rt.alloc(), &ROTATING, 4, MOST, [0, 0, 0x0f, 0xa0])?;
+    Ok(())
+}
+
+#[test]
+fn a_board_in_each_slot_adds_in_rotation(rt: HostRuntime) -> Result<(), Fail> {
+    add_up(&rt, rt.alloc(), &ROTATING, 21, FEW, [0, 0, 0x08, 0x34])?;
+    Ok(())
+}
+
+#[test]
+fn a_board_in_each_slot_adds(rt: HostRuntime) -> Result<(), Fail> {
+    add_up(&rt, rt.alloc(), &BY_PRIORITY, 21, FEW, [0, 0, 0x08, 0x34])?;
+    Ok(())
+}
