@@ -1,6 +1,6 @@
 //! Rooms and blocks of a few bytes and of many, each once.
-use vme_cycle::{Block, BLOCK_LIMIT, BlockFault, Room};
 use std::test::Fail;
+use vme_cycle::{BLOCK_LIMIT, Block, BlockFault, Room};
 
 #[test]
 fn a_room_keeps_what_is_pushed(rt: HostRuntime) -> Result<(), Fail> {

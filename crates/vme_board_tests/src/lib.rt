@@ -24,5 +24,3 @@ mod shared_tasks;
 mod transfers;
 #[cfg(test)]
 mod wide;
-
-

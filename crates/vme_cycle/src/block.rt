@@ -3,9 +3,9 @@ ghost use Rattle.vme_cycle.specs.BlockBuffers.{short_room, block_limit};
 ghost use Rattle.vme_cycle.specs.BlockReprs.{held_bytes};
 ghost use Rattle.vme_cycle.specs.declared.block_fault.BlockFault.TheVariants.{TooLong};
 
+use crate::block_buffer::Room;
 use crate::block_fault::BlockFault;
 use crate::held::Held;
-use crate::block_buffer::Room;
 use arrayvec::ArrayVec;
 use std::alloc::Global;
 use std::marker::Model;

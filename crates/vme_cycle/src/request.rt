@@ -2,8 +2,8 @@ ghost use Rattle.std.specs.Prelude.{◌≡◌, ◌+◌, ◌<◌, length, IfSome,
 ghost use Rattle.vme_cycle.specs.Counts.{is_datum_len, is_block_count, is_wide_code};
 ghost use Rattle.vme_cycle.specs.Lawful.{location_for};
 
-use crate::modify::Modify;
 use crate::block::Block;
+use crate::modify::Modify;
 use vme_lanes::{Datum, Location};
 
 /// How many addresses lie between the boundaries that no block crosses.

@@ -2,7 +2,7 @@
 use std::alloc::{AllocError, Global};
 use std::process::Abort;
 use std::test::Fail;
-use vme_engines::{cycles_engine, exit_status, INPUT_LIMIT, ProgramFault, Status};
+use vme_engines::{INPUT_LIMIT, ProgramFault, Status, cycles_engine, exit_status};
 use vme_io::{RoomSink, SliceSource};
 
 /// Runs an input in memory and compares what it writes and how it ends.

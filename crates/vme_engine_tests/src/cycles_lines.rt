@@ -2,8 +2,8 @@
 use std::test::Fail;
 use vme_cycle::{Modify, Request};
 use vme_grammar::{Line, LineFault, parse_line, print_berr};
-use vme_memory::BoardCmd;
 use vme_lexer::Lines;
+use vme_memory::BoardCmd;
 
 #[test]
 fn cuts_lines(rt: HostRuntime) -> Result<(), Fail> {

@@ -6,8 +6,8 @@ use std::process::Abort;
 use std::sync::Wait;
 use std::test::Fail;
 use std::thread::Threads;
-use vme_io::{Io, RoomSink, SliceSource};
 use vme_engines::{ProgramFault, Status};
+use vme_io::{Io, RoomSink, SliceSource};
 
 /// Reads the input of a row, a byte a call, of which so many come before the reader fails: nothing
 /// is written.

@@ -4,8 +4,8 @@ use crate::rows::TORN_BLOCK;
 use std::alloc::{AllocError, Global};
 use std::process::Abort;
 use std::test::Fail;
+use vme_engines::{ProgramFault, Status, exit_status, step_engine};
 use vme_io::{RoomSink, SliceSource};
-use vme_engines::{exit_status, ProgramFault, Status, step_engine};
 
 /// Runs a damaged file: there is a report, or else it is no configuration and nothing is written.
 fn expect_report_or_refusal(rt: &impl Abort, alloc: Global, file: &[u8]) -> Result<(), AllocError> {

@@ -31,5 +31,3 @@ mod step_rows;
 mod step_shared;
 #[cfg(test)]
 mod step_wide;
-
-

@@ -1,8 +1,8 @@
 //! A run on threads where memory is refused.
 use crate::rows::TWO_WRITERS;
 use std::test::Fail;
+use vme_engines::{ProgramFault, Status, exit_status, run_engine};
 use vme_io::{RoomSink, SliceSource};
-use vme_engines::{exit_status, ProgramFault, run_engine, Status};
 
 /// Run with memory refused: just that is told, or that a thread has none, with nothing written or a
 /// front of the report; else the whole report stands.

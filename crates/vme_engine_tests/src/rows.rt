@@ -4,7 +4,7 @@ ghost use Rattle.std.specs.Prelude.{◌≡◌, false};
 use std::alloc::Global;
 use std::sync::Wait;
 use std::thread::Threads;
-use vme_engines::{cycles_engine, ProgramFault, run_engine, Status, step_engine};
+use vme_engines::{ProgramFault, Status, cycles_engine, run_engine, step_engine};
 use vme_io::{Sink, Source};
 
 /// An engine of the program.

@@ -1,8 +1,8 @@
 //! Runs on threads, of whose reports some lines vary: what they begin with, and what they end with.
 use std::alloc::{AllocError, Global};
 use std::test::Fail;
+use vme_engines::{Status, run_engine};
 use vme_io::{RoomSink, SliceSource};
-use vme_engines::{run_engine, Status};
 
 /// Two processors that wait for each other's byte.
 static WAITING: &str = "tries = 1000000

@@ -2,8 +2,8 @@
 use std::alloc::Global;
 use std::process::Abort;
 use std::test::Fail;
-use vme_io::{RoomSink, SliceSource};
 use vme_engines::{Status, step_engine};
+use vme_io::{RoomSink, SliceSource};
 
 /// Slot 9 has the bus while the slots 1, 2 and 3 ask for it, on the levels 3, 1 and 2. Each adds one
 /// to the same word.

@@ -1,8 +1,8 @@
 //! The engine of `vme step` at the limit of its input, and where memory is refused.
 use crate::step_rows::{TORN_BLOCK, TORN_BLOCK_REPORT};
 use std::test::Fail;
+use vme_engines::{FILE_LIMIT, ProgramFault, Status, exit_status, step_engine};
 use vme_io::{RoomSink, SliceSource};
-use vme_engines::{exit_status, FILE_LIMIT, ProgramFault, Status, step_engine};
 use vme_script::ConfigFault;
 
 #[test]

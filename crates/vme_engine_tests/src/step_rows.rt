@@ -2,8 +2,8 @@
 use std::alloc::Global;
 use std::process::Abort;
 use std::test::Fail;
-use vme_io::{RoomSink, SliceSource};
 use vme_engines::{Status, step_engine};
+use vme_io::{RoomSink, SliceSource};
 
 /// A file, its report, and whether every line has a good answer.
 pub struct Row {

@@ -1,8 +1,8 @@
 //! Blocks of eight bytes a datum.
-use crate::step_rows::{check, Row};
+use crate::step_rows::{Row, check};
 use std::test::Fail;
-use vme_io::{RoomSink, SliceSource};
 use vme_engines::{Status, step_engine};
+use vme_io::{RoomSink, SliceSource};
 
 /// A datum of which the board has four bytes alone: the bus error is a step of it.
 const HALF_PAST_THE_END: Row = Row {

@@ -12,7 +12,9 @@ use crate::bus::Bus;
 use crate::request::request_of;
 use std::alloc::AllocError;
 use vme_cycle::{Plan, Request, Room, Signals};
-use vme_grammar::{print_berr, print_done, print_line_refusal, print_old, print_read, print_refusal, print_signals};
+use vme_grammar::{
+    print_berr, print_done, print_line_refusal, print_old, print_read, print_refusal, print_signals,
+};
 use vme_memory::Reply;
 use vme_shared::Status;
 

@@ -3,13 +3,13 @@ ghost use Rattle.std.specs.Prelude.{ℕ, ◌≡◌, ◌<◌, Some, IfOk, IfErr, 
 ghost use Rattle.std.specs.Option.{option_map};
 ghost use Rattle.vme_engines.specs.Cycles.{fresh_board};
 
+use crate::fault::ProgramFault;
 use std::alloc::Global;
 use std::marker::Model;
 use vme_am::Space;
 use vme_cycle::{Modify, Signals};
 use vme_decode::{AddressMap, Entry};
 use vme_memory::{ByteMemory, Class, Reply, Width8To32};
-use crate::fault::ProgramFault;
 
 /// The number of bytes of the board, which begins at address 0 of the extended space.
 const BOARD_SIZE: u32 = 4096;

@@ -8,13 +8,13 @@ ghost use Rattle.vme_engines.specs.Faults.{IsReadingFault, ReadsPastLimit, is_re
 
 use crate::answer::answer_line;
 use crate::bus::Bus;
+use crate::fault::ProgramFault;
+use crate::input::read_input;
 use std::alloc::Global;
 use vme_cycle::{BLOCK_LIMIT, Room};
 use vme_io::{Sink, Source, write_all};
-use crate::fault::ProgramFault;
-use crate::input::read_input;
-use vme_shared::Status;
 use vme_lexer::Lines;
+use vme_shared::Status;
 
 /// The greatest number of bytes of an input.
 pub const INPUT_LIMIT: usize = 1_048_576;

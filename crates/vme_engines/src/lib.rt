@@ -20,5 +20,4 @@ pub use input::read_input;
 pub use run::run_engine;
 pub use step::step_engine;
 pub use text::report_text;
-pub use vme_engines::{ProgramFault, Status, exit_status};
 pub use vme_shared::Status;

@@ -4,7 +4,7 @@ ghost use Rattle.vme_lexer.specs.Words.{words_of};
 ghost use Rattle.vme_engines.specs.Lines.{is_request_word, is_other_word, request_of};
 
 use vme_cycle::Request;
-use vme_grammar::{Line, LINE_LIMIT, LineFault, parse_line};
+use vme_grammar::{LINE_LIMIT, Line, LineFault, parse_line};
 use vme_lexer::first_word;
 
 /// The request that a line asks for. A word that only scripts know is unknown, whatever follows it.

@@ -6,14 +6,14 @@ ghost use Rattle.vme_engines.specs.Faults.{IsReadingFault, ReadsPastLimit, is_re
 ghost use Rattle.vme_engines.specs.Files.{IsRefusedAs};
 ghost use Rattle.vme_engines.specs.Tellings.{TellsRun, WritesFront};
 
+use crate::crate::ProgramFault;
+use crate::file::{FILE_LIMIT, read_config};
 use crate::text::report_text;
+use crate::vme_shared::Status;
 use std::alloc::Global;
 use std::sync::Wait;
 use std::thread::Threads;
 use vme_io::{Sink, Source};
-use crate::file::{FILE_LIMIT, read_config};
-use crate::crate::ProgramFault;
-use crate::vme_shared::Status;
 use vme_threads::{Gate, run_threads};
 
 /// A gate that lets every line through.

@@ -10,11 +10,11 @@ ghost use Rattle.vme_stepper.specs.Reports.{run_text, run_status};
 ghost use Rattle.vme_engines.specs.Files.{Configures, IsRefusedAs};
 ghost use Rattle.vme_engines.specs.StepFaults.{IsStepFault};
 
+use crate::crate::ProgramFault;
+use crate::file::{FILE_LIMIT, read_config};
+use crate::vme_shared::Status;
 use std::alloc::Global;
 use vme_io::{Sink, Source};
-use crate::file::{FILE_LIMIT, read_config};
-use crate::crate::ProgramFault;
-use crate::vme_shared::Status;
 use vme_stepper::run_file;
 
 /// Runs the scripts of a configuration file by its schedule and then its rounds, and writes the

@@ -9,8 +9,8 @@ use crate::counted::{three_and_more, two_words};
 use crate::fault::LineFault;
 use crate::function::Function;
 use crate::line::Line;
+use vme_lexer::{Words, hex_number, local_bytes, local_number};
 use vme_memory::BoardCmd;
-use vme_lexer::{hex_number, local_bytes, local_number, Words};
 
 /// `lr`
 #[inline(always)]

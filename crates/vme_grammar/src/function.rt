@@ -8,7 +8,7 @@ ghost use Rattle.vme_grammar.specs.Modifies.{operand_count, operand, modify_of};
 use crate::fault::LineFault;
 use vme_cycle::Modify;
 use vme_lanes::Datum;
-use vme_lexer::{exact_bytes, Words};
+use vme_lexer::{Words, exact_bytes};
 
 /// The function of a read-modify-write.
 #[derive(Clone, Copy)]

@@ -6,8 +6,8 @@ use crate::fault::LineFault;
 use crate::form::line_of_words;
 use vme_cycle::Request;
 use vme_lanes::Datum;
-use vme_memory::BoardCmd;
 use vme_lexer::words_of;
+use vme_memory::BoardCmd;
 
 /// The greatest number of bytes of a line, without its end.
 pub const LINE_LIMIT: usize = 80;

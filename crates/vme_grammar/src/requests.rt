@@ -10,7 +10,7 @@ use crate::fault::LineFault;
 use crate::function::Function;
 use crate::line::Line;
 use vme_cycle::{Block, Request};
-use vme_lexer::{decimal_number, exact_bytes, hex_bytes, hex_number, small_number, Words};
+use vme_lexer::{Words, decimal_number, exact_bytes, hex_bytes, hex_number, small_number};
 
 /// The code and the address that two words spell.
 #[inline(always)]

@@ -10,7 +10,7 @@ use crate::counted::{one_word, two_words};
 use crate::fault::LineFault;
 use crate::line::Line;
 use crate::requests::place_of;
-use vme_lexer::{decimal_number, hex_number, Words};
+use vme_lexer::{Words, decimal_number, hex_number};
 
 /// The number of a mailbox.
 #[inline(always)]

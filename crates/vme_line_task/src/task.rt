@@ -13,11 +13,11 @@ ghost use Rattle.vme_line_task.specs.declared.attempt.AttemptTask.TheVariants as
 ghost use Rattle.vme_line_task.specs.declared.task.LineTask.TheVariants.{Tries};
 ghost use Rattle.vme_line_task.specs.Events.{next_in, call_in, answer_in, IsEventBelow, IsTodoBelow};
 
-use crate::attempt::{Attempts, AttemptTask};
+use crate::attempt::{AttemptTask, Attempts};
 use crate::start::{attempt_of, transfer};
 use crate::todo::LineTodo;
-use vme_cycle::{CycleFault, Room};
 use vme_core::{Core, Deed, Event, EventReply};
+use vme_cycle::{CycleFault, Room};
 use vme_grammar::Line;
 use vme_master::{Outcome, Task};
 use vme_script::Config;

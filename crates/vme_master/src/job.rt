@@ -13,8 +13,8 @@ use crate::aim::Aim;
 use crate::outcome::Outcome;
 use crate::phase::Phase;
 use vme_arbiter::{ArbCmd, ArbReply};
-use vme_cycle::{Modify, Room, Transfer};
 use vme_core::{DatumCycle, Deed, Event};
+use vme_cycle::{Modify, Room, Transfer};
 use vme_lanes::Datum;
 use vme_memory::{BoardCmd, Reply};
 

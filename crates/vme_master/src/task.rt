@@ -20,8 +20,8 @@ use crate::todo::Todo;
 use std::marker::Model;
 use std::mem;
 use vme_arbiter::{ArbCmd, ArbReply};
-use vme_cycle::{CycleFault, Request, Room, Transfer};
 use vme_core::{Core, Deed, Event, EventReply};
+use vme_cycle::{CycleFault, Request, Room, Transfer};
 use vme_decode::AddressMap;
 use vme_memory::{BoardCmd, Reply};
 

@@ -7,9 +7,9 @@ ghost use Rattle.vme_memory.specs.Access.{accessed};
 
 use crate::board::ByteMemory;
 use crate::reply::Reply;
+use crate::word::placed_word;
 use vme_cycle::Modify;
 use vme_lanes::Location;
-use crate::word::placed_word;
 
 /// How many bytes a datum has at most that goes over four data lanes.
 const LANES: usize = 4;

@@ -9,11 +9,11 @@ use crate::class::{Class, Width8To32};
 use crate::command::BoardCmd;
 use crate::reply::Reply;
 use crate::storage::{Row, Storage};
+use crate::word::{driven_word, placed_word};
 use std::alloc::Global;
 use std::marker::Model;
 use vme_cycle::{Modify, Signals};
 use vme_lanes::{DataLines, Datum, Location, pick_wide};
-use crate::word::{driven_word, placed_word};
 
 /// Why there is no memory of a size.
 #[derive(Clone, Copy, Debug, PartialEq, Eq)]

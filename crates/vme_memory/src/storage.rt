@@ -3,12 +3,15 @@ ghost use Rattle.vme_lanes.specs.Rows.{row_of};
 ghost use Rattle.vme_memory.specs.Words.{bytes_after_write, part_of, word_bytes};
 ghost use Rattle.vme_memory.specs.Boards.{is_board_size, zeros};
 
+use crate::word::{
+    byte_in, bytes_at, bytes_of, bytes_of_pair, first_bytes, leading_word, merge, merge_across,
+    merge_from, pair_of, word_across, word_of,
+};
 use arrayvec::ArrayVec;
 use std::alloc::{AllocError, Global};
 use std::cmp::min;
 use std::marker::Model;
 use vme_lanes::{Datum, Location};
-use crate::word::{byte_in, bytes_at, bytes_of, bytes_of_pair, first_bytes, leading_word, merge, merge_across, merge_from, pair_of, word_across, word_of};
 
 /// Sixteen bytes of a memory, or those that are left.
 pub type Row = ArrayVec<u8, 16>;

@@ -7,5 +7,3 @@ mod replies;
 mod reports;
 #[cfg(test)]
 mod turns;
-
-

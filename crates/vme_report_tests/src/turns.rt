@@ -4,9 +4,9 @@ use std::process::Abort;
 use std::test::Fail;
 use vme_io::RoomSink;
 use vme_report::RunFault;
-use vme_stepper::{run_file, run_steps};
 use vme_script::Config;
 use vme_shared::Status;
+use vme_stepper::{run_file, run_steps};
 
 /// A refused line, a transfer and a local write, on a board of 16 bytes; a block on the other board.
 static FILE: &str = "schedule = [[5, 1], [9, 2]]

@@ -6,8 +6,8 @@ ghost use Rattle.vme_script.specs.Boards.{space_named, width_of, entry_of, class
 use crate::fault::ConfigFault;
 use std::alloc::{AllocError, Global};
 use vme_am::Space;
-use vme_decode::{AddressMap, Entry, MapFault};
 use vme_config_toml::{BoardTable, ClassTable, RangeTable};
+use vme_decode::{AddressMap, Entry, MapFault};
 use vme_memory::{Class, Width8To32};
 
 /// The greatest number of a slot.

@@ -7,18 +7,18 @@ ghost use Rattle.vme_script.specs.Configurations.{configuration_of, opening_memo
 ghost use Rattle.vme_script.specs.Lawful.{IsLawful};
 
 use crate::arbiter::kind_named;
-use crate::board::{board_configs, BoardConfig, map_of};
+use crate::board::{BoardConfig, board_configs, map_of};
 use crate::fault::{ConfigFault, ScriptFault};
 use crate::mailboxes::mailboxes_of;
+use crate::rules::{Declared, Rules};
 use crate::schedule::schedule_of;
 use crate::script::Script;
 use std::alloc::Global;
 use std::marker::Model;
 use vme_arbiter::{Arbiter, ArbiterKind};
-use crate::rules::{Declared, Rules};
+use vme_config_toml::{BoardTable, FileTable};
 use vme_core::OutOfMemory;
 use vme_decode::AddressMap;
-use vme_config_toml::{BoardTable, FileTable};
 use vme_memory::ByteMemory;
 use vme_shared::Mailbox;
 

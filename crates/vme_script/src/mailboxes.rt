@@ -6,11 +6,11 @@ ghost use Rattle.vme_script.specs.MailboxRefusals.{declared_mailbox, mailboxes_o
 
 use crate::board::BoardConfig;
 use crate::fault::ConfigFault;
-use std::alloc::Global;
-use crate::place::Place;
 use crate::mailbox::{holds_mailboxes, mailbox_of};
-use vme_decode::AddressMap;
+use crate::place::Place;
+use std::alloc::Global;
 use vme_config_toml::MailboxTable;
+use vme_decode::AddressMap;
 use vme_shared::Mailbox;
 
 /// The greatest number of mailboxes.

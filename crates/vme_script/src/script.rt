@@ -5,10 +5,10 @@ ghost use Rattle.vme_script.specs.Rules.{refusal_of};
 ghost use Rattle.vme_script.specs.Scripts.{script_of, script_within, lines_from, IsRefusalOf, IsTaken};
 
 use crate::fault::{ScriptFault, ScriptRefusal};
+use crate::rules::Rules;
 use std::alloc::{AllocError, Global};
 use std::marker::Model;
-use crate::rules::Rules;
-use vme_grammar::{Line, LineFault, parse_words, parse_canonical};
+use vme_grammar::{Line, LineFault, parse_canonical, parse_words};
 use vme_lexer::Lines;
 
 /// The greatest number of lines of a script.

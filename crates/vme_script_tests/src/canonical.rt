@@ -1,6 +1,6 @@
 //! Which lines are read in one pass, and that others are read too.
-use vme_grammar::{Line, LineFault, parse_line, parse_canonical};
 use std::process::Abort;
+use vme_grammar::{Line, LineFault, parse_canonical, parse_line};
 
 /// Each form of the bus and of the local port, as scripts are commonly written.
 #[test]

@@ -24,5 +24,3 @@ mod rows;
 mod scripts;
 #[cfg(test)]
 mod shared_lines;
-
-

@@ -1,10 +1,10 @@
 //! Lines by replies given by hand: what each is given, and what it does next.
 use std::process::Abort;
 use vme_arbiter::{ArbCmd, ArbReply};
-use vme_cycle::{Room, SHORT};
 use vme_core::{Event, EventReply};
-use vme_line_task::{line_count, line_room, LineTask, LineTodo};
+use vme_cycle::{Room, SHORT};
 use vme_lanes::Datum;
+use vme_line_task::{LineTask, LineTodo, line_count, line_room};
 use vme_master::Outcome;
 use vme_memory::{BoardCmd, Reply};
 use vme_script::Config;

@@ -20,5 +20,3 @@ mod sum_gates;
 mod sums;
 #[cfg(test)]
 mod workers;
-
-

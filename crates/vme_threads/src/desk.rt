@@ -14,16 +14,16 @@ use crate::ports::Ports;
 use crossbeam_utils::Backoff;
 use std::sync::Wait;
 use std::sync::atomic::Ordering;
-use vme_arbiter::{ArbCmd, Arbiter, ArbReply};
-use vme_cycle::Room;
+use vme_arbiter::{ArbCmd, ArbReply, Arbiter};
+use vme_bus_wait::Patience;
 use vme_core::{Deed, EventReply};
+use vme_cycle::Room;
 use vme_line_task::LineTask;
 use vme_memory::{ByteMemory, Reply};
 use vme_object::{Asks, Given};
 use vme_port::{Pass, Spent};
 use vme_script::Config;
 use vme_shared::LineReply;
-use vme_bus_wait::Patience;
 
 /// The passes of one processor: one of the port of each board, by its place, and one of the
 /// arbiter's; and how long it has waited for the bus.

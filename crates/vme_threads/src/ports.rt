@@ -9,10 +9,10 @@ use std::alloc::{AllocError, Global};
 use std::sync::Mutex;
 use std::sync::atomic::AtomicBool;
 use vme_arbiter::Arbiter;
+use vme_bus_wait::Waits;
 use vme_memory::ByteMemory;
 use vme_port::Port;
 use vme_script::{Config, OutOfMemory};
-use vme_bus_wait::Waits;
 
 /// The port of a board.
 #[derive(Drop)]

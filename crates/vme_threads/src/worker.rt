@@ -8,12 +8,12 @@ use std::alloc::{AllocError, Global};
 use std::sync::Wait;
 use std::sync::atomic::Ordering;
 use vme_arbiter::Arbiter;
+use vme_bus_wait::Patience;
 use vme_line_task::{Rooms, line_count};
 use vme_port::Pass;
 use vme_report::RunFault;
 use vme_script::{Config, Script};
 use vme_shared::LineReply;
-use vme_bus_wait::Patience;
 
 /// A processor that has not begun its script: its passes, a room for what each line reads, and room
 /// for the replies.

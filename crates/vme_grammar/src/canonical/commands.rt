@@ -5,8 +5,8 @@ ghost use Rattle.vme_grammar.specs.Canonical.{Asks};
 use crate::canonical::data::function;
 use crate::canonical::fields::{local_length, number};
 use crate::line::Line;
-use vme_memory::BoardCmd;
 use vme_lexer::{local_bytes, local_number};
+use vme_memory::BoardCmd;
 
 /// `lr`
 #[inline(always)]

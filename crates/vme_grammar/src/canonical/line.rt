@@ -4,9 +4,11 @@ ghost use Rattle.vme_grammar.specs.Grammar.{line_of};
 
 use crate::canonical::bytes::{after_ait, after_space, two_bytes};
 use crate::canonical::commands::{local_modify, local_read, local_write};
-use crate::canonical::requests::{await_bytes, block_fill, block_read, block_write, modify, read, write};
-use crate::line::{Line, LINE_LIMIT, parse_words};
+use crate::canonical::requests::{
+    await_bytes, block_fill, block_read, block_write, modify, read, write,
+};
 use crate::fault::LineFault;
+use crate::line::{LINE_LIMIT, Line, parse_words};
 
 /// What a line in its usual spelling asks for; nothing of another line.
 #[inline(always)]

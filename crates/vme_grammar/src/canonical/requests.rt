@@ -4,8 +4,8 @@ ghost use Rattle.vme_grammar.specs.Canonical.{Asks};
 
 use crate::canonical::data::{count_and_datum, function};
 use crate::canonical::fields::{length, place};
-use vme_cycle::{Block, Request};
 use crate::line::Line;
+use vme_cycle::{Block, Request};
 use vme_lexer::{decimal_number, hex_bytes, small_number};
 
 /// `r`
