@@ -20,7 +20,7 @@ use Rattle.vme_arbiter.specs.Shares.{grant_of, grants_in, IsLowest, LeavesLowest
 use Rattle.vme_arbiter.proofs.Orders.{before-apart, turn-nearer, three-before}
 use Rattle.vme_arbiter.proofs.Grants.{granted-next, none-granted}
 use Rattle.vme_arbiter.proofs.Pending.{All-with}
-use Rattle.vme_arbiter.proofs.Orderly.{levels_ok, orderly-step, kind-stays}
+use Rattle.vme_arbiter.proofs.lemmas.Orderly.{levels_ok, orderly-step, kind-stays}
 use Rattle.vme_arbiter.proofs.Sets.{contains_parts, with-contains, without-contains}
 
 -- whom the bus is granted to holds it

@@ -1,5 +1,3 @@
-pub mod Tallies
-pub mod Calls
+pub mod lemmas
 mod Deeds
-pub mod Dones
 pub mod Openings

@@ -18,7 +18,7 @@ pub fn runs_compose()
 
 /// After a run from an opening each board's memory, and the arbiter, is the replay of its own part
 /// of the run; its steps are that part's entries, and what each who made are the who's own.
-#[tactic(auto, using(crate::proofs::Tallies::went_tells))]
+#[tactic(auto, using(crate::proofs::lemmas::Tallies::went_tells))]
 pub fn opening_is_replayed()
     ensures boards { (memories : List Board) (bus : Arbitration) (k : ℕ) (run : List Move) (after : Machine) →
         Did run (opening memories bus k) after →
@@ -28,7 +28,7 @@ pub fn opening_is_replayed()
 {}
 
 /// The call that an event makes is a run of one move, with the reply of that call.
-#[tactic(auto, using(crate::proofs::Calls::did_call))]
+#[tactic(auto, using(crate::proofs::lemmas::Calls::did_call))]
 pub fn a_call_is_a_run_of_one()
     ensures { (m : Machine) (who : ℕ) (event : Event) → IsThere m (target_of event) →
         Did (move who event (machine_step m who (call_of event)).1 ∷ []) m

@@ -137,7 +137,7 @@ impl Core {
 
     /// Events one after another, each with who gives it; their replies are appended. Room for all of
     /// them is taken first. It ends before an event whose object can count no further step.
-    #[tactic(auto, using(crate::proofs::Dones::done_nothing, crate::proofs::Dones::done_more, crate::proofs::Dones::run_all, crate::proofs::Dones::run_spent, crate::proofs::Dones::run_none))]
+    #[tactic(auto, using(crate::proofs::lemmas::Dones::done_nothing, crate::proofs::lemmas::Dones::done_more, crate::proofs::lemmas::Dones::run_all, crate::proofs::lemmas::Dones::run_spent, crate::proofs::lemmas::Dones::run_none))]
     pub fn run(
         &mut self,
         events: &[(usize, Event)],

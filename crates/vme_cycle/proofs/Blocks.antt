@@ -7,7 +7,7 @@ use Rattle.vme_lanes.specs.declared.location.Location.{Location}
 use Rattle.vme_lanes.specs.declared.location.Location.TheVariants.{Byte0, Byte1, Byte2, Byte3, Bytes01, Bytes23, Bytes03}
 use Rattle.vme_lanes.specs.declared.location.Strobes.{Strobes}
 use Rattle.vme_lanes.specs.Rows.{row_of, location_at, location_sensed}
-use Rattle.vme_lanes.proofs.Tables.{own_sensed, found_row}
+use Rattle.vme_lanes.proofs.lemmas.Tables.{own_sensed, found_row}
 use Rattle.vme_am.specs.Codes.{CodeRow}
 use Rattle.vme_am.specs.Kinds.{is_block}
 use Rattle.vme_cycle.specs.declared.request.Request.{Request}

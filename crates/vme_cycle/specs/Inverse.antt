@@ -5,7 +5,7 @@ use Rattle.vme_lanes.specs.declared.location.Location.{Location}
 use Rattle.vme_lanes.specs.declared.location.Location.TheVariants.{Byte0}
 use Rattle.vme_lanes.specs.declared.location.Strobes.{Strobes}
 use Rattle.vme_lanes.specs.Rows.{row_of, location_sensed}
-use Rattle.vme_lanes.proofs.Tables.{own_sensed}
+use Rattle.vme_lanes.proofs.lemmas.Tables.{own_sensed}
 
 -- the location that strobes choose, and else the first (this project's own)
 unfoldable pub location_of : Strobes → Location

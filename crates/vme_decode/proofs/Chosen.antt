@@ -15,7 +15,7 @@ use Rattle.vme_decode.proofs.Ranges.{covers_from_has}
 use Rattle.vme_decode.proofs.Aligned.{lawful_entry}
 use Rattle.vme_decode.proofs.Apart.{one_place}
 use Rattle.vme_decode.proofs.Rows.{row_at, same_row}
-use Rattle.vme_decode.proofs.Selection.{responding, selected_by, nothing_selected}
+use Rattle.vme_decode.proofs.lemmas.Selection.{responding, selected_by, nothing_selected}
 
 -- in a space, higher addresses stand higher
 rank_le : (s : Space) (a b : ℕ) → a ≤ b → rank s a ≤ rank s b

@@ -1,8 +1,8 @@
+pub mod lemmas
 mod Ranges
 mod Apart
 mod Aligned
 mod Found
-pub mod Selection
 mod Rows
 mod Halving
 mod Ranks

@@ -1,3 +1,4 @@
+pub mod lemmas
 pub mod Heads
 pub mod Words
 pub mod Spelled
@@ -6,5 +7,4 @@ pub mod Known
 pub mod Cases
 pub mod Naming
 pub mod Modifies
-pub mod Spelling
 mod Lanes

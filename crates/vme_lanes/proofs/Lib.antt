@@ -1,4 +1,2 @@
+pub mod lemmas
 mod Full
-pub mod Tables
-pub mod Placing
-pub mod Wide

@@ -137,7 +137,7 @@ fn bytes_of(lanes: &[Option<u8>]) -> Datum
 }
 
 /// What is placed on the lanes of a location is picked from them.
-#[tactic(auto, using(crate::proofs::Placing::lanes_carry, crate::proofs::Placing::bytes_again))]
+#[tactic(auto, using(crate::proofs::lemmas::Placing::lanes_carry, crate::proofs::lemmas::Placing::bytes_again))]
 pub fn placed_is_picked()
     ensures carries { (l : Location) (bytes : List ℕ) →
         length bytes ≡ (row_of l).len → IsTrue (carries l (lanes_with l bytes)) }
@@ -146,7 +146,7 @@ pub fn placed_is_picked()
 {}
 
 /// What is placed on all lanes is picked from them.
-#[tactic(auto, using(crate::proofs::Wide::all_carry, crate::proofs::Wide::all_again))]
+#[tactic(auto, using(crate::proofs::lemmas::Wide::all_carry, crate::proofs::lemmas::Wide::all_again))]
 pub fn wide_is_picked()
     ensures carries { (bytes : List ℕ) → IsTrue (carries_all (wide_lanes bytes)) }
     ensures picked { (bytes : List ℕ) → bytes_of (wide_lanes bytes) ≡ bytes }

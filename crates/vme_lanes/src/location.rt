@@ -162,14 +162,14 @@ impl Strobes {
 }
 
 /// Each location is sensed from its own strobes: no two rows have the same.
-#[tactic(auto, using(crate::proofs::Tables::own_sensed))]
+#[tactic(auto, using(crate::proofs::lemmas::Tables::own_sensed))]
 pub fn strobes_are_sensed()
     ensures { (l : Location) → location_sensed (row_of l).strobes ≡ Some l }
 {}
 
 /// Each location is found by its length, at any address with its place in the group of four: no two
 /// rows have the same first byte and the same length.
-#[tactic(auto, using(crate::proofs::Tables::own_found))]
+#[tactic(auto, using(crate::proofs::lemmas::Tables::own_found))]
 pub fn places_are_found()
     ensures { (l : Location) (addr : ℕ) → (row_of l).first ≡ addr % 4 →
         location_at addr (row_of l).len ≡ Some l }

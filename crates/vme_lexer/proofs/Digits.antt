@@ -3,7 +3,7 @@ use Rattle.std.proofs.Common.{◌≡◌, ℕ, zero, suc, ◌+◌, ◌*◌, ◌^�
 use Rattle.std.specs.Prelude.{MatchOption, nat_lt, if◌then◌else◌}
 use Rattle.std.proofs.lemmas.Bool.{cases_eq, cases_lt, eqb-true, ltb-true}
 use Rattle.std.proofs.Math.Nat.{pow-succ', pow-le-pow_right}
-use Rattle.vme_cycle.proofs.Numbers.{below_power}
+use Rattle.vme_cycle.proofs.lemmas.Numbers.{below_power}
 use Rattle.vme_lexer.specs.Numbers.{hex_digit, hex_from, hex_pairs, hex_bytes}
 
 -- what a byte counts as: its digit, or more than eight digits spell

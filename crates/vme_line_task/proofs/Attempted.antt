@@ -20,18 +20,18 @@ use Rattle.vme_master.specs.declared.outcome.Outcome.TheVariants as outcomes
 use Rattle.vme_master.specs.Tables as tasks
 use Rattle.vme_master.specs.Tables.{Next, Given, next_of, next_after, outcome_by, row_of_reply, bus_row, local_row}
 use Rattle.vme_master.specs.Laws.{last_turn}
-use Rattle.vme_master.proofs.Tenures.{turns_go_by, holds_for_data}
+use Rattle.vme_master.proofs.lemmas.Tenures.{turns_go_by, holds_for_data}
 use Rattle.vme_shared.specs.declared.reply.LineReply.{LineReply}
 use Rattle.vme_shared.specs.declared.reply.LineReply.TheVariants as replies
 use Rattle.vme_shared.specs.declared.outcome.SharedOutcome.{SharedOutcome}
 use Rattle.vme_shared.specs.declared.outcome.SharedOutcome.TheVariants as shared
 use Rattle.vme_shared.specs.Tables as shares
 use Rattle.vme_shared.specs.Tables.{SharedNext, shared_next, shared_told}
-use Rattle.vme_shared.proofs.Tenures as laws
+use Rattle.vme_shared.proofs.lemmas.Tenures as laws
 use Rattle.vme_line_task.specs.Scripts.{Attempt, Moves, Waits, Shares}
 use Rattle.vme_line_task.specs.Tables.{Makes, Ends, moves_next, waits_next, shares_next, attempt_next}
 use Rattle.vme_line_task.specs.Tenures.{job_told, attempt_told, IsGood, IsGranted}
-use Rattle.vme_line_task.proofs.Below.{moves_makes, waits_makes, shares_makes}
+use Rattle.vme_line_task.proofs.lemmas.Below.{moves_makes, waits_makes, shares_makes}
 use Rattle.vme_line_task.proofs.Tenures.{good_end, good_freed, FreedBy, freed_stands, local_never, turn_told, datum_told, begin_told, IsOwnJob}
 
 -- before the first call

@@ -16,7 +16,7 @@ use Rattle.vme_shared.specs.declared.stage.Stage.{Stage}
 use Rattle.vme_shared.specs.Steps.{first_stage}
 use Rattle.vme_shared.specs.Tables as shares
 use Rattle.vme_shared.specs.Tables.{SharedJob, SharedNext, stage_job, stage_begun, progress_given, next_at, shared_next}
-use Rattle.vme_shared.proofs.Tenures.{end_stays}
+use Rattle.vme_shared.proofs.lemmas.Tenures.{end_stays}
 use Rattle.vme_grammar.specs.declared.line.Line.{Line}
 use Rattle.vme_script.specs.Configurations.{Configuration}
 use Rattle.vme_line_task.specs.Scripts.{Attempt, Moves, Waits, Shares, line_attempt}

@@ -1,11 +1,6 @@
-pub mod Lines
-pub mod LineRooms
+pub mod lemmas
 pub mod Waits
-pub mod Below
 pub mod Ends
-pub mod Courses
 pub mod Tenures
 pub mod Attempted
-pub mod Kept
-pub mod Calls
 pub mod Mailboxes

@@ -21,8 +21,8 @@ use Rattle.vme_master.specs.declared.outcome.Outcome.TheVariants as outcomes
 use Rattle.vme_master.specs.Jobs.{local_call, fits, aim_outcome}
 use Rattle.vme_master.specs.Tables as tasks
 use Rattle.vme_master.specs.Tables.{Next, Given, next_of, next_after, outcome_by, row_of_reply, bus_row, local_row}
-use Rattle.vme_master.proofs.Tenures.{ends_freed}
-use Rattle.vme_master.proofs.Locals.{local_calls}
+use Rattle.vme_master.proofs.lemmas.Tenures.{ends_freed}
+use Rattle.vme_master.proofs.lemmas.Locals.{local_calls}
 use Rattle.vme_line_task.specs.Tenures.{job_told, IsGood}
 
 -- what comes of bytes is no denial

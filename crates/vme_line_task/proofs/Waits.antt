@@ -6,7 +6,7 @@ use Rattle.vme_cycle.specs.declared.fault.CycleFault.{CycleFault}
 use Rattle.vme_cycle.specs.declared.request.Request.TheVariants.{Read}
 use Rattle.vme_cycle.specs.Requests.{reply_room}
 use Rattle.vme_cycle.specs.Lawful.{Transfer, transfer_of}
-use Rattle.vme_cycle.proofs.Transfers.{comes_from}
+use Rattle.vme_cycle.proofs.lemmas.Transfers.{comes_from}
 use Rattle.vme_decode.specs.declared.entry.Entry.{Entry}
 use Rattle.vme_master.specs.Jobs.{bus_job}
 use Rattle.vme_master.specs.Machine.{TaskView, fresh_task, bus_task, job_room}

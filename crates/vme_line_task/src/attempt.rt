@@ -50,7 +50,7 @@ impl Attempts<'_> {
     /// The attempt at work makes its call on boards and arbiter, where it makes one, and is given the
     /// reply. A transfer or a command, which is attempted once, does so by itself.
     #[inline(always)]
-    #[tactic(auto, using(crate::proofs::Calls::moves_call, crate::proofs::Calls::moves_on))]
+    #[tactic(auto, using(crate::proofs::lemmas::Calls::moves_call, crate::proofs::lemmas::Calls::moves_on))]
     pub(crate) fn make(&mut self, core: &mut Core, who: usize)
         requires who { who < whos core.old }
         requires can { IfSome (call_in (attempt_to_do self.old.attempt))
@@ -75,7 +75,7 @@ impl Attempts<'_> {
 
     /// The same of what may be attempted again.
     #[inline(never)]
-    #[tactic(auto, using(crate::proofs::Calls::asked_of))]
+    #[tactic(auto, using(crate::proofs::lemmas::Calls::asked_of))]
     fn make_in_attempts(&mut self, core: &mut Core, who: usize)
         requires who { who < whos core.old }
         requires can { IfSome (call_in (attempt_to_do self.old.attempt))

@@ -38,7 +38,7 @@ impl<'a> LineTask<'a> {
     /// A line of the script of a board's processor, by its place among those that ask for something,
     /// before its first call. What it reads by a request over the bus goes into the room.
     #[inline(always)]
-    #[tactic(auto, using(crate::proofs::Below::started_below))]
+    #[tactic(auto, using(crate::proofs::lemmas::Below::started_below))]
     pub fn start(config: &'a Config, board: usize, line: usize, room: Room) -> LineTask<'a>
         requires board { board < length config.now.boards }
         requires line { line < length (lines_at config.now board) }

@@ -2,7 +2,7 @@
 use Rattle.std.proofs.Common.{◌≡◌, ◌≢◌, ℕ, ◌+◌, ◌%◌, ◌≤◌, true, List, [], ◌∷◌, length, Some, refl, sym, arith}
 use Rattle.std.proofs.lemmas.Bool.{and_from, le-leb, eq-eqb}
 use Rattle.vme_lanes.specs.Rows.{location_at}
-use Rattle.vme_lanes.proofs.Tables.{own_found}
+use Rattle.vme_lanes.proofs.lemmas.Tables.{own_found}
 use Rattle.vme_lanes.specs.declared.location.Location.TheVariants.{Byte0, Bytes03}
 use Rattle.vme_cycle.specs.declared.modify.Modify.TheVariants.{Set}
 use Rattle.vme_cycle.specs.Functions.{number_bytes}
@@ -11,7 +11,7 @@ use Rattle.vme_memory.specs.Boards.{Board}
 use Rattle.vme_memory.specs.Steps.{Read, Write, Modify, fits, has_cycle, can_answer, step}
 use Rattle.vme_shared.specs.MailboxSteps as places
 use Rattle.vme_shared.specs.MailboxSteps.{BoardMailbox, LiesIn, end_of}
-use Rattle.vme_shared.proofs.Places.{rest_below}
+use Rattle.vme_shared.proofs.lemmas.Places.{rest_below}
 use Rattle.vme_shared.specs.declared.stage.Stage.{Stage}
 use Rattle.vme_shared.specs.declared.stage.Stage.TheVariants.{Locks, ReadsPutCount, ReadsTakeCount, WritesWord, RaisesPutCount, ReadsWord, RaisesTakeCount, Unlocks}
 use Rattle.vme_shared.specs.Mailboxes.{raised}

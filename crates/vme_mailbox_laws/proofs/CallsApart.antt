@@ -12,7 +12,7 @@ use Rattle.vme_grammar.specs.declared.line.Line.{Line}
 use Rattle.vme_script.specs.Configurations.{Configuration}
 use Rattle.vme_line_task.specs.Scripts.{Attempt, Moves, Waits, Shares, line_attempt}
 use Rattle.vme_line_task.specs.Tables.{Makes, attempts_of, lawful_next, next_given, given_of, line_next}
-use Rattle.vme_line_task.proofs.Below.{moves_makes, waits_makes, shares_makes}
+use Rattle.vme_line_task.proofs.lemmas.Below.{moves_makes, waits_makes, shares_makes}
 
 -- a task makes a call, by something that it was given
 abbrev pub JobCalls : Job → Call → Type 0

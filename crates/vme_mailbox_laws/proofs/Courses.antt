@@ -20,7 +20,7 @@ use Rattle.vme_master.specs.Tables.{Next, Given, next_of}
 use Rattle.vme_shared.specs.MailboxSteps.{BoardMailbox}
 use Rattle.vme_shared.specs.Phases.{Phase, Idle, after_command}
 use Rattle.vme_shared.specs.Words.{put_by, taken_by}
-use Rattle.vme_shared.proofs.Quiet.{no_put, no_taken}
+use Rattle.vme_shared.proofs.lemmas.Quiet.{no_put, no_taken}
 use Rattle.vme_shared.specs.declared.mailbox.Mailbox.{Mailbox}
 use Rattle.vme_shared.specs.declared.outcome.SharedOutcome.{SharedOutcome}
 use Rattle.vme_shared.specs.declared.request.SharedRequest.{SharedRequest}
@@ -31,7 +31,7 @@ use Rattle.vme_shared.specs.declared.stage.Stage.TheVariants as stages
 use Rattle.vme_shared.specs.declared.stage.Step.{Step}
 use Rattle.vme_shared.specs.declared.stage.Step.TheVariants.{Goes, Stops}
 use Rattle.vme_shared.specs.Mailboxes.{IsAsked}
-use Rattle.vme_shared.proofs.Starts.{all_lawful}
+use Rattle.vme_shared.proofs.lemmas.Starts.{all_lawful}
 use Rattle.vme_shared.specs.Steps.{first_stage, step_after}
 use Rattle.vme_shared.specs.Tables as shares
 use Rattle.vme_shared.specs.Tables.{SharedJob, Makes, Progress, At, Over, stage_job, stage_begun, step_begun, progress_by, progress_given, progress_of, task_shown, next_at}

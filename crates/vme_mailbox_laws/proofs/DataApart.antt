@@ -9,7 +9,7 @@ use Rattle.vme_cycle.specs.declared.request.Request.TheVariants as requests
 use Rattle.vme_cycle.specs.Counts.{is_datum_len, is_wide_code, is_block_count}
 use Rattle.vme_cycle.specs.Requests.{addr_of, datum_len, count_of, span_of, is_counted}
 use Rattle.vme_cycle.specs.Lawful.{Transfer, transfer_of}
-use Rattle.vme_cycle.proofs.Transfers.{transfer_is_lawful, lawful_parts}
+use Rattle.vme_cycle.proofs.lemmas.Transfers.{transfer_is_lawful, lawful_parts}
 use Rattle.vme_decode.specs.declared.entry.Entry.{Entry}
 use Rattle.vme_decode.specs.Select.{selection_at}
 use Rattle.vme_memory.specs.Steps.{Command}
@@ -18,7 +18,7 @@ use Rattle.vme_core.specs.Calls.{OnBoard}
 use Rattle.vme_master.specs.declared.job.BusJob.{BusJob}
 use Rattle.vme_master.specs.Jobs.{bus_job}
 use Rattle.vme_master.specs.Tables.{Given, Makes, data_in, next_of}
-use Rattle.vme_master.proofs.Tenures.{data_go_on}
+use Rattle.vme_master.proofs.lemmas.Tenures.{data_go_on}
 use Rattle.vme_shared.specs.MailboxSteps.{offset_of, len_of}
 use Rattle.vme_script.specs.declared.place.Place.{Place}
 use Rattle.vme_script.specs.Bytes.{transfer_bytes, request_bytes}

@@ -6,13 +6,13 @@ use Rattle.vme_cycle.specs.declared.modify.Modify.TheVariants.{Set}
 use Rattle.vme_cycle.specs.declared.request.Request.{Request}
 use Rattle.vme_cycle.specs.Requests.{code_of, addr_of, count_of, datum_len}
 use Rattle.vme_cycle.specs.Lawful.{Transfer, transfer_of}
-use Rattle.vme_cycle.proofs.Transfers.{comes_from}
+use Rattle.vme_cycle.proofs.lemmas.Transfers.{comes_from}
 use Rattle.vme_decode.specs.Select.{selection_at}
 use Rattle.vme_memory.specs.declared.reply.Reply.TheVariants.{Berr}
 use Rattle.vme_memory.specs.Boards.{Board}
 use Rattle.vme_memory.specs.Steps.{Command, Write, Modify}
 use Rattle.vme_memory.specs.Data.{datum_command}
-use Rattle.vme_memory.proofs.Data.{reply_form}
+use Rattle.vme_memory.proofs.lemmas.Data.{reply_form}
 use Rattle.vme_core.specs.declared.event.EventReply.{EventReply}
 use Rattle.vme_core.specs.declared.event.EventReply.TheVariants as told
 use Rattle.vme_core.specs.Calls.{OnBoard, command_step}
@@ -21,7 +21,7 @@ use Rattle.vme_master.specs.declared.job.Job.{Job}
 use Rattle.vme_master.specs.Jobs.{bus_job}
 use Rattle.vme_master.specs.Tables as tasks
 use Rattle.vme_master.specs.Tables.{Next, Given, data_in, next_of}
-use Rattle.vme_master.proofs.Tenures.{data_go_on}
+use Rattle.vme_master.proofs.lemmas.Tenures.{data_go_on}
 use Rattle.vme_shared.specs.MailboxSteps.{BoardMailbox, LiesIn, touches}
 use Rattle.vme_shared.specs.declared.mailbox.Mailbox.{Mailbox}
 use Rattle.vme_shared.specs.declared.request.SharedRequest.{SharedRequest}
@@ -32,7 +32,7 @@ use Rattle.vme_shared.specs.declared.stage.Step.TheVariants.{Goes, Stops}
 use Rattle.vme_shared.specs.Mailboxes.{mailbox_request, stage_request, set_lock, clear_lock}
 use Rattle.vme_shared.specs.Steps.{first_stage, step_after}
 use Rattle.vme_shared.specs.Tables.{SharedJob, Makes, Progress, At, Over, transfer_job, stage_job, stage_begun, step_begun, progress_by, progress_given, progress_of, next_at, shared_next}
-use Rattle.vme_shared.proofs.Tenures.{shown_makes}
+use Rattle.vme_shared.proofs.lemmas.Tenures.{shown_makes}
 use Rattle.vme_mailbox_laws.specs.Along.{mailbox_in, LiesAt, UsesMailbox, IsGood, GoesTo}
 use Rattle.vme_mailbox_laws.proofs.Stages.{shape, own_request, distance, distance_within, stage_command, stage_touches}
 use Rattle.vme_mailbox_laws.proofs.Courses.{some_slot}

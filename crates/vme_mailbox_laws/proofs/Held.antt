@@ -12,11 +12,11 @@ use Rattle.vme_memory.specs.Locals.{board_step, answer_given, command_given}
 use Rattle.vme_shared.specs.MailboxSteps.{BoardMailbox, touches}
 use Rattle.vme_shared.specs.Phases.{Phase, Idle, access_of, next_phase, after_command, after_entry}
 use Rattle.vme_shared.specs.Words.{put_by, taken_by, phases_after}
-use Rattle.vme_shared.proofs.MailboxSteps.{did}
-use Rattle.vme_shared.proofs.Kept.{Kept, Stands, held_by, kept_same, stands_same}
-use Rattle.vme_shared.proofs.Rows.{Went, went}
-use Rattle.vme_shared.proofs.Quiet.{Quiet, quiet, quiet_same, busy, no_put, no_taken, stayed}
-use Rattle.vme_shared.proofs.Ordered.{Holds}
+use Rattle.vme_shared.proofs.lemmas.MailboxSteps.{did}
+use Rattle.vme_shared.proofs.lemmas.Kept.{Kept, Stands, held_by, kept_same, stands_same}
+use Rattle.vme_shared.proofs.lemmas.Rows.{Went, went}
+use Rattle.vme_shared.proofs.lemmas.Quiet.{Quiet, quiet, quiet_same, busy, no_put, no_taken, stayed}
+use Rattle.vme_shared.proofs.lemmas.Ordered.{Holds}
 
 -- what is there
 some_value : (phase : Option Phase) → is_some phase ≡ true → (p : Phase) × (phase ≡ Some p)

@@ -14,9 +14,9 @@ use Rattle.vme_memory.specs.Locals.{board_step, answer_given, command_given}
 use Rattle.vme_shared.specs.MailboxSteps.{BoardMailbox, LiesIn, offset_of, len_of}
 use Rattle.vme_shared.specs.Phases.{Phase, Idle, Locked, First, Both, Written, Fetched, Counted, after_entry, phase_after}
 use Rattle.vme_shared.specs.Words.{put_by, taken_by, phases_after, words_along}
-use Rattle.vme_shared.proofs.MailboxSteps.{Changes, changes}
-use Rattle.vme_shared.proofs.Kept.{Kept, Stands}
-use Rattle.vme_shared.proofs.Ordered.{Holds}
+use Rattle.vme_shared.proofs.lemmas.MailboxSteps.{Changes, changes}
+use Rattle.vme_shared.proofs.lemmas.Kept.{Kept, Stands}
+use Rattle.vme_shared.proofs.lemmas.Ordered.{Holds}
 use Rattle.vme_mailbox_laws.specs.Along.{IsCount}
 use Rattle.vme_mailbox_laws.proofs.Held.{entry_holds}
 use Rattle.vme_mailbox_laws.proofs.Through.{IsAnswered, Wanted, behind, Through}

@@ -1,9 +1,9 @@
+pub mod lemmas
 pub mod Apart
 pub mod DataApart
 pub mod CallsApart
 pub mod SendsApart
 pub mod MailboxesApart
-pub mod LinesApart
 pub mod Held
 pub mod Opening
 pub mod Through
@@ -11,10 +11,7 @@ pub mod Histories
 pub mod Tasks
 pub mod Lines
 pub mod Scripts
-pub mod Shared
-pub mod Groups
 pub mod Refusals
-pub mod Lawful
 pub mod Single
 pub mod Stages
 pub mod Rows

@@ -24,7 +24,7 @@ use Rattle.vme_shared.specs.declared.reply.LineReply.{LineReply}
 use Rattle.vme_shared.specs.declared.reply.LineReply.TheVariants.{Shared}
 use Rattle.vme_shared.specs.Tables as shares
 use Rattle.vme_shared.specs.Tables.{SharedJob, SharedNext, progress_of, shared_next}
-use Rattle.vme_shared.proofs.Starts.{rests}
+use Rattle.vme_shared.proofs.lemmas.Starts.{rests}
 use Rattle.vme_grammar.specs.declared.line.Line.{Line}
 use Rattle.vme_script.specs.Configurations.{Configuration}
 use Rattle.vme_line_task.specs.Scripts.{Shares, line_attempt}

@@ -22,7 +22,7 @@ use Rattle.vme_script.specs.Configurations.{Configuration}
 use Rattle.vme_script.specs.Lawful.{IsLawful, IsLawfulMailbox}
 use Rattle.vme_line_task.specs.Scripts.{mailbox_at, shared_job, shared_attempt}
 use Rattle.vme_mailbox_laws.specs.Places.{on_board}
-use Rattle.vme_mailbox_laws.proofs.Lawful.{lies_at}
+use Rattle.vme_mailbox_laws.proofs.lemmas.Lawful.{lies_at}
 use Rattle.vme_mailbox_laws.proofs.Apart.{IsAmong}
 use Rattle.vme_mailbox_laws.proofs.CallsApart.{Calls}
 use Rattle.vme_mailbox_laws.proofs.SendsApart.{shared_calls}

@@ -8,9 +8,9 @@ use Rattle.vme_shared.specs.Layout.{mailbox_len}
 use Rattle.vme_shared.specs.MailboxSteps.{BoardMailbox, IsNewMailbox}
 use Rattle.vme_shared.specs.Phases.{Idle}
 use Rattle.vme_shared.specs.Words.{all_idle}
-use Rattle.vme_shared.proofs.Bytes.{number_in}
-use Rattle.vme_shared.proofs.MailboxSteps.{read_len}
-use Rattle.vme_shared.proofs.Ordered.{Holds}
+use Rattle.vme_shared.proofs.lemmas.Bytes.{number_in}
+use Rattle.vme_shared.proofs.lemmas.MailboxSteps.{read_len}
+use Rattle.vme_shared.proofs.lemmas.Ordered.{Holds}
 
 -- a byte of a mailbox of zeros
 zero_byte : (bytes : List ℕ) (at len k : ℕ) → slice_range bytes at (at + len) ≡ zeros len → k < len → get_or bytes (at + k) 0 ≡ 0

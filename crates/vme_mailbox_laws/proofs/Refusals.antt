@@ -12,7 +12,7 @@ use Rattle.vme_am.specs.Codes.{CodeRow, row, read_code}
 use Rattle.vme_am.specs.Kinds.{is_block, is_program}
 use Rattle.vme_am.specs.Spaces.{addresses_of}
 use Rattle.vme_lanes.specs.declared.location.Location.TheVariants.{Byte0, Bytes03}
-use Rattle.vme_lanes.proofs.Tables.{own_found}
+use Rattle.vme_lanes.proofs.lemmas.Tables.{own_found}
 use Rattle.vme_cycle.specs.declared.fault.CycleFault.{CycleFault}
 use Rattle.vme_cycle.specs.declared.request.Request.{Request}
 use Rattle.vme_cycle.specs.Requests.{code_of, addr_of, span_of, is_block_request, function_of, is_counted}
@@ -23,7 +23,7 @@ use Rattle.vme_decode.specs.Lawful as maps
 use Rattle.vme_decode.specs.declared.fault.MapFault.{MapFault}
 use Rattle.vme_decode.specs.declared.fault.MapFault.TheVariants.{Misaligned, OutsideSpace, Overlap}
 use Rattle.vme_decode.specs.Entries.{end_of}
-use Rattle.vme_decode.proofs.Selection.{place_falls}
+use Rattle.vme_decode.proofs.lemmas.Selection.{place_falls}
 use Rattle.vme_shared.specs.MailboxSteps.{BoardMailbox}
 use Rattle.vme_shared.specs.declared.mailbox.Mailbox.{Mailbox}
 use Rattle.vme_shared.specs.Mailboxes.{IsMailbox, word_at, set_lock, read_word, refusal_in, mailbox_refusal}

@@ -4,7 +4,7 @@ use Rattle.std.specs.Prelude.{length, nat_le, ◌==◌}
 use Rattle.std.proofs.lemmas.Bool.{cases_Bool, and_from, and_left, eq-eqb, ne_eqb, eqb-true, eqb-false, lt-ltb, ltb-true, leb-false, and_parts}
 use Rattle.std.proofs.lemmas.List.{append-nil}
 use Rattle.vme_cycle.specs.Functions.{number_of, number_bytes}
-use Rattle.vme_cycle.proofs.Sums.{number_of-number_bytes}
+use Rattle.vme_cycle.proofs.lemmas.Sums.{number_of-number_bytes}
 use Rattle.vme_memory.specs.declared.reply.Reply.{Reply}
 use Rattle.vme_memory.specs.declared.reply.Reply.TheVariants.{Bytes, Done, Berr}
 use Rattle.vme_memory.specs.Data.{reply_len, has_form}

@@ -5,7 +5,7 @@ use Rattle.vme_cycle.specs.declared.fault.CycleFault.{CycleFault}
 use Rattle.vme_cycle.specs.declared.request.Request.{Request}
 use Rattle.vme_cycle.specs.Requests.{code_of, addr_of, span_of}
 use Rattle.vme_cycle.specs.Lawful.{Transfer, transfer_of}
-use Rattle.vme_cycle.proofs.Transfers.{comes_from}
+use Rattle.vme_cycle.proofs.lemmas.Transfers.{comes_from}
 use Rattle.vme_decode.specs.declared.entry.Entry.{Entry}
 use Rattle.vme_decode.specs.Select.{selection_at}
 use Rattle.vme_memory.specs.declared.command.BoardCmd.{BoardCmd}
@@ -13,7 +13,7 @@ use Rattle.vme_memory.specs.declared.command.BoardCmd.TheVariants as given
 use Rattle.vme_memory.specs.Steps.{Command, LocalRead, LocalWrite, LocalModify}
 use Rattle.vme_core.specs.Calls.{Call, OnBoard}
 use Rattle.vme_master.specs.Jobs.{local_job}
-use Rattle.vme_master.proofs.Locals.{local_calls}
+use Rattle.vme_master.proofs.lemmas.Locals.{local_calls}
 use Rattle.vme_shared.specs.MailboxSteps.{offset_of, len_of}
 use Rattle.vme_shared.specs.declared.request.SharedRequest.{SharedRequest}
 use Rattle.vme_shared.specs.declared.request.SharedRequest.TheVariants as asked

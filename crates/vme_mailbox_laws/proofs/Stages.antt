@@ -8,7 +8,7 @@ use Rattle.vme_cycle.specs.declared.request.Request.{Request}
 use Rattle.vme_cycle.specs.Functions.{number_bytes}
 use Rattle.vme_cycle.specs.Requests.{code_of, addr_of, count_of, datum_len}
 use Rattle.vme_cycle.specs.Lawful.{Transfer, transfer_of}
-use Rattle.vme_cycle.proofs.Transfers.{comes_from}
+use Rattle.vme_cycle.proofs.lemmas.Transfers.{comes_from}
 use Rattle.vme_decode.specs.Select.{selection_at}
 use Rattle.vme_memory.specs.Steps.{Command, Read, Write, Modify}
 use Rattle.vme_memory.specs.Data.{datum_command}
@@ -22,7 +22,7 @@ use Rattle.vme_master.specs.Jobs.{bus_job, datum_call, request_aim}
 use Rattle.vme_shared.specs.MailboxSteps as places
 use Rattle.vme_shared.specs.Layout.{mailbox_len}
 use Rattle.vme_shared.specs.MailboxSteps.{BoardMailbox, end_of, touches, offset_of, len_of}
-use Rattle.vme_shared.proofs.Places.{rest_below}
+use Rattle.vme_shared.proofs.lemmas.Places.{rest_below}
 use Rattle.vme_shared.specs.declared.mailbox.Mailbox.{Mailbox}
 use Rattle.vme_shared.specs.declared.request.SharedRequest.{SharedRequest}
 use Rattle.vme_shared.specs.declared.request.SharedRequest.TheVariants as asked

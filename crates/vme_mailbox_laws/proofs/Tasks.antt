@@ -19,7 +19,7 @@ use Rattle.vme_shared.specs.MailboxSteps.{BoardMailbox}
 use Rattle.vme_shared.specs.Phases.{Phase, after_command}
 use Rattle.vme_shared.specs.Words.{put_by, taken_by}
 use Rattle.vme_shared.specs.Tables.{SharedJob, Makes, progress_of, shared_next}
-use Rattle.vme_shared.proofs.Quiet.{no_put, no_taken}
+use Rattle.vme_shared.proofs.lemmas.Quiet.{no_put, no_taken}
 use Rattle.vme_mailbox_laws.specs.Along.{UsesMailbox, IsGood, IsCount, phase_given}
 use Rattle.vme_mailbox_laws.proofs.Datums.{commands, answered}
 use Rattle.vme_mailbox_laws.proofs.Courses.{Stands, moves, stands_count, command_goes}

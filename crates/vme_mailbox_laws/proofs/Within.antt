@@ -5,7 +5,7 @@ use Rattle.vme_memory.specs.Steps.{Command}
 use Rattle.vme_core.specs.Calls.{OnBoard}
 use Rattle.vme_master.specs.Tables.{Given}
 use Rattle.vme_shared.specs.MailboxSteps.{BoardMailbox, end_of, touches, offset_of, len_of}
-use Rattle.vme_shared.proofs.Places.{rest_below}
+use Rattle.vme_shared.proofs.lemmas.Places.{rest_below}
 use Rattle.vme_shared.specs.declared.mailbox.Mailbox.{Mailbox}
 use Rattle.vme_shared.specs.declared.stage.Stage.{Stage}
 use Rattle.vme_shared.specs.declared.stage.Stage.TheVariants.{Locks, ReadsPutCount, ReadsTakeCount, WritesWord, RaisesPutCount, ReadsWord, RaisesTakeCount, Unlocks}

@@ -28,7 +28,7 @@ ghost use Rattle.vme_master.specs.Laws.{last_turn, IsNextDatum, IsBelow};
 /// A task goes by the table: after calls with any replies, fitting or not, it does next what the
 /// table says of them. What does not fit, is absent or comes early is a denial, and an end is for
 /// good.
-#[tactic(auto, using(crate::proofs::Stands::by_the_table))]
+#[tactic(auto, using(crate::proofs::lemmas::Stands::by_the_table))]
 pub fn tasks_go_by_the_table()
     ensures table { (job : Job) (given : Given) → to_do (task_given job given) ≡ next_of job given }
     ensures misfit { (job : Job) (given : Given) (call : Call) (reply : EventReply) →

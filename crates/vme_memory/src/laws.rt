@@ -39,7 +39,7 @@ pub fn written_is_read()
 /// a write or a read-modify-write of its bytes, by itself or in a block. `at` is the offset of the
 /// datum's first byte, which has the place in the group of four that its address has: in a block
 /// the board takes A01 from `at`.
-#[tactic(auto, using(crate::proofs::Data::own_command, crate::proofs::Data::own_cycle))]
+#[tactic(auto, using(crate::proofs::lemmas::Data::own_command, crate::proofs::lemmas::Data::own_cycle))]
 pub fn cycles_are_the_requests_own()
     ensures command { (t : Transfer) (i at : ℕ) → IsLawfulTransfer t → i < count_of t.request →
         at % 4 ≡ address_of t.request i % 4 →
@@ -52,7 +52,7 @@ pub fn cycles_are_the_requests_own()
 /// Each reply has the form that is wanted: to a read and to a read-modify-write as many bytes as it
 /// asked for, to a write that it was done, or to each of them a bus error. Of a datum of a lawful
 /// transfer this holds at any offset.
-#[tactic(auto, using(crate::proofs::Data::reply_form, crate::proofs::Data::datum_form))]
+#[tactic(auto, using(crate::proofs::lemmas::Data::reply_form, crate::proofs::lemmas::Data::datum_form))]
 pub fn replies_have_their_form()
     ensures command { (board : Board) (command : Command) →
         IsTrue (has_form (reply_len command) (step board command).0) }

@@ -5,7 +5,7 @@ use Rattle.std.proofs.lemmas.List.Sums.{sum_by-cons}
 use Rattle.std.proofs.lemmas.List.Elements.{All-nil, All-cons, All-head, All-tail}
 use Rattle.vme_object.specs.declared.history.Entry.{Entry}
 use Rattle.vme_object.specs.History.{own}
-use Rattle.vme_object.proofs.Histories.{own-append}
+use Rattle.vme_object.proofs.lemmas.Histories.{own-append}
 use Rattle.vme_port.specs.declared.rule.Account.{Account}
 use Rattle.vme_port.specs.Views.{names_among}
 use Rattle.vme_port.specs.Rule.{Fits}

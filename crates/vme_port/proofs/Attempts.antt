@@ -6,7 +6,7 @@ use Rattle.atomic_table.specs.Table.{Me}
 use Rattle.atomic_table.specs.Seated.{TableId}
 use Rattle.vme_object.specs.declared.history.Entry.{Entry}
 use Rattle.vme_object.specs.History.{replay, IsLegal, own, entry}
-use Rattle.vme_object.proofs.Histories.{replay-append, legal-append, own-append, own_within}
+use Rattle.vme_object.proofs.lemmas.Histories.{replay-append, legal-append, own-append, own_within}
 use Rattle.vme_port.specs.declared.rule.Account.{Account}
 use Rattle.vme_port.specs.declared.rule.View.{View}
 use Rattle.vme_port.specs.declared.home.Home.{Home}

@@ -1,3 +1,4 @@
+pub mod lemmas
 pub mod Totals
 pub mod Accounts
 pub mod Keeps
@@ -8,4 +9,3 @@ pub mod Opens
 pub mod Settles
 pub mod Gathers
 pub mod Places
-pub mod OneHistory

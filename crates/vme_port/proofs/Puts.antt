@@ -8,7 +8,7 @@ use Rattle.atomic_table.specs.Table.{State, Me, gives, Allows, stepped, step as 
 use Rattle.atomic_table.proofs.Lists.{at_set}
 use Rattle.vme_object.specs.declared.history.Entry.{Entry}
 use Rattle.vme_object.specs.History.{replay, IsLegal, own}
-use Rattle.vme_object.proofs.Histories.{own-append, legal-append}
+use Rattle.vme_object.proofs.lemmas.Histories.{own-append, legal-append}
 use Rattle.vme_port.specs.declared.rule.Account.{Account}
 use Rattle.vme_port.specs.declared.rule.View.{View}
 use Rattle.vme_port.specs.declared.home.Home.{Home}

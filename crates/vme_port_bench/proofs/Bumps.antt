@@ -10,7 +10,7 @@ use Rattle.vme_object.specs.History.{replay, entry}
 use Rattle.vme_port.specs.Calls.{entries_of}
 use Rattle.vme_port.specs.Passes.{PassView}
 use Rattle.vme_port.specs.Settlements.{Settles}
-use Rattle.vme_port.proofs.OneHistory.{all_made}
+use Rattle.vme_port.proofs.lemmas.OneHistory.{all_made}
 
 -- what a call adds is of its command
 pub all_of_call : {C R F : Type 0} (who : ℕ) (cmd : C) (result : Result R F) → All (λ e. e.cmd ≡ cmd) (entries_of who cmd result)

@@ -2,7 +2,7 @@
 use Rattle.std.proofs.Common.{◌≡◌, ℕ, List, [], ◌++◌, Option, refl, sym, ◌∙◌}
 use Rattle.std.proofs.lemmas.List.{append-nil}
 use Rattle.vme_io.specs.Fronts.{AppendsFront}
-use Rattle.vme_io.proofs.Appending.{Appends-none}
+use Rattle.vme_io.proofs.lemmas.Appending.{Appends-none}
 use Rattle.vme_report.specs.Ends.{Gathers}
 
 -- a text was printed, and then none was gathered behind it

@@ -4,7 +4,7 @@ use Rattle.std.proofs.lemmas.List.{append-nil, drop_more}
 use Rattle.std.specs.List.{flat_map, range_with_len}
 use Rattle.std.specs.Io.KnownBytes.{Appends}
 use Rattle.vme_io.specs.Fronts.{AppendsFront}
-use Rattle.vme_io.proofs.Appending.{Appends-none, Appends-more, AppendsFront-more}
+use Rattle.vme_io.proofs.lemmas.Appending.{Appends-none, Appends-more, AppendsFront-more}
 use Rattle.vme_shared.specs.declared.reply.LineReply.{LineReply}
 use Rattle.vme_report.specs.Ends.{Gathers}
 use Rattle.vme_report.specs.Texts.{line_text, replies_text, row, row_text, row_count}

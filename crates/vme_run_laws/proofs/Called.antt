@@ -15,14 +15,14 @@ use Rattle.vme_arbiter.specs.Requests.{is_slot}
 use Rattle.vme_arbiter.specs.Arbitration.{Arbitration, turn_step}
 use Rattle.vme_arbiter.specs.Orderly.{IsOrderly}
 use Rattle.vme_arbiter.specs.Turns.{slot_of, may_give, StandsAsTold}
-use Rattle.vme_arbiter.proofs.Turns.{own-turn}
-use Rattle.vme_arbiter.proofs.Orderly.{orderly-step}
+use Rattle.vme_arbiter.proofs.lemmas.Turns.{own-turn}
+use Rattle.vme_arbiter.proofs.lemmas.Orderly.{orderly-step}
 use Rattle.vme_core.specs.declared.event.EventReply.{EventReply}
 use Rattle.vme_core.specs.declared.event.EventReply.TheVariants as told
 use Rattle.vme_core.specs.Tallies.{Tally}
 use Rattle.vme_core.specs.Runs.{Machine}
 use Rattle.vme_core.specs.Calls.{Call, OnBoard, OnBus, command_step, board_after, machine_step}
-use Rattle.vme_master.proofs.Locals.{board_fits, turn_fits}
+use Rattle.vme_master.proofs.lemmas.Locals.{board_fits, turn_fits}
 use Rattle.vme_line_task.specs.Tenures.{IsGood}
 
 -- a call on a board leaves the bus, and its reply is a board's

@@ -16,8 +16,8 @@ use Rattle.vme_script.specs.Lawful.{IsLawful, IsLawfulMailbox}
 use Rattle.vme_line_task.specs.Scripts.{mailbox_at}
 use Rattle.vme_mailbox_laws.specs.Names.{IsMailboxOf}
 use Rattle.vme_mailbox_laws.specs.Places.{on_board}
-use Rattle.vme_mailbox_laws.proofs.Lawful.{lies_at, lies_in, accepted}
-use Rattle.vme_mailbox_laws.proofs.LinesApart.{left_alone}
+use Rattle.vme_mailbox_laws.proofs.lemmas.Lawful.{lies_at, lies_in, accepted}
+use Rattle.vme_mailbox_laws.proofs.lemmas.LinesApart.{left_alone}
 use Rattle.vme_threads.specs.declared.report.BoardEnd.{BoardEnd}
 use Rattle.vme_threads.specs.declared.report.Report.{Report}
 use Rattle.vme_threads.specs.Reports.{IsReportOf}

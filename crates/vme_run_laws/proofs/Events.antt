@@ -6,9 +6,9 @@ use Rattle.vme_cycle.specs.declared.request.Request.TheVariants as requests
 use Rattle.vme_cycle.specs.Requests.{addr_of, datum_len, function_of}
 use Rattle.vme_cycle.specs.Lawful.{Transfer, transfer_of, IsLawfulTransfer}
 use Rattle.vme_cycle.specs.Plans.{signals_of}
-use Rattle.vme_cycle.proofs.Transfers.{transfer_is_lawful}
+use Rattle.vme_cycle.proofs.lemmas.Transfers.{transfer_is_lawful}
 use Rattle.vme_decode.specs.Select.{selection_at}
-use Rattle.vme_decode.proofs.Selection.{place_remainder}
+use Rattle.vme_decode.proofs.lemmas.Selection.{place_remainder}
 use Rattle.vme_memory.specs.declared.command.BoardCmd.{BoardCmd}
 use Rattle.vme_memory.specs.declared.command.BoardCmd.TheVariants as given_cmd
 use Rattle.vme_memory.specs.Steps.{Command}
@@ -25,9 +25,9 @@ use Rattle.vme_master.specs.Jobs.{bus_job, local_job, datum_call}
 use Rattle.vme_master.specs.Tables as tasks
 use Rattle.vme_master.specs.Tables.{Next, Given, data_in, next_of}
 use Rattle.vme_master.specs.Laws.{IsNextDatum}
-use Rattle.vme_master.proofs.Rooms.{datum_is}
-use Rattle.vme_master.proofs.Tenures.{data_go_on}
-use Rattle.vme_master.proofs.Locals.{local_calls}
+use Rattle.vme_master.proofs.lemmas.Rooms.{datum_is}
+use Rattle.vme_master.proofs.lemmas.Tenures.{data_go_on}
+use Rattle.vme_master.proofs.lemmas.Locals.{local_calls}
 use Rattle.vme_grammar.specs.declared.line.Line.{Line}
 use Rattle.vme_grammar.specs.declared.line.Line.TheVariants as lines
 use Rattle.vme_script.specs.Boards.{entries_of}
@@ -44,7 +44,7 @@ use Rattle.vme_shared.specs.Tables as shares
 use Rattle.vme_shared.specs.Tables.{SharedJob, Progress, At, Over, transfer_job as shared_transfer, stage_job, stage_begun, step_begun, progress_by, progress_given, progress_of, task_shown, next_at, shared_next}
 use Rattle.vme_line_task.specs.Scripts.{Attempt, Moves, Waits, Shares, slot_at, level_at, mailbox_at, transfer_job, request_attempt, unless_refused, shared_job, line_attempt}
 use Rattle.vme_line_task.specs.Tables.{Makes, attempt_next, attempts_of, lawful_next, next_given}
-use Rattle.vme_line_task.proofs.Below.{moves_makes, waits_makes, shares_makes}
+use Rattle.vme_line_task.proofs.lemmas.Below.{moves_makes, waits_makes, shares_makes}
 use Rattle.vme_line_task.specs.Events.{IsCallBelow}
 
 -- a call has an event

@@ -9,12 +9,12 @@ use Rattle.vme_arbiter.specs.Arbitration.{opening_bus, turn_step}
 use Rattle.vme_core.specs.Tallies.{fresh_tally}
 use Rattle.vme_core.specs.Runs.{Machine, Move, Did, bus_part}
 use Rattle.vme_core.specs.Calls.{Call, call_of}
-use Rattle.vme_core.proofs.Dones.{did_nil, did_trans, opened_boards}
-use Rattle.vme_core.proofs.Tallies.{went_tells}
+use Rattle.vme_core.proofs.lemmas.Dones.{did_nil, did_trans, opened_boards}
+use Rattle.vme_core.proofs.lemmas.Tallies.{went_tells}
 use Rattle.vme_script.specs.Configurations.{Configuration, opening_memory}
 use Rattle.vme_script.specs.Lawful.{IsLawful}
 use Rattle.vme_line_task.specs.Courses.{Course, Follows}
-use Rattle.vme_line_task.proofs.Courses.{follows_nothing}
+use Rattle.vme_line_task.proofs.lemmas.Courses.{follows_nothing}
 use Rattle.vme_stepper.specs.Turns.{World, course_turn, lines_left, turn_in, turn_at, place_of, turn, run, opening_world, world_after}
 use Rattle.vme_run_laws.specs.TurnCalls.{first_call, course_call, place_call, turn_call}
 use Rattle.vme_run_laws.specs.Moves.{calls_from, calls_in, moves_of, AreRun}

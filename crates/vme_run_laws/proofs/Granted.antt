@@ -23,7 +23,7 @@ use Rattle.vme_core.specs.declared.event.EventReply.{EventReply}
 use Rattle.vme_core.specs.declared.event.EventReply.TheVariants as told
 use Rattle.vme_core.specs.Runs.{Move, move, IsReplyTo, board_part, bus_part}
 use Rattle.vme_core.specs.Calls.{Call, OnBoard, OnBus, call_of}
-use Rattle.vme_master.proofs.Locals.{board_fits}
+use Rattle.vme_master.proofs.lemmas.Locals.{board_fits}
 use Rattle.vme_master.specs.declared.outcome.Outcome.TheVariants.{Denied}
 use Rattle.vme_shared.specs.declared.reply.LineReply.{LineReply}
 use Rattle.vme_shared.specs.declared.reply.LineReply.TheVariants.{Transfer}
@@ -34,8 +34,8 @@ use Rattle.vme_line_task.specs.Scripts.{slot_at, lines_at}
 use Rattle.vme_line_task.specs.Tables.{Makes, Ends, line_next, given_of}
 use Rattle.vme_line_task.specs.Courses.{Goes, IsCourse}
 use Rattle.vme_line_task.specs.Tenures.{line_told, IsGood, IsGranted}
-use Rattle.vme_line_task.proofs.Kept.{line_begins, line_first, line_turns, line_turn, line_datum, line_ends}
-use Rattle.vme_line_task.proofs.Below.{next_below}
+use Rattle.vme_line_task.proofs.lemmas.Kept.{line_begins, line_first, line_turns, line_turn, line_datum, line_ends}
+use Rattle.vme_line_task.proofs.lemmas.Below.{next_below}
 use Rattle.vme_run_laws.proofs.Places.{has_board, lawful_slot, lawful_level, slots_apart}
 use Rattle.vme_threads.specs.declared.report.Report.{Report}
 use Rattle.vme_threads.specs.Rans.{answers_in}

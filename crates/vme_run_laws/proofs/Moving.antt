@@ -12,8 +12,8 @@ use Rattle.vme_core.specs.declared.event.EventReply.{EventReply}
 use Rattle.vme_core.specs.Tallies.{Tally}
 use Rattle.vme_core.specs.Runs.{Machine, Move, Did, move}
 use Rattle.vme_core.specs.Calls.{Call, OnBoard, OnBus, call_of, board_after, machine_step}
-use Rattle.vme_core.proofs.Calls.{did_call}
-use Rattle.vme_core.proofs.Dones.{did_nil}
+use Rattle.vme_core.proofs.lemmas.Calls.{did_call}
+use Rattle.vme_core.proofs.lemmas.Dones.{did_nil}
 use Rattle.vme_shared.specs.declared.reply.LineReply.{LineReply}
 use Rattle.vme_grammar.specs.declared.line.Line.{Line}
 use Rattle.vme_script.specs.Configurations.{Configuration}
@@ -22,8 +22,8 @@ use Rattle.vme_line_task.specs.Scripts.{lines_at}
 use Rattle.vme_line_task.specs.Tables.{LineNext, Rests, Makes, Ends, line_next, given_of}
 use Rattle.vme_line_task.specs.Courses.{Course, Follows}
 use Rattle.vme_line_task.specs.Events.{IsCallBelow}
-use Rattle.vme_line_task.proofs.Below.{next_below}
-use Rattle.vme_line_task.proofs.Courses.{follows_call, follows_answer}
+use Rattle.vme_line_task.proofs.lemmas.Below.{next_below}
+use Rattle.vme_line_task.proofs.lemmas.Courses.{follows_call, follows_answer}
 use Rattle.vme_stepper.specs.Turns.{course, settled, call_made, turn_by, course_turn, lines_left}
 use Rattle.vme_run_laws.specs.TurnCalls.{call_or, first_call}
 use Rattle.vme_run_laws.specs.Moves.{calls_in, moves_of}

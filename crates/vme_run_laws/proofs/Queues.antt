@@ -8,15 +8,15 @@ use Rattle.vme_memory.specs.declared.reply.Reply.{Reply}
 use Rattle.vme_shared.specs.MailboxSteps.{BoardMailbox, LiesIn}
 use Rattle.vme_shared.specs.Phases.{IsProper}
 use Rattle.vme_shared.specs.Words.{put_by, taken_by, words_put, words_taken, all_idle}
-use Rattle.vme_shared.proofs.Opening.{is_queue}
+use Rattle.vme_shared.proofs.lemmas.Opening.{is_queue}
 use Rattle.vme_script.specs.declared.board.BoardConfig.{BoardConfig}
 use Rattle.vme_script.specs.Configurations.{Configuration, opening_memory}
 use Rattle.vme_script.specs.Lawful.{IsLawful}
 use Rattle.vme_line_task.specs.Scripts.{lines_at}
 use Rattle.vme_mailbox_laws.specs.Names.{lines_put, lines_taken, IsMailboxOf}
 use Rattle.vme_mailbox_laws.specs.Groups.{own_words_put, own_words_taken}
-use Rattle.vme_mailbox_laws.proofs.Groups.{own_words}
-use Rattle.vme_mailbox_laws.proofs.Shared.{proper, put_told, taken_told}
+use Rattle.vme_mailbox_laws.proofs.lemmas.Groups.{own_words}
+use Rattle.vme_mailbox_laws.proofs.lemmas.Shared.{proper, put_told, taken_told}
 use Rattle.vme_threads.specs.declared.report.BoardEnd.{BoardEnd}
 use Rattle.vme_threads.specs.declared.report.Report.{Report}
 use Rattle.vme_threads.specs.Rans.{answers_in}

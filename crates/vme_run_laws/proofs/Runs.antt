@@ -8,7 +8,7 @@ use Rattle.std.proofs.lemmas.Option.{slice_get_within, slice_get-map}
 use Rattle.vme_arbiter.specs.declared.command.ArbReply.TheVariants as turned
 use Rattle.vme_arbiter.specs.Arbitration.{opening_bus}
 use Rattle.vme_arbiter.specs.Orderly.{IsOrderly}
-use Rattle.vme_arbiter.proofs.Orderly.{orderly-opening}
+use Rattle.vme_arbiter.proofs.lemmas.Orderly.{orderly-opening}
 use Rattle.vme_memory.specs.Steps.{Command}
 use Rattle.vme_core.specs.declared.event.EventReply.TheVariants as told
 use Rattle.vme_core.specs.Runs.{Machine}

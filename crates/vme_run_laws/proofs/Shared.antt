@@ -23,7 +23,7 @@ use Rattle.vme_core.specs.declared.event.EventReply.TheVariants as told
 use Rattle.vme_core.specs.Runs.{Move, move, IsReplyTo, board_part, bus_part}
 use Rattle.vme_core.specs.Calls.{OnBus}
 use Rattle.vme_master.specs.Jobs.{fits}
-use Rattle.vme_master.proofs.Locals.{turn_fits}
+use Rattle.vme_master.proofs.lemmas.Locals.{turn_fits}
 use Rattle.vme_shared.specs.declared.reply.LineReply.{LineReply}
 use Rattle.vme_script.specs.declared.board.BoardConfig.{BoardConfig}
 use Rattle.vme_script.specs.Configurations.{Configuration, opening_memory}

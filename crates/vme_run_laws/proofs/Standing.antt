@@ -14,7 +14,7 @@ use Rattle.vme_line_task.specs.Scripts.{slot_at, lines_at}
 use Rattle.vme_line_task.specs.Tables.{LineNext, Rests, Makes, Ends, line_next}
 use Rattle.vme_line_task.specs.Courses.{Course}
 use Rattle.vme_line_task.specs.Tenures.{line_told, IsGood, IsGranted}
-use Rattle.vme_line_task.proofs.Kept.{line_begins, line_ends}
+use Rattle.vme_line_task.proofs.lemmas.Kept.{line_begins, line_ends}
 use Rattle.vme_stepper.specs.Turns.{course, settled, lines_left}
 
 -- what the slot was told last, in the line that comes next

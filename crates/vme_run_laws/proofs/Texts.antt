@@ -15,7 +15,7 @@ use Rattle.vme_script.specs.Answers.{◌>>=◌}
 use Rattle.vme_script.specs.Configurations.{Configuration, configuration_of}
 use Rattle.vme_script.specs.Lawful.{IsLawful}
 use Rattle.vme_script.specs.Readings.{configuration_in}
-use Rattle.vme_script.proofs.Lawful.{configuration_known}
+use Rattle.vme_script.proofs.lemmas.Lawful.{configuration_known}
 use Rattle.vme_engines.specs.Tellings.{TellsRun}
 use Rattle.vme_run_laws.specs.Declared.{IsDeclaredIn}
 use Rattle.vme_run_laws.proofs.Queues.{IsQueue}

@@ -9,7 +9,7 @@ use Rattle.vme_arbiter.specs.declared.command.ArbReply.TheVariants as turned
 use Rattle.vme_arbiter.specs.Arbitration.{Arbitration, turn_step}
 use Rattle.vme_arbiter.specs.Orderly.{IsOrderly}
 use Rattle.vme_arbiter.specs.Turns.{StandsAsTold}
-use Rattle.vme_arbiter.proofs.Turns.{other-turn, holds-holder}
+use Rattle.vme_arbiter.proofs.lemmas.Turns.{other-turn, holds-holder}
 use Rattle.vme_core.specs.declared.event.EventReply.{EventReply}
 use Rattle.vme_core.specs.declared.event.EventReply.TheVariants as told
 use Rattle.vme_core.specs.Runs.{Machine}
@@ -23,7 +23,7 @@ use Rattle.vme_line_task.specs.Scripts.{slot_at}
 use Rattle.vme_line_task.specs.Tables.{LineNext, Rests, Makes, Ends, line_next}
 use Rattle.vme_line_task.specs.Courses.{Course}
 use Rattle.vme_line_task.specs.Tenures.{line_told, IsLocal, IsGranted}
-use Rattle.vme_line_task.proofs.Kept.{line_first, line_turns, line_holds, line_turn, line_datum}
+use Rattle.vme_line_task.proofs.lemmas.Kept.{line_first, line_turns, line_holds, line_turn, line_datum}
 use Rattle.vme_stepper.specs.Turns.{course, settled, call_made, turn_by, course_turn, lines_left}
 use Rattle.vme_run_laws.specs.TurnCalls.{call_or, first_call}
 use Rattle.vme_run_laws.proofs.Places.{lawful_slot, lawful_level, left_after, AllOwn}

@@ -12,8 +12,8 @@ use Rattle.vme_arbiter.specs.declared.kind.ArbiterKind.{ArbiterKind}
 use Rattle.vme_arbiter.specs.Arbitration.{Arbitration, turn_step, opening_bus}
 use Rattle.vme_arbiter.specs.Orderly.{IsOrderly}
 use Rattle.vme_arbiter.specs.Turns.{may_give, StandsAsTold}
-use Rattle.vme_arbiter.proofs.Turns.{other-turn}
-use Rattle.vme_arbiter.proofs.Orderly.{orderly-opening}
+use Rattle.vme_arbiter.proofs.lemmas.Turns.{other-turn}
+use Rattle.vme_arbiter.proofs.lemmas.Orderly.{orderly-opening}
 use Rattle.vme_core.specs.declared.event.EventReply.TheVariants as told
 use Rattle.vme_core.specs.Calls.{OnBus}
 use Rattle.vme_line_task.specs.Tenures.{IsGood}

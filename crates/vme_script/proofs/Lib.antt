@@ -1,3 +1,4 @@
+pub mod lemmas
 pub mod Numbers
 pub mod Places
 pub mod Untouched
@@ -7,5 +8,4 @@ pub mod Maps
 pub mod Facts
 pub mod Scripts
 pub mod Sites
-pub mod Lawful
 pub mod Taking

@@ -11,7 +11,7 @@ use Rattle.vme_am.specs.Codes.{CodeRow, read_code}
 use Rattle.vme_decode.specs.declared.entry.Entry.{Entry}
 use Rattle.vme_decode.specs.Entries.{end_of}
 use Rattle.vme_decode.specs.Select.{selection_at, FallsTo}
-use Rattle.vme_decode.proofs.Selection.{place_falls}
+use Rattle.vme_decode.proofs.lemmas.Selection.{place_falls}
 use Rattle.vme_script.specs.declared.place.Place.{Place}
 use Rattle.vme_script.specs.Places.{place_by, place_at, share}
 

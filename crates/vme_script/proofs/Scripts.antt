@@ -7,7 +7,7 @@ use Rattle.std.proofs.lemmas.Bool.{cases_Bool, le-leb, lt-ltb, le-ltb, cases_lt}
 use Rattle.vme_grammar.specs.declared.line.Line.{Line}
 use Rattle.vme_grammar.specs.declared.fault.LineFault.{LineFault}
 use Rattle.vme_grammar.specs.Grammar.{line_of, IsOwnLine}
-use Rattle.vme_grammar.proofs.Spelling.{line_is_own}
+use Rattle.vme_grammar.proofs.lemmas.Spelling.{line_is_own}
 use Rattle.vme_decode.specs.declared.entry.Entry.{Entry}
 use Rattle.vme_shared.specs.declared.mailbox.Mailbox.{Mailbox}
 use Rattle.vme_script.specs.declared.boxes.Boxes.TheVariants.{Declared}

@@ -16,8 +16,8 @@ use Rattle.vme_shared.specs.declared.stage.Step.TheVariants.{Stops}
 use Rattle.vme_shared.specs.Mailboxes.{shared_refusal}
 use Rattle.vme_shared.specs.Steps.{first_stage, mailbox_step, step_after}
 use Rattle.vme_shared.specs.Tables.{SharedJob, Makes, Ends, Progress, At, Over, transfer_job, stage_begun, step_begun, progress_by, progress_given, progress_of, next_at, shared_next}
-use Rattle.vme_shared.proofs.Starts.{first_lawful}
-use Rattle.vme_shared.proofs.Tenures.{shown_makes}
+use Rattle.vme_shared.proofs.lemmas.Starts.{first_lawful}
+use Rattle.vme_shared.proofs.lemmas.Tenures.{shown_makes}
 
 -- a denial stops at any stage
 mailbox_denied : (request : SharedRequest) (stage : Stage) → mailbox_step request stage outcomes.Denied ≡ Stops shared.Denied

@@ -24,7 +24,7 @@ use Rattle.vme_master.specs.declared.outcome.Outcome.TheVariants as outcomes
 use Rattle.vme_master.specs.Jobs.{datum_call, fits, request_aim, aim_outcome}
 use Rattle.vme_master.specs.Tables.{Given, Next, Rests, Makes, Ends, data_in, bytes_in, datum_or_done, outcome_by, bus_row, next_after, next_of}
 use Rattle.vme_master.specs.Machine.{aim_len}
-use Rattle.vme_master.proofs.Aims.{datum_len_wanted}
+use Rattle.vme_master.proofs.lemmas.Aims.{datum_len_wanted}
 
 -- what comes of bytes is no denial
 aim_granted : (aim : Aim) (bytes : List ℕ) → aim_outcome aim bytes ≢ outcomes.Denied

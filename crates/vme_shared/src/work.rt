@@ -20,7 +20,7 @@ pub enum Work<'a> {
 impl Work<'_> {
     /// The transfer at work is given the reply to its event, or nothing. Where it has ended by that,
     /// this is where its outcome leads.
-    #[tactic(auto, using(crate::proofs::Stands::by_outcome))]
+    #[tactic(auto, using(crate::proofs::lemmas::Stands::by_outcome))]
     pub(crate) fn give(
         &mut self,
         request: SharedRequest,

@@ -11,7 +11,7 @@ use Rattle.vme_line_task.specs.Tables.{LineNext, Rests, Makes, Ends}
 use Rattle.vme_shared.specs.declared.reply.LineReply.{LineReply}
 use Rattle.vme_line_task.specs.Events.{call_in, answer_in}
 use Rattle.vme_line_task.specs.Machine.{line_to_do, IsLineBelow}
-use Rattle.vme_line_task.proofs.Below.{calls_below}
+use Rattle.vme_line_task.proofs.lemmas.Below.{calls_below}
 use Rattle.vme_stepper.specs.Drivers.{StepsWithin}
 use Rattle.vme_stepper.proofs.Steps.{none_spent}
 

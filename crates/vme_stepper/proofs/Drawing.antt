@@ -7,7 +7,7 @@ use Rattle.vme_script.specs.declared.script.ScriptLine.{ScriptLine}
 use Rattle.vme_script.specs.Configurations.{Configuration}
 use Rattle.vme_line_task.specs.Scripts.{script_at, lines_at}
 use Rattle.vme_line_task.specs.Rooms.{rooms_of}
-use Rattle.vme_line_task.proofs.LineRooms.{IsNextRoom, next_room}
+use Rattle.vme_line_task.proofs.lemmas.LineRooms.{IsNextRoom, next_room}
 
 -- where a line is left its room is the next
 pub draws : (config : Configuration) (board : ℕ) (lines : List (ℕ × LineReply)) (ended : ℕ) (rooms rest : List RoomView) (room : RoomView)

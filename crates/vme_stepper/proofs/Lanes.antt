@@ -14,7 +14,7 @@ use Rattle.vme_line_task.specs.Courses.{Course}
 use Rattle.vme_stepper.specs.Turns.{course, settled, turn_by, course_turn, lines_left}
 use Rattle.vme_stepper.specs.Reports.{told_lines}
 use Rattle.vme_stepper.specs.Drivers.{LaneView, lane_answered, lane_settled, lane_turn_by, task_now, lines_turn, lane_turn, task_at, lane_of}
-use Rattle.vme_line_task.proofs.Lines.{by_the_replies}
+use Rattle.vme_line_task.proofs.lemmas.Lines.{by_the_replies}
 use Rattle.vme_stepper.proofs.Told.{told_more}
 
 module _ (config : Configuration) (board : ℕ) where

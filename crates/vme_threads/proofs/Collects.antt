@@ -3,7 +3,7 @@ use Rattle.std.proofs.Common.{◌≡◌, ℕ, ◌<◌, ◌≤◌, List, [], ◌�
 use Rattle.std.specs.Global.{Vec}
 use Rattle.std.proofs.lemmas.List.{append-nil, append_assoc, get_or_default, get_or-set_other, length-set, length-append, map-append}
 use Rattle.std.proofs.Math.Seq.{get_or-append_seam}
-use Rattle.vme_object.proofs.Eachs.{AllAt-push}
+use Rattle.vme_object.proofs.lemmas.Eachs.{AllAt-push}
 use Rattle.vme_memory.specs.declared.command.BoardCmd.{BoardCmd}
 use Rattle.vme_memory.specs.declared.reply.Reply.{Reply}
 use Rattle.vme_arbiter.specs.declared.command.ArbCmd.{ArbCmd}

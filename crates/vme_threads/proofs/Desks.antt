@@ -6,7 +6,7 @@ use Rattle.std.proofs.lemmas.Bool.{eq-eqb, ne_eqb}
 use Rattle.vme_object.specs.declared.history.Entry.{Entry}
 use Rattle.vme_object.specs.History.{entry}
 use Rattle.vme_object.specs.Each.{AllAt}
-use Rattle.vme_object.proofs.Eachs.{AllAt-same, AllAt-set, AllAt-trans}
+use Rattle.vme_object.proofs.lemmas.Eachs.{AllAt-same, AllAt-set, AllAt-trans}
 use Rattle.vme_memory.specs.declared.command.BoardCmd.{BoardCmd}
 use Rattle.vme_memory.specs.declared.reply.Reply.{Reply}
 use Rattle.vme_arbiter.specs.declared.command.ArbCmd.{ArbCmd}
@@ -18,7 +18,7 @@ use Rattle.vme_core.specs.Runs.{Move, move, IsReplyTo, board_entry, bus_entry, b
 use Rattle.vme_port.specs.Passes.{PassView}
 use Rattle.vme_port.specs.declared.fault.Spent.{Spent}
 use Rattle.vme_port.specs.Calls.{Makes, entries_of}
-use Rattle.vme_port.proofs.OneHistory.{makes_none, makes_more}
+use Rattle.vme_port.proofs.lemmas.OneHistory.{makes_none, makes_more}
 use Rattle.vme_threads.specs.declared.desk.Desk.{Desk}
 use Rattle.vme_threads.specs.declared.worker.Worker.{Worker}
 use Rattle.vme_threads.specs.declared.ports.BoardPort.{BoardPort}

@@ -1,7 +1,7 @@
 -- Workers, as they get passes.
 use Rattle.std.proofs.Common.{◌≡◌, ℕ, ◌<◌, ◌≤◌, List, [], ◌∷◌, ◌++◌, length, slice_index_or, vec_len, vec_capacity, ap, sym, subst, ◌∙◌, arith}
 use Rattle.vme_object.specs.Each.{Each, AllAt}
-use Rattle.vme_object.proofs.Eachs.{AllAt-push}
+use Rattle.vme_object.proofs.lemmas.Eachs.{AllAt-push}
 use Rattle.vme_memory.specs.declared.command.BoardCmd.{BoardCmd}
 use Rattle.vme_memory.specs.declared.reply.Reply.{Reply}
 use Rattle.vme_arbiter.specs.declared.command.ArbCmd.{ArbCmd}

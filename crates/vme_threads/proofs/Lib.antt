@@ -1,3 +1,4 @@
+pub mod lemmas
 mod Places
 mod Dealings
 mod Hired
@@ -6,4 +7,3 @@ pub mod Lines
 pub mod Runs
 pub mod Once
 pub mod Collects
-pub mod Gathered

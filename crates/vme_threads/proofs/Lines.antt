@@ -16,10 +16,10 @@ use Rattle.vme_line_task.specs.Tables.{LineNext, Rests, Makes, Ends, line_next}
 use Rattle.vme_line_task.specs.Machine.{line_started, line_advance, line_to_do, line_after, IsLineBelow}
 use Rattle.vme_line_task.specs.Events.{call_in, answer_in, MakesCall, IsCallBelow}
 use Rattle.vme_line_task.specs.Courses.{Goes}
-use Rattle.vme_line_task.proofs.Lines.{by_the_replies}
-use Rattle.vme_line_task.proofs.Calls.{makes_event, ends_so}
-use Rattle.vme_line_task.proofs.Below.{calls_below}
-use Rattle.vme_line_task.proofs.Courses.{goes-snoc}
+use Rattle.vme_line_task.proofs.lemmas.Lines.{by_the_replies}
+use Rattle.vme_line_task.proofs.lemmas.Calls.{makes_event, ends_so}
+use Rattle.vme_line_task.proofs.lemmas.Below.{calls_below}
+use Rattle.vme_line_task.proofs.lemmas.Courses.{goes-snoc}
 use Rattle.vme_threads.specs.declared.desk.Desk.{Desk}
 use Rattle.vme_threads.specs.Desks.{HasMade, HasCalled}
 use Rattle.vme_threads.specs.Rans.{HasAnswered}

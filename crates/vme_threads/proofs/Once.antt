@@ -19,7 +19,7 @@ use Rattle.vme_master.specs.Tables as tasks
 use Rattle.vme_master.specs.Tables.{Next, Given, next_of}
 use Rattle.vme_master.specs.Machine.{TaskView, fresh_task, bus_task, advance, task_given, to_do}
 use Rattle.vme_master.specs.Events as tasks_seen
-use Rattle.vme_master.proofs.Stands.{by_the_table}
+use Rattle.vme_master.proofs.lemmas.Stands.{by_the_table}
 use Rattle.vme_shared.specs.declared.reply.LineReply.{LineReply}
 use Rattle.vme_shared.specs.declared.reply.LineReply.TheVariants.{Transfer, Refused}
 use Rattle.vme_grammar.specs.declared.line.Line.{Line}
@@ -31,8 +31,8 @@ use Rattle.vme_line_task.specs.Scripts.{Moves, slot_at, level_at, lines_at, tran
 use Rattle.vme_line_task.specs.Tables.{Makes, Ends, moves_next, attempts_of, next_asks_again, next_given, line_next, given_of}
 use Rattle.vme_line_task.specs.Events.{IsCallBelow}
 use Rattle.vme_line_task.specs.Courses.{Goes}
-use Rattle.vme_line_task.proofs.Below.{next_below}
-use Rattle.vme_line_task.proofs.Courses.{goes-snoc}
+use Rattle.vme_line_task.proofs.lemmas.Below.{next_below}
+use Rattle.vme_line_task.proofs.lemmas.Courses.{goes-snoc}
 use Rattle.vme_port.specs.declared.fault.Spent.{Spent}
 use Rattle.vme_threads.specs.declared.desk.Desk.{Desk}
 use Rattle.vme_threads.specs.Desks.{HasMade, HasCalled}

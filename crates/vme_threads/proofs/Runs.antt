@@ -12,8 +12,8 @@ use Rattle.vme_cycle.specs.BlockBuffers.{RoomView}
 use Rattle.vme_line_task.specs.Scripts.{script_at, lines_at}
 use Rattle.vme_line_task.specs.Rooms.{line_room, rooms_of}
 use Rattle.vme_line_task.specs.Courses.{LineCourse, IsCourse}
-use Rattle.vme_line_task.proofs.Courses.{course-snoc}
-use Rattle.vme_line_task.proofs.LineRooms.{IsNextRoom, rooms_left, next_room}
+use Rattle.vme_line_task.proofs.lemmas.Courses.{course-snoc}
+use Rattle.vme_line_task.proofs.lemmas.LineRooms.{IsNextRoom, rooms_left, next_room}
 use Rattle.vme_threads.specs.declared.desk.Desk.{Desk}
 use Rattle.vme_threads.specs.declared.worker.Worker.{Worker}
 use Rattle.vme_threads.specs.declared.worker.Ran.{Ran}

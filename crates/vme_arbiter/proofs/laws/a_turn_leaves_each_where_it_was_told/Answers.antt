@@ -1,4 +1,4 @@
-use Rattle.vme_arbiter.proofs.Turns.{own-turn, other-turn, holds-holder}
+use Rattle.vme_arbiter.proofs.lemmas.Turns.{own-turn, other-turn, holds-holder}
 use Rattle.vme_arbiter.proofs.laws.a_turn_leaves_each_where_it_was_told.Goals as goal
 
 pub returns-clause-own : goal.returns-clause-own

@@ -1,4 +1,4 @@
-use Rattle.vme_arbiter.proofs.Turns.{turns_granted}
+use Rattle.vme_arbiter.proofs.lemmas.Turns.{turns_granted}
 use Rattle.vme_arbiter.proofs.laws.no_turn_is_denied.Goals as goal
 
 pub returns : goal.returns

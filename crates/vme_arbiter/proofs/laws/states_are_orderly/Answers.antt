@@ -1,5 +1,5 @@
 use Rattle.vme_arbiter.specs.Arbitration.{opening_bus}
-use Rattle.vme_arbiter.proofs.Orderly.{orderly-replay, orderly-step, orderly-opening, kind-stays}
+use Rattle.vme_arbiter.proofs.lemmas.Orderly.{orderly-replay, orderly-step, orderly-opening, kind-stays}
 use Rattle.vme_arbiter.proofs.laws.states_are_orderly.Goals as goal
 
 pub returns-clause-all : goal.returns-clause-all

@@ -2,7 +2,7 @@
 use Rattle.std.proofs.Common.{◌≡◌, ap, arith}
 use Rattle.vme_cycle.specs.BlockBuffers.{RoomView}
 use Rattle.vme_cycle.specs.Requests.{reply_room}
-use Rattle.vme_cycle.proofs.Transfers.{comes_from}
+use Rattle.vme_cycle.proofs.lemmas.Transfers.{comes_from}
 use Rattle.vme_board_tests.proofs.transfers.a_refused_request_has_no_task.Goals as goal
 
 pub start-task-requires-clause-enough : goal.start-task-requires-clause-enough

@@ -1,7 +1,7 @@
 -- One byte has room.
 use Rattle.std.proofs.Common.{◌≡◌, ap, arith}
 use Rattle.vme_cycle.specs.Requests.{reply_room}
-use Rattle.vme_cycle.proofs.Transfers.{comes_from}
+use Rattle.vme_cycle.proofs.lemmas.Transfers.{comes_from}
 use Rattle.vme_board_tests.proofs.transfers.a_request_of_its_own_goes_the_same_way.Goals as goal
 
 pub start_own-requires : goal.start_own-requires

@@ -1,5 +1,5 @@
 -- What a run from the opening leaves.
-use Rattle.vme_core.proofs.Dones.{opened_boards}
+use Rattle.vme_core.proofs.lemmas.Dones.{opened_boards}
 use Rattle.vme_core.proofs.laws.opening_is_replayed.Goals as goal
 
 -- by the lemma on each board

@@ -1,4 +1,4 @@
-use Rattle.vme_cycle.proofs.Sums.{number_of-sum_of, length-sum_of}
+use Rattle.vme_cycle.proofs.lemmas.Sums.{number_of-sum_of, length-sum_of}
 use Rattle.vme_cycle.proofs.laws.sums_are_modulo.Goals as goal
 
 pub returns : goal.returns

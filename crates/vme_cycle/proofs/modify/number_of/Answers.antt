@@ -1,6 +1,6 @@
 -- There is room for a byte more.
 use Rattle.std.proofs.Common.{arith}
-use Rattle.vme_cycle.proofs.Numbers.{below_power}
+use Rattle.vme_cycle.proofs.lemmas.Numbers.{below_power}
 use Rattle.vme_cycle.proofs.modify.number_of.Goals as goal
 
 pub overflow_mul-number : goal.overflow_mul-number

@@ -1,6 +1,6 @@
 -- A byte more is spelled.
 use Rattle.std.proofs.Common.{arith, rules}
-use Rattle.vme_cycle.proofs.Numbers.{byte_more}
+use Rattle.vme_cycle.proofs.lemmas.Numbers.{byte_more}
 use Rattle.vme_cycle.proofs.modify.spelled.Goals as goal
 
 pub loop-place-preserved : goal.loop-place-preserved

@@ -1,4 +1,4 @@
-use Rattle.vme_decode.proofs.Selection.{selected_facts, facts_selected}
+use Rattle.vme_decode.proofs.lemmas.Selection.{selected_facts, facts_selected}
 use Rattle.vme_decode.proofs.laws.selected_is_the_one.Goals as goal
 
 pub returns : goal.returns

@@ -1,4 +1,4 @@
-use Rattle.vme_decode.proofs.Selection.{selection_by, place_falls, falls_place, place_remainder}
+use Rattle.vme_decode.proofs.lemmas.Selection.{selection_by, place_falls, falls_place, place_remainder}
 use Rattle.vme_decode.proofs.laws.selection_goes_by_the_address.Goals as goal
 
 pub returns-clause-first_byte : goal.returns-clause-first_byte

@@ -2,7 +2,7 @@
 use Rattle.std.proofs.Common.{◌≡◌, [], ◌∷◌, ◌++◌, arith, rules}
 use Rattle.std.specs.Str.Lines.{lines}
 use Rattle.vme_io.specs.Fronts.{AppendsFront}
-use Rattle.vme_io.proofs.Appending.{Appends-more, AppendsFront-more}
+use Rattle.vme_io.proofs.lemmas.Appending.{Appends-more, AppendsFront-more}
 use Rattle.vme_engines.specs.Cycles.{cycles_text}
 use Rattle.vme_engines.proofs.Texts.{text_more, text_written, text_done, status_more}
 use Rattle.vme_engines.proofs.cycles.answer_all.Goals as goal

@@ -1,4 +1,4 @@
-use Rattle.vme_grammar.proofs.Spelling.{line_is_spelled, spelled_line_is_read, line_is_own}
+use Rattle.vme_grammar.proofs.lemmas.Spelling.{line_is_spelled, spelled_line_is_read, line_is_own}
 use Rattle.vme_grammar.proofs.laws.lines_are_spelled.Goals as goal
 
 pub returns-clause-spelled : goal.returns-clause-spelled

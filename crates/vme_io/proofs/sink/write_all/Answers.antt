@@ -1,6 +1,6 @@
 -- One write more: the front has grown by what it took.
 use Rattle.std.proofs.Common.{take, ◌++◌}
-use Rattle.vme_io.proofs.Appending.{Appends-more, split_more}
+use Rattle.vme_io.proofs.lemmas.Appending.{Appends-more, split_more}
 use Rattle.vme_io.proofs.sink.write_all.Goals as goal
 
 pub loop-rest-preserved : goal.loop-rest-preserved

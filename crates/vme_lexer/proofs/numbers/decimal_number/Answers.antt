@@ -1,6 +1,6 @@
 -- The number has room for a digit more.
 use Rattle.std.proofs.Common.{◌<◌, arith}
-use Rattle.vme_cycle.proofs.Numbers.{below_power}
+use Rattle.vme_cycle.proofs.lemmas.Numbers.{below_power}
 use Rattle.vme_lexer.proofs.numbers.decimal_number.Goals as goal
 
 pub overflow_mul-number : goal.overflow_mul-number

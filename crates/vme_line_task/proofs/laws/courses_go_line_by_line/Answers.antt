@@ -1,4 +1,4 @@
-use Rattle.vme_line_task.proofs.Courses.{follows_call, follows_answer}
+use Rattle.vme_line_task.proofs.lemmas.Courses.{follows_call, follows_answer}
 use Rattle.vme_line_task.proofs.laws.courses_go_line_by_line.Goals as goal
 
 pub returns-clause-call : goal.returns-clause-call

@@ -1,4 +1,4 @@
-use Rattle.vme_line_task.proofs.Lines.{by_the_given, by_the_replies}
+use Rattle.vme_line_task.proofs.lemmas.Lines.{by_the_given, by_the_replies}
 use Rattle.vme_line_task.proofs.Ends.{answer_stays}
 use Rattle.vme_line_task.proofs.laws.lines_go_by_the_table.Goals as goal
 

@@ -1,4 +1,4 @@
-use Rattle.vme_line_task.proofs.Kept.{line_begins, line_first, line_turns, line_holds, line_turn, line_datum, line_ends}
+use Rattle.vme_line_task.proofs.lemmas.Kept.{line_begins, line_first, line_turns, line_holds, line_turn, line_datum, line_ends}
 use Rattle.vme_line_task.proofs.laws.lines_keep_their_tenure.Goals as goal
 
 pub returns-clause-begin : goal.returns-clause-begin

@@ -1,5 +1,5 @@
 use Rattle.std.proofs.Common.{arith}
-use Rattle.vme_line_task.proofs.LineRooms.{no_more_than}
+use Rattle.vme_line_task.proofs.lemmas.LineRooms.{no_more_than}
 use Rattle.vme_line_task.proofs.room.long_room.Goals as goal
 
 -- a request that is not judged reads few bytes

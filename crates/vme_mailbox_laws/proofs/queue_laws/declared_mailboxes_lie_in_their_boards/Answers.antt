@@ -1,4 +1,4 @@
-use Rattle.vme_mailbox_laws.proofs.Lawful.{lies_at, lies_in, accepted}
+use Rattle.vme_mailbox_laws.proofs.lemmas.Lawful.{lies_at, lies_in, accepted}
 use Rattle.vme_mailbox_laws.proofs.queue_laws.declared_mailboxes_lie_in_their_boards.Goals as goal
 
 pub returns-clause-addresses : goal.returns-clause-addresses

@@ -1,5 +1,5 @@
 use Rattle.vme_shared.specs.Words.{put_by, taken_by, all_idle}
-use Rattle.vme_mailbox_laws.proofs.Groups.{own_words}
+use Rattle.vme_mailbox_laws.proofs.lemmas.Groups.{own_words}
 use Rattle.vme_mailbox_laws.proofs.queue_laws.own_words_are_those_of_own_entries.Goals as goal
 
 pub returns-clause-put : goal.returns-clause-put

@@ -1,8 +1,8 @@
 use Rattle.std.proofs.Common.{◌∙◌}
 use Rattle.vme_shared.specs.Words.{put_by, taken_by, all_idle}
-use Rattle.vme_mailbox_laws.proofs.Groups.{own_words}
-use Rattle.vme_shared.proofs.Opening.{is_queue}
-use Rattle.vme_mailbox_laws.proofs.Shared.{proper, put_told, taken_told}
+use Rattle.vme_mailbox_laws.proofs.lemmas.Groups.{own_words}
+use Rattle.vme_shared.proofs.lemmas.Opening.{is_queue}
+use Rattle.vme_mailbox_laws.proofs.lemmas.Shared.{proper, put_told, taken_told}
 use Rattle.vme_mailbox_laws.proofs.queue_laws.scripts_go_by_the_rows.Goals as goal
 
 pub returns-clause-proper : goal.returns-clause-proper

@@ -1,9 +1,9 @@
 use Rattle.vme_cycle.specs.Requests.{addr_of}
 use Rattle.vme_decode.specs.Select.{selection_at}
-use Rattle.vme_decode.proofs.Selection.{place_falls}
+use Rattle.vme_decode.proofs.lemmas.Selection.{place_falls}
 use Rattle.vme_master.specs.declared.job.BusJob.{BusJob}
-use Rattle.vme_master.proofs.Tenures.{data_go_on}
-use Rattle.vme_master.proofs.Locals.{bus_below, calls_below}
+use Rattle.vme_master.proofs.lemmas.Tenures.{data_go_on}
+use Rattle.vme_master.proofs.lemmas.Locals.{bus_below, calls_below}
 use Rattle.vme_master.proofs.laws.boards_are_of_the_map.Goals as goal
 
 pub returns-clause-falls : goal.returns-clause-falls

@@ -1,5 +1,5 @@
-use Rattle.vme_master.proofs.Tenures.{data_go_on, nowhere_ends}
-use Rattle.vme_master.proofs.Locals.{local_calls}
+use Rattle.vme_master.proofs.lemmas.Tenures.{data_go_on, nowhere_ends}
+use Rattle.vme_master.proofs.lemmas.Locals.{local_calls}
 use Rattle.vme_master.proofs.laws.data_go_in_order.Goals as goal
 
 pub returns-clause-data : goal.returns-clause-data

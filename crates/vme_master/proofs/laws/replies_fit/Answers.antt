@@ -1,4 +1,4 @@
-use Rattle.vme_master.proofs.Locals.{board_fits, turn_fits}
+use Rattle.vme_master.proofs.lemmas.Locals.{board_fits, turn_fits}
 use Rattle.vme_master.proofs.laws.replies_fit.Goals as goal
 
 pub returns-clause-board : goal.returns-clause-board

@@ -1,4 +1,4 @@
-use Rattle.vme_master.proofs.Tenures.{turns_are_own, turns_go_by, holds_for_data, ends_freed}
+use Rattle.vme_master.proofs.lemmas.Tenures.{turns_are_own, turns_go_by, holds_for_data, ends_freed}
 use Rattle.vme_master.proofs.laws.transfers_keep_their_tenure.Goals as goal
 
 pub returns-clause-own : goal.returns-clause-own

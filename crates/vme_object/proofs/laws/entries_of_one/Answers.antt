@@ -1,4 +1,4 @@
-use Rattle.vme_object.proofs.Histories.{own_within}
+use Rattle.vme_object.proofs.lemmas.Histories.{own_within}
 use Rattle.vme_object.proofs.laws.entries_of_one.Goals as goal
 
 pub returns-clause-within : goal.returns-clause-within

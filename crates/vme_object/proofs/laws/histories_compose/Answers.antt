@@ -1,4 +1,4 @@
-use Rattle.vme_object.proofs.Histories.{replay-append, legal-append, legal-begins}
+use Rattle.vme_object.proofs.lemmas.Histories.{replay-append, legal-append, legal-begins}
 use Rattle.vme_object.proofs.laws.histories_compose.Goals as goal
 
 pub returns-clause-replayed : goal.returns-clause-replayed

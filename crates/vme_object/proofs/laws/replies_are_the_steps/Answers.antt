@@ -1,4 +1,4 @@
-use Rattle.vme_object.proofs.Histories.{reply_at, legal_from_replies}
+use Rattle.vme_object.proofs.lemmas.Histories.{reply_at, legal_from_replies}
 use Rattle.vme_object.proofs.laws.replies_are_the_steps.Goals as goal
 
 pub returns : goal.returns

@@ -1,4 +1,4 @@
-use Rattle.vme_port.proofs.OneHistory.{makes_none, makes_one, makes_more}
+use Rattle.vme_port.proofs.lemmas.OneHistory.{makes_none, makes_one, makes_more}
 use Rattle.vme_port.proofs.laws.calls_compose.Goals as goal
 
 pub returns-clause-none : goal.returns-clause-none

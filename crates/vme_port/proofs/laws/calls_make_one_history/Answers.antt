@@ -1,4 +1,4 @@
-use Rattle.vme_port.proofs.OneHistory.{placed, one_place, maker_of, entries_counted, part_of_unused}
+use Rattle.vme_port.proofs.lemmas.OneHistory.{placed, one_place, maker_of, entries_counted, part_of_unused}
 use Rattle.vme_port.proofs.laws.calls_make_one_history.Goals as goal
 
 pub returns-clause-placed : goal.returns-clause-placed

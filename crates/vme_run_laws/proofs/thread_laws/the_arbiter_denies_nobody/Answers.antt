@@ -1,4 +1,4 @@
-use Rattle.vme_arbiter.proofs.Turns.{turns_granted}
+use Rattle.vme_arbiter.proofs.lemmas.Turns.{turns_granted}
 use Rattle.vme_run_laws.proofs.Granted.{report_turns}
 use Rattle.vme_run_laws.proofs.thread_laws.the_arbiter_denies_nobody.Goals as goal
 

@@ -1,4 +1,4 @@
-use Rattle.vme_shared.proofs.Starts.{rests, asks, all_lawful}
+use Rattle.vme_shared.proofs.lemmas.Starts.{rests, asks, all_lawful}
 use Rattle.vme_shared.proofs.laws.shared_tasks_are_refused_at_the_start.Goals as goal
 
 pub returns-clause-rests : goal.returns-clause-rests

@@ -1,4 +1,4 @@
-use Rattle.vme_shared.proofs.Tenures.{calls_below}
+use Rattle.vme_shared.proofs.lemmas.Tenures.{calls_below}
 use Rattle.vme_shared.proofs.laws.shared_tasks_call_boards_of_the_map.Goals as goal
 
 pub returns : goal.returns

@@ -1,5 +1,5 @@
-use Rattle.vme_shared.proofs.Stands.{by_the_given}
-use Rattle.vme_shared.proofs.Tenures.{end_stays}
+use Rattle.vme_shared.proofs.lemmas.Stands.{by_the_given}
+use Rattle.vme_shared.proofs.lemmas.Tenures.{end_stays}
 use Rattle.vme_shared.proofs.Denials.{misfit_denied, absent_denied, early_denied}
 use Rattle.vme_shared.proofs.laws.shared_tasks_go_by_the_table.Goals as goal
 

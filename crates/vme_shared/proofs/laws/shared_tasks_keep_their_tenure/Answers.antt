@@ -1,5 +1,5 @@
 use Rattle.std.proofs.Common.{refl}
-use Rattle.vme_shared.proofs.Tenures.{begin_told, turns_go_by, holds_for_data, turn_told, datum_told, ends_well}
+use Rattle.vme_shared.proofs.lemmas.Tenures.{begin_told, turns_go_by, holds_for_data, turn_told, datum_told, ends_well}
 use Rattle.vme_shared.proofs.laws.shared_tasks_keep_their_tenure.Goals as goal
 
 pub returns-clause-begin : goal.returns-clause-begin

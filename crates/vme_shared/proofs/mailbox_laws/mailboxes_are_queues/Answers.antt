@@ -1,4 +1,4 @@
-use Rattle.vme_shared.proofs.Opening.{is_queue}
+use Rattle.vme_shared.proofs.lemmas.Opening.{is_queue}
 use Rattle.vme_shared.proofs.mailbox_laws.mailboxes_are_queues.Goals as goal
 
 pub returns-clause-order : goal.returns-clause-order

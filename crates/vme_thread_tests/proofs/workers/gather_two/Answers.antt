@@ -1,7 +1,7 @@
 use Rattle.std.proofs.Common.{◌≡◌, length, ap, sym, subst, arith}
 use Rattle.vme_threads.specs.Rans.{HasRun}
 use Rattle.vme_threads.specs.Reports.{HaveRun, CanGather}
-use Rattle.vme_threads.proofs.Gathered.{have_none, have_more}
+use Rattle.vme_threads.proofs.lemmas.Gathered.{have_none, have_more}
 use Rattle.vme_thread_tests.proofs.workers.gather_two.Goals as goal
 
 -- both have run

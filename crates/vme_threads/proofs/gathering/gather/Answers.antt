@@ -6,7 +6,7 @@ use Rattle.vme_arbiter.specs.Arbitration.{turn_step}
 use Rattle.vme_port.specs.Passes.{PassView}
 use Rattle.vme_port.specs.Ports.{port_id, opening, passes_of}
 use Rattle.vme_port.specs.Settlements.{Settles}
-use Rattle.vme_threads.proofs.Gathered.{can_be_square, can_all_close, bus_fits, report_of}
+use Rattle.vme_threads.proofs.lemmas.Gathered.{can_be_square, can_all_close, bus_fits, report_of}
 use Rattle.vme_threads.proofs.gathering.gather.Goals as goal
 
 pub collect-requires-clause-square : goal.collect-requires-clause-square

@@ -2,7 +2,7 @@ use Rattle.std.proofs.Common.{◌≡◌, ℕ, ◌≤◌, [], length, vec_capacit
 use Rattle.std.specs.List.{slice_get}
 use Rattle.std.proofs.lemmas.Option.{get_or_from_slice_get}
 use Rattle.vme_object.specs.Each.{Each}
-use Rattle.vme_object.proofs.Eachs.{Each-push}
+use Rattle.vme_object.proofs.lemmas.Eachs.{Each-push}
 use Rattle.vme_arbiter.specs.declared.command.ArbCmd.{ArbCmd}
 use Rattle.vme_arbiter.specs.declared.command.ArbReply.{ArbReply}
 use Rattle.vme_port.specs.Passes.{PassView, IsUnused}

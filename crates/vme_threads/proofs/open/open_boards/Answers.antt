@@ -1,6 +1,6 @@
 use Rattle.std.proofs.Common.{◌≡◌, ℕ, List, length, slice_index_or, sym, subst, ◌∙◌, rules, arith}
 use Rattle.vme_object.specs.Each.{Each}
-use Rattle.vme_object.proofs.Eachs.{Each-push}
+use Rattle.vme_object.proofs.lemmas.Eachs.{Each-push}
 use Rattle.vme_script.specs.declared.board.BoardConfig.{BoardConfig}
 use Rattle.vme_threads.specs.declared.ports.BoardPort.{BoardPort}
 use Rattle.vme_threads.specs.Ports.{IsPortOf, AreHired}

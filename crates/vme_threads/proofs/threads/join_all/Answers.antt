@@ -9,7 +9,7 @@ use Rattle.vme_threads.specs.Rans.{HasRun}
 use Rattle.vme_threads.specs.Reports.{HaveRun}
 use Rattle.vme_threads.specs.Threads.{IsRunOf}
 use Rattle.vme_threads.proofs.Places.{first_of_each, rest_of_each}
-use Rattle.vme_threads.proofs.Gathered.{have_more}
+use Rattle.vme_threads.proofs.lemmas.Gathered.{have_more}
 use Rattle.vme_threads.proofs.threads.join_all.Goals as goal
 
 -- the thread that is joined stood first among those that are left

@@ -1,7 +1,7 @@
 use Rattle.std.proofs.Common.{ℕ, length, Result, ap, sym, subst, ◌∙◌, rules, arith}
 use Rattle.std.specs.declared.thread.PromisedHandle.{PromisedHandle}
 use Rattle.vme_object.specs.Each.{Each}
-use Rattle.vme_object.proofs.Eachs.{Each-push}
+use Rattle.vme_object.proofs.lemmas.Eachs.{Each-push}
 use Rattle.vme_report.specs.declared.fault.RunFault.{RunFault}
 use Rattle.vme_threads.specs.declared.worker.Worker.{Worker}
 use Rattle.vme_threads.specs.declared.worker.Ran.{Ran}

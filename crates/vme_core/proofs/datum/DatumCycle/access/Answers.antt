@@ -1,7 +1,7 @@
 use Rattle.std.proofs.Common.{Some, ap, sym, ◌∙◌}
 use Rattle.vme_memory.specs.Data.{datum_command}
 use Rattle.vme_memory.specs.Locals.{command_given}
-use Rattle.vme_memory.proofs.Data.{own_command}
+use Rattle.vme_memory.proofs.lemmas.Data.{own_command}
 use Rattle.vme_core.proofs.datum.DatumCycle.access.Goals as goal
 
 -- the cycle is the request's own command

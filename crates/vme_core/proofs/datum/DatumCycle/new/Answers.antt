@@ -1,4 +1,4 @@
-use Rattle.vme_memory.proofs.Data.{own_command}
+use Rattle.vme_memory.proofs.lemmas.Data.{own_command}
 use Rattle.vme_core.proofs.datum.DatumCycle.new.Goals as goal
 
 -- the cycle is the request's own command

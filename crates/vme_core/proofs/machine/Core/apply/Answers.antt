@@ -1,4 +1,4 @@
-use Rattle.vme_core.proofs.Calls.{board_applied}
+use Rattle.vme_core.proofs.lemmas.Calls.{board_applied}
 use Rattle.vme_core.proofs.machine.Core.apply.Goals as goal
 
 -- the board is put back in its place

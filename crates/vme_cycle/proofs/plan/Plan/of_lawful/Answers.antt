@@ -1,5 +1,5 @@
 -- A request that is known to be lawful is.
-use Rattle.vme_cycle.proofs.Transfers.{row_of_lawful, none_of_lawful}
+use Rattle.vme_cycle.proofs.lemmas.Transfers.{row_of_lawful, none_of_lawful}
 use Rattle.vme_cycle.proofs.plan.Plan.of_lawful.Goals as goal
 
 pub invariant_of-result : goal.invariant_of-result

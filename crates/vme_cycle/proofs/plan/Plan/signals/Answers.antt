@@ -1,7 +1,7 @@
 -- The signals of each datum of a lawful request.
 use Rattle.std.proofs.Common.{◌%◌, ◌≡◌, ap, sym, ◌∙◌, rules}
 use Rattle.vme_lanes.specs.Rows.{row_of}
-use Rattle.vme_lanes.proofs.Tables.{own_sensed}
+use Rattle.vme_lanes.proofs.lemmas.Tables.{own_sensed}
 use Rattle.vme_cycle.specs.Requests.{addr_of, address_of}
 use Rattle.vme_cycle.specs.SignalLines.{len_with, row_len, strobes_at}
 use Rattle.vme_cycle.proofs.Blocks.{same_lword, counts_on, len_of_strobes, first_shown, held_by_itself}

@@ -1,6 +1,6 @@
 -- A lawful request stays lawful as a transfer's own.
 use Rattle.std.proofs.Common.{sym, refl}
-use Rattle.vme_cycle.proofs.Transfers.{same_transfer}
+use Rattle.vme_cycle.proofs.lemmas.Transfers.{same_transfer}
 use Rattle.vme_cycle.proofs.transfer.Transfer.of_own.Goals as goal
 
 pub invariant_of-result : goal.invariant_of-result

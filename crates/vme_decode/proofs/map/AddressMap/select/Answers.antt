@@ -1,7 +1,7 @@
 -- The last clause follows from the first.
 use Rattle.std.proofs.Common.{◌≡◌, rules}
 use Rattle.vme_decode.specs.Select.{selection}
-use Rattle.vme_decode.proofs.Selection.{result_facts}
+use Rattle.vme_decode.proofs.lemmas.Selection.{result_facts}
 use Rattle.vme_decode.proofs.map.AddressMap.select.Goals as goal
 
 pub returns-clause-entry : goal.returns-clause-entry

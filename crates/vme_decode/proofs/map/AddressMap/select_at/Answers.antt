@@ -5,7 +5,7 @@ use Rattle.std.proofs.lemmas.Bool.{ltb-true}
 use Rattle.std.proofs.lemmas.Option.{slice_get_read}
 use Rattle.vme_decode.specs.Lawful.{first_refusal}
 use Rattle.vme_decode.specs.Select.{selection_at}
-use Rattle.vme_decode.proofs.Selection.{responding_remainder, result_place, result_offset, result_remainder}
+use Rattle.vme_decode.proofs.lemmas.Selection.{responding_remainder, result_place, result_offset, result_remainder}
 use Rattle.vme_decode.proofs.map.AddressMap.select_at.Goals as goal
 
 pub returns-then-responds-clause-remainder : goal.returns-then-responds-clause-remainder

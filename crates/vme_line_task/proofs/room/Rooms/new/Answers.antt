@@ -3,7 +3,7 @@ use Rattle.std.proofs.lemmas.Bool.{lt-ltb, le-ltb}
 use Rattle.std.proofs.lemmas.List.{take_all}
 use Rattle.vme_cycle.specs.declared.block_buffer.Room.{Room}
 use Rattle.vme_line_task.specs.Rooms.{line_room, rooms_of}
-use Rattle.vme_line_task.proofs.LineRooms.{kept_none, kept_all, one_long, one_short}
+use Rattle.vme_line_task.proofs.lemmas.LineRooms.{kept_none, kept_all, one_long, one_short}
 use Rattle.vme_line_task.proofs.room.Rooms.new.Goals as goal
 use Rattle.vme_line_task.proofs.room.Rooms.new.Goals.{then-takes_memory+in_ok-with_room+in_ok-push, else-takes_memory}
 

@@ -1,6 +1,6 @@
 use Rattle.std.proofs.Common.{◌≡◌, ◌≤◌, length, take, vec_len, vec_capacity}
 use Rattle.vme_line_task.specs.Rooms.{rooms_of}
-use Rattle.vme_line_task.proofs.LineRooms.{AreKept}
+use Rattle.vme_line_task.proofs.lemmas.LineRooms.{AreKept}
 use Rattle.vme_line_task.proofs.room.Rooms.new.Given as goal
 
 -- the rooms of the lines so far, and place for the others

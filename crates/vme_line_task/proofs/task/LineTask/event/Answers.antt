@@ -1,7 +1,7 @@
 use Rattle.std.proofs.Common.{subst}
 use Rattle.vme_line_task.specs.declared.task.LineTask.TheVariants.{Tries}
 use Rattle.vme_line_task.specs.Machine.{IsLineBelow}
-use Rattle.vme_line_task.proofs.Below.{event_below}
+use Rattle.vme_line_task.proofs.lemmas.Below.{event_below}
 use Rattle.vme_line_task.proofs.task.LineTask.event.Goals as goal
 
 pub returns-in-Tries-clause-there : goal.returns-in-Tries-clause-there

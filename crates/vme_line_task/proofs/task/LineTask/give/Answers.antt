@@ -3,7 +3,7 @@ use Rattle.std.proofs.Common.{ap, sym, subst, ◌∙◌}
 use Rattle.vme_line_task.specs.declared.task.LineTask.{LineTask}
 use Rattle.vme_line_task.specs.declared.task.LineTask.TheVariants.{Tries}
 use Rattle.vme_line_task.specs.Machine.{line_advance, IsLineBelow}
-use Rattle.vme_line_task.proofs.Below.{advance_below}
+use Rattle.vme_line_task.proofs.lemmas.Below.{advance_below}
 use Rattle.vme_line_task.proofs.task.LineTask.give.Goals as goal
 
 pub returns-in-Tries-clause-below : goal.returns-in-Tries-clause-below

@@ -1,7 +1,7 @@
 use Rattle.std.proofs.Common.{ap, subst, sym, ◌∙◌}
 use Rattle.vme_line_task.specs.Machine.{line_to_do, line_advance, IsLineBelow}
-use Rattle.vme_line_task.proofs.Lines.{next_by_the_given}
-use Rattle.vme_line_task.proofs.Below.{todo_below, taken_below}
+use Rattle.vme_line_task.proofs.lemmas.Lines.{next_by_the_given}
+use Rattle.vme_line_task.proofs.lemmas.Below.{todo_below, taken_below}
 use Rattle.vme_line_task.proofs.task.LineTask.next.Goals as goal
 
 pub returns-clause-table : goal.returns-clause-table

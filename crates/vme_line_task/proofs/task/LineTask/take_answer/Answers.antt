@@ -1,6 +1,6 @@
 use Rattle.std.proofs.Common.{sym, ap, ◌∙◌}
 use Rattle.vme_line_task.specs.Machine.{line_taken}
-use Rattle.vme_line_task.proofs.Calls.{is_taken}
+use Rattle.vme_line_task.proofs.lemmas.Calls.{is_taken}
 use Rattle.vme_line_task.proofs.task.LineTask.take_answer.Goals as goal
 
 pub returns-in-Tries-clause-task : goal.returns-in-Tries-clause-task

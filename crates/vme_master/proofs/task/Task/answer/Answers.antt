@@ -3,7 +3,7 @@ use Rattle.vme_memory.specs.Data.{has_form}
 use Rattle.vme_master.specs.declared.aim.Aim.{Aim}
 use Rattle.vme_master.specs.declared.phase.Phase.TheVariants.{Moves}
 use Rattle.vme_master.specs.Machine.{TaskView, job_aim, aim_len, HasRoom, IsEnough}
-use Rattle.vme_master.proofs.Rooms.{room_before, sound_after}
+use Rattle.vme_master.proofs.lemmas.Rooms.{room_before, sound_after}
 use Rattle.vme_master.proofs.task.Task.answer.Goals as goal
 use Rattle.vme_master.proofs.task.Task.answer.Goals.{After-accepts}
 

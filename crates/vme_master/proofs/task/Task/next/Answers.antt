@@ -1,6 +1,6 @@
 use Rattle.std.proofs.Common.{ap, ◌∙◌}
 use Rattle.vme_master.specs.Machine.{to_do, advance}
-use Rattle.vme_master.proofs.Stands.{next_by_the_table}
+use Rattle.vme_master.proofs.lemmas.Stands.{next_by_the_table}
 use Rattle.vme_master.proofs.task.Task.next.Goals as goal
 
 -- what it does next is what the table says

@@ -1,5 +1,5 @@
 -- A configuration is that of a file, and so lawful.
-use Rattle.vme_script.proofs.Lawful.{configuration_known}
+use Rattle.vme_script.proofs.lemmas.Lawful.{configuration_known}
 use Rattle.vme_script.proofs.config.Config.boards.Goals as goal
 
 pub returns-clause-lawful : goal.returns-clause-lawful

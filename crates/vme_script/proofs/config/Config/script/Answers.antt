@@ -1,7 +1,7 @@
 -- There is a script for each board.
 use Rattle.std.proofs.Common.{◌<◌, refl, ap, arith, length}
 use Rattle.std.proofs.lemmas.Option.{slice_get_read}
-use Rattle.vme_script.proofs.Lawful.{configuration_known}
+use Rattle.vme_script.proofs.lemmas.Lawful.{configuration_known}
 use Rattle.vme_script.proofs.config.Config.script.Goals as goal
 
 pub index-requires : goal.index-requires

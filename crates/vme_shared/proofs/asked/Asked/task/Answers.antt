@@ -1,7 +1,7 @@
 -- A transfer of a lock or a mailbox reads few bytes.
 use Rattle.std.proofs.Common.{ap, arith}
 use Rattle.vme_cycle.specs.Requests.{reply_room}
-use Rattle.vme_cycle.proofs.Transfers.{comes_from}
+use Rattle.vme_cycle.proofs.lemmas.Transfers.{comes_from}
 use Rattle.vme_shared.proofs.asked.Asked.task.Goals as goal
 
 pub start_own-requires : goal.start_own-requires

@@ -1,6 +1,6 @@
 use Rattle.std.proofs.Common.{ap, ◌∙◌}
 use Rattle.vme_shared.specs.Machine.{shared_to_do, shared_advance}
-use Rattle.vme_shared.proofs.Stands.{next_by_the_given}
+use Rattle.vme_shared.proofs.lemmas.Stands.{next_by_the_given}
 use Rattle.vme_shared.proofs.task.SharedTask.next.Goals as goal
 
 -- what it does next is what the table says

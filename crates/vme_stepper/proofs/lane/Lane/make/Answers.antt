@@ -7,7 +7,7 @@ use Rattle.vme_script.specs.declared.script.ScriptLine.{ScriptLine}
 use Rattle.vme_line_task.specs.declared.task.LineTask.{LineTask}
 use Rattle.vme_line_task.specs.Machine.{line_to_do}
 use Rattle.vme_line_task.specs.Events.{call_in}
-use Rattle.vme_line_task.proofs.Calls.{at_work, its_call}
+use Rattle.vme_line_task.proofs.lemmas.Calls.{at_work, its_call}
 use Rattle.vme_stepper.specs.Drivers.{LaneView}
 use Rattle.vme_stepper.proofs.Calls.{its_answer}
 use Rattle.vme_stepper.proofs.Turning.{turn_goes_on, turn_ends}

@@ -1,5 +1,5 @@
 use Rattle.std.proofs.Common.{refl}
-use Rattle.vme_port.proofs.OneHistory.{makes_one}
+use Rattle.vme_port.proofs.lemmas.OneHistory.{makes_one}
 use Rattle.vme_threads.proofs.Desks.{made_by_board}
 use Rattle.vme_threads.proofs.desk.Desk.command.Goals as goal
 

@@ -1,0 +1,6 @@
+pub mod Below
+pub mod Calls
+pub mod Courses
+pub mod Kept
+pub mod LineRooms
+pub mod Lines

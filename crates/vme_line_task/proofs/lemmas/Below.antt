@@ -1,0 +1,180 @@
+-- The boards that a line calls are there.
+use Rattle.std.proofs.Common.{◌≡◌, ℕ, ◌<◌, List, [], ◌∷◌, ◌++◌, length, Option, Some, None, Result, Ok, Err, refl, ap, sym, subst, ◌∙◌}
+use Rattle.std.specs.Prelude.{option_map, IfSome}
+use Rattle.std.proofs.lemmas.List.{length-map}
+use Rattle.vme_cycle.specs.declared.fault.CycleFault.{CycleFault}
+use Rattle.vme_cycle.specs.declared.request.Request.TheVariants as requests
+use Rattle.vme_cycle.specs.Lawful.{Transfer, transfer_of}
+use Rattle.vme_core.specs.declared.event.Event.{Event}
+use Rattle.vme_core.specs.declared.event.Event.TheVariants as asked
+use Rattle.vme_core.specs.declared.event.EventReply.{EventReply}
+use Rattle.vme_core.specs.Calls.{Call, OnBoard, OnBus, call_of}
+use Rattle.vme_master.specs.declared.job.Job.{Job}
+use Rattle.vme_master.specs.declared.outcome.Outcome.TheVariants as outcomes
+use Rattle.vme_master.specs.Jobs.{bus_job}
+use Rattle.vme_master.specs.Tables as tasks
+use Rattle.vme_master.specs.Tables.{Next, Given, next_of}
+use Rattle.vme_master.specs.Laws.{IsBelow}
+use Rattle.vme_master.proofs.lemmas.Locals.{bus_below, calls_below as job_calls_below}
+use Rattle.vme_shared.specs.declared.request.SharedRequest.{SharedRequest}
+use Rattle.vme_shared.specs.declared.request.SharedRequest.TheVariants as asked_shared
+use Rattle.vme_shared.specs.Mailboxes.{shared_refusal}
+use Rattle.vme_shared.specs.Tables as shares
+use Rattle.vme_shared.specs.Tables.{SharedNext, shared_next}
+use Rattle.vme_shared.proofs.lemmas.Tenures.{calls_below as shared_calls_below}
+use Rattle.vme_grammar.specs.declared.line.Line.{Line}
+use Rattle.vme_grammar.specs.declared.line.Line.TheVariants as lines
+use Rattle.vme_script.specs.Boards.{entries_of}
+use Rattle.vme_script.specs.Configurations.{Configuration}
+use Rattle.vme_line_task.specs.declared.task.LineTask.{LineTask}
+use Rattle.vme_line_task.specs.declared.task.LineTask.TheVariants.{Refused, Tries, Over}
+use Rattle.vme_line_task.specs.declared.todo.LineTodo.{LineTodo}
+use Rattle.vme_line_task.specs.declared.todo.LineTodo.TheVariants as todos
+use Rattle.vme_line_task.specs.Scripts.{Attempt, Moves, Waits, Shares, slot_at, level_at, mailbox_at, transfer_job, request_attempt, unless_refused, shared_job, shared_attempt, line_attempt}
+use Rattle.vme_line_task.specs.Tables.{LineNext, Rests, Makes, Ends, moves_next, waits_next, shares_next, attempts_of, lawful_next, next_given}
+use Rattle.vme_line_task.specs.Machine.{line_started, line_advance, line_to_do, line_taken, attempt_to_do, attempts_taken, line_advanced, IsLineBelow}
+use Rattle.vme_line_task.specs.Events.{next_in, call_in, IsCallBelow, IsEventBelow, IsTodoBelow}
+use Rattle.vme_line_task.proofs.lemmas.Lines.{by_the_given}
+
+-- the boards of what is attempted
+abbrev IsAttemptBelow : ℕ → Result Attempt CycleFault → Type 0
+IsAttemptBelow n (Ok (Moves job)) = IsBelow n job
+IsAttemptBelow n (Ok (Waits job want)) = IsBelow n job
+IsAttemptBelow n (Ok (Shares s)) = length s.map ≡ n
+IsAttemptBelow n (Err fault) = Unit {0}
+
+transfer_below : (config : Configuration) (board : ℕ) (t : Transfer) → IsBelow (length config.boards) (transfer_job config board t)
+transfer_below config board t =
+    subst (λ n. IsBelow n (bus_job (entries_of config.boards) (slot_at config board) (level_at config board) t))
+    (length-map config.boards (λ one. one.entry))
+    (bus_below (entries_of config.boards) (slot_at config board) (level_at config board) t)
+
+request_below : (n : ℕ) (attempt : Transfer → Attempt) (transfer : Result Transfer CycleFault)
+    → ((t : Transfer) → IsAttemptBelow n (Ok (attempt t))) → IsAttemptBelow n (request_attempt attempt transfer)
+request_below n attempt (Ok t) each = each t
+request_below n attempt (Err fault) each = tt
+
+shared_below : (config : Configuration) (board : ℕ) (request : SharedRequest)
+    → IsAttemptBelow (length config.boards) (shared_attempt config board request)
+shared_below config board request = by_refusal (shared_refusal request)
+  where
+    by_refusal : (refusal : Option CycleFault)
+        → IsAttemptBelow (length config.boards) (unless_refused (Shares (shared_job config board request)) refusal)
+    by_refusal None = length-map config.boards (λ one. one.entry)
+    by_refusal (Some fault) = tt
+
+attempt_below : (config : Configuration) (board : ℕ) (line : Line) → board < length config.boards
+    → IsAttemptBelow (length config.boards) (line_attempt config board line)
+attempt_below config board (lines.Bus request) there =
+    request_below (length config.boards) (λ t. Moves (transfer_job config board t)) (transfer_of request) (transfer_below config board)
+attempt_below config board (lines.Local cmd) there = there
+attempt_below config board (lines.Await am addr bytes) there =
+    request_below (length config.boards) (λ t. Waits (transfer_job config board t) bytes.items)
+    (transfer_of (requests.Read am addr (length bytes.items))) (transfer_below config board)
+attempt_below config board (lines.Lock am addr) there = shared_below config board (asked_shared.Lock am addr)
+attempt_below config board (lines.Unlock am addr) there = shared_below config board (asked_shared.Unlock am addr)
+attempt_below config board (lines.Put box word) there = shared_below config board (asked_shared.Put (mailbox_at config box) word)
+attempt_below config board (lines.Take box) there = shared_below config board (asked_shared.Take (mailbox_at config box))
+
+-- the calls of a line that are those of its task
+pub moves_makes : (next : Next) (call : Call) → moves_next next ≡ Makes call → next ≡ tasks.Makes call
+moves_makes tasks.Rests call made = absurd cc
+moves_makes (tasks.Makes other) call made = cc
+moves_makes (tasks.Ends outcome) call made = absurd cc
+
+pub waits_makes : (want : List ℕ) (next : Next) (call : Call) → waits_next want next ≡ Makes call → next ≡ tasks.Makes call
+waits_makes want tasks.Rests call made = absurd cc
+waits_makes want (tasks.Makes other) call made = cc
+waits_makes want (tasks.Ends (outcomes.Read bytes)) call made = absurd cc
+waits_makes want (tasks.Ends outcome) call made = absurd cc
+
+pub shares_makes : (next : SharedNext) (call : Call) → shares_next next ≡ Makes call → next ≡ shares.Makes call
+shares_makes shares.Rests call made = absurd cc
+shares_makes (shares.Makes other) call made = cc
+shares_makes (shares.Ends outcome) call made = absurd cc
+
+-- each board that is called is one of them
+job_below : (n : ℕ) (job : Job) (given : Given) (call : Call) → IsBelow n job → next_of job given ≡ tasks.Makes call → IsCallBelow n call
+job_below n job given (OnBoard board command) below made = job_calls_below n job given board command below made
+job_below n job given (OnBus cmd) below made = tt
+
+lawful_below : (n tries : ℕ) (attempt : Result Attempt CycleFault) (given : Given) (call : Call) → IsAttemptBelow n attempt
+    → lawful_next tries attempt given ≡ Makes call → IsCallBelow n call
+lawful_below n tries (Ok (Moves job)) given call below made =
+    let g = (attempts_of (Moves job) tries given).given in
+    job_below n job g call below (moves_makes (next_of job g) call made)
+lawful_below n tries (Ok (Waits job want)) given call below made =
+    let g = (attempts_of (Waits job want) tries given).given in
+    job_below n job g call below (waits_makes want (next_of job g) call made)
+lawful_below n tries (Ok (Shares s)) given (OnBoard board command) below made =
+    let g = (attempts_of (Shares s) tries given).given in
+    subst (λ (m : ℕ). board < m) below (shared_calls_below s g board command (shares_makes (shared_next s g) (OnBoard board command) made))
+lawful_below n tries (Ok (Shares s)) given (OnBus cmd) below made = tt
+lawful_below n tries (Err fault) given call below made = absurd cc
+
+pub next_below : (config : Configuration) (board : ℕ) (line : Line) (given : Given) (call : Call) → board < length config.boards
+    → next_given config board line given ≡ Makes call → IsCallBelow (length config.boards) call
+unfolding next_given
+next_below config board line given call there made =
+    lawful_below (length config.boards) config.tries (line_attempt config board line) given call (attempt_below config board line there) made
+
+-- so it is of a line before its first call
+pub started_below : (config : Configuration) (board : ℕ) (line : Line) → board < length config.boards
+    → IsLineBelow (length config.boards) (line_started config board line)
+unfolding IsLineBelow
+started_below config board line there = λ given call made.
+    next_below config board line given call there (sym (by_the_given config board line given) ∙ made)
+
+-- and stays so
+advanced_on : (task : LineTask) (last : Option EventReply) (given : Given)
+    → line_advanced (line_advance task last) given ≡ line_advanced task (given ++ last ∷ [])
+advanced_on task last [] = refl
+advanced_on task last (next ∷ given) = ap (λ (t : LineTask). line_advance t next) (advanced_on task last given)
+
+pub advance_below : (n : ℕ) (task : LineTask) (last : Option EventReply) → IsLineBelow n task → IsLineBelow n (line_advance task last)
+unfolding IsLineBelow
+advance_below n task last below = λ given call made.
+    below (given ++ last ∷ []) call (sym (ap line_to_do (advanced_on task last given)) ∙ made)
+
+-- a line's call is on a board that is there
+pub calls_below : (n : ℕ) (task : LineTask) (call : Call) → IsLineBelow n task → line_to_do task ≡ Makes call → IsCallBelow n call
+unfolding IsLineBelow
+calls_below n task call below next = below [] call next
+
+-- and so is its event
+in_makes : (next : LineNext) (call : Call) → Some call ≡ call_in next → next ≡ Makes call
+in_makes Rests call is = absurd cc
+in_makes (Makes other) call is = cc
+in_makes (Ends answer) call is = absurd cc
+
+pub event_below : (n : ℕ) (task : LineTask) (event : Option Event) → IsLineBelow n task → option_map call_of event ≡ call_in (line_to_do task)
+    → IfSome event (IsEventBelow n)
+event_below n task None below is = tt
+event_below n task (Some (asked.Board board cmd)) below is =
+    calls_below n task (OnBoard board _) below (in_makes (line_to_do task) (OnBoard board _) is)
+event_below n task (Some (asked.Bus cmd)) below is = tt
+
+-- and what it has to do
+pub todo_below : (n : ℕ) (task : LineTask) (todo : LineTodo) → IsLineBelow n task → next_in todo ≡ line_to_do task → IsTodoBelow n todo
+todo_below n task (todos.Call (asked.Board board cmd)) below next = calls_below n task (OnBoard board _) below (sym next)
+todo_below n task (todos.Call (asked.Bus cmd)) below next = tt
+todo_below n task (todos.Ended answer) below next = tt
+
+-- a line whose answer was taken calls none
+over_given : (given : Given) → line_advanced Over given ≡ Over
+over_given [] = refl
+over_given (last ∷ before) = ap (λ (t : LineTask). line_advance t last) (over_given before)
+
+over_below : (n : ℕ) → IsLineBelow n Over
+unfolding IsLineBelow
+over_below n = λ given call made. absurd (cc (sym (ap line_to_do (over_given given)) ∙ made))
+
+pub taken_below : (n : ℕ) (task : LineTask) → IsLineBelow n task → IsLineBelow n (line_taken task)
+taken_below n (Refused fault) below = below
+taken_below n (Tries a) below = by_next (attempt_to_do a.attempt)
+  where
+    by_next : (next : LineNext) → IsLineBelow n (attempts_taken a next)
+    by_next Rests = below
+    by_next (Makes call) = below
+    by_next (Ends answer) = over_below n
+taken_below n Over below = below

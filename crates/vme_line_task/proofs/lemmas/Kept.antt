@@ -1,0 +1,277 @@
+-- A line keeps its tenure of the bus, as its attempts do.
+use Rattle.std.proofs.Common.{◌≡◌, ℕ, ◌-◌, true, List, [], ◌∷◌, Option, Some, None, Result, Ok, Err, refl, ap, sym, subst, ◌∙◌, inl, inr, ◌⊎◌}
+use Rattle.std.specs.Prelude.{nat_lt, ◌&&◌, length}
+use Rattle.std.proofs.lemmas.Bool.{cases_Bool}
+use Rattle.vme_cycle.specs.declared.fault.CycleFault.{CycleFault}
+use Rattle.vme_cycle.specs.declared.request.Request.TheVariants as requests
+use Rattle.vme_cycle.specs.Lawful.{Transfer, transfer_of}
+use Rattle.vme_memory.specs.declared.command.BoardCmd.{BoardCmd}
+use Rattle.vme_memory.specs.declared.command.BoardCmd.TheVariants as given_cmd
+use Rattle.vme_memory.specs.Locals.{command_given}
+use Rattle.vme_memory.specs.declared.reply.Reply.{Reply}
+use Rattle.vme_memory.specs.Steps.{Command}
+use Rattle.vme_arbiter.specs.declared.command.ArbCmd.{ArbCmd}
+use Rattle.vme_arbiter.specs.declared.command.ArbReply.{ArbReply}
+use Rattle.vme_arbiter.specs.declared.command.ArbReply.TheVariants as turned
+use Rattle.vme_arbiter.specs.Requests.{is_level}
+use Rattle.vme_arbiter.specs.Arbitration.{Arbitration}
+use Rattle.vme_arbiter.specs.Turns.{may_give, StandsAsTold}
+use Rattle.vme_core.specs.declared.event.EventReply.{EventReply}
+use Rattle.vme_core.specs.declared.event.EventReply.TheVariants as told
+use Rattle.vme_core.specs.Calls.{Call, OnBoard, OnBus}
+use Rattle.vme_master.specs.Jobs.{local_job}
+use Rattle.vme_master.specs.Tables as tasks
+use Rattle.vme_master.specs.Tables.{Next, Given, next_of, next_after, outcome_by, row_of_reply, bus_row, local_row}
+use Rattle.vme_master.proofs.lemmas.Locals.{local_calls}
+use Rattle.vme_shared.specs.declared.reply.LineReply.{LineReply}
+use Rattle.vme_shared.specs.declared.reply.LineReply.TheVariants as replies
+use Rattle.vme_shared.specs.declared.request.SharedRequest.{SharedRequest}
+use Rattle.vme_shared.specs.declared.request.SharedRequest.TheVariants as asked_shared
+use Rattle.vme_shared.specs.Mailboxes.{shared_refusal}
+use Rattle.vme_grammar.specs.declared.line.Line.{Line}
+use Rattle.vme_grammar.specs.declared.line.Line.TheVariants as lines
+use Rattle.vme_grammar.specs.Grammar.{IsOwnLine}
+use Rattle.vme_script.specs.Configurations.{Configuration}
+use Rattle.vme_line_task.specs.Scripts.{Attempt, Moves, Waits, Shares, slot_at, level_at, mailbox_at, transfer_job, request_attempt, unless_refused, shared_job, shared_attempt, line_attempt}
+use Rattle.vme_line_task.specs.Tables.{LineNext, Rests, Makes, Ends, attempt_next, asks_again, Attempts, next_attempt, attempts_of, lawful_next, next_given, line_next, given_of}
+use Rattle.vme_line_task.specs.Tenures.{attempt_told, lawful_told, line_told, IsLocal, IsGood, IsGranted}
+use Rattle.vme_line_task.proofs.lemmas.Below.{moves_makes}
+use Rattle.vme_line_task.proofs.Ends.{just_begun}
+use Rattle.vme_line_task.proofs.Attempted.{attempt_begins, IsOwnAttempt, attempt_turns, IsTransfer, attempt_holds, attempt_turn, attempt_datum, attempt_ends}
+
+-- after a reply the attempt at work goes on or has ended, or another begins
+abbrev now_made : Attempts → Option EventReply → Attempts
+now_made made last = record { given = last ∷ made.given; left = made.left }
+
+record IsFollowed (made : Attempts) (next : LineNext) : Type 0 where
+  answer : LineReply
+  ended : next ≡ Ends answer
+  begun : next_attempt made next ≡ record { given = None ∷ []; left = made.left - 1 }
+
+either : (made : Attempts) (next : LineNext) → (next_attempt made next ≡ made) ⊎ IsFollowed made next
+either made Rests = inl refl
+either made (Makes call) = inl refl
+either made (Ends answer) =
+    elim (cases_Bool (asks_again answer && nat_lt 1 made.left)) [
+      | inl more ↦ inr (record { answer = answer; ended = refl; begun = rw more refl })
+      | inr last ↦ inl (rw last refl)
+    ]
+
+-- a transfer of a line is of its processor's slot and level
+abbrev IsOwn : ℕ → ℕ → Result Attempt CycleFault → Type 0
+IsOwn slot level (Ok a) = IsOwnAttempt slot level a
+IsOwn slot level (Err fault) = Unit {0}
+
+shared_own : (config : Configuration) (board : ℕ) (request : SharedRequest)
+    → IsOwn (slot_at config board) (level_at config board) (shared_attempt config board request)
+shared_own config board request = by_refusal (shared_refusal request)
+  where
+    by_refusal : (refusal : Option CycleFault)
+        → IsOwn (slot_at config board) (level_at config board) (unless_refused (Shares (shared_job config board request)) refusal)
+    by_refusal None = (refl, refl)
+    by_refusal (Some fault) = tt
+
+line_own : (config : Configuration) (board : ℕ) (line : Line)
+    → IsOwn (slot_at config board) (level_at config board) (line_attempt config board line)
+line_own config board (lines.Bus request) = request_own (transfer_of request)
+  where
+    request_own : (transfer : Result Transfer CycleFault)
+        → IsOwn (slot_at config board) (level_at config board) (request_attempt (λ t. Moves (transfer_job config board t)) transfer)
+    request_own (Ok t) = (refl, refl)
+    request_own (Err fault) = tt
+line_own config board (lines.Local cmd) = tt
+line_own config board (lines.Await am addr bytes) = request_own (transfer_of (requests.Read am addr (length bytes.items)))
+  where
+    request_own : (transfer : Result Transfer CycleFault)
+        → IsOwn (slot_at config board) (level_at config board) (request_attempt (λ t. Waits (transfer_job config board t) bytes.items) transfer)
+    request_own (Ok t) = (refl, refl)
+    request_own (Err fault) = tt
+line_own config board (lines.Lock am addr) = shared_own config board (asked_shared.Lock am addr)
+line_own config board (lines.Unlock am addr) = shared_own config board (asked_shared.Unlock am addr)
+line_own config board (lines.Put box word) = shared_own config board (asked_shared.Put (mailbox_at config box) word)
+line_own config board (lines.Take box) = shared_own config board (asked_shared.Take (mailbox_at config box))
+
+-- before the first reply
+first_given : (tries : ℕ) (a : Attempt) → (attempts_of a tries (None ∷ [])).given ≡ None ∷ []
+first_given tries a =
+    let now : Attempts = record { given = None ∷ []; left = tries } in
+    elim (either now (attempt_next a now.given)) [
+      | inl same ↦ ap (λ (m : Attempts). m.given) same
+      | inr next ↦ ap (λ (m : Attempts). m.given) next.begun
+    ]
+
+lawful_begins : (tries : ℕ) (attempt : Result Attempt CycleFault) → lawful_told tries attempt (None ∷ []) ≡ None
+lawful_begins tries (Err fault) = refl
+lawful_begins tries (Ok a) = ap (attempt_told a) (first_given tries a) ∙ attempt_begins a
+
+pub line_begins : (config : Configuration) (board : ℕ) (line : Line) → line_told config board line [] ≡ None
+unfolding line_told
+line_begins config board line = lawful_begins config.tries (line_attempt config board line)
+
+-- a line that ends with its first call is no denial
+lawful_first : (tries : ℕ) (attempt : Result Attempt CycleFault) (answer : LineReply) → lawful_next tries attempt (None ∷ []) ≡ Ends answer
+    → IsGranted answer
+lawful_first tries (Err fault) answer ends = subst IsGranted (is cc) (λ denied. absurd cc, λ denied. absurd cc)
+  where
+    is : replies.Refused fault ≡ answer → replies.Refused fault ≡ answer
+    is same = same
+lawful_first tries (Ok a) answer ends = (just_begun a answer (sym (ap (attempt_next a) (first_given tries a)) ∙ ends)).granted
+
+pub line_first : (config : Configuration) (board : ℕ) (line : Line) (answer : LineReply) → line_next config board line [] ≡ Ends answer
+    → IsGranted answer
+unfolding next_given
+line_first config board line answer ends = lawful_first config.tries (line_attempt config board line) answer ends
+
+-- commands to the arbiter
+lawful_turns : (slot level tries : ℕ) (attempt : Result Attempt CycleFault) (given : Given) (cmd : ArbCmd) → IsOwn slot level attempt
+    → is_level level ≡ true → lawful_next tries attempt given ≡ Makes (OnBus cmd) → may_give slot (lawful_told tries attempt given) cmd ≡ true
+lawful_turns slot level tries (Ok a) given cmd own lawful made =
+    attempt_turns slot level a (attempts_of a tries given).given cmd own lawful made
+lawful_turns slot level tries (Err fault) given cmd own lawful made = absurd cc
+
+pub line_turns : (config : Configuration) (board : ℕ) (line : Line) (replies : List EventReply) (cmd : ArbCmd)
+    → is_level (level_at config board) ≡ true → line_next config board line replies ≡ Makes (OnBus cmd)
+    → may_give (slot_at config board) (line_told config board line replies) cmd ≡ true
+unfolding next_given line_told
+line_turns config board line replies cmd lawful made =
+    lawful_turns (slot_at config board) (level_at config board) config.tries (line_attempt config board line) (given_of replies) cmd
+    (line_own config board line) lawful made
+
+-- data of a transfer
+lawful_holds : (tries : ℕ) (a : Attempt) (given : Given) (b : ℕ) (command : Option Command) → IsTransfer a
+    → lawful_next tries (Ok a) given ≡ Makes (OnBoard b command) → lawful_told tries (Ok a) given ≡ Some turned.Granted
+lawful_holds tries a given b command transfer made = attempt_holds a (attempts_of a tries given).given b command transfer made
+
+request_holds : (tries : ℕ) (attempt : Transfer → Attempt) (transfer : Result Transfer CycleFault) (given : Given) (b : ℕ) (command : Option Command)
+    → ((t : Transfer) → IsTransfer (attempt t)) → lawful_next tries (request_attempt attempt transfer) given ≡ Makes (OnBoard b command)
+    → lawful_told tries (request_attempt attempt transfer) given ≡ Some turned.Granted
+request_holds tries attempt (Ok t) given b command each made = lawful_holds tries (attempt t) given b command (each t) made
+request_holds tries attempt (Err fault) given b command each made = absurd cc
+
+shared_holds : (config : Configuration) (board : ℕ) (request : SharedRequest) (given : Given) (b : ℕ) (command : Option Command)
+    → lawful_next config.tries (shared_attempt config board request) given ≡ Makes (OnBoard b command)
+    → lawful_told config.tries (shared_attempt config board request) given ≡ Some turned.Granted
+shared_holds config board request given b command made = by_refusal (shared_refusal request) made
+  where
+    by_refusal : (refusal : Option CycleFault)
+        → lawful_next config.tries (unless_refused (Shares (shared_job config board request)) refusal) given ≡ Makes (OnBoard b command)
+        → lawful_told config.tries (unless_refused (Shares (shared_job config board request)) refusal) given ≡ Some turned.Granted
+    by_refusal None made = lawful_holds config.tries (Shares (shared_job config board request)) given b command tt made
+    by_refusal (Some fault) made = absurd cc
+
+-- those of a local port are its own
+own_local : (board b : ℕ) (cmd : BoardCmd) (g : Given) (command : Option Command) → IsOwnLine (lines.Local cmd)
+    → next_of (local_job board cmd) g ≡ tasks.Makes (OnBoard b command) → IsLocal command
+own_local board b cmd g command own made =
+    let one : OnBoard b command ≡ OnBoard board (command_given cmd) = local_calls (record { board = board; cmd = cmd }) g (OnBoard b command) made in
+    let same : command_given cmd ≡ command = cc in
+    subst IsLocal same (by_command cmd own)
+  where
+    by_command : (cmd : BoardCmd) → IsOwnLine (lines.Local cmd) → IsLocal (command_given cmd)
+    by_command (given_cmd.LocalRead offset n) own = tt
+    by_command (given_cmd.LocalWrite offset bytes) own = tt
+    by_command (given_cmd.LocalModify offset n f) own = tt
+    by_command (given_cmd.Cycle signals at f) own = absurd own
+
+line_holds_by : (config : Configuration) (board : ℕ) (line : Line) (given : Given) (b : ℕ) (command : Option Command) → IsOwnLine line
+    → lawful_next config.tries (line_attempt config board line) given ≡ Makes (OnBoard b command)
+    → IsLocal command ⊎ (lawful_told config.tries (line_attempt config board line) given ≡ Some turned.Granted)
+line_holds_by config board (lines.Bus request) given b command own made =
+    inr (request_holds config.tries (λ t. Moves (transfer_job config board t)) (transfer_of request) given b command (λ t. tt) made)
+line_holds_by config board (lines.Local cmd) given b command own made =
+    let g = (attempts_of (Moves (local_job board cmd)) config.tries given).given in
+    inl (own_local board b cmd g command own (moves_makes (next_of (local_job board cmd) g) (OnBoard b command) made))
+line_holds_by config board (lines.Await am addr bytes) given b command own made =
+    inr (request_holds config.tries (λ t. Waits (transfer_job config board t) bytes.items)
+    (transfer_of (requests.Read am addr (length bytes.items))) given b command (λ t. tt) made)
+line_holds_by config board (lines.Lock am addr) given b command own made =
+    inr (shared_holds config board (asked_shared.Lock am addr) given b command made)
+line_holds_by config board (lines.Unlock am addr) given b command own made =
+    inr (shared_holds config board (asked_shared.Unlock am addr) given b command made)
+line_holds_by config board (lines.Put box word) given b command own made =
+    inr (shared_holds config board (asked_shared.Put (mailbox_at config box) word) given b command made)
+line_holds_by config board (lines.Take box) given b command own made =
+    inr (shared_holds config board (asked_shared.Take (mailbox_at config box)) given b command made)
+
+pub line_holds : (config : Configuration) (board : ℕ) (line : Line) (replies : List EventReply) (b : ℕ) (command : Option Command)
+    → IsOwnLine line → line_next config board line replies ≡ Makes (OnBoard b command)
+    → IsLocal command ⊎ (line_told config board line replies ≡ Some turned.Granted)
+unfolding next_given line_told
+line_holds config board line replies b command own made = line_holds_by config board line (given_of replies) b command own made
+
+-- a good reply of the arbiter
+lawful_turn : (tries : ℕ) (attempt : Result Attempt CycleFault) (given : Given) (cmd : ArbCmd) (reply : ArbReply) (bus : Arbitration)
+    (slot : ℕ) → lawful_next tries attempt given ≡ Makes (OnBus cmd) → IsGood (OnBus cmd) (told.Bus reply) → StandsAsTold bus slot (Some reply)
+    → StandsAsTold bus slot (lawful_told tries attempt (Some (told.Bus reply) ∷ given))
+lawful_turn tries (Err fault) given cmd reply bus slot made good stands = absurd cc
+lawful_turn tries (Ok a) given cmd reply bus slot made good stands =
+    let was = attempts_of a tries given in
+    let now = now_made was (Some (told.Bus reply)) in
+    let told_now = attempt_turn a was.given cmd reply bus slot made good stands in
+    elim (either now (attempt_next a now.given)) [
+      | inl same ↦ subst (λ (m : Attempts). StandsAsTold bus slot (attempt_told a m.given)) (sym same) told_now
+      | inr next ↦
+          let ends = attempt_ends a was.given (OnBus cmd) (told.Bus reply) next.answer made good next.ended in
+          subst (λ (m : Attempts). StandsAsTold bus slot (attempt_told a m.given)) (sym next.begun)
+          (subst (StandsAsTold bus slot) (sym (attempt_begins a)) (ends.free bus slot told_now))
+    ]
+
+pub line_turn : (config : Configuration) (board : ℕ) (line : Line) (replies : List EventReply) (cmd : ArbCmd) (reply : ArbReply)
+    (bus : Arbitration) (slot : ℕ) → line_next config board line replies ≡ Makes (OnBus cmd) → IsGood (OnBus cmd) (told.Bus reply)
+    → StandsAsTold bus slot (Some reply) → StandsAsTold bus slot (line_told config board line (told.Bus reply ∷ replies))
+unfolding next_given line_told
+line_turn config board line replies cmd reply bus slot made good stands =
+    lawful_turn config.tries (line_attempt config board line) (given_of replies) cmd reply bus slot made good stands
+
+-- a good reply of a board
+lawful_datum : (tries : ℕ) (attempt : Result Attempt CycleFault) (given : Given) (call : Call) (reply : Reply)
+    → lawful_next tries attempt given ≡ Makes call → IsGood call (told.Board reply)
+    → lawful_told tries attempt (Some (told.Board reply) ∷ given) ≡ lawful_told tries attempt given
+lawful_datum tries (Err fault) given call reply made good = absurd cc
+lawful_datum tries (Ok a) given call reply made good =
+    let was = attempts_of a tries given in
+    let now = now_made was (Some (told.Board reply)) in
+    elim (either now (attempt_next a now.given)) [
+      | inl same ↦ ap (λ (m : Attempts). attempt_told a m.given) same ∙ attempt_datum a was.given call reply made good
+      | inr next ↦
+          let ends = attempt_ends a was.given call (told.Board reply) next.answer made good next.ended in
+          ap (λ (m : Attempts). attempt_told a m.given) next.begun ∙ attempt_begins a ∙ sym (ends.quiet reply refl)
+    ]
+
+pub line_datum : (config : Configuration) (board : ℕ) (line : Line) (replies : List EventReply) (call : Call) (reply : Reply)
+    → line_next config board line replies ≡ Makes call → IsGood call (told.Board reply)
+    → line_told config board line (told.Board reply ∷ replies) ≡ line_told config board line replies
+unfolding next_given line_told
+line_datum config board line replies call reply made good =
+    lawful_datum config.tries (line_attempt config board line) (given_of replies) call reply made good
+
+-- an answer after a good reply is no denial, and leaves the slot as one that was told nothing
+pub record IsWellEnded (answer : LineReply) (last : Option ArbReply) : Type 0 where
+  pub granted : IsGranted answer
+  pub free : (bus : Arbitration) (slot : ℕ) → StandsAsTold bus slot last → StandsAsTold bus slot None
+
+lawful_ends : (tries : ℕ) (attempt : Result Attempt CycleFault) (given : Given) (call : Call) (reply : EventReply) (answer : LineReply)
+    → lawful_next tries attempt given ≡ Makes call → IsGood call reply → lawful_next tries attempt (Some reply ∷ given) ≡ Ends answer
+    → IsWellEnded answer (lawful_told tries attempt (Some reply ∷ given))
+lawful_ends tries (Err fault) given call reply answer made good ends = absurd cc
+lawful_ends tries (Ok a) given call reply answer made good ends =
+    let was = attempts_of a tries given in
+    let now = now_made was (Some reply) in
+    elim (either now (attempt_next a now.given)) [
+      | inl same ↦
+          let last : attempt_next a now.given ≡ Ends answer = sym (ap (λ (m : Attempts). attempt_next a m.given) same) ∙ ends in
+          let well = attempt_ends a was.given call reply answer made good last in
+          subst (λ (m : Attempts). IsWellEnded answer (attempt_told a m.given)) (sym same) (record { granted = well.granted; free = well.free })
+      | inr next ↦
+          let begun = just_begun a answer (sym (ap (λ (m : Attempts). attempt_next a m.given) next.begun) ∙ ends) in
+          let told_none : attempt_told a (next_attempt now (attempt_next a now.given)).given ≡ None
+          = ap (λ (m : Attempts). attempt_told a m.given) next.begun ∙ attempt_begins a in
+          record { granted = begun.granted; free = λ bus slot stands. subst (StandsAsTold bus slot) told_none stands }
+    ]
+
+pub line_ends : (config : Configuration) (board : ℕ) (line : Line) (replies : List EventReply) (call : Call) (reply : EventReply)
+    (answer : LineReply) → line_next config board line replies ≡ Makes call → IsGood call reply
+    → line_next config board line (reply ∷ replies) ≡ Ends answer → IsWellEnded answer (line_told config board line (reply ∷ replies))
+unfolding next_given line_told
+line_ends config board line replies call reply answer made good ends =
+    lawful_ends config.tries (line_attempt config board line) (given_of replies) call reply answer made good ends

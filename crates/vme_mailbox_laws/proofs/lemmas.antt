@@ -1,0 +1,4 @@
+pub mod Groups
+pub mod Lawful
+pub mod LinesApart
+pub mod Shared

@@ -1,0 +1,167 @@
+-- There is room for what is read, and each datum is where its address is.
+use Rattle.std.proofs.Common.{◌≡◌, ℕ, zero, suc, ◌+◌, ◌*◌, ◌%◌, ◌<◌, ◌≤◌, true, List, ◌++◌, length, Option, Some, None, refl, ap, ◌∙◌, arith, inl, inr, length-append}
+use Rattle.std.specs.Prelude.{◌==◌, nat_lt, unwrap_or}
+use Rattle.std.proofs.Math.Nat.{mul-le-mul_left}
+use Rattle.std.proofs.lemmas.Bool.{cases_Bool, ltb-true, eqb-true}
+use Rattle.vme_cycle.specs.declared.request.Request.{Request}
+use Rattle.vme_cycle.specs.declared.request.Request.TheVariants as requests
+use Rattle.vme_cycle.specs.declared.modify.Modify.{Modify}
+use Rattle.vme_cycle.specs.Requests.{addr_of, datum_len, count_of, function_of, address_of, reply_room}
+use Rattle.vme_cycle.specs.Lawful.{IsLawfulTransfer}
+use Rattle.vme_cycle.specs.SignalLines.{SignalLines}
+use Rattle.vme_cycle.specs.Plans.{signals_of}
+use Rattle.vme_memory.specs.declared.command.BoardCmd.TheVariants as given
+use Rattle.vme_memory.specs.declared.reply.Reply.{Reply}
+use Rattle.vme_memory.specs.declared.reply.Reply.TheVariants.{Bytes, Done, Berr}
+use Rattle.vme_memory.specs.Locals.{command_given}
+use Rattle.vme_memory.specs.Data.{datum_command, has_form}
+use Rattle.vme_memory.proofs.lemmas.Data.{own_command}
+use Rattle.vme_core.specs.Calls.{OnBoard}
+use Rattle.vme_master.specs.declared.job.BusJob.{BusJob}
+use Rattle.vme_master.specs.declared.job.Job.{Job}
+use Rattle.vme_master.specs.declared.job.Job.TheVariants.{Bus, Local}
+use Rattle.vme_master.specs.declared.phase.Phase.TheVariants.{Moves}
+use Rattle.vme_master.specs.Jobs.{datum_call, request_aim}
+use Rattle.vme_master.specs.Machine.{job_aim, aim_len, bytes_of, phase_at, datum_phase, phase_broken, phase_replied, IsPlaced, HasRoom, IsEnough, IsSound, call_count, most_bytes, job_room}
+
+-- one datum more of at most r bytes
+pub one_more : (r i n : ℕ) → i < n → r * i + r ≤ r * n
+one_more r i n less =
+    let upto : r * suc i ≤ r * n = mul-le-mul_left r less in
+    let split : r * suc i ≡ r * i + r = grind arith in
+    omega arith
+
+-- an offset of a datum is an address of the space
+pub offset_below : (offset addr n count i most : ℕ) → offset ≤ addr → i < count → 1 ≤ n → addr + n * count ≤ most → offset + i * n < most
+offset_below offset addr n count i most within less some end =
+    let more = one_more n i count less in
+    let same : n * i ≡ i * n = grind arith in
+    omega arith
+
+-- a datum's offset leaves the remainder of its address
+pub same_place : (offset addr distance : ℕ) → offset % 4 ≡ addr % 4 → (offset + distance) % 4 ≡ (addr + distance) % 4
+same_place offset addr distance same = omega arith
+
+-- the cycle of a datum at its place is the request's own command
+pub datum_is : (job : BusJob) (place : ℕ × ℕ) (i at : ℕ) (signals : SignalLines) (f : Option Modify) → job.place ≡ Some place
+    → at ≡ place.1 + i * datum_len job.transfer.request → signals ≡ signals_of job.transfer i
+    → f ≡ function_of job.transfer.request → IsLawfulTransfer job.transfer → i < count_of job.transfer.request
+    → place.1 % 4 ≡ addr_of job.transfer.request % 4
+    → OnBoard place.0 (command_given (given.Cycle signals at f)) ≡ datum_call job job.place i
+datum_is job place i at signals f placed here shown function lawful less same =
+    let aligned : at % 4 ≡ address_of job.transfer.request i % 4 =
+    rw here (same_place place.1 (addr_of job.transfer.request) (i * datum_len job.transfer.request) same) in
+    let own = own_command job.transfer i at lawful less aligned in
+    rw (placed, shown, function) (ap (OnBoard place.0) own ∙ ap (λ n. OnBoard place.0 (Some (datum_command job.transfer.request i n))) here)
+
+-- all calls together read as many bytes at most as the request does
+pub all_bytes : (job : Job) → most_bytes job * call_count job ≡ job_room job
+all_bytes (Bus job) = bus_bytes job.transfer.request
+  where
+    bus_bytes : (request : Request) → unwrap_or (aim_len (request_aim request)) 0 * count_of request ≡ reply_room request
+    bus_bytes (requests.Read am addr n) = grind arith
+    bus_bytes (requests.BlockRead am addr n count) = refl
+    bus_bytes (requests.Modify am addr n f) = grind arith
+    bus_bytes (requests.Write am addr bytes) = grind arith
+    bus_bytes (requests.BlockWrite am addr n bytes) = grind arith
+    bus_bytes (requests.BlockFill am addr n count bytes) = grind arith
+all_bytes (Local job) = refl
+
+-- and a request reads no more than all its data have
+pub reads_within : (request : Request) → reply_room request ≤ datum_len request * count_of request
+reads_within (requests.Read am addr n) = omega arith
+reads_within (requests.BlockRead am addr n count) = omega arith
+reads_within (requests.Modify am addr n f) = omega arith
+reads_within (requests.Write am addr bytes) = omega arith
+reads_within (requests.BlockWrite am addr n bytes) = omega arith
+reads_within (requests.BlockFill am addr n count bytes) = omega arith
+
+-- a reply that is wanted has no more bytes than a datum
+form_within :
+    (request : Request) (reply : Reply) → has_form (aim_len (request_aim request)) reply ≡ true
+    → length (bytes_of reply) ≤ unwrap_or (aim_len (request_aim request)) 0
+form_within (requests.Read am addr n) (Bytes datum) form = let same = eqb-true (length datum.items) n form in omega arith
+form_within (requests.BlockRead am addr n count) (Bytes datum) form = let same = eqb-true (length datum.items) n form in omega arith
+form_within (requests.Modify am addr n f) (Bytes datum) form = let same = eqb-true (length datum.items) n form in omega arith
+form_within (requests.Write am addr bytes) (Bytes datum) form = absurd cc
+form_within (requests.BlockWrite am addr n bytes) (Bytes datum) form = absurd cc
+form_within (requests.BlockFill am addr n count bytes) (Bytes datum) form = absurd cc
+form_within request Done form = omega arith
+form_within request Berr form = omega arith
+
+pub replied_within : (job : Job) (reply : Reply) → has_form (aim_len (job_aim job)) reply ≡ true → length (bytes_of reply) ≤ 8
+    → length (bytes_of reply) ≤ most_bytes job
+replied_within (Bus job) reply form short = form_within job.transfer.request reply form
+replied_within (Local job) reply form short = short
+
+-- a datum more has room
+pub room_before : (job : Job) (i room : ℕ) (read : List ℕ) (reply : Reply) → HasRoom job (Moves i) read
+    → has_form (aim_len (job_aim job)) reply ≡ true → length (bytes_of reply) ≤ 8 → job_room job ≤ room
+    → length read + length (bytes_of reply) ≤ room
+room_before job i room read reply had form small all =
+    let next = one_more (most_bytes job) i (call_count job) had.0 in
+    let more = replied_within job reply form small in
+    let whole = all_bytes job in
+    omega (arith, next, more, had.1, all, whole)
+
+-- and so does its phase
+broken_room : (job : Job) (i : ℕ) (read : List ℕ) → length read ≤ job_room job → HasRoom job (phase_broken job i) read
+broken_room (Bus job) i read room = room
+broken_room (Local job) i read room = room
+
+datum_room : (job : BusJob) (place : Option (ℕ × ℕ)) (i : ℕ) (read : List ℕ) → length read ≤ most_bytes (Bus job) * i
+    → length read ≤ job_room (Bus job) → HasRoom (Bus job) (datum_phase job place i) read
+datum_room job None i read so_far room = room
+datum_room job (Some place) i read so_far room =
+    elim (cases_Bool (nat_lt i (count_of job.transfer.request))) [
+      | inl less ↦ rw less (ltb-true i (count_of job.transfer.request) less, so_far)
+      | inr past ↦ rw past room
+    ]
+
+next_room : (job : Job) (i : ℕ) (read : List ℕ) → i < call_count job → length read ≤ most_bytes job * (i + 1)
+    → length read ≤ job_room job → HasRoom job (phase_at job (i + 1)) read
+next_room (Bus job) i read less so_far room = datum_room job job.place (i + 1) read so_far room
+next_room (Local job) zero read less so_far room = room
+next_room (Local job) (suc i) read less so_far room = absurd (omega arith)
+
+-- after a board replied
+replied_room : (job : Job) (i : ℕ) (read : List ℕ) (reply : Reply) → i < call_count job → length read ≤ most_bytes job * (i + 1)
+    → length read ≤ job_room job → HasRoom job (phase_replied job i reply) read
+replied_room job i read (Bytes datum) less so_far room = next_room job i read less so_far room
+replied_room job i read Done less so_far room = next_room job i read less so_far room
+replied_room job i read Berr less so_far room = broken_room job i read room
+
+pub room_after : (job : Job) (i : ℕ) (read : List ℕ) (reply : Reply) → i < call_count job → length read ≤ most_bytes job * i
+    → length (bytes_of reply) ≤ most_bytes job → HasRoom job (phase_replied job i reply) (read ++ bytes_of reply)
+room_after job i read reply less had more =
+    let next = one_more (most_bytes job) i (call_count job) less in
+    let split : most_bytes job * (i + 1) ≡ most_bytes job * i + most_bytes job = grind arith in
+    let all = length-append read (bytes_of reply) in
+    let whole = all_bytes job in
+    replied_room job i (read ++ bytes_of reply) reply less (omega (arith, all, split)) (omega (arith, all, next, whole))
+
+-- the room stays enough
+datum_enough : (job : BusJob) (place : Option (ℕ × ℕ)) (i room : ℕ) → job_room (Bus job) ≤ room → IsEnough (Bus job) (datum_phase job place i) room
+datum_enough job None i room enough = enough
+datum_enough job (Some place) i room enough =
+    elim (cases_Bool (nat_lt i (count_of job.transfer.request))) [ inl less ↦ rw less enough | inr past ↦ rw past enough ]
+
+pub enough_at : (job : Job) (i room : ℕ) → job_room job ≤ room → IsEnough job (phase_at job i) room
+enough_at (Bus job) i room enough = datum_enough job job.place i room enough
+enough_at (Local job) i room enough = elim (cases_Bool (i == 0)) [ inl first ↦ rw first enough | inr past ↦ rw past tt ]
+
+enough_after : (job : Job) (i room : ℕ) (reply : Reply) → job_room job ≤ room → IsEnough job (phase_replied job i reply) room
+enough_after job i room (Bytes datum) enough = enough_at job (i + 1) room enough
+enough_after job i room Done enough = enough_at job (i + 1) room enough
+enough_after (Bus job) i room Berr enough = enough
+enough_after (Local job) i room Berr enough = tt
+
+-- and a task is as sound after it
+pub sound_after : (job : Job) (i room : ℕ) (read : List ℕ) (reply : Reply) → IsPlaced job → HasRoom job (Moves i) read
+    → has_form (aim_len (job_aim job)) reply ≡ true → length (bytes_of reply) ≤ 8 → job_room job ≤ room
+    → IsSound (record { job = job; phase = phase_replied job i reply; read = read ++ bytes_of reply }) room
+sound_after job i room read reply placed had form small enough = record {
+  placed = placed;
+  read = room_after job i read reply had.0 had.1 (replied_within job reply form small);
+  enough = enough_after job i room reply enough;
+}

@@ -1,0 +1,2 @@
+pub mod Eachs
+pub mod Histories

@@ -1,0 +1,11 @@
+pub mod Bytes
+pub mod Kept
+pub mod MailboxSteps
+pub mod Opening
+pub mod Ordered
+pub mod Places
+pub mod Quiet
+pub mod Rows
+pub mod Stands
+pub mod Starts
+pub mod Tenures

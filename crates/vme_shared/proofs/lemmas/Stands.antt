@@ -1,0 +1,80 @@
+-- The machine goes by the table: what its transfer at work has to do with what was given.
+use Rattle.std.proofs.Common.{◌≡◌, [], ◌∷◌, Option, None, Result, Ok, Err, refl, ap, ◌∙◌}
+use Rattle.std.specs.Option.{option_map}
+use Rattle.vme_cycle.specs.declared.fault.CycleFault.{CycleFault}
+use Rattle.vme_core.specs.declared.event.EventReply.{EventReply}
+use Rattle.vme_master.specs.declared.job.Job.{Job}
+use Rattle.vme_master.specs.Tables as tasks
+use Rattle.vme_master.specs.Tables.{Next, Given, next_of}
+use Rattle.vme_master.specs.Machine.{TaskView, task_given}
+use Rattle.vme_master.specs.Events.{outcome_in}
+use Rattle.vme_master.proofs.lemmas.Stands.{by_the_table}
+use Rattle.vme_shared.specs.declared.stage.Stage.{Stage}
+use Rattle.vme_shared.specs.declared.stage.Step.{Step}
+use Rattle.vme_shared.specs.declared.stage.Step.TheVariants.{Goes, Stops}
+use Rattle.vme_shared.specs.declared.work.Work.{Work}
+use Rattle.vme_shared.specs.declared.work.Work.TheVariants as works
+use Rattle.vme_shared.specs.Steps.{first_stage, step_after}
+use Rattle.vme_shared.specs.Tables.{SharedJob, Progress, At, Over, stage_job, stage_begun, step_begun, progress_by, progress_given, progress_of, task_shown, next_at, shared_next}
+use Rattle.vme_shared.specs.Machine.{SharedView, stage_fresh, stage_called, work_stepped, work_by, work_or, work_after, shared_advance, shared_given, work_to_do, shared_to_do}
+
+-- a transfer that is given something goes on, or its outcome leads on
+pub by_outcome : (s : SharedJob) (stage : Stage) (task : TaskView) (next : Next)
+    → work_by s stage task next ≡ work_or s (works.Moves stage task) (option_map (step_after s.request stage) (outcome_in next))
+by_outcome s stage task tasks.Rests = refl
+by_outcome s stage task (tasks.Makes call) = refl
+by_outcome s stage task (tasks.Ends outcome) = refl
+
+-- the transfer at work, by how far it has come
+abbrev work_of : Progress → Work
+work_of (At stage job given) = works.Moves stage (task_given job given)
+work_of (Over end) = works.Over end
+
+fresh_is : (stage : Stage) (job : Result Job CycleFault) → stage_fresh stage job ≡ work_of (stage_begun stage [] job)
+fresh_is stage (Ok job) = refl
+fresh_is stage (Err fault) = refl
+
+called_is : (stage : Stage) (job : Result Job CycleFault) → stage_called stage job ≡ work_of (stage_begun stage (None ∷ []) job)
+called_is stage (Ok job) = refl
+called_is stage (Err fault) = refl
+
+stepped_is : (s : SharedJob) (step : Step) → work_stepped s step ≡ work_of (step_begun s step)
+stepped_is s (Goes stage) = called_is stage (stage_job s stage)
+stepped_is s (Stops end) = refl
+
+by_is : (s : SharedJob) (stage : Stage) (job : Job) (given : Given) (next : Next)
+    → work_by s stage (task_given job given) next ≡ work_of (progress_by s stage job given next)
+by_is s stage job given tasks.Rests = refl
+by_is s stage job given (tasks.Makes call) = refl
+by_is s stage job given (tasks.Ends outcome) = stepped_is s (step_after s.request stage outcome)
+
+after_is : (s : SharedJob) (p : Progress) (last : Option EventReply) → work_after s (work_of p) last ≡ work_of (progress_given s last p)
+after_is s (At stage job given) last =
+    ap (work_by s stage (task_given job (last ∷ given))) (by_the_table job (last ∷ given))
+    ∙ by_is s stage job (last ∷ given) (next_of job (last ∷ given))
+after_is s (Over end) last = refl
+
+-- what is asked stays
+pub given_job : (s : SharedJob) (g : Given) → (shared_given s g).job ≡ s
+given_job s [] = refl
+given_job s (last ∷ g) = given_job s g
+
+given_work : (s : SharedJob) (g : Given) → (shared_given s g).work ≡ work_of (progress_of s g)
+given_work s [] = fresh_is (first_stage s.request) (stage_job s (first_stage s.request))
+given_work s (last ∷ g) =
+    ap (λ (t : SharedJob). work_after t (shared_given s g).work last) (given_job s g)
+    ∙ ap (λ work. work_after s work last) (given_work s g) ∙ after_is s (progress_of s g) last
+
+shows : (p : Progress) → work_to_do (work_of p) ≡ next_at p
+shows (At stage job given) = ap task_shown (by_the_table job given)
+shows (Over end) = refl
+
+-- it does next what the table says
+pub by_the_given : (s : SharedJob) (g : Given) → shared_to_do (shared_given s g) ≡ shared_next s g
+by_the_given s g = ap work_to_do (given_work s g) ∙ shows (progress_of s g)
+
+-- also after one call more
+pub next_by_the_given : (s : SharedJob) (g : Given) (v : SharedView) (last : Option EventReply) → v ≡ shared_given s g
+    → shared_to_do (shared_advance v last) ≡ shared_next s (last ∷ g)
+next_by_the_given s g v last same =
+    ap (λ (u : SharedView). shared_to_do (shared_advance u last)) same ∙ by_the_given s (last ∷ g)
