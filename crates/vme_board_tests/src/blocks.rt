@@ -1,20 +1,20 @@
 //! Rooms and blocks of a few bytes and of many, each once.
 use std::test::Fail;
-use vme_cycle::{BLOCK_LIMIT, Block, BlockFault, Room};
+use vme_cycle::{BLOCK_LIMIT, Block, BlockFault, BlockBuffer};
 
 #[test]
-fn a_room_keeps_what_is_pushed(rt: HostRuntime) -> Result<(), Fail> {
-    let mut short = Room::new();
-    short.push_all(&[1, 2, 3]);
-    short.push_all(&[4]);
+fn a_buffer_keeps_what_is_pushed(rt: HostRuntime) -> Result<(), Fail> {
+    let mut short = BlockBuffer::new();
+    short.extend_from_slice(&[1, 2, 3]);
+    short.extend_from_slice(&[4]);
     assert_eq!(&rt; short.as_slice(), [1, 2, 3, 4].as_slice());
     assert_eq!(&rt; short.into_block().as_slice(), [1, 2, 3, 4].as_slice());
-    let mut long = Room::with_room(rt.alloc(), 48)?;
-    long.push_all(&[6; 40]);
-    long.push_all(&[7; 8]);
+    let mut long = BlockBuffer::with_capacity(rt.alloc(), 48)?;
+    long.extend_from_slice(&[6; 40]);
+    long.extend_from_slice(&[7; 8]);
     assert_eq!(&rt; long.as_slice().len(), 48);
     long.clear();
-    long.push_all(&[5; 48]);
+    long.extend_from_slice(&[5; 48]);
     let block = long.into_block();
     assert_eq!(&rt; block.as_slice(), [5; 48].as_slice());
     assert_eq!(&rt; block.len(), 48);

@@ -54,7 +54,7 @@ static LAST_PUT: [(Cycle, Given); 6] = [
 static BUSY: [(Cycle, Given); 1] = [(Cycle::Set, Given::Bytes(&[0x80]))];
 
 #[test]
-fn puts_a_word_where_there_is_room(rt: HostRuntime) -> Result<(), Fail> {
+fn puts_a_word_where_a_slot_is_free(rt: HostRuntime) -> Result<(), Fail> {
     let map = AddressMap::new(rt.alloc(), &BOARDS)?;
     let mut task = PutTask::start(&map, 2, 3, MAILBOX, 0xdead_beef)?;
     for (course, wanted) in [

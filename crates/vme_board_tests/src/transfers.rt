@@ -6,7 +6,7 @@ use std::test::Fail;
 use vme_am::Space;
 use vme_arbiter::{ArbCmd, ArbReply};
 use vme_core::{Event, EventReply};
-use vme_cycle::{Block, CycleFault, Modify, Plan, Request, Room};
+use vme_cycle::{Block, CycleFault, Modify, Plan, Request, BlockBuffer};
 use vme_decode::{AddressMap, Entry};
 use vme_lanes::Datum;
 use vme_master::{Outcome, Task, Todo};
@@ -115,7 +115,7 @@ fn emptied(outcome: &Outcome) -> Outcome {
 }
 
 fn block(bytes: &[u8]) -> Block {
-    Block::of_short(ArrayVec::try_from(bytes).unwrap_or_default())
+    Block::from_short_slice(ArrayVec::try_from(bytes).unwrap_or_default())
 }
 
 fn datum(bytes: &[u8]) -> Datum {
@@ -125,8 +125,8 @@ fn datum(bytes: &[u8]) -> Datum {
 /// The task of a request of slot 2 on level 3, with a room for what it reads.
 fn start<'a>(alloc: Global, map: &AddressMap, request: &'a Request) -> Result<Task<'a>, Fail> {
     let plan = Plan::of(request)?;
-    let room = Room::with_room(alloc, plan.reply_room())?;
-    Ok(Task::start(map, 2, 3, request, room)?)
+    let buffer = BlockBuffer::with_capacity(alloc, plan.read_len())?;
+    Ok(Task::start(map, 2, 3, request, buffer)?)
 }
 
 /// Runs a request through a course.
@@ -353,7 +353,7 @@ fn a_refused_request_has_no_task(rt: HostRuntime) -> Result<(), Fail> {
         addr: 0x1000,
         n: 4,
     };
-    let task = Task::start(&map, 2, 3, &request, Room::new());
+    let task = Task::start(&map, 2, 3, &request, BlockBuffer::new());
     assert!(&rt; matches!(task, Err(CycleFault::WrongKindOfCode)));
     Ok(())
 }

@@ -135,7 +135,7 @@ impl Core {
         self.boards[board].datum(who, cycle)
     }
 
-    /// Events one after another, each with who gives it; their replies are appended. Room for all of
+    /// Events one after another, each with who gives it; their replies are appended. BlockBuffer for all of
     /// them is taken first. It ends before an event whose object can count no further step.
     #[tactic(auto, using(crate::proofs::lemmas::Dones::done_nothing, crate::proofs::lemmas::Dones::done_more, crate::proofs::lemmas::Dones::run_all, crate::proofs::lemmas::Dones::run_spent, crate::proofs::lemmas::Dones::run_none))]
     pub fn run(

@@ -236,7 +236,7 @@ first_shown s own addr strobes group place =
     ∙ ap (option_map (λ l. s.addr + (row_of l).first)) (own_sensed own)
     ∙ ap Some (omega (arith, group, place))
 
--- strobes held by their own datum are its own
+-- strobes repr by their own datum are its own
 pub held_by_itself : (first own : Location) (strobes : Strobes) → first ≡ own → strobes ≡ shown_strobes (row_of first).strobes (row_of own).strobes
     → strobes ≡ (row_of own).strobes
 held_by_itself first own strobes same shown = rw same at shown

@@ -1,30 +1,30 @@
--- Bytes that are held, and the room for them: for this crate's own functions.
+-- Bytes that are repr, and the room for them: for this crate's own functions.
 use Rattle.std.specs.Prelude.{ℕ, ◌≤◌, List, length, vec_capacity}
-use Rattle.vme_cycle.specs.declared.held.Held.{Held}
-use Rattle.vme_cycle.specs.declared.held.Held.TheVariants.{Short, Long}
-use Rattle.vme_cycle.specs.BlockBuffers.{RoomView, short_room}
+use Rattle.vme_cycle.specs.declared.repr.Repr.{Repr}
+use Rattle.vme_cycle.specs.declared.repr.Repr.TheVariants.{Short, Long}
+use Rattle.vme_cycle.specs.BlockBuffers.{BufferView, inline_capacity}
 
 -- the bytes (this project's own)
-abbrev pub held_bytes : Held → List ℕ
-held_bytes (Short bytes) = bytes.items
-held_bytes (Long bytes room) = bytes.items
+abbrev pub repr_bytes : Repr → List ℕ
+repr_bytes (Short bytes) = bytes.items
+repr_bytes (Long bytes buffer) = bytes.items
 
 -- how many have room (this project's own)
-abbrev pub held_room : Held → ℕ
-held_room (Short bytes) = short_room
-held_room (Long bytes room) = room
+abbrev pub repr_capacity : Repr → ℕ
+repr_capacity (Short bytes) = inline_capacity
+repr_capacity (Long bytes buffer) = buffer
 
 -- the memory that was taken is enough for the room (this project's own)
-abbrev pub IsRoomy : Held → Type 0
-IsRoomy (Short bytes) = Unit {0}
-IsRoomy (Long bytes room) = room ≤ vec_capacity bytes
+abbrev pub HasCapacity : Repr → Type 0
+HasCapacity (Short bytes) = Unit {0}
+HasCapacity (Long bytes buffer) = buffer ≤ vec_capacity bytes
 
 -- what a room keeps (this project's own)
-pub record IsRoom (held : Held) : Type 0 where
-  pub roomy : IsRoomy held
-  pub least : short_room ≤ held_room held
-  pub within : length (held_bytes held) ≤ held_room held
+pub record IsBuffer (repr : Repr) : Type 0 where
+  pub capacity_fits : HasCapacity repr
+  pub least : inline_capacity ≤ repr_capacity repr
+  pub within : length (repr_bytes repr) ≤ repr_capacity repr
 
 -- what is seen of a room (this project's own)
-abbrev pub room_view : Held → RoomView
-room_view held = record { items = held_bytes held; room = held_room held }
+abbrev pub buffer_view : Repr → BufferView
+buffer_view repr = record { items = repr_bytes repr; capacity = repr_capacity repr }

@@ -95,13 +95,13 @@ abbrev pub span_of : Request → ℕ
 span_of request = datum_len request * count_of request
 
 -- how many bytes it reads in all (this project's own)
-abbrev pub reply_room : Request → ℕ
-reply_room (Read am addr n) = n
-reply_room (Write am addr bytes) = 0
-reply_room (BlockRead am addr n count) = n * count
-reply_room (BlockWrite am addr n bytes) = 0
-reply_room (BlockFill am addr n count bytes) = 0
-reply_room (Modify am addr n f) = n
+abbrev pub read_len : Request → ℕ
+read_len (Read am addr n) = n
+read_len (Write am addr bytes) = 0
+read_len (BlockRead am addr n count) = n * count
+read_len (BlockWrite am addr n bytes) = 0
+read_len (BlockFill am addr n count bytes) = 0
+read_len (Modify am addr n f) = n
 
 -- the address of the first byte of datum i (this project's own)
 abbrev pub address_of : Request → ℕ → ℕ

@@ -1,11 +1,11 @@
 ghost use Rattle.std.specs.Prelude.{◌≡◌, ◌<◌, ◌≤◌, ◌↔◌, [], length, Err, IfOk, IsOk};
-ghost use Rattle.vme_cycle.specs.BlockBuffers.{short_room, block_limit};
-ghost use Rattle.vme_cycle.specs.BlockReprs.{held_bytes};
+ghost use Rattle.vme_cycle.specs.BlockBuffers.{inline_capacity, block_limit};
+ghost use Rattle.vme_cycle.specs.BlockReprs.{repr_bytes};
 ghost use Rattle.vme_cycle.specs.declared.block_fault.BlockFault.TheVariants.{TooLong};
 
-use crate::block_buffer::Room;
+use crate::block_buffer::BlockBuffer;
 use crate::block_fault::BlockFault;
-use crate::held::Held;
+use crate::repr::Repr;
 use arrayvec::ArrayVec;
 use std::alloc::Global;
 use std::marker::Model;
@@ -16,7 +16,7 @@ pub const BLOCK_LIMIT: usize = 2048;
 /// The bytes of a block, in order of address.
 #[derive(Debug, Drop)]
 pub struct Block {
-    held: Held,
+    repr: Repr,
 }
 
 impl Model for Block {
@@ -25,11 +25,11 @@ impl Model for Block {
 
     ghost Value = { BlockBytes };
 
-    ghost use Rattle.vme_cycle.specs.BlockReprs.{held_bytes};
+    ghost use Rattle.vme_cycle.specs.BlockReprs.{repr_bytes};
 
-    ghost view = { λ b. record { items = held_bytes b.held } };
+    ghost view = { λ b. record { items = repr_bytes b.repr } };
 
-    ghost invariant = { λ b. length (held_bytes b.held) ≤ block_limit };
+    ghost invariant = { λ b. length (repr_bytes b.repr) ≤ block_limit };
 }
 
 impl Block {
@@ -37,17 +37,17 @@ impl Block {
     pub fn new() -> Block
         ensures { result.items ≡ [] }
     {
-        Block::of_short(ArrayVec::new())
+        Block::from_short_slice(ArrayVec::new())
     }
 
     /// A few bytes. It takes no memory.
-    pub fn of_short(bytes: ArrayVec<u8, 40>) -> Block
+    pub fn from_short_slice(bytes: ArrayVec<u8, 40>) -> Block
         ensures { result.items ≡ bytes.items }
     {
         let len = bytes.len();
         prove!(len <= 40);
         Block {
-            held: Held::Short(bytes),
+            repr: Repr::Short(bytes),
         }
     }
 
@@ -55,25 +55,25 @@ impl Block {
     pub fn from_slice(alloc: Global, bytes: &[u8]) -> Result<Block, BlockFault>
         ensures bytes { IfOk result (λ block. block.items ≡ bytes.now) }
         ensures long { (result ≡ Err TooLong) ↔ (block_limit < length bytes.now) }
-        ensures short { length bytes.now ≤ short_room → IsOk result }
+        ensures short { length bytes.now ≤ inline_capacity → IsOk result }
     {
         if BLOCK_LIMIT < bytes.len() {
             return Err(BlockFault::TooLong);
         }
-        match Room::with_room(alloc, bytes.len()) {
-            Ok(mut room) => {
-                room.push_all(bytes);
-                Ok(room.into_block())
+        match BlockBuffer::with_capacity(alloc, bytes.len()) {
+            Ok(mut buffer) => {
+                buffer.extend_from_slice(bytes);
+                Ok(buffer.into_block())
             }
             Err(_) => Err(BlockFault::Memory),
         }
     }
 
-    pub(crate) fn of_held(held: Held) -> Block
-        requires { length (held_bytes held) ≤ block_limit }
-        ensures { result.items ≡ held_bytes held }
+    pub(crate) fn of_held(repr: Repr) -> Block
+        requires { length (repr_bytes repr) ≤ block_limit }
+        ensures { result.items ≡ repr_bytes repr }
     {
-        Block { held }
+        Block { repr }
     }
 
     /// The bytes.
@@ -81,7 +81,7 @@ impl Block {
         ensures value { result.now ≡ self.now.items }
         ensures fits { length result.now ≤ block_limit }
     {
-        self.held.as_slice()
+        self.repr.as_slice()
     }
 
     /// The number of bytes.

@@ -1,8 +1,8 @@
 ghost use Rattle.std.specs.Prelude.{◌≡◌, ◌+◌, ◌≤◌, [], ◌++◌, length, max, IfOk, IsOk};
-ghost use Rattle.vme_cycle.specs.BlockBuffers.{short_room, block_limit};
+ghost use Rattle.vme_cycle.specs.BlockBuffers.{inline_capacity, block_limit};
 
 use crate::block::Block;
-use crate::held::{Held, SHORT};
+use crate::repr::{Repr, INLINE_LEN};
 use arrayvec::ArrayVec;
 use std::alloc::{AllocError, Global};
 use std::marker::Model;
@@ -10,44 +10,44 @@ use std::marker::Model;
 /// Bytes that are read one datum after another, with room for a known number of them. Memory is
 /// taken when it is made, if at all.
 #[derive(Debug, Drop)]
-pub struct Room {
-    held: Held,
+pub struct BlockBuffer {
+    repr: Repr,
 }
 
-impl Model for Room {
-    ghost use Rattle.vme_cycle.specs.BlockBuffers.{RoomView};
+impl Model for BlockBuffer {
+    ghost use Rattle.vme_cycle.specs.BlockBuffers.{BufferView};
 
-    ghost Value = { RoomView };
+    ghost Value = { BufferView };
 
-    ghost use Rattle.vme_cycle.specs.BlockReprs.{IsRoom, room_view};
+    ghost use Rattle.vme_cycle.specs.BlockReprs.{IsBuffer, buffer_view};
 
-    ghost view = { λ r. room_view r.held };
+    ghost view = { λ r. buffer_view r.repr };
 
-    ghost invariant = { λ r. IsRoom r.held };
+    ghost invariant = { λ r. IsBuffer r.repr };
 }
 
-impl Room {
+impl BlockBuffer {
     /// Nothing, with room for as many bytes as lie in the value itself.
-    pub fn new() -> Room
-        ensures { result ≡ record { items = []; room = short_room } }
+    pub fn new() -> BlockBuffer
+        ensures { result ≡ record { items = []; capacity = inline_capacity } }
     {
-        Room {
-            held: Held::Short(ArrayVec::new()),
+        BlockBuffer {
+            repr: Repr::Short(ArrayVec::new()),
         }
     }
 
     /// Nothing, with room for so many bytes.
-    pub fn with_room(alloc: Global, count: usize) -> Result<Room, AllocError>
-        ensures room { IfOk result (λ room. room ≡ record { items = []; room = max short_room count }) }
-        ensures short { count ≤ short_room → IsOk result }
+    pub fn with_capacity(alloc: Global, count: usize) -> Result<BlockBuffer, AllocError>
+        ensures capacity { IfOk result (λ buffer. buffer ≡ record { items = []; capacity = max inline_capacity count }) }
+        ensures short { count ≤ inline_capacity → IsOk result }
     {
-        if count <= SHORT {
-            return Ok(Room::new());
+        if count <= INLINE_LEN {
+            return Ok(BlockBuffer::new());
         }
-        Ok(Room {
-            held: Held::Long {
+        Ok(BlockBuffer {
+            repr: Repr::Long {
                 bytes: Vec::with_capacity(alloc, count)?,
-                room: count,
+                capacity: count,
             },
         })
     }
@@ -55,26 +55,26 @@ impl Room {
     /// The bytes.
     pub fn as_slice(&self) -> &[u8]
         ensures value { result.now ≡ self.now.items }
-        ensures room { length result.now ≤ self.now.room }
-        ensures least { short_room ≤ self.now.room }
+        ensures capacity { length result.now ≤ self.now.capacity }
+        ensures least { inline_capacity ≤ self.now.capacity }
     {
-        self.held.as_slice()
+        self.repr.as_slice()
     }
 
     /// Appends bytes for which there is room. It takes no memory.
-    pub fn push_all(&mut self, bytes: &[u8])
-        requires { length self.old.items + length bytes.now ≤ self.old.room }
+    pub fn extend_from_slice(&mut self, bytes: &[u8])
+        requires { length self.old.items + length bytes.now ≤ self.old.capacity }
         ensures { self.new ≡ record self.old { items = self.old.items ++ bytes.now } }
     {
-        self.held.push_all(bytes);
+        self.repr.extend_from_slice(bytes);
     }
 
     /// Lets all bytes go, and keeps the room.
     pub fn clear(&mut self)
-        ensures room { self.new ≡ record self.old { items = [] } }
-        ensures least { short_room ≤ self.old.room }
+        ensures capacity { self.new ≡ record self.old { items = [] } }
+        ensures least { inline_capacity ≤ self.old.capacity }
     {
-        self.held.clear();
+        self.repr.clear();
     }
 
     /// The bytes as those of a block. It takes no memory.
@@ -82,6 +82,6 @@ impl Room {
         requires { length self.items ≤ block_limit }
         ensures { result.items ≡ self.items }
     {
-        Block::of_held(self.held)
+        Block::of_held(self.repr)
     }
 }

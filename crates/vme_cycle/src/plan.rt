@@ -2,7 +2,7 @@ ghost use Rattle.std.specs.Prelude.{◌≡◌, ◌<◌, ◌≤◌, ◌+◌, ◌*
 ghost use Rattle.vme_lanes.specs.Rows.{row_of};
 ghost use Rattle.std.specs.Option.{option_map};
 ghost use Rattle.vme_cycle.specs.Functions.{has_len};
-ghost use Rattle.vme_cycle.specs.Requests.{addr_of, function_of, reads, datum_len, count_of, address_of, reply_room};
+ghost use Rattle.vme_cycle.specs.Requests.{addr_of, function_of, reads, datum_len, count_of, address_of, read_len};
 ghost use Rattle.vme_cycle.specs.Lawful.{location_for, first_refusal, transfer_of, IsLawfulTransfer};
 ghost use Rattle.vme_cycle.specs.Parts.{IsLawful};
 ghost use Rattle.vme_cycle.specs.SignalLines.{chosen_len, row_len, first_byte, sensed_at, len_at};
@@ -102,8 +102,8 @@ impl<'a> Plan<'a> {
     }
 
     /// How many bytes it reads in all.
-    pub fn reply_room(&self) -> usize
-        ensures { result ≡ reply_room self.now.request }
+    pub fn read_len(&self) -> usize
+        ensures { result ≡ read_len self.now.request }
     {
         match self.request() {
             Request::Read { n, .. } | Request::Modify { n, .. } => usize::from(*n),

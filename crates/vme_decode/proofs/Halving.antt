@@ -18,7 +18,7 @@ pub record Splits (ranks : List ℕ) (top from to : ℕ) : Type 0 where
 -- where a search has come to before a step
 pub record IsHalved (ranks : List ℕ) (top count step : ℕ) : Type 0 where
   pub is_step : IsStep step
-  pub room : count + (2 * step - 1) ≤ 31
+  pub capacity : count + (2 * step - 1) ≤ 31
   pub split : IsPartitionedBy (λ r. leb r top) ranks → Splits ranks top count (count + (2 * step - 1))
 
 -- half a step is a step, or nothing after the last
@@ -34,7 +34,7 @@ half_step step (inr (inr (inr (inr (inr is))))) some = absurd (omega arith)
 split_up : (ranks : List ℕ) (top count step : ℕ) → length ranks ≡ 31 → 0 < step → count + (2 * step - 1) ≤ 31
     → IsPartitionedBy (λ r. leb r top) ranks → Splits ranks top count (count + (2 * step - 1))
     → leb (get_or ranks (count + step - 1) 0) top ≡ true → Splits ranks top (count + step) (count + step + (step - 1))
-split_up ranks top count step places some room parted splits here = record {
+split_up ranks top count step places some capacity parted splits here = record {
   up_to = λ k below. leb-true _ _ (parted k (count + step - 1) 0 (omega arith) (omega arith) here);
   above = λ k from within. splits.above k (omega arith) within;
 }
@@ -59,22 +59,22 @@ pub halved : (ranks : List ℕ) (top count step bit : ℕ) → length ranks ≡ 
     → IsHalved ranks top (count + step * bit) (step / 2)
 halved ranks top count step bit places some is bit_is =
     let half = half_step step is.is_step some in
-    let room = is.room in
+    let capacity = is.capacity in
     elim (cases_Bool (leb (get_or ranks (count + step - 1) 0) top)) [
       | inl here ↦
           let one : bit ≡ 1 = rw here at bit_is in
           let all : count + step ≡ count + step * bit = rw one (omega arith) in
           subst (λ n. IsHalved ranks top n (step / 2)) all (record {
             is_step = half.0;
-            room = omega (arith, half.1);
-            split = λ parted. rw half.1 (split_up ranks top count step places some room parted (is.split parted) here);
+            capacity = omega (arith, half.1);
+            split = λ parted. rw half.1 (split_up ranks top count step places some capacity parted (is.split parted) here);
           })
       | inr here ↦
           let none : bit ≡ 0 = rw here at bit_is in
           let nothing : count ≡ count + step * bit = rw none (omega arith) in
           subst (λ n. IsHalved ranks top n (step / 2)) nothing (record {
             is_step = half.0;
-            room = omega (arith, half.1);
+            capacity = omega (arith, half.1);
             split = λ parted. rw half.1 (split_down ranks top count step places some parted (is.split parted) here);
           })
     ]
@@ -82,7 +82,7 @@ halved ranks top count step bit places some is bit_is =
 -- after the last step nothing is left
 pub parted_at : (ranks : List ℕ) (top count : ℕ) → length ranks ≡ 31 → count ≤ 31 → Splits ranks top count count
     → IsPartitionPoint (λ r. r ≤ top) (λ r. top < r) ranks count
-parted_at ranks top count places room split = (
+parted_at ranks top count places capacity split = (
   λ k d from below. rw (get_or_default ranks k d 0 (omega arith)) (split.up_to k below),
   λ k d from within. rw (get_or_default ranks k d 0 within) (split.above k from (omega arith)),
 )

@@ -36,8 +36,8 @@ fn a_reader_fails_after_any_byte(rt: HostRuntime) -> Result<(), Fail> {
 }
 
 /// How a row ends where so much of its text can be written.
-fn end_of(row: &Row, room: usize) -> Result<Status, ProgramFault> {
-    if room < row.text.len() {
+fn end_of(row: &Row, buffer: usize) -> Result<Status, ProgramFault> {
+    if buffer < row.text.len() {
         Err(ProgramFault::Write)
     } else {
         Ok(Status::Clean)
@@ -50,21 +50,21 @@ fn expect_front<R: Threads + Wait + Abort + Sync>(
     rt: &R,
     alloc: Global,
     row: &Row,
-    room: usize,
+    buffer: usize,
 ) -> Result<(), AllocError> {
     let mut source = SliceSource::new(row.input.as_bytes(), 1, usize::MAX);
-    let mut sink = RoomSink::new(alloc, 1, room)?;
+    let mut sink = RoomSink::new(alloc, 1, buffer)?;
     let end = run(rt, alloc, row.engine, &mut source, &mut sink);
-    assert_eq!(rt; end, end_of(row, room), "{room}");
-    assert_eq!(rt; Some(sink.bytes()), row.text.as_bytes().get(..room));
+    assert_eq!(rt; end, end_of(row, buffer), "{buffer}");
+    assert_eq!(rt; Some(sink.bytes()), row.text.as_bytes().get(..capacity));
     Ok(())
 }
 
 #[test]
 fn a_writer_fails_after_any_byte(rt: HostRuntime) -> Result<(), Fail> {
     for row in ROWS {
-        for room in 0..=row.text.len() {
-            expect_front(&rt, rt.alloc(), row, room)?;
+        for buffer in 0..=row.text.len() {
+            expect_front(&rt, rt.alloc(), row, buffer)?;
         }
     }
     Ok(())
@@ -74,14 +74,14 @@ fn a_writer_fails_after_any_byte(rt: HostRuntime) -> Result<(), Fail> {
 #[derive(Drop)]
 struct Narrow {
     taken: Vec<u8>,
-    room: usize,
+    buffer: usize,
 }
 
 impl io::Write for Narrow {
     fn write(&mut self, bytes: &[u8]) -> io::Result<usize> {
-        let count = bytes.len().min(self.room);
+        let count = bytes.len().min(self.capacity);
         self.taken.extend_from_slice(&bytes[..count])?;
-        self.room -= count;
+        self.capacity -= count;
         Ok(count)
     }
 
@@ -95,19 +95,19 @@ fn expect_narrow<R: Threads + Wait + Abort + Sync>(
     rt: &R,
     alloc: Global,
     row: &Row,
-    room: usize,
+    buffer: usize,
 ) -> Result<(), AllocError> {
     let mut narrow = Narrow {
         taken: Vec::new(alloc),
-        room,
+        buffer,
     };
     let mut reader = Io::new(row.input.as_bytes());
     let mut writer = Io::new(&mut narrow);
     let end = run(rt, alloc, row.engine, &mut reader, &mut writer);
-    assert_eq!(rt; end, end_of(row, room), "{room}");
+    assert_eq!(rt; end, end_of(row, buffer), "{buffer}");
     assert_eq!(rt;
         Some(narrow.taken.as_slice()),
-        row.text.as_bytes().get(..room)
+        row.text.as_bytes().get(..capacity)
     );
     Ok(())
 }
@@ -115,8 +115,8 @@ fn expect_narrow<R: Threads + Wait + Abort + Sync>(
 #[test]
 fn a_writer_takes_no_byte_after_any(rt: HostRuntime) -> Result<(), Fail> {
     for row in ROWS {
-        for room in 0..=row.text.len() {
-            expect_narrow(&rt, rt.alloc(), row, room)?;
+        for buffer in 0..=row.text.len() {
+            expect_narrow(&rt, rt.alloc(), row, buffer)?;
         }
     }
     Ok(())

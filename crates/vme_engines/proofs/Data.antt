@@ -25,9 +25,9 @@ datum_more count i board next t text new read reply all less whole printed repli
     rw (printed, replied, moved) (sym (after_both text line rest) ∙ opened)
 
 -- and leaves as much room less
-pub room_more : (count i n read : ℕ) → i < count → read + n * (count - i) ≤ 2048 → (read + n) + n * (count - (i + 1)) ≤ 2048
-room_more count i n read less room =
+pub buffer_more : (count i n read : ℕ) → i < count → read + n * (count - i) ≤ 2048 → (read + n) + n * (count - (i + 1)) ≤ 2048
+buffer_more count i n read less capacity =
     let left : count - i ≡ suc (count - (i + 1)) = omega (arith, less) in
-    let opened : read + n * suc (count - (i + 1)) ≤ 2048 = rw left at room in
+    let opened : read + n * suc (count - (i + 1)) ≤ 2048 = rw left at capacity in
     let split : n * suc (count - (i + 1)) ≡ n + n * (count - (i + 1)) = grind arith in
     omega (arith, opened, split)

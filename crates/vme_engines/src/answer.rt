@@ -11,7 +11,7 @@ ghost use Rattle.vme_engines.specs.Answers.{outcome_of, final_signals, offset_of
 use crate::bus::Bus;
 use crate::request::request_of;
 use std::alloc::AllocError;
-use vme_cycle::{Plan, Request, Room, Signals};
+use vme_cycle::{Plan, Request, BlockBuffer, Signals};
 use vme_grammar::{
     print_berr, print_done, print_line_refusal, print_old, print_read, print_refusal, print_signals,
 };
@@ -24,11 +24,11 @@ use vme_shared::Status;
 pub(crate) fn answer_line(
     bus: &mut Bus,
     line: &[u8],
-    replied: &mut Room,
+    replied: &mut BlockBuffer,
     text: &mut Vec<u8>,
 ) -> Result<Status, AllocError>
-    requires { block_limit ≤ replied.old.room }
-    ensures room { replied.new.room ≡ replied.old.room }
+    requires { block_limit ≤ replied.old.capacity }
+    ensures capacity { replied.new.capacity ≡ replied.old.capacity }
     ensures text { OnOk result (text.new.items ≡ text.old.items ++ (answer bus.old line.now).text) }
     ensures board { OnOk result (bus.new ≡ (answer bus.old line.now).board) }
     ensures status { IfOk result (λ status. status ≡ (answer bus.old line.now).status) }
@@ -46,11 +46,11 @@ pub(crate) fn answer_line(
 fn answer_request(
     bus: &mut Bus,
     request: &Request,
-    replied: &mut Room,
+    replied: &mut BlockBuffer,
     text: &mut Vec<u8>,
 ) -> Result<Status, AllocError>
-    requires { block_limit ≤ replied.old.room }
-    ensures room { replied.new.room ≡ replied.old.room }
+    requires { block_limit ≤ replied.old.capacity }
+    ensures capacity { replied.new.capacity ≡ replied.old.capacity }
     ensures text { OnOk result
         (text.new.items ≡ text.old.items ++ (request_answer bus.old request.now).text) }
     ensures board { OnOk result (bus.new ≡ (request_answer bus.old request.now).board) }
@@ -70,11 +70,11 @@ fn answer_request(
 fn answer_data(
     bus: &mut Bus,
     plan: &Plan<'_>,
-    replied: &mut Room,
+    replied: &mut BlockBuffer,
     text: &mut Vec<u8>,
 ) -> Result<Status, AllocError>
-    requires { block_limit ≤ replied.old.room }
-    ensures room { replied.new.room ≡ replied.old.room }
+    requires { block_limit ≤ replied.old.capacity }
+    ensures capacity { replied.new.capacity ≡ replied.old.capacity }
     ensures text { OnOk result (text.new.items ≡ text.old.items ++ (transfer_answer bus.old plan.now).text) }
     ensures board { OnOk result (bus.new ≡ (transfer_answer bus.old plan.now).board) }
     ensures status { IfOk result (λ status. status ≡ (transfer_answer bus.old plan.now).status) }
@@ -84,7 +84,7 @@ fn answer_data(
     replied.clear();
     for i in 0..count {
         match answer_datum(bus, plan, i, offset, text)? {
-            Reply::Bytes(datum) => replied.push_all(datum.as_slice()),
+            Reply::Bytes(datum) => replied.extend_from_slice(datum.as_slice()),
             Reply::Done => {}
             Reply::Berr => {
                 print_berr(text, i, replied.as_slice())?;

@@ -11,7 +11,7 @@ use crate::bus::Bus;
 use crate::fault::ProgramFault;
 use crate::input::read_input;
 use std::alloc::Global;
-use vme_cycle::{BLOCK_LIMIT, Room};
+use vme_cycle::{BLOCK_LIMIT, BlockBuffer};
 use vme_io::{Sink, Source, write_all};
 use vme_lexer::Lines;
 use vme_shared::Status;
@@ -70,7 +70,7 @@ fn answer_all<W: Sink>(alloc: Global, input: &[u8], writer: &mut W) -> Result<St
     ensures faults { IfErr result IsAnswerFault }
 {
     let mut bus = Bus::new(alloc)?;
-    let mut replied = Room::with_room(alloc, BLOCK_LIMIT)?;
+    let mut replied = BlockBuffer::with_capacity(alloc, BLOCK_LIMIT)?;
     let mut text = Vec::with_capacity(alloc, WRITE_SIZE)?;
     let mut status = Status::Clean;
     for line in Lines::new(input) {

@@ -30,8 +30,8 @@ pub fn read_input<R: Source>(
     let mut input = Vec::new(alloc);
     let mut chunk = [0; READ_SIZE];
     loop {
-        let room = READ_SIZE.min(limit + 1 - input.len());
-        let buffer = &mut chunk[..room];
+        let most = READ_SIZE.min(limit + 1 - input.len());
+        let buffer = &mut chunk[..capacity];
         let Ok(count) = reader.read(buffer) else {
             return Err(ProgramFault::Read);
         };

@@ -21,14 +21,14 @@ fn digit(n: u8) -> u8
 }
 
 /// Takes room for so many bytes and for two digits for each of some others.
-fn take_room(text: &mut Vec<u8>, fixed: usize, bytes: &[u8]) -> Result<(), AllocError>
-    ensures room { OnOk result
+fn take_buffer(text: &mut Vec<u8>, fixed: usize, bytes: &[u8]) -> Result<(), AllocError>
+    ensures capacity { OnOk result
         (vec_len text.new + (fixed + 2 * length bytes.now) ≤ vec_capacity text.new) }
     ensures kept { text.new.items ≡ text.old.items }
 {
     let digits = bytes.len().checked_mul(2).ok_or(AllocError)?;
-    let room = fixed.checked_add(digits).ok_or(AllocError)?;
-    text.reserve(room)
+    let capacity = fixed.checked_add(digits).ok_or(AllocError)?;
+    text.reserve(capacity)
 }
 
 /// Appends a text for which there is room.
@@ -58,7 +58,7 @@ pub fn print_hex(text: &mut Vec<u8>, bytes: &[u8]) -> Result<(), AllocError>
     ensures text { OnOk result (text.new.items ≡ text.old.items ++ hex_text bytes.now) }
     ensures kept { OnErr result (text.new.items ≡ text.old.items) }
 {
-    take_room(text, 0, bytes)?;
+    take_buffer(text, 0, bytes)?;
     push_hex_bytes(text, bytes);
     Ok(())
 }
@@ -198,7 +198,7 @@ pub fn print_read(text: &mut Vec<u8>, bytes: &[u8]) -> Result<(), AllocError>
         (text.new.items ≡ text.old.items ++ output_line (outcome_text (Read bytes.now))) }
     ensures kept { OnErr result (text.new.items ≡ text.old.items) }
 {
-    take_room(text, 6, bytes)?;
+    take_buffer(text, 6, bytes)?;
     push_text(text, b"read ");
     push_hex_bytes(text, bytes);
     push_text(text, b"\n");
@@ -212,7 +212,7 @@ pub fn print_old(text: &mut Vec<u8>, bytes: &[u8]) -> Result<(), AllocError>
         (text.new.items ≡ text.old.items ++ output_line (outcome_text (Old bytes.now))) }
     ensures kept { OnErr result (text.new.items ≡ text.old.items) }
 {
-    take_room(text, 5, bytes)?;
+    take_buffer(text, 5, bytes)?;
     push_text(text, b"old ");
     push_hex_bytes(text, bytes);
     push_text(text, b"\n");
@@ -238,7 +238,7 @@ pub fn print_berr(text: &mut Vec<u8>, count: u16, bytes: &[u8]) -> Result<(), Al
 {
     let mut buffer = itoa::Buffer::new();
     let number = buffer.format(count).as_bytes();
-    take_room(text, 7 + number.len(), bytes)?;
+    take_buffer(text, 7 + number.len(), bytes)?;
     push_text(text, b"berr ");
     push_text(text, number);
     push_more_bytes(text, bytes);

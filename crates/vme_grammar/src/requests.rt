@@ -69,7 +69,7 @@ pub(crate) fn block_write(operands: Words<'_>) -> Result<Line, LineFault>
     let (am, addr, n, bytes) = four_words(operands).ok_or(LineFault::WordCount)?;
     let (am, addr) = place_of(am, addr)?;
     let n = small_number(n).ok_or(LineFault::BadNumber)?;
-    let bytes = Block::of_short(hex_bytes(bytes).ok_or(LineFault::BadBytes)?);
+    let bytes = Block::from_short_slice(hex_bytes(bytes).ok_or(LineFault::BadBytes)?);
     Ok(Line::Bus(Request::BlockWrite { am, addr, n, bytes }))
 }
 

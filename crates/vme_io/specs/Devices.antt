@@ -42,4 +42,4 @@ most_taken sink = sink.most
 
 -- how many bytes a sink takes before it fails (this project's own)
 abbrev pub left_to_take : RoomSink → ℕ
-left_to_take sink = sink.room
+left_to_take sink = sink.capacity

@@ -86,27 +86,27 @@ impl Source for SliceSource<'_> {
 pub struct RoomSink {
     bytes: Vec<u8>,
     most: usize,
-    room: usize,
+    capacity: usize,
     marked: bool,
     ghost moves: { 0 < most },
-    ghost reserved: { vec_len bytes + room ≤ vec_capacity bytes },
+    ghost reserved: { vec_len bytes + capacity ≤ vec_capacity bytes },
 }
 
 impl RoomSink {
     ghost use Rattle.vme_io.specs.Devices.{most_taken, left_to_take};
 
     /// An empty sink, with the mark clear.
-    pub fn new(alloc: Global, most: usize, room: usize) -> Result<RoomSink, AllocError>
+    pub fn new(alloc: Global, most: usize, capacity: usize) -> Result<RoomSink, AllocError>
         requires { 0 < most }
         ensures empty { IfOk result (λ sink. ⟦<RoomSink as Sink>⟧.contents sink ≡ Some []) }
         ensures unmarked { IfOk result (λ sink. ⟦<RoomSink as Sink>⟧.is_marked sink ≡ false) }
         ensures most { IfOk result (λ sink. most_taken sink ≡ most) }
-        ensures fails { IfOk result (λ sink. left_to_take sink ≡ room) }
+        ensures fails { IfOk result (λ sink. left_to_take sink ≡ capacity) }
     {
         Ok(RoomSink {
-            bytes: Vec::with_capacity(alloc, room)?,
+            bytes: Vec::with_capacity(alloc, capacity)?,
             most,
-            room,
+            capacity,
             marked: false,
         })
     }
@@ -144,13 +144,13 @@ impl Sink for RoomSink {
         ensures takes { 0 < left_to_take self.old → IsOk result }
         ensures fails { left_to_take self.old ≡ 0 → IsErr result }
     {
-        if self.room == 0 {
+        if self.capacity == 0 {
             self.marked = true;
             return Err(Failed);
         }
-        let count = bytes.len().min(self.most).min(self.room);
+        let count = bytes.len().min(self.most).min(self.capacity);
         self.bytes.extend_from_slice(&bytes[..count]).unwrap();
-        self.room -= count;
+        self.capacity -= count;
         Ok(count)
     }
 }

@@ -47,7 +47,7 @@ pub record IsRead (n k : ℕ) (rest word : List ℕ) : Type 0 where
   pub read : n < 2 ^ 32 → hex_from n rest ≡ hex_from 0 word
   pub small : n < 2 ^ 32 → n < 16 ^ k
   pub unread : 2 ^ 32 ≤ n → hex_from 0 word ≡ None
-  pub room : n + 2 ^ 32 ≤ 2 ^ 32 * 16 ^ k
+  pub capacity : n + 2 ^ 32 ≤ 2 ^ 32 * 16 ^ k
 
 sixteenfold : (k : ℕ) → 16 ^ (k + 1) ≡ 16 * 16 ^ k
 sixteenfold k = ap (λ j. 16 ^ j) (omega arith) ∙ pow-succ' 16 k
@@ -59,7 +59,7 @@ read_by n k c count rest word None few none counts so = record {
   read = λ less. absurd (omega (arith, less, counts));
   small = λ less. absurd (omega (arith, less, counts));
   unread = λ more. elim (cases_lt n (2 ^ 32)) [ inl less ↦ sym (so.read less) ∙ rw none refl | inr le ↦ so.unread le ];
-  room = let more : 16 ^ (k + 1) ≡ 16 * 16 ^ k = sixteenfold k in omega (arith, counts, so.room, more);
+  capacity = let more : 16 ^ (k + 1) ≡ 16 * 16 ^ k = sixteenfold k in omega (arith, counts, so.capacity, more);
 }
 read_by n k c count rest word (Some d) few some counts so =
     let more : 16 ^ (k + 1) ≡ 16 * 16 ^ k = sixteenfold k in
@@ -70,15 +70,15 @@ read_by n k c count rest word (Some d) few some counts so =
         | inl less ↦ absurd (let low = below_power 16 n k 7 (omega arith) (so.small less) (omega (arith, few)) in omega (arith, counts.0, counts.1, low, much))
         | inr le ↦ so.unread le
       ];
-      room = omega (arith, counts.0, counts.1, so.room, more);
+      capacity = omega (arith, counts.0, counts.1, so.capacity, more);
     }
 
 -- the number has room for a digit more
-pub room_for : (n k count : ℕ) (digit : Option ℕ) → k < 8 → Counts digit count → n + 2 ^ 32 ≤ 2 ^ 32 * 16 ^ k → 16 * n + count < 2 ^ 64
-room_for n k count digit few counts room =
+pub buffer_for : (n k count : ℕ) (digit : Option ℕ) → k < 8 → Counts digit count → n + 2 ^ 32 ≤ 2 ^ 32 * 16 ^ k → 16 * n + count < 2 ^ 64
+buffer_for n k count digit few counts capacity =
     let high : 16 ^ k ≤ 16 ^ 7 = pow-le-pow_right {n = 16} (omega arith) {i = k} {j = 7} (omega (arith, few)) in
     let low : count ≤ 2 ^ 32 = most_count digit count counts in
-    omega (arith, high, room, low)
+    omega (arith, high, capacity, low)
 
 -- a byte more is read
 pub read_more :
@@ -111,7 +111,7 @@ pub record IsSpelled (bytes : List ℕ) (sum : ℕ) (rest word : List ℕ) : Typ
   pub spelled : sum < 2 ^ 32 → with_front bytes (hex_pairs rest) ≡ hex_pairs word
   pub small : sum < 2 ^ 32 → sum ≤ 255 * length bytes
   pub unspelled : 2 ^ 32 ≤ sum → hex_pairs word ≡ None
-  pub room : sum ≤ 17 * 2 ^ 32 * length bytes
+  pub capacity : sum ≤ 17 * 2 ^ 32 * length bytes
 
 -- two bytes that are no pair of digits
 unpaired :
@@ -132,7 +132,7 @@ spelled_none bytes new sum pair rest tail word much most none longer so = record
   spelled = λ less. absurd (omega (arith, less, much));
   small = λ less. absurd (omega (arith, less, much));
   unspelled = λ more. elim (cases_lt sum (2 ^ 32)) [ inl less ↦ sym (so.spelled less) ∙ ap (with_front bytes) none | inr le ↦ so.unspelled le ];
-  room = omega (arith, so.room, most, longer);
+  capacity = omega (arith, so.capacity, most, longer);
 }
 
 spelled_by :
@@ -155,7 +155,7 @@ spelled_by bytes new sum high low rest tail word (Some a) (Some b) few long one 
         | inl less ↦ absurd (let before = so.small less in omega (arith, before, few, more, high_is.0, high_is.1, low_is.0, low_is.1))
         | inr le ↦ so.unspelled le
       ];
-      room = omega (arith, so.room, longer, high_is.0, high_is.1, low_is.0, low_is.1);
+      capacity = omega (arith, so.capacity, longer, high_is.0, high_is.1, low_is.0, low_is.1);
     }
 
 -- a pair more is spelled

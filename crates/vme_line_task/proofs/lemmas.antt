@@ -2,5 +2,5 @@ pub mod Below
 pub mod Calls
 pub mod Courses
 pub mod Kept
-pub mod LineRooms
+pub mod LineBuffers
 pub mod Lines

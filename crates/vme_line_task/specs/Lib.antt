@@ -1,5 +1,5 @@
 pub mod Scripts
-pub mod Rooms
+pub mod ReadBuffers
 pub mod Waits
 pub mod Tables
 pub mod Machine

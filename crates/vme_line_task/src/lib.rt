@@ -5,7 +5,7 @@
 
 mod attempt;
 mod laws;
-mod room;
+mod read_buffers;
 mod start;
 mod task;
 mod todo;
@@ -16,7 +16,7 @@ pub use laws::{
     courses_go_line_by_line, lines_call_boards_that_are_there, lines_go_by_the_table,
     lines_keep_their_tenure,
 };
-pub use room::{Rooms, line_room};
+pub use read_buffers::{ReadBuffers, line_read_len};
 pub use task::{LineTask, line_count};
 pub use todo::LineTodo;
 pub use wait::WaitTask;

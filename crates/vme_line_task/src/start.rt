@@ -1,19 +1,19 @@
 //! What is attempted for a line, before its first call.
 ghost use Rattle.std.specs.Prelude.{◌≡◌, ◌<◌, ◌≤◌, [], length, Ok};
-ghost use Rattle.vme_cycle.specs.BlockBuffers.{short_room};
+ghost use Rattle.vme_cycle.specs.BlockBuffers.{inline_capacity};
 ghost use Rattle.vme_cycle.specs.declared.request.Request.TheVariants.{Read};
-ghost use Rattle.vme_cycle.specs.Requests.{reply_room};
+ghost use Rattle.vme_cycle.specs.Requests.{read_len};
 ghost use Rattle.vme_cycle.specs.Lawful.{Transfer as LawfulRequest, transfer_of};
 ghost use Rattle.vme_script.specs.Boards.{entries_of};
 ghost use Rattle.vme_master.specs.Machine.{bus_task};
 ghost use Rattle.vme_shared.specs.Mailboxes.{IsAsked};
 ghost use Rattle.vme_line_task.specs.Scripts.{slot_at, level_at, mailbox_at, HasMailbox, HasItsMailbox, Waits, transfer_job, request_attempt, shared_attempt, line_attempt};
-ghost use Rattle.vme_line_task.specs.Rooms.{room_of_request, line_room};
+ghost use Rattle.vme_line_task.specs.ReadBuffers.{request_read_len, line_read_len};
 ghost use Rattle.vme_line_task.specs.Machine.{fresh_of};
 
 use crate::attempt::AttemptTask;
 use crate::wait::WaitTask;
-use vme_cycle::{CycleFault, Request, Room};
+use vme_cycle::{CycleFault, Request, BlockBuffer};
 use vme_grammar::Line;
 use vme_lanes::{Datum, copy_bytes};
 use vme_master::Task;
@@ -26,16 +26,16 @@ pub(crate) fn attempt_of<'a>(
     config: &'a Config,
     board: usize,
     line: &'a Line,
-    room: Room,
+    buffer: BlockBuffer,
 ) -> Result<AttemptTask<'a>, CycleFault>
     requires board { board < length config.now.boards }
     requires mailbox { HasItsMailbox config.now line.now }
-    requires none { room.items ≡ [] }
-    requires room { line_room line.now ≤ room.room }
+    requires none { buffer.items ≡ [] }
+    requires capacity { line_read_len line.now ≤ buffer.capacity }
     ensures { result ≡ fresh_of (line_attempt config.now board line.now) }
 {
     match line {
-        Line::Bus(request) => Ok(AttemptTask::Moves(transfer(config, board, request, room)?)),
+        Line::Bus(request) => Ok(AttemptTask::Moves(transfer(config, board, request, buffer)?)),
         Line::Local(cmd) => Ok(AttemptTask::Moves(Task::local(board, cmd.copy()))),
         Line::Await { am, addr, bytes } => waits(config, board, *am, *addr, bytes),
         Line::Lock { am, addr } => shares(
@@ -78,17 +78,17 @@ pub(crate) fn transfer<'a>(
     config: &Config,
     board: usize,
     request: &'a Request,
-    room: Room,
+    buffer: BlockBuffer,
 ) -> Result<Task<'a>, CycleFault>
     requires board { board < length config.now.boards }
-    requires none { room.items ≡ [] }
-    requires room { room_of_request (transfer_of request.now) ≤ room.room }
+    requires none { buffer.items ≡ [] }
+    requires capacity { request_read_len (transfer_of request.now) ≤ buffer.capacity }
     ensures { result ≡ bus_task (entries_of config.now.boards) (slot_at config.now board)
         (level_at config.now board) (transfer_of request.now) }
 {
     let slot = config.slot(board);
     let level = config.level(board);
-    Task::start(config.map(), slot, level, request, room)
+    Task::start(config.map(), slot, level, request, buffer)
 }
 
 /// A read over the bus that is to find these bytes.
@@ -118,7 +118,7 @@ fn short_transfer<'a>(
     request: Request,
 ) -> Result<Task<'a>, CycleFault>
     requires board { board < length config.now.boards }
-    requires room { (t : LawfulRequest) → transfer_of request ≡ Ok t → reply_room t.request ≤ short_room }
+    requires capacity { (t : LawfulRequest) → transfer_of request ≡ Ok t → read_len t.request ≤ inline_capacity }
     ensures { result ≡ bus_task (entries_of config.now.boards) (slot_at config.now board)
         (level_at config.now board) (transfer_of request) }
 {

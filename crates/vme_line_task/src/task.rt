@@ -6,7 +6,7 @@ ghost use Rattle.vme_grammar.specs.declared.line.Line.{Line as AnyLine};
 ghost use Rattle.vme_script.specs.Configurations.{Configuration};
 ghost use Rattle.vme_master.specs.Tables.{Given};
 ghost use Rattle.vme_line_task.specs.Scripts.{HasItsMailbox, lines_at};
-ghost use Rattle.vme_line_task.specs.Rooms.{line_room};
+ghost use Rattle.vme_line_task.specs.ReadBuffers.{line_read_len};
 ghost use Rattle.vme_line_task.specs.Tables.{Rests, next_given};
 ghost use Rattle.vme_line_task.specs.Machine.{line_started, line_advance, line_to_do, line_taken, line_given, attempts_left, IsLineBelow};
 ghost use Rattle.vme_line_task.specs.declared.attempt.AttemptTask.TheVariants as tries;
@@ -17,7 +17,7 @@ use crate::attempt::{AttemptTask, Attempts};
 use crate::start::{attempt_of, transfer};
 use crate::todo::LineTodo;
 use vme_core::{Core, Deed, Event, EventReply};
-use vme_cycle::{CycleFault, Room};
+use vme_cycle::{CycleFault, BlockBuffer};
 use vme_grammar::Line;
 use vme_master::{Outcome, Task};
 use vme_script::Config;
@@ -39,19 +39,19 @@ impl<'a> LineTask<'a> {
     /// before its first call. What it reads by a request over the bus goes into the room.
     #[inline(always)]
     #[tactic(auto, using(crate::proofs::lemmas::Below::started_below))]
-    pub fn start(config: &'a Config, board: usize, line: usize, room: Room) -> LineTask<'a>
+    pub fn start(config: &'a Config, board: usize, line: usize, buffer: BlockBuffer) -> LineTask<'a>
         requires board { board < length config.now.boards }
         requires line { line < length (lines_at config.now board) }
-        requires none { room.items ≡ [] }
-        requires room { (one : AnyLine) → slice_get (lines_at config.now board) line ≡ Some one →
-            line_room one ≤ room.room }
+        requires none { buffer.items ≡ [] }
+        requires capacity { (one : AnyLine) → slice_get (lines_at config.now board) line ≡ Some one →
+            line_read_len one ≤ buffer.capacity }
         ensures line { (one : AnyLine) → slice_get (lines_at config.now board) line ≡ Some one →
             result ≡ line_started config.now board one }
         ensures there { IsLineBelow (length config.now.boards) result }
     {
         let boards = config.boards();
         prove!(board < boards);
-        LineTask::of(config, board, config.script(board).line(line), room)
+        LineTask::of(config, board, config.script(board).line(line), buffer)
     }
 
     /// What the line does next. The first call is given nothing, and each later one the reply to the
@@ -180,34 +180,34 @@ impl<'a> LineTask<'a> {
     /// A line of a board's processor before its first call.
     #[inline(always)]
     #[tactic(auto, unfolding(crate::specs::Machine::line_started))]
-    fn of(config: &'a Config, board: usize, line: &'a Line, room: Room) -> LineTask<'a>
+    fn of(config: &'a Config, board: usize, line: &'a Line, buffer: BlockBuffer) -> LineTask<'a>
         requires board { board < length config.now.boards }
         requires mailbox { HasItsMailbox config.now line.now }
-        requires none { room.items ≡ [] }
-        requires room { line_room line.now ≤ room.room }
+        requires none { buffer.items ≡ [] }
+        requires capacity { line_read_len line.now ≤ buffer.capacity }
         ensures { result ≡ line_started config.now board line.now }
     {
         match line {
-            Line::Bus(request) => match transfer(config, board, request, room) {
+            Line::Bus(request) => match transfer(config, board, request, buffer) {
                 Ok(task) => once(task, config.tries()),
                 Err(fault) => LineTask::Refused(fault),
             },
             Line::Local(cmd) => once(Task::local(board, cmd.copy()), config.tries()),
-            _ => LineTask::of_any(config, board, line, room),
+            _ => LineTask::of_any(config, board, line, buffer),
         }
     }
 
     /// The same of any line. Out of line, so that a task that is attempted once is made in its place.
     #[inline(never)]
     #[tactic(auto, unfolding(crate::specs::Machine::line_started))]
-    fn of_any(config: &'a Config, board: usize, line: &'a Line, room: Room) -> LineTask<'a>
+    fn of_any(config: &'a Config, board: usize, line: &'a Line, buffer: BlockBuffer) -> LineTask<'a>
         requires board { board < length config.now.boards }
         requires mailbox { HasItsMailbox config.now line.now }
-        requires none { room.items ≡ [] }
-        requires room { line_room line.now ≤ room.room }
+        requires none { buffer.items ≡ [] }
+        requires capacity { line_read_len line.now ≤ buffer.capacity }
         ensures { result ≡ line_started config.now board line.now }
     {
-        match attempt_of(config, board, line, room) {
+        match attempt_of(config, board, line, buffer) {
             Ok(attempt) => LineTask::Tries(Attempts {
                 attempt,
                 left: config.tries(),

@@ -1,10 +1,10 @@
 //! Reads that are to find bytes.
 ghost use Rattle.std.specs.Prelude.{◌≡◌, ◌≢◌, ◌≤◌, if◌then◌else◌, option_map, option_copied, is_some};
 ghost use Rattle.std.specs.Str.{bytes_eq};
-ghost use Rattle.vme_cycle.specs.BlockBuffers.{short_room};
+ghost use Rattle.vme_cycle.specs.BlockBuffers.{inline_capacity};
 ghost use Rattle.vme_core.specs.Calls.{call_of};
 ghost use Rattle.vme_core.specs.Deeds.{call_asked};
-ghost use Rattle.vme_master.specs.Machine.{advance, fresh_task, to_do, job_room};
+ghost use Rattle.vme_master.specs.Machine.{advance, fresh_task, to_do, job_read_len};
 ghost use Rattle.vme_shared.specs.declared.reply.LineReply.TheVariants.{Met, Timeout};
 ghost use Rattle.vme_line_task.specs.Tables.{Rests, waits_next, next_asks_again};
 ghost use Rattle.vme_line_task.specs.Events.{call_in, answer_in};
@@ -24,21 +24,21 @@ pub struct WaitTask<'a> {
 
 impl<'a> Model for WaitTask<'a> {
     ghost use Rattle.std.specs.Prelude.{◌≤◌};
-    ghost use Rattle.vme_cycle.specs.BlockBuffers.{short_room};
-    ghost use Rattle.vme_master.specs.Machine.{job_room};
+    ghost use Rattle.vme_cycle.specs.BlockBuffers.{inline_capacity};
+    ghost use Rattle.vme_master.specs.Machine.{job_read_len};
     ghost use Rattle.vme_line_task.specs.Waits.{WaitView};
 
     ghost Value = { WaitView };
 
     ghost view = { λ w. record { task = w.task; want = w.want } };
 
-    ghost invariant = { λ w. job_room w.task.job ≤ short_room };
+    ghost invariant = { λ w. job_read_len w.task.job ≤ inline_capacity };
 }
 
 impl<'a> WaitTask<'a> {
     /// A read, by its task, with the bytes that it is to find.
     pub(crate) fn of(task: Task<'a>, want: Datum) -> WaitTask<'a>
-        requires { job_room task.job ≤ short_room }
+        requires { job_read_len task.job ≤ inline_capacity }
         ensures task { result.task ≡ task.entry }
         ensures want { result.want ≡ want }
     {

@@ -12,7 +12,7 @@ use Rattle.vme_master.specs.declared.outcome.Outcome.{Outcome}
 use Rattle.vme_master.specs.Jobs.{aim_outcome}
 use Rattle.vme_shared.specs.MailboxSteps as places
 use Rattle.vme_shared.specs.MailboxSteps.{BoardMailbox, touches}
-use Rattle.vme_shared.specs.Phases.{Phase, Idle, Locked, First, Both, Written, Fetched, Counted, has_room, is_unlock, Writes, access_of, next_phase, after_command}
+use Rattle.vme_shared.specs.Phases.{Phase, Idle, Locked, First, Both, Written, Fetched, Counted, has_space, is_unlock, Writes, access_of, next_phase, after_command}
 use Rattle.vme_shared.specs.Words.{put_by, taken_by}
 use Rattle.vme_shared.specs.declared.mailbox.Mailbox.{Mailbox}
 use Rattle.vme_shared.specs.declared.outcome.SharedOutcome.{SharedOutcome}
@@ -44,7 +44,7 @@ Before m request Locks phase = phase ≡ Idle
 Before m request ReadsPutCount phase = phase ≡ Locked
 Before m request (ReadsTakeCount p) phase = (phase ≡ First p) × (p < 2 ^ 32)
 Before m request (WritesWord p word) phase =
-    (t : ℕ) × (mailbox : Mailbox) × (phase ≡ Both p t) × (has_room m p t ≡ true) × (request ≡ asked.Put mailbox word)
+    (t : ℕ) × (mailbox : Mailbox) × (phase ≡ Both p t) × (has_space m p t ≡ true) × (request ≡ asked.Put mailbox word)
 Before m request (RaisesPutCount p) phase =
     (word : ℕ) × (mailbox : Mailbox) × (phase ≡ Written p (word % 2 ^ 32)) × (p < 2 ^ 32 - 1) × (request ≡ asked.Put mailbox word)
 Before m request (ReadsWord t) phase = (p : ℕ) × (phase ≡ Both p t) × ((p == t) ≡ false)
@@ -163,7 +163,7 @@ module _ (m : BoardMailbox) (request : SharedRequest) (mailbox : Mailbox) (is : 
       by_request (asked.Unlock am addr) is = absurd cc
       by_request (asked.Put own word) is =
           let same : own ≡ mailbox = cc in
-          let room : m.slots ≡ own.slots = slots ∙ ap (λ (o : Mailbox). o.slots) (sym same) in
+          let capacity : m.slots ≡ own.slots = slots ∙ ap (λ (o : Mailbox). o.slots) (sym same) in
           elim (cases_Bool (p == 2 ^ 32 - 1)) [
             | inl greatest ↦ rw greatest ((p, t, refl), (nothing put no_put, nothing taken no_taken))
             | inr less ↦
@@ -172,7 +172,7 @@ module _ (m : BoardMailbox) (request : SharedRequest) (mailbox : Mailbox) (is : 
                   | inl full ↦ rw (less, full) ((p, t, refl), (nothing put no_put, nothing taken no_taken))
                   | inr free ↦
                       let near : (p + 2 ^ 32 - t) % 2 ^ 32 < m.slots = let free_slot = leb-false own.slots (words_between p t) free in omega arith in
-                      let has : has_room m p t ≡ true = and_from _ _ (lt-ltb p (2 ^ 32 - 1) below) (lt-ltb ((p + 2 ^ 32 - t) % 2 ^ 32) m.slots near) in
+                      let has : has_space m p t ≡ true = and_from _ _ (lt-ltb p (2 ^ 32 - 1) below) (lt-ltb ((p + 2 ^ 32 - t) % 2 ^ 32) m.slots near) in
                       rw (less, free) ((t, own, refl, has, refl), (nothing put no_put, nothing taken no_taken))
                 ]
           ]
@@ -203,7 +203,7 @@ module _ (m : BoardMailbox) (request : SharedRequest) (mailbox : Mailbox) (is : 
   no_unlock : (n x : ℕ) → is_unlock m (places.word_at m n) 4 x ≡ false
   no_unlock n x = and_left _ _ (and_left _ _ (ne_eqb (places.word_at m n) (places.lock_at m) (λ same. omega arith)))
 
-  row_writes_word : (p t word : ℕ) (own : Mailbox) (reply : Reply) → has_room m p t ≡ true → request ≡ asked.Put own word
+  row_writes_word : (p t word : ℕ) (own : Mailbox) (reply : Reply) → has_space m p t ≡ true → request ≡ asked.Put own word
       → IsFine m (WritesWord p word) reply → Words request (WritesWord p word) put taken
       → Went m request (WritesWord p word) (Both p t) put taken reply
   row_writes_word p t word own (Bytes datum) has is_put fine none = let form = fine.form in absurd cc

@@ -36,7 +36,7 @@ pub fn scripts_go_by_the_rows()
         (h : List (Entry BoardCmd Reply)) (runs : List (List Move)) (answers : List (List LineReply)) →
         IsMailboxOf config box board m → IsNewMailbox memory m → IsLegal board_step memory h →
         ShareHistory config board h runs answers → Begins (words_taken m h) (words_put m h) }
-    ensures room { (config : Configuration) (box board : ℕ) (m : BoardMailbox) (memory : Board)
+    ensures capacity { (config : Configuration) (box board : ℕ) (m : BoardMailbox) (memory : Board)
         (h : List (Entry BoardCmd Reply)) (runs : List (List Move)) (answers : List (List LineReply)) →
         IsMailboxOf config box board m → IsNewMailbox memory m → IsLegal board_step memory h →
         ShareHistory config board h runs answers →

@@ -1,5 +1,5 @@
 pub mod Aims
 pub mod Locals
-pub mod Rooms
+pub mod ReadLengths
 pub mod Stands
 pub mod Tenures

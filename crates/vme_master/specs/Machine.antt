@@ -1,7 +1,7 @@
 -- A task as a machine, which keeps how far it has come in place of what it was given: for this crate's own functions.
 use Rattle.std.specs.Prelude.{ℕ, ◌≡◌, ◌+◌, ◌*◌, ◌%◌, ◌<◌, ◌≤◌, Bool, true, false, ◌==◌, if◌then◌else◌, nat_lt, List, [], ◌∷◌, ◌++◌, length, Option, Some, None, unwrap_or, IfSome, Result, Ok, Err}
 use Rattle.vme_cycle.specs.declared.fault.CycleFault.{CycleFault}
-use Rattle.vme_cycle.specs.Requests.{addr_of, count_of, reply_room}
+use Rattle.vme_cycle.specs.Requests.{addr_of, count_of, read_len}
 use Rattle.vme_cycle.specs.Lawful.{Transfer}
 use Rattle.vme_decode.specs.declared.entry.Entry.{Entry}
 use Rattle.vme_memory.specs.declared.reply.Reply.{Reply}
@@ -182,9 +182,9 @@ most_bytes (Bus job) = unwrap_or (aim_len (request_aim job.transfer.request)) 0
 most_bytes (Local job) = 8
 
 -- how many bytes they read at most in all (this project's own)
-abbrev pub job_room : Job → ℕ
-job_room (Bus job) = reply_room job.transfer.request
-job_room (Local job) = 8
+abbrev pub job_read_len : Job → ℕ
+job_read_len (Bus job) = read_len job.transfer.request
+job_read_len (Local job) = 8
 
 -- a read-modify-write reads no more than a datum has room for (this project's own)
 abbrev pub IsShort : Aim → ℕ → Type 0
@@ -192,26 +192,26 @@ IsShort (aims.Modify n) most = most ≤ 8
 IsShort aim most = Unit {0}
 
 -- no more was read than so many data have (this project's own)
-abbrev pub HasRoom : Job → Phase → List ℕ → Type 0
-HasRoom job (Moves i) read = (i < call_count job) × (length read ≤ most_bytes job * i)
-HasRoom job (Frees berr) read = length read ≤ job_room job
-HasRoom job (Ended berr) read = length read ≤ job_room job
-HasRoom job Denied read = Unit {0}
-HasRoom job phase read = length read ≡ 0
+abbrev pub HasRead : Job → Phase → List ℕ → Type 0
+HasRead job (Moves i) read = (i < call_count job) × (length read ≤ most_bytes job * i)
+HasRead job (Frees berr) read = length read ≤ job_read_len job
+HasRead job (Ended berr) read = length read ≤ job_read_len job
+HasRead job Denied read = Unit {0}
+HasRead job phase read = length read ≡ 0
 
 -- the room that it has is enough for all that it reads; after the end it may have been given out (this project's own)
 abbrev pub IsEnough : Job → Phase → ℕ → Type 0
-IsEnough job (Ended berr) room = Unit {0}
-IsEnough job phase room = job_room job ≤ room
+IsEnough job (Ended berr) capacity = Unit {0}
+IsEnough job phase capacity = job_read_len job ≤ capacity
 
 -- what a task keeps, with the room that it has (this project's own)
-pub record IsSound (t : TaskView) (room : ℕ) : Type 0 where
+pub record IsSound (t : TaskView) (capacity : ℕ) : Type 0 where
   pub placed : IsPlaced t.job
-  pub read : HasRoom t.job t.phase t.read
-  pub enough : IsEnough t.job t.phase room
+  pub read : HasRead t.job t.phase t.read
+  pub enough : IsEnough t.job t.phase capacity
 
 -- what a task keeps, with the room that it has and what it knows of its job (this project's own)
-pub record IsKept (t : TaskView) (room : ℕ) (aim : Aim) (count : ℕ) : Type 0 where
-  pub sound : IsSound t room
+pub record IsKept (t : TaskView) (capacity : ℕ) (aim : Aim) (count : ℕ) : Type 0 where
+  pub sound : IsSound t capacity
   pub of_aim : aim ≡ job_aim t.job
   pub of_count : count ≡ call_count t.job

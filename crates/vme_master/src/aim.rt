@@ -5,7 +5,7 @@ ghost use Rattle.vme_memory.specs.Locals.{command_given};
 ghost use Rattle.vme_memory.specs.Data.{has_form};
 ghost use Rattle.vme_master.specs.Jobs.{request_aim, command_aim};
 ghost use Rattle.vme_master.specs.Machine.{aim_len, bytes_of, IsShort};
-ghost use Rattle.vme_cycle.specs.Requests.{reply_room};
+ghost use Rattle.vme_cycle.specs.Requests.{read_len};
 
 use vme_cycle::{Plan, Signals};
 use vme_memory::{BoardCmd, Reply};
@@ -25,7 +25,7 @@ impl Aim {
     /// Of the request of a plan.
     pub(crate) fn of_plan(plan: &Plan) -> Aim
         ensures value { result ≡ request_aim plan.now.request }
-        ensures short { IsShort result (reply_room plan.now.request) }
+        ensures short { IsShort result (read_len plan.now.request) }
     {
         let n = plan.datum_len();
         if plan.reads() {

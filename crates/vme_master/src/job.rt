@@ -5,7 +5,7 @@ ghost use Rattle.vme_memory.specs.Locals.{command_given};
 ghost use Rattle.vme_core.specs.Calls.{OnBoard, call_of};
 ghost use Rattle.vme_core.specs.Deeds.{call_asked};
 ghost use Rattle.vme_master.specs.Jobs.{ask_call, look_call, done_call, datum_call, local_call};
-ghost use Rattle.vme_master.specs.Machine.{job_aim, datum_phase, phase_at, phase_broken, first_phase, phase_told, phase_replied, makes, bus_next, local_next, job_next, end_outcome, IsPlaced, IsShort, call_count, job_room};
+ghost use Rattle.vme_master.specs.Machine.{job_aim, datum_phase, phase_at, phase_broken, first_phase, phase_told, phase_replied, makes, bus_next, local_next, job_next, end_outcome, IsPlaced, IsShort, call_count, job_read_len};
 ghost use Rattle.vme_master.specs.declared.phase.Phase.TheVariants.{Moves};
 ghost use Rattle.vme_master.specs.Events.{call_in};
 
@@ -14,7 +14,7 @@ use crate::outcome::Outcome;
 use crate::phase::Phase;
 use vme_arbiter::{ArbCmd, ArbReply};
 use vme_core::{DatumCycle, Deed, Event};
-use vme_cycle::{Modify, Room, Transfer};
+use vme_cycle::{Modify, BlockBuffer, Transfer};
 use vme_lanes::Datum;
 use vme_memory::{BoardCmd, Reply};
 
@@ -206,7 +206,7 @@ pub enum Job<'a> {
 impl Job<'_> {
     pub(crate) fn aim(&self) -> Aim
         ensures value { result ≡ job_aim self.now }
-        ensures short { IsShort result (job_room self.now) }
+        ensures short { IsShort result (job_read_len self.now) }
     {
         match self {
             Job::Bus(job) => Aim::of_plan(&job.transfer.plan()),
@@ -254,7 +254,7 @@ impl Job<'_> {
     pub(crate) fn count(&self) -> u16
         ensures value { result ≡ call_count self.now }
         ensures some { 0 < result }
-        ensures room { job_room self.now ≤ block_limit }
+        ensures capacity { job_read_len self.now ≤ block_limit }
     {
         match self {
             Job::Bus(job) => job.transfer.plan().len(),
@@ -313,8 +313,8 @@ impl Job<'_> {
 
     /// What comes of it in the end, with what was read, and perhaps a bus error that came after so
     /// many data.
-    pub(crate) fn end(&self, berr: Option<u16>, read: Room) -> Outcome
-        requires { length read.items ≤ job_room self.now }
+    pub(crate) fn end(&self, berr: Option<u16>, read: BlockBuffer) -> Outcome
+        requires { length read.items ≤ job_read_len self.now }
         ensures { result ≡ end_outcome (job_aim self.now) berr read.items }
     {
         prove!(0 < self.count());

@@ -1,6 +1,6 @@
 ghost use Rattle.std.specs.Prelude.{◌≡◌, ◌≢◌, ◌<◌, ◌≤◌, ◌+◌, [], ◌∷◌, ◌++◌, length, Ok, Some, None, IfSome, IsTrue, option_map, option_copied, is_some};
-ghost use Rattle.vme_cycle.specs.BlockBuffers.{short_room};
-ghost use Rattle.vme_cycle.specs.Requests.{reply_room};
+ghost use Rattle.vme_cycle.specs.BlockBuffers.{inline_capacity};
+ghost use Rattle.vme_cycle.specs.Requests.{read_len};
 ghost use Rattle.vme_cycle.specs.Lawful.{Transfer as LawfulRequest, transfer_of};
 ghost use Rattle.vme_core.specs.declared.event.EventReply.TheVariants as told;
 ghost use Rattle.vme_master.specs.declared.job.Job.{Job as AnyJob};
@@ -9,7 +9,7 @@ ghost use Rattle.vme_core.specs.Calls.{Call, call_of, machine_step};
 ghost use Rattle.vme_core.specs.Deeds.{call_asked, target_of_call, CanCount};
 ghost use Rattle.vme_core.specs.Machines.{whos};
 ghost use Rattle.vme_master.specs.Tables.{Given, Rests, next_of};
-ghost use Rattle.vme_master.specs.Machine.{bytes_of, fresh_task, bus_task, advance, task_given, to_do, is_called, job_room, IsPlaced};
+ghost use Rattle.vme_master.specs.Machine.{bytes_of, fresh_task, bus_task, advance, task_given, to_do, is_called, job_read_len, IsPlaced};
 ghost use Rattle.vme_master.specs.Events.{next_in, call_in, outcome_in, read_in, given_out};
 
 use crate::aim::Aim;
@@ -21,7 +21,7 @@ use std::marker::Model;
 use std::mem;
 use vme_arbiter::{ArbCmd, ArbReply};
 use vme_core::{Core, Deed, Event, EventReply};
-use vme_cycle::{CycleFault, Request, Room, Transfer};
+use vme_cycle::{CycleFault, Request, BlockBuffer, Transfer};
 use vme_decode::AddressMap;
 use vme_memory::{BoardCmd, Reply};
 
@@ -32,7 +32,7 @@ use vme_memory::{BoardCmd, Reply};
 pub struct Task<'a> {
     job: Job<'a>,
     phase: Phase,
-    read: Room,
+    read: BlockBuffer,
     // Of the job, and kept, since each reply asks for them.
     aim: Aim,
     count: u16,
@@ -45,7 +45,7 @@ impl<'a> Model for Task<'a> {
 
     ghost view = { λ t. record { job = t.job; phase = t.phase; read = t.read.items } };
 
-    ghost invariant = { λ t. IsKept (record { job = t.job; phase = t.phase; read = t.read.items }) t.read.room t.aim t.count };
+    ghost invariant = { λ t. IsKept (record { job = t.job; phase = t.phase; read = t.read.items }) t.read.capacity t.aim t.count };
 }
 
 impl<'a> Task<'a> {
@@ -57,15 +57,15 @@ impl<'a> Task<'a> {
         slot: u16,
         level: u8,
         request: &'a Request,
-        room: Room,
+        buffer: BlockBuffer,
     ) -> Result<Task<'a>, CycleFault>
-        requires empty { room.items ≡ [] }
+        requires empty { buffer.items ≡ [] }
         requires enough { (t : LawfulRequest) → transfer_of request.now ≡ Ok t →
-            reply_room t.request ≤ room.room }
+            read_len t.request ≤ buffer.capacity }
         ensures { result ≡ bus_task map.now slot level (transfer_of request.now) }
     {
         let transfer = Transfer::of(request)?;
-        Ok(Task::bus(map, slot, level, transfer, room))
+        Ok(Task::bus(map, slot, level, transfer, buffer))
     }
 
     /// The same of a request that is the task's own from then on, and reads no more than has room
@@ -77,11 +77,11 @@ impl<'a> Task<'a> {
         request: Request,
     ) -> Result<Task<'a>, CycleFault>
         requires { (t : LawfulRequest) → transfer_of request ≡ Ok t →
-            reply_room t.request ≤ short_room }
+            read_len t.request ≤ inline_capacity }
         ensures { result ≡ bus_task map.now slot level (transfer_of request) }
     {
         let transfer = Transfer::of_own(request)?;
-        Ok(Task::bus(map, slot, level, transfer, Room::new()))
+        Ok(Task::bus(map, slot, level, transfer, BlockBuffer::new()))
     }
 
     /// The task of a command to the local port of the board at a place.
@@ -89,13 +89,13 @@ impl<'a> Task<'a> {
     pub fn local(board: usize, cmd: BoardCmd) -> Task<'a>
         ensures { result ≡ fresh_task (local_job board cmd) }
     {
-        Task::of(Job::Local(LocalJob { board, cmd }), Room::new())
+        Task::of(Job::Local(LocalJob { board, cmd }), BlockBuffer::new())
     }
 
     #[inline(always)]
-    fn bus(map: &AddressMap, slot: u16, level: u8, transfer: Transfer<'a>, room: Room) -> Task<'a>
-        requires empty { room.items ≡ [] }
-        requires enough { reply_room transfer.request ≤ room.room }
+    fn bus(map: &AddressMap, slot: u16, level: u8, transfer: Transfer<'a>, buffer: BlockBuffer) -> Task<'a>
+        requires empty { buffer.items ≡ [] }
+        requires enough { read_len transfer.request ≤ buffer.capacity }
         ensures { result ≡ fresh_task (bus_job map.now slot level transfer.entry) }
     {
         let place = {
@@ -108,21 +108,21 @@ impl<'a> Task<'a> {
             transfer,
             place,
         };
-        Task::of(Job::Bus(job), room)
+        Task::of(Job::Bus(job), buffer)
     }
 
     #[inline(always)]
-    fn of(job: Job<'a>, room: Room) -> Task<'a>
+    fn of(job: Job<'a>, buffer: BlockBuffer) -> Task<'a>
         requires placed { IsPlaced job }
-        requires empty { room.items ≡ [] }
-        requires enough { job_room job ≤ room.room }
+        requires empty { buffer.items ≡ [] }
+        requires enough { job_read_len job ≤ buffer.capacity }
         ensures { result ≡ fresh_task job.entry }
     {
         let (aim, count) = (job.aim(), job.count());
         Task {
             job,
             phase: Phase::Fresh,
-            read: room,
+            read: buffer,
             aim,
             count,
         }
@@ -246,7 +246,7 @@ impl<'a> Task<'a> {
         match self.phase {
             Phase::Fresh => None,
             Phase::Ended { berr } => {
-                let read = mem::replace(&mut self.read, Room::new());
+                let read = mem::replace(&mut self.read, BlockBuffer::new());
                 Some(self.job.end(berr, read))
             }
             phase if self.job.is_at_work(phase) => None,
@@ -260,7 +260,7 @@ impl<'a> Task<'a> {
     /// The same task before its first call, to be done once more. Its room may have been given out,
     /// so what it reads has room in the task itself.
     pub fn again(&mut self)
-        requires { job_room self.old.job ≤ short_room }
+        requires { job_read_len self.old.job ≤ inline_capacity }
         ensures { self.new ≡ fresh_task self.old.job }
     {
         self.phase = Phase::Fresh;
@@ -326,16 +326,16 @@ impl<'a> Task<'a> {
 }
 
 /// The bytes of a reply are appended to those that were read.
-fn append(read: &mut Room, reply: &Reply)
-    requires { length read.old.items + length (bytes_of reply.now) ≤ read.old.room }
+fn append(read: &mut BlockBuffer, reply: &Reply)
+    requires { length read.old.items + length (bytes_of reply.now) ≤ read.old.capacity }
     ensures { read.new ≡ record read.old { items = read.old.items ++ bytes_of reply.now } }
 {
     if let Reply::Bytes(datum) = reply {
         match datum.as_slice() {
             // As literals, so that few bytes are copied in place.
-            [a] => read.push_all(&[*a]),
-            [a, b, c, d] => read.push_all(&[*a, *b, *c, *d]),
-            bytes => read.push_all(bytes),
+            [a] => read.extend_from_slice(&[*a]),
+            [a, b, c, d] => read.extend_from_slice(&[*a, *b, *c, *d]),
+            bytes => read.extend_from_slice(bytes),
         }
     }
 }

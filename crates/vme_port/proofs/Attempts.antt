@@ -116,7 +116,7 @@ module _ {S C R : Type 0} (step : S → C → S × R) (start : S) (k : ℕ) wher
       pub made_fits : (cmd : C) (reply : R) (m2 : Me (Home S) (View C R)) → HasPerformed step cmd reply m1 m2 → made + 1 < 2 ^ 64
       made_fits cmd reply m2 p =
           let counted : p.home.count ≡ length found = ap (λ (h : Home S). h.count) (same_home rest.only m1 t p.home p.out) ∙ t.count in
-          omega (arith, made_within rest.only m1 t, rest.counted, p.room)
+          omega (arith, made_within rest.only m1 t, rest.counted, p.capacity)
 
       module _ (es : List (Entry C R)) (m2 m3 : Me (Home S) (View C R)) (same : m2.0 ≡ m1.0) (told : HasPut es m2 m3) where
         -- after a put the pass has seen the whole history, and the entries

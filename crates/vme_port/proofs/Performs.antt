@@ -27,10 +27,10 @@ module _ {S C R : Type 0} where
   pub performed : (step : S → C → S × R) (cmd : C) (reply : R) (m : Me (Home S) (View C R)) (home next : Home S) → m.1 ≡ (0, home) ∷ rest m.1 → IsOut m
       → home.count < 2 ^ 64 - 1 → next.count ≡ home.count + 1 → next.object ≡ (step home.object cmd).0 → reply ≡ (step home.object cmd).1
       → HasPerformed step cmd reply m (m.0, (0, next) ∷ rest m.1)
-  performed step cmd reply m home next there out room count object answer = record {
+  performed step cmd reply m home next there out capacity count object answer = record {
     home = home;
     out = alone m home there out;
-    room = room;
+    capacity = capacity;
     answer = answer;
     next = next;
     object = object;

@@ -102,7 +102,7 @@ module _ {S C R : Type 0} where
   pub record HasPerformed (step : S → C → S × R) (cmd : C) (reply : R) (m m' : Me (Home S) (View C R)) : Type 0 where
     pub home : Home S
     pub out : m.1 ≡ (0, home) ∷ []
-    pub room : home.count < 2 ^ 64 - 1
+    pub capacity : home.count < 2 ^ 64 - 1
     pub answer : reply ≡ (step home.object cmd).1
     pub next : Home S
     pub object : next.object ≡ (step home.object cmd).0

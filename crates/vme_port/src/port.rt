@@ -118,7 +118,7 @@ impl<O: Object> Port<O> {
         requires port { seat.table_id ≡ port_id self.now }
         requires all { StandsFor (passes_of self.now) 0 seat.me }
         requires empty { passes.old.items ≡ [] }
-        requires room { passes_of self.now ≤ vec_capacity passes.old }
+        requires capacity { passes_of self.now ≤ vec_capacity passes.old }
         ensures count { vec_len passes.new ≡ passes_of self.now }
         ensures unused { Each (λ i p. IsUnused (port_id self.now) i p) passes.new.items }
     {

@@ -121,7 +121,7 @@ fn start_all<'s, E, R: Threads + Wait + Sync>(
 ) -> Result<(), BenchFault>
     requires unused { All (HasBumped promise.port.now 0) passes.items }
     requires none { vec_len children.old ≡ 0 }
-    requires room { vec_len passes ≤ vec_capacity children.old }
+    requires capacity { vec_len passes ≤ vec_capacity children.old }
     ensures count { IfOk result (λ _. vec_len children.new ≡ vec_len passes) }
     ensures promised { All (λ c. IsSameWork c.promise promise.entry) children.new.items }
     ensures usage { ¬ (IsUsage result) }
@@ -145,7 +145,7 @@ fn join_all<'s, R: Threads>(
 ) -> Result<(), BenchFault>
     requires promised { All (λ c. IsSameWork c.promise promise) children.items }
     requires none { vec_len passes.old ≡ 0 }
-    requires room { vec_len children ≤ vec_capacity passes.old }
+    requires capacity { vec_len children ≤ vec_capacity passes.old }
     ensures count { IfOk result (λ _. vec_len passes.new ≡ vec_len children.entry) }
     ensures made { IfOk result (λ _. All (HasBumped promise.entry.port.now promise.entry.calls) passes.new.items) }
     ensures usage { ¬ (IsUsage result) }

@@ -56,7 +56,7 @@ fn add_pass(
     ensures { All (IsPassOf port.now) passes.new.items }
 {
     if passes.push(pass).is_err() {
-        panic!(rt; "no room")
+        panic!(rt; "no buffer")
     }
 }
 

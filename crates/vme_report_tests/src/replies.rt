@@ -32,7 +32,7 @@ static REPLIES: &str = "21:1000 read 00ff
 ";
 
 fn block(bytes: &[u8]) -> Block {
-    Block::of_short(ArrayVec::try_from(bytes).unwrap_or_default())
+    Block::from_short_slice(ArrayVec::try_from(bytes).unwrap_or_default())
 }
 
 fn berr(count: u16, bytes: &[u8]) -> LineReply {

@@ -112,11 +112,11 @@ fn runs_the_turns_of_the_file(rt: HostRuntime) -> Result<(), Fail> {
 #[test]
 fn writes_a_front_where_the_sink_fails(rt: HostRuntime) -> Result<(), Fail> {
     let config = Config::read(rt.alloc(), FILE.as_bytes())?;
-    for room in 0..ALL.len() {
-        let mut sink = RoomSink::new(rt.alloc(), 7, room)?;
+    for buffer in 0..ALL.len() {
+        let mut sink = RoomSink::new(rt.alloc(), 7, buffer)?;
         let end = run_steps(rt.alloc(), &config, &ALL_SLOTS, &mut sink);
         assert_eq!(rt; end, Err(RunFault::Write));
-        assert_eq!(rt; sink.bytes(), &ALL.as_bytes()[..room]);
+        assert_eq!(rt; sink.bytes(), &ALL.as_bytes()[..capacity]);
     }
     Ok(())
 }

@@ -25,7 +25,7 @@ use Rattle.vme_master.specs.Jobs.{bus_job, local_job, datum_call}
 use Rattle.vme_master.specs.Tables as tasks
 use Rattle.vme_master.specs.Tables.{Next, Given, data_in, next_of}
 use Rattle.vme_master.specs.Laws.{IsNextDatum}
-use Rattle.vme_master.proofs.lemmas.Rooms.{datum_is}
+use Rattle.vme_master.proofs.lemmas.ReadLengths.{datum_is}
 use Rattle.vme_master.proofs.lemmas.Tenures.{data_go_on}
 use Rattle.vme_master.proofs.lemmas.Locals.{local_calls}
 use Rattle.vme_grammar.specs.declared.line.Line.{Line}

@@ -28,7 +28,7 @@ pub record IsQueue (config : Configuration) (report : Report) (box : ℕ) (m : B
     : Type 0 where
   pub goes : IsProper m h
   pub order : Begins (words_taken m h) (words_put m h)
-  pub room : length (words_put m h) ≤ length (words_taken m h) + m.slots
+  pub capacity : length (words_put m h) ≤ length (words_taken m h) + m.slots
   pub put :
       Each (λ who lines. own_words_put who m h ≡ lines_put box (lines_at config who) (answers_in lines.items))
       report.lines.items
@@ -52,7 +52,7 @@ queue config report lawful is box board m own end below mailbox lies =
     record {
       goes = goes;
       order = fifo.order;
-      room = fifo.room;
+      capacity = fifo.capacity;
       put = told_each report (λ who told. own_words_put who m h ≡ lines_put box (lines_at config who) told)
           (λ who d less. own_words who put_by m all_idle h
           ∙ put_told config box board m memory h is.runs (told_in report) mailbox new found.legal shared who d less);

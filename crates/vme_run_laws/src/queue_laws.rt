@@ -33,7 +33,7 @@ pub fn declared_mailboxes_are_queues()
     ensures order { (config : Configuration) (report : Report) (is : IsReportOf config report) (box : ℕ)
         (m : BoardMailbox) (h : List (Entry BoardCmd Reply)) → IsLawful config → IsDeclaredIn config report is box m h →
         Begins (words_taken m h) (words_put m h) }
-    ensures room { (config : Configuration) (report : Report) (is : IsReportOf config report) (box : ℕ)
+    ensures capacity { (config : Configuration) (report : Report) (is : IsReportOf config report) (box : ℕ)
         (m : BoardMailbox) (h : List (Entry BoardCmd Reply)) → IsLawful config → IsDeclaredIn config report is box m h →
         length (words_put m h) ≤ length (words_taken m h) + m.slots }
     ensures put { (config : Configuration) (report : Report) (is : IsReportOf config report) (box : ℕ)
@@ -61,7 +61,7 @@ pub fn texts_tell_of_queues()
     ensures order { (input text : List ℕ) (status : Status) (told : TellsRun input text status) (box : ℕ)
         (m : BoardMailbox) (h : List (Entry BoardCmd Reply)) → IsDeclaredIn told.config told.report told.run box m h →
         Begins (words_taken m h) (words_put m h) }
-    ensures room { (input text : List ℕ) (status : Status) (told : TellsRun input text status) (box : ℕ)
+    ensures capacity { (input text : List ℕ) (status : Status) (told : TellsRun input text status) (box : ℕ)
         (m : BoardMailbox) (h : List (Entry BoardCmd Reply)) → IsDeclaredIn told.config told.report told.run box m h →
         length (words_put m h) ≤ length (words_taken m h) + m.slots }
     ensures put { (input text : List ℕ) (status : Status) (told : TellsRun input text status) (box : ℕ)

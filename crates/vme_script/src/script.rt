@@ -62,8 +62,8 @@ impl Script {
         ensures script { IfOk result (λ script. script_within rules.now text.now ≡ Ok script) }
         ensures refused { IfErr result (IsRefusalOf (script_within rules.now text.now)) }
     {
-        let room = usize::from(MOST_LINES).min(text.len() / SHORT_LINE + 1);
-        let mut lines = Vec::with_capacity(alloc, room)?;
+        let capacity = usize::from(MOST_LINES).min(text.len() / SHORT_LINE + 1);
+        let mut lines = Vec::with_capacity(alloc, capacity)?;
         let mut number = 0;
         for line in Lines::new(text) {
             if number == MOST_LINES {

@@ -1,6 +1,6 @@
 //! How many bytes lines read by their requests over the bus, and the rooms for them.
 use std::test::Fail;
-use vme_line_task::{Rooms, line_room};
+use vme_line_task::{ReadBuffers, line_read_len};
 use vme_script::Script;
 
 #[test]
@@ -19,7 +19,7 @@ lr 00000000 4
     assert_eq!(&rt; script.len(), wanted.len());
     for line in 0..script.len() {
         assert_eq!(&rt;
-            Some(&line_room(script.line(line))),
+            Some(&line_read_len(script.line(line))),
             wanted.get(line),
             "{line}"
         );
@@ -28,13 +28,13 @@ lr 00000000 4
 }
 
 #[test]
-fn each_line_takes_its_room(rt: HostRuntime) -> Result<(), Fail> {
+fn each_line_takes_its_buffer(rt: HostRuntime) -> Result<(), Fail> {
     let script = Script::read(rt.alloc(), b"r 09 00001000 4\nbr 0b 00001000 4 64\n")?;
-    let mut rooms = Rooms::new(rt.alloc(), &script)?;
+    let mut buffers = ReadBuffers::new(rt.alloc(), &script)?;
     if script.len() != 2 {
         return Err(Fail::new("two lines"));
     }
-    assert!(&rt; rooms.take().as_slice().is_empty());
-    assert!(&rt; rooms.take().as_slice().is_empty());
+    assert!(&rt; buffers.take().as_slice().is_empty());
+    assert!(&rt; buffers.take().as_slice().is_empty());
     Ok(())
 }

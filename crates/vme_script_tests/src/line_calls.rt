@@ -2,9 +2,9 @@
 use std::process::Abort;
 use vme_arbiter::{ArbCmd, ArbReply};
 use vme_core::{Event, EventReply};
-use vme_cycle::{Room, SHORT};
+use vme_cycle::{BlockBuffer, INLINE_LEN};
 use vme_lanes::Datum;
-use vme_line_task::{LineTask, LineTodo, line_count, line_room};
+use vme_line_task::{LineTask, LineTodo, line_count, line_read_len};
 use vme_master::Outcome;
 use vme_memory::{BoardCmd, Reply};
 use vme_script::Config;
@@ -80,11 +80,11 @@ pub fn answer(rt: &impl Abort, config: &Config, line: usize, course: Course) -> 
     if config.boards() == 0 || line_count(config, 0) <= line {
         panic!(rt; "no such line");
     }
-    let room = Room::new();
-    if line_room(config.script(0).line(line)) > SHORT {
+    let buffer = BlockBuffer::new();
+    if line_read_len(config.script(0).line(line)) > INLINE_LEN {
         panic!(rt; "a long line");
     }
-    let mut task = LineTask::start(config, 0, line, room);
+    let mut task = LineTask::start(config, 0, line, buffer);
     let mut end = None;
     for (given, wanted) in course {
         let todo = task.next(reply(*given));

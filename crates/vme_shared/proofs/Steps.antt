@@ -48,7 +48,7 @@ counted_sound (Put mailbox word) p t =
       | inr more ↦
           elim (cases_Bool (nat_le mailbox.slots (words_between p t))) [
             | inl full ↦ rw (more, full) (λ same. absurd cc)
-            | inr room ↦ rw (more, room) tt
+            | inr capacity ↦ rw (more, capacity) tt
           ]
     ]
 counted_sound (Take mailbox) p t = elim (cases_Bool (p == t)) [ inl empty ↦ rw empty (λ same. absurd cc) | inr some ↦ rw some tt ]

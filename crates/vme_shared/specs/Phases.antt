@@ -40,8 +40,8 @@ access_of command reply = Others
 
 -- whether a put with these counts goes on: the count can be raised, and fewer words than slots stand there, modulo 2 ^ 32
 -- (this project's own)
-abbrev pub has_room : BoardMailbox → ℕ → ℕ → Bool
-has_room m p t = nat_lt p (2 ^ 32 - 1) && nat_lt ((p + 2 ^ 32 - t) % 2 ^ 32) m.slots
+abbrev pub has_space : BoardMailbox → ℕ → ℕ → Bool
+has_space m p t = nat_lt p (2 ^ 32 - 1) && nat_lt ((p + 2 ^ 32 - t) % 2 ^ 32) m.slots
 
 -- whether a write unlocks: a zero byte over the lock (this project's own)
 abbrev pub is_unlock : BoardMailbox → ℕ → ℕ → ℕ → Bool
@@ -59,7 +59,7 @@ next_phase m Idle (Sets at len old) = reached (at == lock_at m && len == 1) (if 
 next_phase m Locked (Reads at len p) = reached (at == put_count_at m && len == 4) (First p)
 next_phase m (First p) (Reads at len t) = reached (at == take_count_at m && len == 4) (Both p t)
 next_phase m (Both p t) (Writes at len x) =
-    if is_unlock m at len x then Some Idle else reached (at == word_at m p && len == 4 && has_room m p t) (Written p x)
+    if is_unlock m at len x then Some Idle else reached (at == word_at m p && len == 4 && has_space m p t) (Written p x)
 next_phase m (Both p t) (Reads at len x) = reached (at == word_at m t && len == 4 && not (p == t)) (Fetched t x)
 next_phase m (Written p x) (Writes at len n) = reached (at == put_count_at m && len == 4 && n == p + 1) Counted
 next_phase m (Fetched t x) (Writes at len n) = reached (at == take_count_at m && len == 4 && n == (t + 1) % 2 ^ 32) Counted

@@ -1,5 +1,5 @@
 ghost use Rattle.std.specs.Prelude.{◌≡◌, ◌≤◌, ◌-◌};
-ghost use Rattle.vme_cycle.specs.Requests.{reply_room};
+ghost use Rattle.vme_cycle.specs.Requests.{read_len};
 ghost use Rattle.vme_shared.specs.Mailboxes.{IsMailbox, put_count_at, take_count_at, word_at, set_lock, clear_lock, read_word, write_word, mailbox_request, refusal_in, mailbox_refusal};
 ghost use Rattle.vme_cycle.specs.Lawful.{transfer_of};
 
@@ -57,7 +57,7 @@ impl Mailbox {
     pub(crate) fn request(self, stage: Stage) -> Request
         requires { IsMailbox self }
         ensures value { result ≡ mailbox_request self stage }
-        ensures room { reply_room result ≤ 4 }
+        ensures capacity { read_len result ≤ 4 }
     {
         let am = self.am;
         match stage {

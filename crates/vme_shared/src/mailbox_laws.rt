@@ -17,7 +17,7 @@ pub fn mailboxes_are_queues()
     ensures order { (board : Board) (m : BoardMailbox) (h : List (Entry BoardCmd Reply)) →
         IsNewMailbox board m → IsLegal board_step board h → IsProper m h →
         Begins (words_taken m h) (words_put m h) }
-    ensures room { (board : Board) (m : BoardMailbox) (h : List (Entry BoardCmd Reply)) →
+    ensures capacity { (board : Board) (m : BoardMailbox) (h : List (Entry BoardCmd Reply)) →
         IsNewMailbox board m → IsLegal board_step board h → IsProper m h →
         length (words_put m h) ≤ length (words_taken m h) + m.slots }
 {}

@@ -1,5 +1,5 @@
 ghost use Rattle.std.specs.Prelude.{◌≡◌, ◌≤◌, ℕ, List, Some};
-ghost use Rattle.vme_cycle.specs.Requests.{reply_room};
+ghost use Rattle.vme_cycle.specs.Requests.{read_len};
 ghost use Rattle.vme_shared.specs.Mailboxes.{IsAsked, stage_request, refusal_in, shared_refusal};
 ghost use Rattle.vme_shared.specs.declared.request.SharedRequest.{SharedRequest as AnyRequest};
 ghost use Rattle.vme_shared.specs.Steps.{first_stage, has_top_bit, words_between, word_in, counted_stage, lock_step, unlock_step, mailbox_step, step_after};
@@ -52,7 +52,7 @@ impl SharedRequest {
     pub(crate) fn transfer(self, stage: Stage) -> Request
         requires { IsAsked self }
         ensures value { result ≡ stage_request self stage }
-        ensures room { reply_room result ≤ 4 }
+        ensures capacity { read_len result ≤ 4 }
     {
         match self {
             SharedRequest::Lock { am, addr } => set_lock(am, addr),

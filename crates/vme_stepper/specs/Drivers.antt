@@ -1,6 +1,6 @@
 -- The world as the driver keeps it, with tasks in place of replies: for this crate's own functions.
 use Rattle.std.specs.Prelude.{ℕ, ◌≡◌, ◌+◌, ◌<◌, ◌≤◌, List, [], ◌∷◌, length, drop, slice_get, slice_set, slice_index_or, Option, Some, None, IfSome}
-use Rattle.vme_cycle.specs.BlockBuffers.{RoomView}
+use Rattle.vme_cycle.specs.BlockBuffers.{BufferView}
 use Rattle.vme_memory.specs.Boards.{Board}
 use Rattle.vme_core.specs.declared.event.EventReply.{EventReply}
 use Rattle.vme_core.specs.Tallies.{Tally}
@@ -15,7 +15,7 @@ use Rattle.vme_script.specs.declared.script.ScriptLine.{ScriptLine}
 use Rattle.vme_script.specs.Configurations.{Configuration}
 use Rattle.vme_line_task.specs.declared.task.LineTask.{LineTask}
 use Rattle.vme_line_task.specs.Scripts.{lines_at, script_at}
-use Rattle.vme_line_task.specs.Rooms.{rooms_of}
+use Rattle.vme_line_task.specs.ReadBuffers.{buffers_of}
 use Rattle.vme_line_task.specs.Tables.{LineNext, Makes, Ends}
 use Rattle.vme_line_task.specs.Machine.{line_started, line_advance, line_to_do, line_after, IsLineBelow}
 use Rattle.vme_line_task.specs.Events.{MakesCall}
@@ -38,9 +38,9 @@ begun_lines ended (Some task) = ended + 1
 
 -- a line at work has a call to make, and there are rooms for the lines that have not begun (this project's own)
 pub record IsSoundLane (script : List ScriptLine) (lines : List (ℕ × LineReply)) (ended : ℕ) (at : Option LineTask)
-    (rooms : List RoomView) : Type 0 where
+    (buffers : List BufferView) : Type 0 where
   pub work : IfSome at (λ task. (ended < length lines) × MakesCall (line_to_do task))
-  pub left : rooms ≡ drop (begun_lines ended at) (rooms_of script)
+  pub left : buffers ≡ drop (begun_lines ended at) (buffers_of script)
 
 -- boards and arbiter, and a lane for each processor (this project's own)
 pub record DriverView : Type 0 where

@@ -57,7 +57,7 @@ impl<'a> Driver<'a> {
     fn turn(&mut self, config: &'a Config, board: usize)
         requires board { board < length config.now.boards }
         requires driver { IsDriverOf config.now self.old }
-        requires room { StepsWithin (2 ^ 64 - 2) self.old.machine }
+        requires capacity { StepsWithin (2 ^ 64 - 2) self.old.machine }
         ensures turn { self.new ≡ driver_turn config.now self.old board }
         ensures sound { IsDriverOf config.now self.new }
     {

@@ -12,7 +12,7 @@ ghost use Rattle.vme_stepper.specs.Drivers.{lane_turn, IsLaneOf, StepsWithin};
 use std::alloc::{AllocError, Global};
 use std::marker::Model;
 use vme_core::Core;
-use vme_line_task::{LineTask, Rooms};
+use vme_line_task::{LineTask, ReadBuffers};
 use vme_script::{Config, Script};
 use vme_shared::LineReply;
 
@@ -22,7 +22,7 @@ use vme_shared::LineReply;
 #[derive(Drop)]
 pub(crate) struct Lane<'a> {
     script: &'a Script,
-    rooms: Rooms,
+    buffers: ReadBuffers,
     lines: Vec<(u16, LineReply)>,
     ended: usize,
     task: Option<LineTask<'a>>,
@@ -40,7 +40,7 @@ impl<'a> Model for Lane<'a> {
       at = l.task;
     } };
 
-    ghost invariant = { λ l. IsSoundLane l.script.now l.lines.items l.ended l.task l.rooms };
+    ghost invariant = { λ l. IsSoundLane l.script.now l.lines.items l.ended l.task l.buffers };
 }
 
 impl<'a> Lane<'a> {
@@ -53,14 +53,14 @@ impl<'a> Lane<'a> {
           at = None;
         }) }
     {
-        let rooms = Rooms::new(alloc, script)?;
+        let buffers = ReadBuffers::new(alloc, script)?;
         let mut lines = Vec::with_capacity(alloc, script.len())?;
         for j in 0..script.len() {
             lines.push((script.number(j), LineReply::Unfinished))?;
         }
         Ok(Lane {
             script,
-            rooms,
+            buffers,
             lines,
             ended: 0,
             task: None,
@@ -81,7 +81,7 @@ impl<'a> Lane<'a> {
         requires lane { IsLaneOf config.now board self.old }
         requires whos { whos core.old ≡ length config.now.boards }
         requires boards { length core.old.boards ≡ length config.now.boards }
-        requires room { StepsWithin (2 ^ 64 - 2) core.old }
+        requires capacity { StepsWithin (2 ^ 64 - 2) core.old }
         ensures turn { (core.new, self.new) ≡ lane_turn config.now board core.old self.old }
         ensures lane { IsLaneOf config.now board self.new }
         ensures whos { whos core.new ≡ whos core.old }
@@ -115,8 +115,8 @@ impl<'a> Lane<'a> {
         ensures over { self.new.at ≡ None → length self.new.lines ≤ self.new.ended }
     {
         while self.ended < self.lines.len() {
-            let room = self.rooms.take();
-            let mut task = LineTask::start(config, board, self.ended, room);
+            let buffer = self.buffers.take();
+            let mut task = LineTask::start(config, board, self.ended, buffer);
             task.give(None);
             if !task.is_over() {
                 self.task = Some(task);
@@ -134,7 +134,7 @@ impl<'a> Lane<'a> {
     fn make(&mut self, core: &mut Core, board: usize)
         requires who { board < whos core.old }
         requires below { IfSome self.old.at (IsLineBelow (length core.old.boards)) }
-        requires room { StepsWithin (2 ^ 64 - 2) core.old }
+        requires capacity { StepsWithin (2 ^ 64 - 2) core.old }
         ensures turn { (config : Configuration) → IsLaneOf config board self.old →
             (self.old.at ≡ None → length self.old.lines ≤ self.old.ended) →
             (core.new, self.new) ≡ lane_turn config board core.old self.old }

@@ -25,7 +25,7 @@ pub record Gathering (all left : List Ran) (columns : List Column) (bus : List (
   pub dealt :
       (x : ℕ) (d : PassView BoardCmd Reply) (c : Column) → x < length all
       → (slice_index_or columns x c).items ≡ map (λ (r : Ran). slice_index_or r.desk.boards.items x d) taken
-  pub room : (x : ℕ) (c : Column) → x < length all → 21 ≤ vec_capacity (slice_index_or columns x c)
+  pub capacity : (x : ℕ) (c : Column) → x < length all → 21 ≤ vec_capacity (slice_index_or columns x c)
   pub passes : bus ≡ map (λ (r : Ran). r.desk.bus) taken
   pub answered : lines ≡ map (λ (r : Ran). r.lines) taken
 
@@ -33,12 +33,12 @@ pub record Gathering (all left : List Ran) (columns : List Column) (bus : List (
 pub gathering_begins :
     (all left : List Ran) (columns : List Column) (bus : List (PassView ArbCmd ArbReply)) (lines : List (Vec (ℕ × LineReply))) → left ≡ all
     → length all ≤ 21 → length columns ≡ 21 → AreColumns columns → length bus ≡ 0 → length lines ≡ 0 → Gathering all left columns bus lines
-gathering_begins all left columns bus lines whole most count room no_bus no_lines = record {
+gathering_begins all left columns bus lines whole most count capacity no_bus no_lines = record {
   taken = [];
   split = sym whole;
   count = count;
-  dealt = λ x d c x<. let none = room x c (omega arith) in nil_of (slice_index_or columns x c).items (omega (arith, none.0, (slice_index_or columns x c).ok.0));
-  room = λ x c x<. (room x c (omega arith)).1;
+  dealt = λ x d c x<. let none = capacity x c (omega arith) in nil_of (slice_index_or columns x c).items (omega (arith, none.0, (slice_index_or columns x c).ok.0));
+  capacity = λ x c x<. (capacity x c (omega arith)).1;
   passes = nil_of bus no_bus;
   answered = nil_of lines no_lines;
 }
@@ -54,16 +54,16 @@ square_here all taken r left split square =
     ap (λ (q : Ran). length q.desk.boards.items) (sym here) ∙ square (length taken) r (taken_fewer all taken r left split)
 
 -- each column has room for one more
-pub column_has_room :
+pub column_has_space :
     (all left : List Ran) (columns : List Column) (bus : List (PassView ArbCmd ArbReply)) (lines : List (Vec (ℕ × LineReply))) (r : Ran)
     (rest : List Ran) → Gathering all left columns bus lines → left ≡ r ∷ rest → length all ≤ 21 → (x : ℕ) (c : Column) → x < length all
     → vec_len (slice_index_or columns x c) < vec_capacity (slice_index_or columns x c)
-column_has_room all left columns bus lines r rest g is most x c x< =
+column_has_space all left columns bus lines r rest g is most x c x< =
     let d : PassView BoardCmd Reply = record { port = r.desk.bus.port; who = 0; made = 0; seen = []; mine = [] } in
     let column = slice_index_or columns x c in
     let fewer = taken_fewer all g.taken r rest (g.split ∙ ap (λ rs. g.taken ++ rs) is) in
     let size = ap length (g.dealt x d c x<) ∙ same_count (λ (r : Ran). slice_index_or r.desk.boards.items x d) g.taken in
-    omega (arith, fewer, size, g.room x c x<, column.ok.0)
+    omega (arith, fewer, size, g.capacity x c x<, column.ok.0)
 
 -- one more is taken
 pub gathering_more :
@@ -82,9 +82,9 @@ gathering_more all left columns more bus bus_more lines lines_more r rest g is s
       dealt = λ x d c x<.
           let f = λ (q : Ran). slice_index_or q.desk.boards.items x d in
           (got x d c c (omega (arith, wide, x<))).items ∙ ap (λ ps. ps ++ f r ∷ []) (g.dealt x d c x<) ∙ sym (map-append f g.taken (r ∷ []));
-      room = λ x c x<.
+      capacity = λ x c x<.
           let p : PassView BoardCmd Reply = record { port = r.desk.bus.port; who = 0; made = 0; seen = []; mine = [] } in
-          omega (arith, (got x p c c (omega (arith, wide, x<))).room, g.room x c x<);
+          omega (arith, (got x p c c (omega (arith, wide, x<))).capacity, g.capacity x c x<);
       passes = bus_is ∙ ap (λ ps. ps ++ r.desk.bus ∷ []) g.passes ∙ sym (map-append (λ (q : Ran). q.desk.bus) g.taken (r ∷ []));
       answered = lines_is ∙ ap (λ ls. ls ++ r.lines ∷ []) g.answered ∙ sym (map-append (λ (q : Ran). q.lines) g.taken (r ∷ []));
     }

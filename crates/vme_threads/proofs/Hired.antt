@@ -13,26 +13,26 @@ use Rattle.vme_port.specs.Ports.{port_id}
 use Rattle.vme_script.specs.declared.board.BoardConfig.{BoardConfig}
 use Rattle.vme_script.specs.Configurations.{Configuration}
 use Rattle.vme_line_task.specs.Scripts.{script_at}
-use Rattle.vme_line_task.specs.Rooms.{rooms_of}
+use Rattle.vme_line_task.specs.ReadBuffers.{buffers_of}
 use Rattle.vme_threads.specs.declared.worker.Worker.{Worker}
 use Rattle.vme_threads.specs.declared.ports.BoardPort.{BoardPort}
 use Rattle.vme_threads.specs.Ports.{IsPortOf, IsHired, AreHired}
-use Rattle.vme_threads.specs.Dealings.{Gets, HaveRoom}
+use Rattle.vme_threads.specs.Dealings.{Gets, HaveSpace}
 
 -- a worker with the arbiter's pass alone
 pub hired_first :
     (config : Configuration) (arbiter : Port Arbitration ArbCmd ArbReply) (i : ℕ) (w : Worker) (p : PassView ArbCmd ArbReply)
     → IsUnused (port_id arbiter) i p → w.desk.who ≡ p.who → w.desk.bus ≡ p → w.desk.boards.items ≡ []
-    → length config.boards ≤ vec_capacity w.desk.boards → w.rooms ≡ rooms_of (script_at config i) → vec_len w.lines ≡ 0
+    → length config.boards ≤ vec_capacity w.desk.boards → w.buffers ≡ buffers_of (script_at config i) → vec_len w.lines ≡ 0
     → length (script_at config i) ≤ vec_capacity w.lines → IsHired config [] arbiter i w
-hired_first config arbiter i w p unused who bus none room rooms lines lines_room = record {
+hired_first config arbiter i w p unused who bus none capacity buffers lines lines_capacity = record {
   who = who ∙ unused.who;
   boards = record { count = ap length none; each = λ k a b k<. absurd (omega arith) };
   bus = subst (IsUnused (port_id arbiter) i) (sym bus) unused;
-  room = room;
-  rooms = rooms;
+  capacity = capacity;
+  buffers = buffers;
   lines = lines;
-  lines_room = lines_room;
+  lines_capacity = lines_capacity;
 }
 
 -- a worker with the pass of one more board
@@ -46,10 +46,10 @@ hired_more config opened o arbiter i w v p hired unused gets =
       who = gets.who ∙ hired.who;
       boards = subst (AllAt P (opened ++ o ∷ [])) (sym gets.boards) (AllAt-push P opened w.desk.boards.items o p hired.boards unused);
       bus = subst (IsUnused (port_id arbiter) i) (sym gets.bus) hired.bus;
-      room = subst (λ n. length config.boards ≤ n) (sym gets.room) hired.room;
-      rooms = gets.rooms ∙ hired.rooms;
+      capacity = subst (λ n. length config.boards ≤ n) (sym gets.capacity) hired.capacity;
+      buffers = gets.buffers ∙ hired.buffers;
       lines = subst (λ ls. vec_len ls ≡ 0) (sym gets.lines) hired.lines;
-      lines_room = subst (λ ls. length (script_at config i) ≤ vec_capacity ls) (sym gets.lines) hired.lines_room;
+      lines_capacity = subst (λ ls. length (script_at config i) ≤ vec_capacity ls) (sym gets.lines) hired.lines_capacity;
     }
 
 -- all workers, each with the pass of one more board
@@ -70,11 +70,11 @@ all_hired_more config opened o arbiter passes ws vs hired unused count got = rec
 }
 
 -- before all boards have their ports each worker has room for one more pass
-pub hired_have_room :
+pub new_workers_have_space :
     (config : Configuration) (opened : List BoardPort) (arbiter : Port Arbitration ArbCmd ArbReply) (ws : List Worker)
-    → AreHired config opened arbiter ws → length opened < length config.boards → HaveRoom ws
-hired_have_room config opened arbiter ws hired less k d k< =
-    let it = hired.each k d k< in omega (arith, it.boards.count, it.room)
+    → AreHired config opened arbiter ws → length opened < length config.boards → HaveSpace ws
+new_workers_have_space config opened arbiter ws hired less k d k< =
+    let it = hired.each k d k< in omega (arith, it.boards.count, it.capacity)
 
 -- a port of each board, by place
 pub all_ports :

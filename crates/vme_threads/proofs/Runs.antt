@@ -8,12 +8,12 @@ use Rattle.vme_shared.specs.declared.reply.LineReply.{LineReply}
 use Rattle.vme_grammar.specs.declared.line.Line.{Line}
 use Rattle.vme_script.specs.declared.script.ScriptLine.{ScriptLine}
 use Rattle.vme_script.specs.Configurations.{Configuration}
-use Rattle.vme_cycle.specs.BlockBuffers.{RoomView}
+use Rattle.vme_cycle.specs.BlockBuffers.{BufferView}
 use Rattle.vme_line_task.specs.Scripts.{script_at, lines_at}
-use Rattle.vme_line_task.specs.Rooms.{line_room, rooms_of}
+use Rattle.vme_line_task.specs.ReadBuffers.{line_read_len, buffers_of}
 use Rattle.vme_line_task.specs.Courses.{LineCourse, IsCourse}
 use Rattle.vme_line_task.proofs.lemmas.Courses.{course-snoc}
-use Rattle.vme_line_task.proofs.lemmas.LineRooms.{IsNextRoom, rooms_left, next_room}
+use Rattle.vme_line_task.proofs.lemmas.LineBuffers.{IsNextBuffer, buffers_left, next_buffer}
 use Rattle.vme_threads.specs.declared.desk.Desk.{Desk}
 use Rattle.vme_threads.specs.declared.worker.Worker.{Worker}
 use Rattle.vme_threads.specs.declared.worker.Ran.{Ran}
@@ -95,24 +95,24 @@ same_count f [] = refl
 same_count f (x ∷ xs) = ap suc (same_count f xs)
 
 -- there is a room for each line that is left
-pub some_room :
-    (config : Configuration) (who n : ℕ) (rooms : List RoomView) → n < length (lines_at config who) → rooms ≡ drop n (rooms_of (script_at config who))
-    → 0 < length rooms
-some_room config who n rooms n< are =
-    rooms_left (script_at config who) n rooms (omega (arith, n<, same_count (λ (one : ScriptLine). one.line) (script_at config who))) are
+pub some_buffer :
+    (config : Configuration) (who n : ℕ) (buffers : List BufferView) → n < length (lines_at config who) → buffers ≡ drop n (buffers_of (script_at config who))
+    → 0 < length buffers
+some_buffer config who n buffers n< are =
+    buffers_left (script_at config who) n buffers (omega (arith, n<, same_count (λ (one : ScriptLine). one.line) (script_at config who))) are
 
 -- the first of them is the next line's
-pub room_taken :
-    (config : Configuration) (who n : ℕ) (rooms rest : List RoomView) (room : RoomView) → n < length (lines_at config who)
-    → rooms ≡ drop n (rooms_of (script_at config who)) → rooms ≡ room ∷ rest → IsNextRoom (script_at config who) n room rest
-room_taken config who n rooms rest room n< are is =
-    next_room (script_at config who) n rooms rest room (omega (arith, n<, same_count (λ (one : ScriptLine). one.line) (script_at config who))) are is
+pub buffer_taken :
+    (config : Configuration) (who n : ℕ) (buffers rest : List BufferView) (buffer : BufferView) → n < length (lines_at config who)
+    → buffers ≡ drop n (buffers_of (script_at config who)) → buffers ≡ buffer ∷ rest → IsNextBuffer (script_at config who) n buffer rest
+buffer_taken config who n buffers rest buffer n< are is =
+    next_buffer (script_at config who) n buffers rest buffer (omega (arith, n<, same_count (λ (one : ScriptLine). one.line) (script_at config who))) are is
 
 -- and has room for what that line reads
-pub room_serves :
-    (config : Configuration) (who other n : ℕ) (room : RoomView) (rest : List RoomView) → IsNextRoom (script_at config who) n room rest → other ≡ who
-    → (line : Line) → slice_get (lines_at config other) n ≡ Some line → line_room line ≤ room.room
-room_serves config who other n room rest next same line there =
+pub buffer_serves :
+    (config : Configuration) (who other n : ℕ) (buffer : BufferView) (rest : List BufferView) → IsNextBuffer (script_at config who) n buffer rest → other ≡ who
+    → (line : Line) → slice_get (lines_at config other) n ≡ Some line → line_read_len line ≤ buffer.capacity
+buffer_serves config who other n buffer rest next same line there =
     next.enough line (subst (λ w. slice_get (lines_at config w) n ≡ Some line) same there)
 
 -- all lines were answered

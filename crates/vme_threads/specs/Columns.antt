@@ -16,4 +16,4 @@ AreColumns columns = All (λ c. (vec_len c ≡ 0) × (21 ≤ vec_capacity c)) co
 -- a column has one more pass (this project's own)
 pub record HasOneMore (p : PassView BoardCmd Reply) (before after : Column) : Type 0 where
   pub items : after.items ≡ before.items ++ p ∷ []
-  pub room : vec_capacity after ≡ vec_capacity before
+  pub capacity : vec_capacity after ≡ vec_capacity before

@@ -10,10 +10,10 @@ pub record Gets (p : PassView BoardCmd Reply) (w v : Worker) : Type 0 where
   pub who : v.desk.who ≡ w.desk.who
   pub boards : v.desk.boards.items ≡ w.desk.boards.items ++ p ∷ []
   pub bus : v.desk.bus ≡ w.desk.bus
-  pub room : vec_capacity v.desk.boards ≡ vec_capacity w.desk.boards
-  pub rooms : v.rooms ≡ w.rooms
+  pub capacity : vec_capacity v.desk.boards ≡ vec_capacity w.desk.boards
+  pub buffers : v.buffers ≡ w.buffers
   pub lines : v.lines ≡ w.lines
 
 -- each worker has room for one more pass (this project's own)
-abbrev pub HaveRoom : List Worker → Type 0
-HaveRoom workers = All (λ w. length w.desk.boards.items < vec_capacity w.desk.boards) workers
+abbrev pub HaveSpace : List Worker → Type 0
+HaveSpace workers = All (λ w. length w.desk.boards.items < vec_capacity w.desk.boards) workers

@@ -27,7 +27,7 @@ pub record CanClose (o : BoardPort) (passes : List (PassView BoardCmd Reply)) : 
   pub count : length passes ≡ passes_of o.port
   pub each : Each (λ i p. (p.port ≡ port_id o.port) × (p.who ≡ i)) passes
   pub none : vec_len o.made ≡ 0
-  pub room : passes_of o.port ≤ vec_capacity o.made
+  pub capacity : passes_of o.port ≤ vec_capacity o.made
 
 -- a board's port was closed with these passes: its memory, the number of its steps, and how many each pass made
 -- (this project's own)

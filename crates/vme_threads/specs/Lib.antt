@@ -1,5 +1,5 @@
 pub mod Columns
-pub mod Rooms
+pub mod RunBuffers
 pub mod Ports
 pub mod Dealings
 pub mod Desks

@@ -13,11 +13,11 @@ use Rattle.vme_script.specs.declared.board.BoardConfig.{BoardConfig}
 use Rattle.vme_script.specs.Configurations.{Configuration, opening_memory}
 use Rattle.vme_script.specs.Lawful.{IsLawful}
 use Rattle.vme_line_task.specs.Scripts.{script_at}
-use Rattle.vme_line_task.specs.Rooms.{rooms_of}
+use Rattle.vme_line_task.specs.ReadBuffers.{buffers_of}
 use Rattle.vme_threads.specs.declared.worker.Worker.{Worker}
 use Rattle.vme_threads.specs.declared.ports.BoardPort.{BoardPort}
 use Rattle.vme_threads.specs.declared.ports.Ports.{Ports}
-use Rattle.vme_threads.specs.Rooms.{IsBlank}
+use Rattle.vme_threads.specs.RunBuffers.{AreEmptyBuffers}
 
 -- a port of a board, in its slot, which was opened with zero memory for k passes; there is room for k counts
 -- (this project's own)
@@ -26,7 +26,7 @@ pub record IsPortOf (k : ℕ) (own : BoardConfig) (o : BoardPort) : Type 0 where
   pub memory : opening o.port ≡ opening_memory own
   pub passes : passes_of o.port ≡ k
   pub made : vec_len o.made ≡ 0
-  pub made_room : k ≤ vec_capacity o.made
+  pub made_capacity : k ≤ vec_capacity o.made
 
 -- a worker has the i-th pass of each of these ports of boards and of the arbiter's, none of which has made a call; it has room
 -- for passes of all boards, for what each line of the i-th script reads, and for the replies to it (this project's own)
@@ -36,10 +36,10 @@ pub record IsHired (config : Configuration) (opened : List BoardPort) (arbiter :
   pub boards :
       AllAt (λ x (o : BoardPort) (p : PassView BoardCmd Reply). IsUnused (port_id o.port) i p) opened w.desk.boards.items
   pub bus : IsUnused (port_id arbiter) i w.desk.bus
-  pub room : length config.boards ≤ vec_capacity w.desk.boards
-  pub rooms : w.rooms ≡ rooms_of (script_at config i)
+  pub capacity : length config.boards ≤ vec_capacity w.desk.boards
+  pub buffers : w.buffers ≡ buffers_of (script_at config i)
   pub lines : vec_len w.lines ≡ 0
-  pub lines_room : length (script_at config i) ≤ vec_capacity w.lines
+  pub lines_capacity : length (script_at config i) ≤ vec_capacity w.lines
 
 -- such a worker for each board (this project's own)
 pub record AreHired (config : Configuration) (opened : List BoardPort) (arbiter : Port Arbitration ArbCmd ArbReply)
@@ -54,7 +54,7 @@ pub record IsBuilt (config : Configuration) (ports : Ports) : Type 0 where
   pub boards : AllAt (λ x own o. IsPortOf (length config.boards) own o) config.boards ports.boards.items
   pub bus : opening ports.bus ≡ opening_bus config.arbiter
   pub passes : passes_of ports.bus ≡ length config.boards
-  pub sheet : IsBlank (length config.boards) ports.sheet
+  pub report_buffers : AreEmptyBuffers (length config.boards) ports.report_buffers
 
 -- the i-th worker of these ports, whose passes have made no call (this project's own)
 abbrev pub IsWorkerOf : Configuration → Ports → ℕ → Worker → Type 0

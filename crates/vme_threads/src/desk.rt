@@ -5,7 +5,7 @@ ghost use Rattle.vme_core.specs.Runs.{move};
 ghost use Rattle.vme_grammar.specs.declared.line.Line.{Line};
 ghost use Rattle.vme_core.specs.Deeds.{call_asked};
 ghost use Rattle.vme_line_task.specs.Events.{IsCallBelow};
-ghost use Rattle.vme_line_task.specs.Rooms.{line_room};
+ghost use Rattle.vme_line_task.specs.ReadBuffers.{line_read_len};
 ghost use Rattle.vme_line_task.specs.Scripts.{lines_at};
 ghost use Rattle.vme_threads.specs.Desks.{Fits, HasMade, HasCalled};
 ghost use Rattle.vme_threads.specs.Rans.{HasAnswered};
@@ -17,7 +17,7 @@ use std::sync::atomic::Ordering;
 use vme_arbiter::{ArbCmd, ArbReply, Arbiter};
 use vme_bus_wait::Patience;
 use vme_core::{Deed, EventReply};
-use vme_cycle::Room;
+use vme_cycle::BlockBuffer;
 use vme_line_task::LineTask;
 use vme_memory::{ByteMemory, Reply};
 use vme_object::{Asks, Given};
@@ -123,19 +123,19 @@ impl Desk {
         config: &Config,
         ports: &Ports,
         line: usize,
-        room: Room,
+        buffer: BlockBuffer,
     ) -> Result<LineReply, Spent>
         requires fits { Fits ports.now self.old }
         requires ports { length ports.now.boards.items ≡ length config.now.boards }
         requires board { self.old.who < length config.now.boards }
         requires line { line < length (lines_at config.now self.old.who) }
-        requires none { room.items ≡ [] }
-        requires room { (one : Line) → slice_get (lines_at config.now self.old.who) line ≡ Some one →
-            line_room one ≤ room.room }
+        requires none { buffer.items ≡ [] }
+        requires capacity { (one : Line) → slice_get (lines_at config.now self.old.who) line ≡ Some one →
+            line_read_len one ≤ buffer.capacity }
         ensures { IfOk result (λ answer. HasAnswered config.now line answer self.old self.new) }
     {
         let backoff = Backoff::new();
-        let mut task = LineTask::start(config, self.who, line, room);
+        let mut task = LineTask::start(config, self.who, line, buffer);
         task.give(None);
         for _ in rt.forever() {
             if task.is_over() {

@@ -14,7 +14,7 @@ ghost use Rattle.vme_threads.specs.Gathers.{AreSquare, AreDealt, CanClose, IsClo
 use crate::desk::Desk;
 use crate::ports::{BoardPort, Ports};
 use crate::report::{BoardEnd, Report};
-use crate::rooms::{Rooms, Sheet};
+use crate::run_buffers::{PassBuffers, ReportBuffers};
 use crate::worker::Ran;
 use std::alloc::Global;
 use std::mem;
@@ -27,7 +27,7 @@ use vme_shared::LineReply;
 /// Puts each pass into the column of its number.
 fn deal(columns: &mut Vec<Vec<Pass<ByteMemory>>>, mut passes: Vec<Pass<ByteMemory>>)
     requires within { vec_len passes ≤ vec_len columns.old }
-    requires room { (x : ℕ) (c : Column) → x < vec_len passes →
+    requires capacity { (x : ℕ) (c : Column) → x < vec_len passes →
         vec_len (slice_index_or columns.old.items x c) < vec_capacity (slice_index_or columns.old.items x c) }
     ensures count { vec_len columns.new ≡ vec_len columns.old }
     ensures dealt { (x : ℕ) (d : PassView BoardCmd Reply) (c e : Column) → x < vec_len passes →
@@ -45,7 +45,7 @@ fn close<O: Object>(port: Port<O>, passes: Vec<Pass<O>>, made: &mut Vec<u64>) ->
     requires count { length passes.items ≡ passes_of port }
     requires each { Each (λ i p. (p.port ≡ port_id port) × (p.who ≡ i)) passes.items }
     requires none { vec_len made.old ≡ 0 }
-    requires room { passes_of port ≤ vec_capacity made.old }
+    requires capacity { passes_of port ≤ vec_capacity made.old }
     ensures settled { Settles O.step (opening port) (passes_of port) passes.items result.0 result.1 }
     ensures made { made.new.items ≡ map (λ p. p.made) passes.items }
 {
@@ -88,11 +88,11 @@ fn collect(
     requires most { vec_len rans ≤ 21 }
     requires square { AreSquare rans.items }
     requires columns { vec_len columns.old ≡ 21 }
-    requires columns_room { AreColumns columns.old.items }
+    requires columns_capacity { AreColumns columns.old.items }
     requires bus { vec_len bus.old ≡ 0 }
-    requires bus_room { 21 ≤ vec_capacity bus.old }
+    requires bus_capacity { 21 ≤ vec_capacity bus.old }
     requires lines { vec_len lines.old ≡ 0 }
-    requires lines_room { vec_len rans ≤ vec_capacity lines.old }
+    requires lines_capacity { vec_len rans ≤ vec_capacity lines.old }
     ensures count { vec_len columns.new ≡ 21 }
     ensures dealt { AreDealt rans.items columns.new.items }
     ensures bus { bus.new.items ≡ map (λ r. r.desk.bus) rans.items }
@@ -125,7 +125,7 @@ fn close_boards(
     requires within { vec_len boards ≤ vec_len columns.old }
     requires passes { CanAllClose boards.items columns.old.items }
     requires none { vec_len ends.old ≡ 0 }
-    requires room { vec_len boards ≤ vec_capacity ends.old }
+    requires capacity { vec_len boards ≤ vec_capacity ends.old }
     ensures { AreClosed boards.items columns.old.items ends.new.items }
 {
     for board in boards {
@@ -144,20 +144,20 @@ pub fn gather(ports: Ports, rans: Vec<Ran>) -> Report
         boards,
         bus,
         waits: _waits,
-        sheet,
-        rooms,
+        report_buffers,
+        buffers,
         stop: _stop,
         alloc,
     } = ports;
-    let Sheet {
+    let ReportBuffers {
         mut lines,
         boards: mut ends,
         mut bus_made,
-    } = sheet;
-    let Rooms {
+    } = report_buffers;
+    let PassBuffers {
         mut columns,
         bus: mut bus_passes,
-    } = rooms.into_inner();
+    } = buffers.into_inner();
     collect(rans, &mut columns, &mut bus_passes, &mut lines);
     close_boards(alloc, boards, &mut columns, &mut ends);
     let (_arbiter, arbiter_steps) = close(bus, bus_passes, &mut bus_made);

@@ -6,7 +6,7 @@ ghost use Rattle.vme_memory.specs.declared.reply.Reply.{Reply};
 ghost use Rattle.vme_port.specs.Passes.{PassView, IsUnused};
 ghost use Rattle.vme_port.specs.Ports.{port_id};
 ghost use Rattle.vme_threads.specs.Ports.{AreHired};
-ghost use Rattle.vme_threads.specs.Dealings.{Gets, HaveRoom};
+ghost use Rattle.vme_threads.specs.Dealings.{Gets, HaveSpace};
 
 use crate::worker::Worker;
 use std::alloc::{AllocError, Global};
@@ -39,7 +39,7 @@ pub(crate) fn hire(
 /// Gives each worker the pass of its number.
 pub(crate) fn hand_out(workers: &mut Vec<Worker>, mut passes: Vec<Pass<ByteMemory>>)
     requires count { vec_len passes ≡ vec_len workers.old }
-    requires room { HaveRoom workers.old.items }
+    requires capacity { HaveSpace workers.old.items }
     ensures count { vec_len workers.new ≡ vec_len workers.old }
     ensures got { AllAt
         (λ i w v. (d : PassView BoardCmd Reply) → Gets (slice_index_or passes.items i d) w v)

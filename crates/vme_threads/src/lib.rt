@@ -11,7 +11,7 @@ mod line;
 mod open;
 mod ports;
 mod report;
-mod rooms;
+mod run_buffers;
 mod threads;
 mod worker;
 

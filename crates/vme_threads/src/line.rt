@@ -12,7 +12,7 @@ ghost use Rattle.vme_master.specs.Machine.{to_do};
 ghost use Rattle.vme_master.specs.Tables.{Ends, next_of};
 ghost use Rattle.vme_script.specs.Configurations.{Configuration};
 ghost use Rattle.vme_line_task.specs.Events.{IsCallBelow, MakesCall};
-ghost use Rattle.vme_line_task.specs.Rooms.{line_room, room_of_request};
+ghost use Rattle.vme_line_task.specs.ReadBuffers.{line_read_len, request_read_len};
 ghost use Rattle.vme_line_task.specs.Scripts.{lines_at};
 ghost use Rattle.vme_line_task.specs.Tables as tables;
 ghost use Rattle.vme_line_task.specs.Tables.{moves_next};
@@ -23,7 +23,7 @@ use crate::desk::Desk;
 use crate::ports::Ports;
 use std::sync::Wait;
 use std::sync::atomic::Ordering;
-use vme_cycle::{Block, Request, Room};
+use vme_cycle::{Block, Request, BlockBuffer};
 use vme_grammar::Line;
 use vme_master::{Outcome, Task};
 use vme_memory::{BoardCmd, Reply};
@@ -45,21 +45,21 @@ impl Desk {
         config: &Config,
         ports: &Ports,
         line: usize,
-        room: Room,
+        buffer: BlockBuffer,
     ) -> Result<LineReply, Spent>
         requires fits { Fits ports.now self.old }
         requires ports { length ports.now.boards.items ≡ length config.now.boards }
         requires board { self.old.who < length config.now.boards }
         requires line { line < length (lines_at config.now self.old.who) }
-        requires none { room.items ≡ [] }
-        requires room { (one : AnyLine) → slice_get (lines_at config.now self.old.who) line ≡ Some one →
-            line_room one ≤ room.room }
+        requires none { buffer.items ≡ [] }
+        requires capacity { (one : AnyLine) → slice_get (lines_at config.now self.old.who) line ≡ Some one →
+            line_read_len one ≤ buffer.capacity }
         ensures { IfOk result (λ answer. HasAnswered config.now line answer self.old self.new) }
     {
         match config.script(self.who).line(line) {
             Line::Local(cmd) if !is_cycle(cmd) => self.local(rt, ports, cmd),
-            Line::Bus(request) => self.transfer(rt, config, ports, request, room),
-            _ => self.attempts(rt, config, ports, line, room),
+            Line::Bus(request) => self.transfer(rt, config, ports, request, buffer),
+            _ => self.attempts(rt, config, ports, line, buffer),
         }
     }
 
@@ -91,17 +91,17 @@ impl Desk {
         config: &Config,
         ports: &Ports,
         request: &Request,
-        room: Room,
+        buffer: BlockBuffer,
     ) -> Result<LineReply, Spent>
         requires fits { Fits ports.now self.old }
         requires ports { length ports.now.boards.items ≡ length config.now.boards }
         requires board { self.old.who < length config.now.boards }
-        requires none { room.items ≡ [] }
-        requires room { room_of_request (transfer_of request.now) ≤ room.room }
+        requires none { buffer.items ≡ [] }
+        requires capacity { request_read_len (transfer_of request.now) ≤ buffer.capacity }
         ensures { IfOk result (λ answer. IsAnswered config.now (lines.Bus request.now) answer self.old self.new) }
     {
         let (slot, level) = (config.slot(self.who), config.level(self.who));
-        let mut started = Task::start(config.map(), slot, level, request, room);
+        let mut started = Task::start(config.map(), slot, level, request, buffer);
         let task = match &mut started {
             Ok(task) => task,
             Err(fault) => return Ok(LineReply::Refused(*fault)),
@@ -145,8 +145,8 @@ fn local_outcome(cmd: &BoardCmd, reply: Reply) -> Outcome
             if old.as_slice().len() == usize::from(*n) => { Outcome::Old(old) }
         (BoardCmd::LocalRead { n, .. }, Reply::Bytes(bytes))
             if bytes.as_slice().len() == usize::from(*n) => {
-            let mut read = Room::new();
-            read.push_all(bytes.as_slice());
+            let mut read = BlockBuffer::new();
+            read.extend_from_slice(bytes.as_slice());
             Outcome::Read(read.into_block())
         }
         _ => Outcome::Denied,

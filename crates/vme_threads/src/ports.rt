@@ -3,7 +3,7 @@ ghost use Rattle.vme_threads.specs.Ports.{IsBuilt, AreWorkers};
 
 use crate::hire::hire;
 use crate::open::{open_boards, open_bus};
-use crate::rooms::{Rooms, Sheet};
+use crate::run_buffers::{PassBuffers, ReportBuffers};
 use crate::worker::Worker;
 use std::alloc::{AllocError, Global};
 use std::sync::Mutex;
@@ -29,8 +29,8 @@ pub struct Ports {
     pub(crate) boards: Vec<BoardPort>,
     pub(crate) bus: Port<Arbiter>,
     pub(crate) waits: Waits,
-    pub(crate) sheet: Sheet,
-    pub(crate) rooms: Mutex<Rooms>,
+    pub(crate) report_buffers: ReportBuffers,
+    pub(crate) buffers: Mutex<PassBuffers>,
     pub(crate) stop: AtomicBool,
     pub(crate) alloc: Global,
 }
@@ -61,8 +61,8 @@ impl Ports {
             boards,
             bus,
             waits: Waits::new(alloc, count)?,
-            sheet: Sheet::new(alloc, count)?,
-            rooms: Mutex::new(Rooms::new(alloc)?),
+            report_buffers: ReportBuffers::new(alloc, count)?,
+            buffers: Mutex::new(PassBuffers::new(alloc)?),
             stop: AtomicBool::new(false),
             alloc,
         };

@@ -108,7 +108,7 @@ fn start_all<'s, E, R: Threads + Wait + Sync, G: Gate + Sync>(
     requires built { IsBuilt config.now ports.now }
     requires workers { AreWorkers config.now ports.now workers.items }
     requires none { vec_len children.old ≡ 0 }
-    requires room { vec_len workers ≤ vec_capacity children.old }
+    requires capacity { vec_len workers ≤ vec_capacity children.old }
     ensures count { IfOk result (λ _. vec_len children.new ≡ vec_len workers) }
     ensures promised { Each (λ k c. IsRunOf config.entry.now ports.entry.now k c.promise) children.new.items }
     ensures fault { IfErr result (λ fault. fault ≢ Write) }
@@ -139,7 +139,7 @@ fn join_all<'s, R: Threads>(
 ) -> Result<(), RunFault>
     requires promised { Each (λ k c. IsRunOf config.now ports.now k c.promise) children.items }
     requires none { vec_len rans.old ≡ 0 }
-    requires room { vec_len children ≤ vec_capacity rans.old }
+    requires capacity { vec_len children ≤ vec_capacity rans.old }
     ensures count { IfOk result (λ _. vec_len rans.new ≡ vec_len children.entry) }
     ensures runs { IfOk result (λ _. HaveRun config.entry.now ports.entry.now rans.new.items) }
     ensures fault { IfErr result (λ fault. fault ≢ Write) }

@@ -1,5 +1,5 @@
 ghost use Rattle.std.specs.Prelude.{◌≡◌, ◌<◌, ◌≤◌, IfOk, [], length, vec_len, vec_capacity};
-ghost use Rattle.vme_line_task.specs.Rooms.{rooms_of};
+ghost use Rattle.vme_line_task.specs.ReadBuffers.{buffers_of};
 
 use crate::desk::Desk;
 use crate::gate::Gate;
@@ -9,7 +9,7 @@ use std::sync::Wait;
 use std::sync::atomic::Ordering;
 use vme_arbiter::Arbiter;
 use vme_bus_wait::Patience;
-use vme_line_task::{Rooms, line_count};
+use vme_line_task::{ReadBuffers, line_count};
 use vme_port::Pass;
 use vme_report::RunFault;
 use vme_script::{Config, Script};
@@ -20,7 +20,7 @@ use vme_shared::LineReply;
 #[derive(Drop)]
 pub struct Worker {
     pub(crate) desk: Desk,
-    pub(crate) rooms: Rooms,
+    pub(crate) buffers: ReadBuffers,
     pub(crate) lines: Vec<(u16, LineReply)>,
 }
 
@@ -47,21 +47,21 @@ impl Worker {
         ensures who { IfOk result (λ w. w.desk.who ≡ bus.who) }
         ensures bus { IfOk result (λ w. w.desk.bus ≡ bus) }
         ensures boards { IfOk result (λ w. w.desk.boards.items ≡ []) }
-        ensures room { IfOk result (λ w. boards ≤ vec_capacity w.desk.boards) }
+        ensures capacity { IfOk result (λ w. boards ≤ vec_capacity w.desk.boards) }
         ensures lines { IfOk result (λ w. vec_len w.lines ≡ 0) }
-        ensures lines_room { IfOk result (λ w. length script.now ≤ vec_capacity w.lines) }
-        ensures rooms { IfOk result (λ w. w.rooms ≡ rooms_of script.now) }
+        ensures lines_capacity { IfOk result (λ w. length script.now ≤ vec_capacity w.lines) }
+        ensures buffers { IfOk result (λ w. w.buffers ≡ buffers_of script.now) }
     {
         let boards = Vec::with_capacity(alloc, boards)?;
         let lines = Vec::with_capacity(alloc, script.len())?;
-        let rooms = Rooms::new(alloc, script)?;
+        let buffers = ReadBuffers::new(alloc, script)?;
         let desk = Desk {
             who: bus.who(),
             boards,
             bus,
             patience: Patience::new(),
         };
-        Ok(Worker { desk, rooms, lines })
+        Ok(Worker { desk, buffers, lines })
     }
 
     /// Goes through the script of the processor on the caller's own thread, line by line, and calls
@@ -84,15 +84,15 @@ impl Worker {
     {
         let Worker {
             mut desk,
-            mut rooms,
+            mut buffers,
             mut lines,
         } = self;
         let slot = config.slot(desk.who);
         for line in 0..line_count(config, desk.who) {
             let number = config.script(desk.who).number(line);
-            let room = rooms.take();
+            let buffer = buffers.take();
             gate.before(slot, number);
-            let Ok(answer) = desk.line(rt, config, ports, line, room) else {
+            let Ok(answer) = desk.line(rt, config, ports, line, buffer) else {
                 ports.stop.store(true, Ordering::SeqCst);
                 return Err(RunFault::Spent);
             };

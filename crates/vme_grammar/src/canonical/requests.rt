@@ -50,7 +50,7 @@ pub(crate) fn block_write(text: &[u8]) -> Option<Line>
 {
     let (am, addr, text) = place(text)?;
     let (n, bytes) = length(text)?;
-    let bytes = Block::of_short(hex_bytes(bytes)?);
+    let bytes = Block::from_short_slice(hex_bytes(bytes)?);
     Some(Line::Bus(Request::BlockWrite { am, addr, n, bytes }))
 }
 

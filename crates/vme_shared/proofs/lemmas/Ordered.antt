@@ -207,12 +207,12 @@ rest_goes m phases e h goes who =
 -- the words are those of a queue
 pub record IsQueue (m : BoardMailbox) (put taken : List ℕ) : Type 0 where
   pub order : Begins taken put
-  pub room : length put ≤ length taken + m.slots
+  pub capacity : length put ≤ length taken + m.slots
 
 kept_queue : (m : BoardMailbox) (bytes put taken : List ℕ) → Kept m bytes put taken → IsQueue m put taken
 kept_queue m bytes put taken kept = record {
   order = (drop (length taken) put, sym (take-append-drop (length taken) put) ∙ ap (λ front. front ++ drop (length taken) put) kept.front);
-  room = kept.few;
+  capacity = kept.few;
 }
 
 -- words in three parts

@@ -6,7 +6,7 @@ use Rattle.std.proofs.lemmas.List.{append-nil, length_push, get_or_push, get_or_
 use Rattle.vme_cycle.specs.Functions.{with_top_bit}
 use Rattle.vme_memory.specs.Boards.{bytes_after_write}
 use Rattle.vme_shared.specs.MailboxSteps.{BoardMailbox, lock_at, put_count_at, take_count_at, word_at}
-use Rattle.vme_shared.specs.Phases.{Phase, Idle, Locked, First, Both, Written, Fetched, Counted, Access, Sets, Reads, Writes, has_room, is_unlock, next_phase}
+use Rattle.vme_shared.specs.Phases.{Phase, Idle, Locked, First, Both, Written, Fetched, Counted, Access, Sets, Reads, Writes, has_space, is_unlock, next_phase}
 use Rattle.vme_shared.specs.Words.{put_by, taken_by}
 use Rattle.vme_shared.proofs.lemmas.Bytes.{number_in, number_new, number_apart}
 use Rattle.vme_shared.proofs.lemmas.Places.{word_within, words_apart}
@@ -63,10 +63,10 @@ module _ (m : BoardMailbox) (some : 1 ≤ m.slots) (bytes after put taken : List
       (rw is_there (written.0 ∙ number_is ∙ zero_written))
 
   -- the next word is written to its place, which is free
-  row_word : (p t at len x : ℕ) → at ≡ word_at m p → len ≡ 4 → has_room m p t ≡ true → Kept m bytes put taken → Stands m bytes put taken (Both p t)
+  row_word : (p t at len x : ℕ) → at ≡ word_at m p → len ≡ 4 → has_space m p t ≡ true → Kept m bytes put taken → Stands m bytes put taken (Both p t)
       → Did bytes (Writes at len x) after → Went m after put taken (Both p t) (Written p x)
-  row_word p t at len x here four room kept (held, p_is, t_is) (new, long, number_is, within, is) =
-      let parts = and_parts _ _ room in
+  row_word p t at len x here four buffer kept (held, p_is, t_is) (new, long, number_is, within, is) =
+      let parts = and_parts _ _ buffer in
       let below : p < 2 ^ 32 - 1 = ltb-true _ _ parts.0 in
       let near : (p + 2 ^ 32 - t) % 2 ^ 32 < m.slots = ltb-true _ _ parts.1 in
       let ahead = kept.ahead in
@@ -197,7 +197,7 @@ module _ (m : BoardMailbox) (some : 1 ≤ m.slots) (bytes after put taken : List
             let there : Idle ≡ next = let step = rw unlocks at goes in cc in
             subst (λ phase. Went m after put taken (Both p t) phase) there (row_unlock (Both p t) at len x unlocks refl refl kept did)
         | inr writes ↦
-            let is = reached_is (at == word_at m p && len == 4 && has_room m p t) (Written p x) next (rw writes at goes) in
+            let is = reached_is (at == word_at m p && len == 4 && has_space m p t) (Written p x) next (rw writes at goes) in
             let all = and_parts _ _ is.0 in
             let place = and_parts _ _ all.0 in
             subst (λ phase. Went m after put taken (Both p t) phase) is.1

@@ -146,7 +146,7 @@ module _ (config : Configuration) (ports : Ports) (rans : List Ran) (can : CanGa
             subst (Each (λ i (p : PassView BoardCmd Reply). (p.port ≡ port_id (slice_index_or ports.boards.items x o).port) × (p.who ≡ i))) (sym its)
             (column_fits x o x< d);
         none = port.made;
-        room = subst (λ n. n ≤ vec_capacity (slice_index_or ports.boards.items x o).made) (sym port.passes) port.made_room;
+        capacity = subst (λ n. n ≤ vec_capacity (slice_index_or ports.boards.items x o).made) (sym port.passes) port.made_capacity;
       }
 
   -- the arbiter's passes are those of its port

@@ -1,8 +1,8 @@
 -- One byte has room.
 use Rattle.std.proofs.Common.{◌≡◌, ap, arith}
-use Rattle.vme_cycle.specs.Requests.{reply_room}
+use Rattle.vme_cycle.specs.Requests.{read_len}
 use Rattle.vme_cycle.proofs.lemmas.Transfers.{comes_from}
 use Rattle.vme_board_tests.proofs.transfers.a_request_of_its_own_goes_the_same_way.Goals as goal
 
 pub start_own-requires : goal.start_own-requires
-start_own-requires g c = λ t lawful. let one : reply_room t.request ≡ 1 = ap reply_room (comes_from _ t lawful).same in omega (arith, one)
+start_own-requires g c = λ t lawful. let one : read_len t.request ≡ 1 = ap read_len (comes_from _ t lawful).same in omega (arith, one)

@@ -5,10 +5,10 @@ use Rattle.vme_cycle.proofs.modify.number_of.Goals as goal
 
 pub overflow_mul-number : goal.overflow_mul-number
 overflow_mul-number c =
-    let room = below_power 256 c.loop-byte.number c.loop-byte.byte-index 7 (omega arith) c.loop-byte.invariant.small (omega (arith, c.loop-byte-test.true, c.requires)) in
-    omega (arith, room)
+    let capacity = below_power 256 c.loop-byte.number c.loop-byte.byte-index 7 (omega arith) c.loop-byte.invariant.small (omega (arith, c.loop-byte-test.true, c.requires)) in
+    omega (arith, capacity)
 
 pub returns-clause-small : goal.returns-clause-small
 returns-clause-small c =
-    let room = below_power 256 c.loop-byte.number c.loop-byte.byte-index 8 (omega arith) c.loop-byte.invariant.small (omega (arith, c.loop-byte-test.false, c.requires)) in
-    omega (arith, room)
+    let capacity = below_power 256 c.loop-byte.number c.loop-byte.byte-index 8 (omega arith) c.loop-byte.invariant.small (omega (arith, c.loop-byte-test.false, c.requires)) in
+    omega (arith, capacity)

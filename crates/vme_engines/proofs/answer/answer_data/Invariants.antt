@@ -8,6 +8,6 @@ abbrev pub invariant-loop-i : goal.invariant-loop-i
 invariant-loop-i l = record {
   answer : after_text l.text.items (data_answer (count_of l.fn.plan.request - l.i) l.bus l.fn.plan l.i l.replied.items)
       ≡ after_text l.fn.text.items (transfer_answer l.fn.bus l.fn.plan);
-  room : length l.replied.items + datum_len l.fn.plan.request * (count_of l.fn.plan.request - l.i) ≤ 2048;
-  size : l.replied.room ≡ l.fn.replied.room;
+  capacity : length l.replied.items + datum_len l.fn.plan.request * (count_of l.fn.plan.request - l.i) ≤ 2048;
+  size : l.replied.capacity ≡ l.fn.replied.capacity;
 }

@@ -31,7 +31,7 @@ loop-line-preserved-then-len-ge-WRITE_SIZE g c =
       );
       status = status_more c.loop-line.bus _ c.loop-line.status _ c.in_ok-answer_line.field-0 _ c.in-Some.line.now c.loop-line.line-iterator.rest.now
           c.next.new.self.rest.now c.loop-line.invariant.status first c.worse-status.ensures c.in_ok-answer_line.ensures.status c.in_ok-answer_line.ensures.board;
-      room = omega (arith, c.answer_line.ensures.room, c.loop-line.invariant.room);
+      capacity = omega (arith, c.answer_line.ensures.capacity, c.loop-line.invariant.capacity);
       mark = cc (c.in_ok-write_text.ensures.unmarked, c.loop-line.invariant.mark);
     }
 

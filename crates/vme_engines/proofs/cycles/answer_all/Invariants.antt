@@ -12,6 +12,6 @@ invariant-loop-line g l = record {
   text : (front : List ℕ) × Appends (g.W.Sink.contents l.fn.writer) (g.W.Sink.contents l.writer) front
       × ((front ++ l.text.items) ++ text_of l.bus (lines l.line-iterator.rest.now) ≡ cycles_text l.fn.input);
   status : worse_of l.status (status_after l.bus (lines l.line-iterator.rest.now)) ≡ cycles_status l.fn.input;
-  room : block_limit ≤ l.replied.room;
+  capacity : block_limit ≤ l.replied.capacity;
   mark : g.W.Sink.is_marked l.writer ≡ g.W.Sink.is_marked l.fn.writer;
 }

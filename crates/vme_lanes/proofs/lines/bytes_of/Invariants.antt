@@ -6,5 +6,5 @@ use Rattle.vme_lanes.proofs.lines.bytes_of.Given as goal
 abbrev pub invariant-loop-lane : goal.invariant-loop-lane
 invariant-loop-lane l = record {
   bytes : l.datum.items ++ bytes_of (drop l.lane-index l.lanes) ≡ bytes_of l.lanes;
-  room : length l.datum.items ≤ l.lane-index;
+  capacity : length l.datum.items ≤ l.lane-index;
 }

@@ -1,18 +1,18 @@
 -- The number has room for a digit more, which is read.
 use Rattle.std.proofs.Common.{None, refl, arith}
 use Rattle.std.proofs.lemmas.List.{drop_more}
-use Rattle.vme_lexer.proofs.Digits.{room_for, read_more}
+use Rattle.vme_lexer.proofs.Digits.{buffer_for, read_more}
 use Rattle.vme_lexer.proofs.numbers.hex_number.Goals as goal
 
 pub overflow_mul-number : goal.overflow_mul-number
 overflow_mul-number c =
-    let room = room_for c.loop-digit.number c.loop-digit.digit-index 4294967296 None (omega arith) refl c.loop-digit.invariant.room in
-    omega (arith, room)
+    let capacity = buffer_for c.loop-digit.number c.loop-digit.digit-index 4294967296 None (omega arith) refl c.loop-digit.invariant.capacity in
+    omega (arith, capacity)
 
 pub overflow_add-number : goal.overflow_add-number
 overflow_add-number c =
-    let room = room_for c.loop-digit.number c.loop-digit.digit-index c.hex_digit.result _ (omega arith) c.hex_digit.ensures.digit c.loop-digit.invariant.room in
-    omega (arith, room)
+    let capacity = buffer_for c.loop-digit.number c.loop-digit.digit-index c.hex_digit.result _ (omega arith) c.hex_digit.ensures.digit c.loop-digit.invariant.capacity in
+    omega (arith, capacity)
 
 pub loop-digit-preserved : goal.loop-digit-preserved
 loop-digit-preserved c =

@@ -6,8 +6,8 @@ use Rattle.vme_line_task.specs.Scripts.{slot_at, level_at}
 use Rattle.vme_line_task.proofs.Waits.{reads_so_many, task_is_short, waits_so}
 use Rattle.vme_line_task.proofs.start.waits.Goals as goal
 
-pub short_transfer-requires-clause-room : goal.short_transfer-requires-clause-room
-short_transfer-requires-clause-room c = λ t is.
+pub short_transfer-requires-clause-capacity : goal.short_transfer-requires-clause-capacity
+short_transfer-requires-clause-capacity c = λ t is.
     omega (arith, reads_so_many c.args.am c.args.addr (length c.as_slice.result.now) t is, c.as_slice.ensures.fits)
 
 pub of-requires : goal.of-requires

@@ -12,9 +12,9 @@ pub returns-clause-order : goal.returns-clause-order
 returns-clause-order c = λ config box board m memory h runs answers is new legal share.
     (is_queue memory m h new legal (proper config box board m memory h runs answers is new legal share)).order
 
-pub returns-clause-room : goal.returns-clause-room
-returns-clause-room c = λ config box board m memory h runs answers is new legal share.
-    (is_queue memory m h new legal (proper config box board m memory h runs answers is new legal share)).room
+pub returns-clause-capacity : goal.returns-clause-capacity
+returns-clause-capacity c = λ config box board m memory h runs answers is new legal share.
+    (is_queue memory m h new legal (proper config box board m memory h runs answers is new legal share)).capacity
 
 pub returns-clause-put : goal.returns-clause-put
 returns-clause-put c = λ config box board m memory h runs answers is new legal share who d below.

@@ -10,8 +10,8 @@ returns-clause-proper c = λ config report is box m h lawful at. (declared_queue
 pub returns-clause-order : goal.returns-clause-order
 returns-clause-order c = λ config report is box m h lawful at. (declared_queue config report is box m h lawful at).order
 
-pub returns-clause-room : goal.returns-clause-room
-returns-clause-room c = λ config report is box m h lawful at. (declared_queue config report is box m h lawful at).room
+pub returns-clause-capacity : goal.returns-clause-capacity
+returns-clause-capacity c = λ config report is box m h lawful at. (declared_queue config report is box m h lawful at).capacity
 
 pub returns-clause-put : goal.returns-clause-put
 returns-clause-put c = λ config report is box m h lawful at. (declared_queue config report is box m h lawful at).put

@@ -13,8 +13,8 @@ returns-clause-proper c = λ input text status told box m h at. (told_queue inpu
 pub returns-clause-order : goal.returns-clause-order
 returns-clause-order c = λ input text status told box m h at. (told_queue input text status told box m h at).order
 
-pub returns-clause-room : goal.returns-clause-room
-returns-clause-room c = λ input text status told box m h at. (told_queue input text status told box m h at).room
+pub returns-clause-capacity : goal.returns-clause-capacity
+returns-clause-capacity c = λ input text status told box m h at. (told_queue input text status told box m h at).capacity
 
 pub returns-clause-put : goal.returns-clause-put
 returns-clause-put c = λ input text status told box m h at. (told_queue input text status told box m h at).put

@@ -7,5 +7,5 @@ abbrev pub invariant-loop-board : goal.invariant-loop-board
 invariant-loop-board l = record {
   memories : l.memories.items ≡ map opening_memory (take l.board l.config.boards);
   count : vec_len l.memories ≡ l.board;
-  room : l.count ≤ vec_capacity l.memories;
+  capacity : l.count ≤ vec_capacity l.memories;
 }

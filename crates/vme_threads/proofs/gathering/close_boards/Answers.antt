@@ -33,5 +33,5 @@ loop-board-preserved c =
           subst (λ (es : List BoardEnd). Closing all left old (set now c.len.result c.replace-passes.new.dest) es) (sym c.push_reserved.ensures.items)
           (closing_more all _ old now c.loop-board.ends.items c.in-Some.board left c.close_board.result d c.replace-passes.new.dest c.len.result
           closing c.in-Some.ensures.steps.0 within at c.index_mut.ensures.value closed);
-      room = search rules;
+      capacity = search rules;
     }

@@ -7,5 +7,5 @@ use Rattle.vme_threads.proofs.gathering.close_boards.Given as goal
 abbrev pub invariant-loop-board : goal.invariant-loop-board
 invariant-loop-board l = record {
   closing : Closing l.fn.boards.items (into_iter_items l.board-iterator) l.fn.columns.items l.columns.items l.ends.items;
-  room : vec_len l.fn.boards ≤ vec_capacity l.ends;
+  capacity : vec_len l.fn.boards ≤ vec_capacity l.ends;
 }

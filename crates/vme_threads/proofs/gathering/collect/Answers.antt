@@ -1,25 +1,25 @@
 use Rattle.std.proofs.Common.{◌≡◌, length, map, slice_index_or, ◌++◌, ap, ◌∙◌, rules, arith}
 use Rattle.std.specs.Vec.Iter.{into_iter_items}
 use Rattle.vme_threads.specs.declared.worker.Ran.{Ran}
-use Rattle.vme_threads.proofs.Collects.{gathering_begins, square_here, column_has_room, gathering_more, all_taken}
+use Rattle.vme_threads.proofs.Collects.{gathering_begins, square_here, column_has_space, gathering_more, all_taken}
 use Rattle.vme_threads.proofs.gathering.collect.Goals as goal
 
 pub loop-ran-init : goal.loop-ran-init
 loop-ran-init c = record {
   gathering =
       gathering_begins _ _ _ _ _ (search rules) (omega (arith, c.requires.most, c.args.rans.ok.0)) (omega (arith, c.requires.columns, c.args.columns.now.ok.0))
-      c.requires.columns_room (omega (arith, c.requires.bus, c.args.bus.now.ok.0)) (omega (arith, c.requires.lines, c.args.lines.now.ok.0));
-  bus_room = c.requires.bus_room;
-  lines_room = c.requires.lines_room;
+      c.requires.columns_capacity (omega (arith, c.requires.bus, c.args.bus.now.ok.0)) (omega (arith, c.requires.lines, c.args.lines.now.ok.0));
+  bus_capacity = c.requires.bus_capacity;
+  lines_capacity = c.requires.lines_capacity;
 }
 
-pub deal-requires-clause-room : goal.deal-requires-clause-room
-deal-requires-clause-room c x column x< =
+pub deal-requires-clause-capacity : goal.deal-requires-clause-capacity
+deal-requires-clause-capacity c x column x< =
     let g = c.loop-ran.invariant.gathering in
     let r = c.in-Some.ran in
     let step = c.in-Some.ensures.steps.0 in
     let wide = square_here _ g.taken r _ (g.split ∙ ap (λ rs. g.taken ++ rs) step) c.requires.square in
-    column_has_room _ _ _ _ _ r _ g step (omega (arith, c.requires.most, c.args.rans.ok.0)) x column (omega (arith, x<, wide, r.desk.boards.ok.0))
+    column_has_space _ _ _ _ _ r _ g step (omega (arith, c.requires.most, c.args.rans.ok.0)) x column (omega (arith, x<, wide, r.desk.boards.ok.0))
 
 -- one ran more is sorted
 pub loop-ran-preserved : goal.loop-ran-preserved
@@ -31,8 +31,8 @@ loop-ran-preserved c =
           (omega (arith, c.deal.ensures.count, c.loop-ran.columns.ok.0, c.deal.new.columns.ok.0))
           (λ x d before after x<. c.deal.ensures.dealt x d before after (omega (arith, x<, r.desk.boards.ok.0)))
           c.push_reserved.ensures.items c.push_reserved-in-loop-ran.ensures.items;
-      bus_room = search rules;
-      lines_room = search rules;
+      bus_capacity = search rules;
+      lines_capacity = search rules;
     }
 
 pub returns-clause-dealt : goal.returns-clause-dealt

@@ -7,6 +7,6 @@ use Rattle.vme_threads.proofs.gathering.collect.Given as goal
 abbrev pub invariant-loop-ran : goal.invariant-loop-ran
 invariant-loop-ran l = record {
   gathering : Gathering l.fn.rans.items (into_iter_items l.ran-iterator) l.columns.items l.bus.items l.lines.items;
-  bus_room : 21 ≤ vec_capacity l.bus;
-  lines_room : vec_len l.fn.rans ≤ vec_capacity l.lines;
+  bus_capacity : 21 ≤ vec_capacity l.bus;
+  lines_capacity : vec_len l.fn.rans ≤ vec_capacity l.lines;
 }

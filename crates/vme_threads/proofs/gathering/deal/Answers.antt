@@ -17,8 +17,8 @@ push_reserved-requires c =
     let left : k < length c.loop-pass.passes.items = omega (arith, c.in-Some.ensures.len, c.len.ensures, c.loop-pass.passes.ok.0) in
     let within = deals_left HasOneMore _ _ _ _ c.loop-pass.invariant in
     let same = c.index_mut.ensures.value ∙ c.loop-pass.invariant.sooner k d d left in
-    let room = c.requires.room k d (omega (arith, left, within, c.args.passes.ok.0)) in
-    subst (λ (w : Column). vec_len w < vec_capacity w) (sym same) room
+    let capacity = c.requires.capacity k d (omega (arith, left, within, c.args.passes.ok.0)) in
+    subst (λ (w : Column). vec_len w < vec_capacity w) (sym same) capacity
 
 pub loop-pass-preserved : goal.loop-pass-preserved
 loop-pass-preserved c =
@@ -30,7 +30,7 @@ loop-pass-preserved c =
     let d = c.index_mut.result.now in
     let v = c.push_reserved.new.self in
     let at : c.len.result ≡ length left = c.len.ensures ∙ c.pop.new.self.ok.0 in
-    let gets : HasOneMore pass d v = record { items = c.push_reserved.ensures.items; room = c.push_reserved.ensures.capacity } in
+    let gets : HasOneMore pass d v = record { items = c.push_reserved.ensures.items; capacity = c.push_reserved.ensures.capacity } in
     let is : d ≡ slice_index_or now (length left) d = subst (λ n. d ≡ slice_index_or now n d) at c.index_mut.ensures.value in
     let deals = subst (λ (ps : List (PassView BoardCmd Reply)). Dealing HasOneMore all ps before now) c.in-Some.ensures.items c.loop-pass.invariant in
     subst (λ n. Dealing HasOneMore all left before (set now n v)) (sym at)

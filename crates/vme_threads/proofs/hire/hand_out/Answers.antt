@@ -18,9 +18,9 @@ push_reserved-requires c =
     let left : k < length c.loop-pass.passes.items = omega (arith, c.in-Some.ensures.len, c.len.ensures, c.loop-pass.passes.ok.0) in
     let within = deals_left Gets _ _ _ _ c.loop-pass.invariant in
     let same = c.index_mut.ensures.value ∙ c.loop-pass.invariant.sooner k d d left in
-    let room = c.requires.room k d (omega (arith, left, within, c.requires.count, c.args.passes.ok.0, c.args.workers.now.ok.0)) in
-    let room_here : length d.desk.boards.items < vec_capacity d.desk.boards = subst (λ (w : Worker). length w.desk.boards.items < vec_capacity w.desk.boards) (sym same) room in
-    omega (arith, room_here, d.desk.boards.ok.0)
+    let capacity = c.requires.capacity k d (omega (arith, left, within, c.requires.count, c.args.passes.ok.0, c.args.workers.now.ok.0)) in
+    let buffer_here : length d.desk.boards.items < vec_capacity d.desk.boards = subst (λ (w : Worker). length w.desk.boards.items < vec_capacity w.desk.boards) (sym same) capacity in
+    omega (arith, buffer_here, d.desk.boards.ok.0)
 
 pub loop-pass-preserved : goal.loop-pass-preserved
 loop-pass-preserved c =
@@ -30,14 +30,14 @@ loop-pass-preserved c =
     let now = c.loop-pass.workers.items in
     let pass = c.in-Some.pass in
     let d = c.index_mut.result.now in
-    let v : Worker = record { desk = record { who = d.desk.who; boards = c.push_reserved.new.self; bus = d.desk.bus; patience = d.desk.patience }; rooms = d.rooms; lines = d.lines } in
+    let v : Worker = record { desk = record { who = d.desk.who; boards = c.push_reserved.new.self; bus = d.desk.bus; patience = d.desk.patience }; buffers = d.buffers; lines = d.lines } in
     let at : c.len.result ≡ length left = c.len.ensures ∙ c.pop.new.self.ok.0 in
     let gets : Gets pass d v = record {
       who = refl;
       boards = c.push_reserved.ensures.items;
       bus = refl;
-      room = c.push_reserved.ensures.capacity;
-      rooms = refl;
+      capacity = c.push_reserved.ensures.capacity;
+      buffers = refl;
       lines = refl;
     } in
     let is : d ≡ slice_index_or now (length left) d = subst (λ n. d ≡ slice_index_or now n d) at c.index_mut.ensures.value in

@@ -8,7 +8,7 @@ use Rattle.vme_arbiter.specs.declared.command.ArbReply.{ArbReply}
 use Rattle.vme_port.specs.Passes.{PassView, IsUnused}
 use Rattle.vme_port.specs.Ports.{port_id}
 use Rattle.vme_line_task.specs.Scripts.{script_at}
-use Rattle.vme_line_task.specs.Rooms.{rooms_of}
+use Rattle.vme_line_task.specs.ReadBuffers.{buffers_of}
 use Rattle.vme_threads.specs.Ports.{IsHired}
 use Rattle.vme_threads.proofs.Places.{first_of_each, rest_of_each}
 use Rattle.vme_threads.proofs.Hired.{hired_first}
@@ -26,13 +26,13 @@ loop-pass-preserved c =
     let unused = first_of_each P n _ c.in-Some.pass _ step was.rest in
     let is : n ≡ length workers = c.loop-pass.workers.ok.0 in
     let script = get_or_from_slice_get config.scripts n c.script-script.result.now [] (subst (λ i. slice_get config.scripts i ≡ Some c.script-script.result.now) c.len.ensures c.script-script.ensures) in
-    let lines : length (script_at config n) ≤ vec_capacity c.in_ok-new.field-0.lines = omega (arith, ap length script, c.in_ok-new.ensures.lines_room) in
+    let lines : length (script_at config n) ≤ vec_capacity c.in_ok-new.field-0.lines = omega (arith, ap length script, c.in_ok-new.ensures.lines_capacity) in
     let first = hired_first config c.args.bus.now n c.in_ok-new.field-0 c.in-Some.pass unused c.in_ok-new.ensures.who c.in_ok-new.ensures.bus c.in_ok-new.ensures.boards
-    (omega (arith, c.in_ok-new.ensures.room)) (c.in_ok-new.ensures.rooms ∙ ap rooms_of (sym script)) c.in_ok-new.ensures.lines lines
+    (omega (arith, c.in_ok-new.ensures.capacity)) (c.in_ok-new.ensures.buffers ∙ ap buffers_of (sym script)) c.in_ok-new.ensures.lines lines
     in
     record {
       count = search rules;
-      room = search rules;
+      capacity = search rules;
       rest = rest_of_each P n _ _ c.in-Some.pass _ step c.push_reserved.ensures.len was.rest;
       hired = subst (Each (IsHired config [] c.args.bus.now)) (sym c.push_reserved.ensures.items)
           (Each-push (IsHired config [] c.args.bus.now) workers c.in_ok-new.field-0 was.hired (subst (λ i. IsHired config [] c.args.bus.now i c.in_ok-new.field-0) is first));

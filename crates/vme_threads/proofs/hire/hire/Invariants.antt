@@ -10,7 +10,7 @@ use Rattle.vme_threads.proofs.hire.hire.Given as goal
 abbrev pub invariant-loop-pass : goal.invariant-loop-pass
 invariant-loop-pass l = record {
   count : vec_len l.workers + into_iter_len l.pass-iterator ≡ l.count;
-  room : l.count ≤ vec_capacity l.workers;
+  capacity : l.count ≤ vec_capacity l.workers;
   rest : Each (λ i p. IsUnused (port_id l.bus) (vec_len l.workers + i) p) (into_iter_items l.pass-iterator);
   hired : Each (IsHired l.config [] l.bus) l.workers.items;
 }

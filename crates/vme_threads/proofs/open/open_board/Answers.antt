@@ -13,5 +13,5 @@ returns-clause-port c d =
       memory = c.in_ok-port.ensures.opening ∙ sym (told_at opening_memory boards c.args.i c.in-Ok.memory d c.in-Ok.ensures);
       passes = c.in_ok-port.ensures.passes ∙ c.boards-count.ensures.value;
       made = c.in_ok-made.ensures.len;
-      made_room = omega (arith, c.in_ok-made.ensures.capacity, c.boards-count.ensures.value);
+      made_capacity = omega (arith, c.in_ok-made.ensures.capacity, c.boards-count.ensures.value);
     }

@@ -24,7 +24,7 @@ loop-board-preserved c =
     in
     record {
       count = search rules;
-      room = search rules;
+      capacity = search rules;
       ports = subst (Each P) (sym c.push_reserved.ensures.items) (Each-push P opened port was.ports here);
       hired =
           subst (λ (os : List BoardPort). AreHired config os c.args.bus.now vs) (sym c.push_reserved.ensures.items)

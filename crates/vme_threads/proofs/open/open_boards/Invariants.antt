@@ -8,7 +8,7 @@ use Rattle.vme_threads.proofs.open.open_boards.Given as goal
 abbrev pub invariant-loop-board : goal.invariant-loop-board
 invariant-loop-board l = record {
   count : vec_len l.boards ≡ l.board;
-  room : l.count ≤ vec_capacity l.boards;
+  capacity : l.count ≤ vec_capacity l.boards;
   ports : Each (λ x o. (d : BoardConfig) → IsPortOf l.count (slice_index_or l.config.boards x d) o) l.boards.items;
   hired : AreHired l.config l.boards.items l.bus l.workers.items;
 }

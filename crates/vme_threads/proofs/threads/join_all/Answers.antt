@@ -30,7 +30,7 @@ loop-child-preserved g c =
     let by_config = subst (λ (cf : Configuration). HasRun cf ports n ran) first.config by_ports in
     record {
       count = search rules;
-      room = search rules;
+      capacity = search rules;
       rest = rest_of_each Q n _ _ c.in-Some.child _ step c.push_reserved.ensures.len was.rest;
       runs =
           subst (HaveRun config ports) (sym c.push_reserved.ensures.items)

@@ -9,7 +9,7 @@ use Rattle.vme_threads.proofs.threads.join_all.Given as goal
 abbrev pub invariant-loop-child : goal.invariant-loop-child
 invariant-loop-child g l = record {
   count : vec_len l.rans + into_iter_len l.child-iterator ≡ vec_len l.fn.children;
-  room : vec_len l.fn.children ≤ vec_capacity l.rans;
+  capacity : vec_len l.fn.children ≤ vec_capacity l.rans;
   rest : Each (λ i c. IsRunOf l.config l.ports (vec_len l.rans + i) c.promise) (into_iter_items l.child-iterator);
   runs : HaveRun l.config l.ports l.rans.items;
 }

@@ -16,7 +16,7 @@ loop-worker-init g c =
     let P = λ (i : ℕ) (w : Worker). IsWorkerOf c.args.config.now c.args.ports.now i w in
     record {
       count = search rules;
-      room = c.requires.room;
+      capacity = c.requires.capacity;
       rest = begin_each P _ c.args.workers.items _ c.requires.none (search rules) c.requires.workers.each;
       promised = λ k d k<. absurd (omega (arith, k<, c.requires.none, c.args.children.now.ok.0));
     }
@@ -41,7 +41,7 @@ loop-worker-preserved g c =
     } in
     record {
       count = search rules;
-      room = search rules;
+      capacity = search rules;
       rest = rest_of_each P n _ _ c.in-Some.worker _ step c.push_reserved.ensures.len was.rest;
       promised = subst (Each Q) (sym c.push_reserved.ensures.items) (Each-push Q children c.in-Ok.child was.promised here);
     }

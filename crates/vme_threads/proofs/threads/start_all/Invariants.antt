@@ -9,7 +9,7 @@ use Rattle.vme_threads.proofs.threads.start_all.Given as goal
 abbrev pub invariant-loop-worker : goal.invariant-loop-worker
 invariant-loop-worker g l = record {
   count : vec_len l.children + into_iter_len l.worker-iterator ≡ vec_len l.fn.workers;
-  room : vec_len l.fn.workers ≤ vec_capacity l.children;
+  capacity : vec_len l.fn.workers ≤ vec_capacity l.children;
   rest : Each (λ i w. IsWorkerOf l.config l.ports (vec_len l.children + i) w) (into_iter_items l.worker-iterator);
   promised : Each (λ k c. IsRunOf l.config l.ports k c.promise) l.children.items;
 }

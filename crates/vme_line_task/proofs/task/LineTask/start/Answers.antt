@@ -11,11 +11,11 @@ pub of-requires-clause-mailbox : goal.of-requires-clause-mailbox
 of-requires-clause-mailbox c =
     its_mailbox c.args.config.now c.boards-boards.ensures.lawful c.args.board c.args.line c.script.result.now c.line.result.now c.script.ensures c.line.ensures
 
-pub of-requires-clause-room : goal.of-requires-clause-room
-of-requires-clause-room c =
+pub of-requires-clause-capacity : goal.of-requires-clause-capacity
+of-requires-clause-capacity c =
     let script : script_at c.args.config.now c.args.board ≡ c.script.result.now
     = get_or_from_slice_get c.args.config.now.scripts c.args.board c.script.result.now [] c.script.ensures in
-    c.requires.room c.line.result.now
+    c.requires.capacity c.line.result.now
     (ap (λ (lines : List ScriptLine). slice_get (map (λ line. line.line) lines) c.args.line) script ∙ c.line.ensures)
 
 pub returns-clause-line : goal.returns-clause-line

@@ -2,7 +2,7 @@ use Rattle.std.proofs.Common.{◌≡◌, ◌+◌, ◌*◌, Some, ap, ◌∙◌, 
 use Rattle.vme_cycle.specs.Requests.{datum_len, function_of}
 use Rattle.vme_cycle.specs.Lawful.{Transfer}
 use Rattle.vme_cycle.specs.Plans.{signals_of}
-use Rattle.vme_master.proofs.lemmas.Rooms.{datum_is}
+use Rattle.vme_master.proofs.lemmas.ReadLengths.{datum_is}
 use Rattle.vme_master.proofs.job.BusJob.datum.Goals as goal
 
 -- the cycle is the request's own command

@@ -2,8 +2,8 @@ use Rattle.std.proofs.Common.{◌≡◌, true, ap, sym, ◌∙◌}
 use Rattle.vme_memory.specs.Data.{has_form}
 use Rattle.vme_master.specs.declared.aim.Aim.{Aim}
 use Rattle.vme_master.specs.declared.phase.Phase.TheVariants.{Moves}
-use Rattle.vme_master.specs.Machine.{TaskView, job_aim, aim_len, HasRoom, IsEnough}
-use Rattle.vme_master.proofs.lemmas.Rooms.{room_before, sound_after}
+use Rattle.vme_master.specs.Machine.{TaskView, job_aim, aim_len, HasRead, IsEnough}
+use Rattle.vme_master.proofs.lemmas.ReadLengths.{buffer_before, sound_after}
 use Rattle.vme_master.proofs.task.Task.answer.Goals as goal
 use Rattle.vme_master.proofs.task.Task.answer.Goals.{After-accepts}
 
@@ -20,19 +20,19 @@ moves c = ap (λ (t : TaskView). t.phase) c.self.view_is ∙ c.requires ∙ c.in
 pub append-requires : goal.append-requires
 append-requires c =
     let at = (goal.at.append-requires c).After-accepts in
-    let had : HasRoom c.self.inside.job (Moves c.in-Moves.i) c.self.inside.read.items = rw (moves at) at c.self.invariant.sound.read in
-    let enough : IsEnough c.self.inside.job (Moves c.in-Moves.i) c.self.inside.read.room = rw (moves at) at c.self.invariant.sound.enough in
-    room_before c.self.inside.job c.in-Moves.i c.self.inside.read.room c.self.inside.read.items c.args.reply.now had (form at c.if-accepts.true)
+    let had : HasRead c.self.inside.job (Moves c.in-Moves.i) c.self.inside.read.items = rw (moves at) at c.self.invariant.sound.read in
+    let enough : IsEnough c.self.inside.job (Moves c.in-Moves.i) c.self.inside.read.capacity = rw (moves at) at c.self.invariant.sound.enough in
+    buffer_before c.self.inside.job c.in-Moves.i c.self.inside.read.capacity c.self.inside.read.items c.args.reply.now had (form at c.if-accepts.true)
     c.accepts.ensures.small enough
 
 -- and the task is sound after it
 pub invariant_of-self : goal.invariant_of-self
 invariant_of-self c =
     let at = (goal.at.invariant_of-self c).After-accepts in
-    let had : HasRoom c.self.inside.job (Moves c.in-Moves.i) c.self.inside.read.items = rw (moves at) at c.self.invariant.sound.read in
-    let enough : IsEnough c.self.inside.job (Moves c.in-Moves.i) c.self.inside.read.room = rw (moves at) at c.self.invariant.sound.enough in
+    let had : HasRead c.self.inside.job (Moves c.in-Moves.i) c.self.inside.read.items = rw (moves at) at c.self.invariant.sound.read in
+    let enough : IsEnough c.self.inside.job (Moves c.in-Moves.i) c.self.inside.read.capacity = rw (moves at) at c.self.invariant.sound.enough in
     rw (c.phase_replied-self-inside.ensures, c.append.ensures) (record {
-      sound = sound_after c.self.inside.job c.in-Moves.i c.self.inside.read.room c.self.inside.read.items c.args.reply.now
+      sound = sound_after c.self.inside.job c.in-Moves.i c.self.inside.read.capacity c.self.inside.read.items c.args.reply.now
           c.self.invariant.sound.placed had (form at c.if-accepts.true) c.accepts.ensures.small enough;
       of_aim = c.self.invariant.of_aim;
       of_count = c.self.invariant.of_count;

@@ -1,8 +1,8 @@
 -- A transfer of a lock or a mailbox reads few bytes.
 use Rattle.std.proofs.Common.{ap, arith}
-use Rattle.vme_cycle.specs.Requests.{reply_room}
+use Rattle.vme_cycle.specs.Requests.{read_len}
 use Rattle.vme_cycle.proofs.lemmas.Transfers.{comes_from}
 use Rattle.vme_shared.proofs.asked.Asked.task.Goals as goal
 
 pub start_own-requires : goal.start_own-requires
-start_own-requires c = λ t lawful. omega (arith, ap reply_room (comes_from c.transfer.result t lawful).same, c.transfer.ensures.room)
+start_own-requires c = λ t lawful. omega (arith, ap read_len (comes_from c.transfer.result t lawful).same, c.transfer.ensures.capacity)

@@ -13,8 +13,8 @@ loop-slot-init c = record {
   sound = c.requires.driver;
 }
 
-pub turn-requires-clause-room : goal.turn-requires-clause-room
-turn-requires-clause-room c =
+pub turn-requires-clause-capacity : goal.turn-requires-clause-capacity
+turn-requires-clause-capacity c =
     few_steps c.args.config.now c.loop-slot.self (take c.loop-slot.slot-index c.args.slots.now) c.loop-slot.invariant.run
     (omega (arith, length-take c.loop-slot.slot-index c.args.slots.now, c.loop-slot-test.true))
 

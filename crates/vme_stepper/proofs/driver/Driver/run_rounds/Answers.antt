@@ -31,8 +31,8 @@ loop-board-init c = record {
 pub turn-requires-clause-driver : goal.turn-requires-clause-driver
 turn-requires-clause-driver c = c.loop-board.invariant.sound
 
-pub turn-requires-clause-room : goal.turn-requires-clause-room
-turn-requires-clause-room c =
+pub turn-requires-clause-capacity : goal.turn-requires-clause-capacity
+turn-requires-clause-capacity c =
     let slots : List ℕ = slots_of c.args.config.now.boards in
     few_steps c.args.config.now c.loop-board.self
     (schedule_turns c.args.config.now.schedule ++ (round_turns c.loop-round._round slots ++ take c.loop-board.board slots)) c.loop-board.invariant.run

@@ -26,8 +26,8 @@ loop-turn-init c = record {
 pub turn-requires-clause-driver : goal.turn-requires-clause-driver
 turn-requires-clause-driver c = c.loop-turn.invariant.sound
 
-pub turn-requires-clause-room : goal.turn-requires-clause-room
-turn-requires-clause-room c =
+pub turn-requires-clause-capacity : goal.turn-requires-clause-capacity
+turn-requires-clause-capacity c =
     let pairs = c.loop-turns.invariant.pairs in
     let items : List (ℕ × ℕ) = c.schedule-turns-items.result.now in
     let within : c.loop-turns.turns-index < length items = c.loop-turns-test.true in

@@ -11,21 +11,21 @@ use Rattle.vme_stepper.proofs.lane.Lane.seek.Goals as goal
 pub start-task-requires-clause-none : goal.start-task-requires-clause-none
 start-task-requires-clause-none c =
     let s = c.loop-self.self-inside in
-    (draws c.args.config.now c.args.board s.lines.items s.ended s.rooms c.take-room.new.self c.take-room.result
-    (omega (arith, c.loop-self-test.true, c.len.ensures, s.lines.ok.0)) c.loop-self.invariant.lines c.loop-self.invariant.rooms c.take-room.ensures).none
+    (draws c.args.config.now c.args.board s.lines.items s.ended s.buffers c.take-buffer.new.self c.take-buffer.result
+    (omega (arith, c.loop-self-test.true, c.len.ensures, s.lines.ok.0)) c.loop-self.invariant.lines c.loop-self.invariant.buffers c.take-buffer.ensures).none
 
-pub start-task-requires-clause-room : goal.start-task-requires-clause-room
-start-task-requires-clause-room c =
+pub start-task-requires-clause-capacity : goal.start-task-requires-clause-capacity
+start-task-requires-clause-capacity c =
     let s = c.loop-self.self-inside in
-    (draws c.args.config.now c.args.board s.lines.items s.ended s.rooms c.take-room.new.self c.take-room.result
-    (omega (arith, c.loop-self-test.true, c.len.ensures, s.lines.ok.0)) c.loop-self.invariant.lines c.loop-self.invariant.rooms c.take-room.ensures).enough
+    (draws c.args.config.now c.args.board s.lines.items s.ended s.buffers c.take-buffer.new.self c.take-buffer.result
+    (omega (arith, c.loop-self-test.true, c.len.ensures, s.lines.ok.0)) c.loop-self.invariant.lines c.loop-self.invariant.buffers c.take-buffer.ensures).enough
 
 pub invariant_of-self-then-not-is_over : goal.invariant_of-self-then-not-is_over
 invariant_of-self-then-not-is_over c =
     let s = c.loop-self.self-inside in
     let within : s.ended < length s.lines.items = omega (arith, c.loop-self-test.true, c.len.ensures, s.lines.ok.0) in
-    let after = (draws c.args.config.now c.args.board s.lines.items s.ended s.rooms c.take-room.new.self c.take-room.result
-    within c.loop-self.invariant.lines c.loop-self.invariant.rooms c.take-room.ensures).after in
+    let after = (draws c.args.config.now c.args.board s.lines.items s.ended s.buffers c.take-buffer.new.self c.take-buffer.result
+    within c.loop-self.invariant.lines c.loop-self.invariant.buffers c.take-buffer.ensures).after in
     let on : c.is_over.result ≡ false = search rules in
     record {
       work = (within, at_work (line_to_do c.give.new.self) c.give.ensures.begun (sym c.is_over.ensures ∙ on));
@@ -57,9 +57,9 @@ loop-self-preserved c =
       script = c.loop-self.invariant.script;
       idle = c.loop-self.invariant.idle;
       lines = ap length (lines ∙ put) ∙ length-set _ _ _ ∙ c.loop-self.invariant.lines;
-      rooms =
-          (draws c.args.config.now c.args.board s.lines.items s.ended s.rooms c.take-room.new.self c.take-room.result
-          (omega (arith, c.loop-self-test.true, c.len.ensures, s.lines.ok.0)) c.loop-self.invariant.lines c.loop-self.invariant.rooms c.take-room.ensures).after;
+      buffers =
+          (draws c.args.config.now c.args.board s.lines.items s.ended s.buffers c.take-buffer.new.self c.take-buffer.result
+          (omega (arith, c.loop-self-test.true, c.len.ensures, s.lines.ok.0)) c.loop-self.invariant.lines c.loop-self.invariant.buffers c.take-buffer.ensures).after;
       turn = λ machine.
           rw (lines, put)
           (turn_passes c.args.config.now c.args.board machine s.script.now s.lines.items s.ended c.start-task.result

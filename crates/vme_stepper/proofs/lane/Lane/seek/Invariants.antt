@@ -1,7 +1,7 @@
 use Rattle.std.proofs.Common.{◌≡◌, ◌-◌, length, drop, None}
 use Rattle.vme_core.specs.Runs.{Machine}
 use Rattle.vme_line_task.specs.Scripts.{script_at, lines_at}
-use Rattle.vme_line_task.specs.Rooms.{rooms_of}
+use Rattle.vme_line_task.specs.ReadBuffers.{buffers_of}
 use Rattle.vme_stepper.specs.Drivers.{lane_turn}
 use Rattle.vme_stepper.proofs.lane.Lane.seek.Given as goal
 
@@ -11,7 +11,7 @@ invariant-loop-self l = record {
   script : l.self-inside.script.now ≡ script_at l.config l.board;
   idle : l.self-inside.task ≡ None;
   lines : length l.self-inside.lines.items ≡ length (lines_at l.config l.board);
-  rooms : l.self-inside.rooms ≡ drop l.self-inside.ended (rooms_of (script_at l.config l.board));
+  buffers : l.self-inside.buffers ≡ drop l.self-inside.ended (buffers_of (script_at l.config l.board));
   turn : (machine : Machine)
       → lane_turn l.config l.board machine
       (record { script = l.self-inside.script.now; lines = l.self-inside.lines.items; ended = l.self-inside.ended; at = None })

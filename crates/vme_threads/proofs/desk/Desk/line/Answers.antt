@@ -2,9 +2,9 @@ use Rattle.vme_grammar.specs.declared.line.Line.TheVariants as lines
 use Rattle.vme_threads.proofs.Once.{line_found, answered_there}
 use Rattle.vme_threads.proofs.desk.Desk.line.Goals as goal
 
-pub transfer-requires-clause-room : goal.transfer-requires-clause-room
-transfer-requires-clause-room g c =
-    c.requires.room (lines.Bus c.in-Bus.request)
+pub transfer-requires-clause-capacity : goal.transfer-requires-clause-capacity
+transfer-requires-clause-capacity g c =
+    c.requires.capacity (lines.Bus c.in-Bus.request)
     (line_found c.args.config.now c.args.self.now.who c.args.line c.script.result.now (lines.Bus c.in-Bus.request) c.script.ensures
     (rw c.in-Bus.is at c.line.ensures))
 

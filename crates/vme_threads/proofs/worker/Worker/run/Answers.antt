@@ -3,7 +3,7 @@ use Rattle.std.specs.List.{slice_get}
 use Rattle.vme_script.specs.declared.script.ScriptLine.{ScriptLine}
 use Rattle.vme_line_task.specs.Scripts.{script_at}
 use Rattle.vme_threads.proofs.Desks.{fits_first, fits_after}
-use Rattle.vme_threads.proofs.Runs.{IsUnderWay, nil_of, script_is, same_count, way_start, way_more, some_room, room_taken, room_serves, way_end}
+use Rattle.vme_threads.proofs.Runs.{IsUnderWay, nil_of, script_is, same_count, way_start, way_more, some_buffer, buffer_taken, buffer_serves, way_end}
 use Rattle.vme_threads.proofs.worker.Worker.run.Goals as goal
 
 pub loop-line-init : goal.loop-line-init
@@ -12,8 +12,8 @@ loop-line-init g c =
     let w = c.args.self in
     record {
       count = c.requires.worker.lines;
-      rooms = c.requires.worker.rooms;
-      room = omega (arith, c.requires.worker.lines_room, same_count (λ (one : ScriptLine). one.line) (script_at config w.desk.who));
+      buffers = c.requires.worker.buffers;
+      capacity = omega (arith, c.requires.worker.lines_capacity, same_count (λ (one : ScriptLine). one.line) (script_at config w.desk.who));
       way = way_start config w.desk w.lines.items (nil_of w.lines.items (omega (arith, c.requires.worker.lines, w.lines.ok.0)));
     }
 
@@ -25,24 +25,24 @@ number-number-requires g c =
     omega (arith, c.loop-line-test.true, c.line_count-line-end.ensures, same_count (λ (one : ScriptLine). one.line) (script_at config who), ap length script)
 
 -- the next room is taken
-pub take-room-requires : goal.take-room-requires
-take-room-requires g c =
-    some_room c.args.config.now c.args.self.desk.who c.loop-line.line c.loop-line.rooms (omega (arith, c.loop-line-test.true, c.line_count-line-end.ensures))
-    c.loop-line.invariant.rooms
+pub take-buffer-requires : goal.take-buffer-requires
+take-buffer-requires g c =
+    some_buffer c.args.config.now c.args.self.desk.who c.loop-line.line c.loop-line.buffers (omega (arith, c.loop-line-test.true, c.line_count-line-end.ensures))
+    c.loop-line.invariant.buffers
 
 pub line-requires-clause-none : goal.line-requires-clause-none
 line-requires-clause-none g c =
-    (room_taken c.args.config.now c.args.self.desk.who c.loop-line.line c.loop-line.rooms c.take-room.new.self c.take-room.result
-    (omega (arith, c.loop-line-test.true, c.line_count-line-end.ensures)) c.loop-line.invariant.rooms c.take-room.ensures).none
+    (buffer_taken c.args.config.now c.args.self.desk.who c.loop-line.line c.loop-line.buffers c.take-buffer.new.self c.take-buffer.result
+    (omega (arith, c.loop-line-test.true, c.line_count-line-end.ensures)) c.loop-line.invariant.buffers c.take-buffer.ensures).none
 
-pub line-requires-clause-room : goal.line-requires-clause-room
-line-requires-clause-room g c =
+pub line-requires-clause-capacity : goal.line-requires-clause-capacity
+line-requires-clause-capacity g c =
     let config = c.args.config.now in
     let who = c.args.self.desk.who in
     let n = c.loop-line.line in
-    room_serves config who c.loop-line.desk.who n c.take-room.result c.take-room.new.self
-    (room_taken config who n c.loop-line.rooms c.take-room.new.self c.take-room.result (omega (arith, c.loop-line-test.true, c.line_count-line-end.ensures))
-    c.loop-line.invariant.rooms c.take-room.ensures)
+    buffer_serves config who c.loop-line.desk.who n c.take-buffer.result c.take-buffer.new.self
+    (buffer_taken config who n c.loop-line.buffers c.take-buffer.new.self c.take-buffer.result (omega (arith, c.loop-line-test.true, c.line_count-line-end.ensures))
+    c.loop-line.invariant.buffers c.take-buffer.ensures)
     c.loop-line.invariant.way.made.who
 
 pub line-requires-clause-fits : goal.line-requires-clause-fits
@@ -65,10 +65,10 @@ loop-line-preserved g c =
     in
     record {
       count = search rules;
-      room = search rules;
-      rooms =
-          (room_taken config d.who c.loop-line.line c.loop-line.rooms c.take-room.new.self c.take-room.result
-          (omega (arith, c.loop-line-test.true, c.line_count-line-end.ensures)) c.loop-line.invariant.rooms c.take-room.ensures).after;
+      capacity = search rules;
+      buffers =
+          (buffer_taken config d.who c.loop-line.line c.loop-line.buffers c.take-buffer.new.self c.take-buffer.result
+          (omega (arith, c.loop-line-test.true, c.line_count-line-end.ensures)) c.loop-line.invariant.buffers c.take-buffer.ensures).after;
       way =
           subst (IsUnderWay config (c.loop-line.line + 1) d c.line.new.self) (sym c.push_reserved.ensures.items)
           (way_more config c.loop-line.line d c.loop-line.desk c.line.new.self c.loop-line.lines.items number c.in-Ok.answer way c.in-Ok.ensures numbered);

@@ -1,6 +1,6 @@
 use Rattle.std.proofs.Common.{◌≡◌, ◌≤◌, drop, length, vec_len, vec_capacity}
 use Rattle.vme_line_task.specs.Scripts.{script_at, lines_at}
-use Rattle.vme_line_task.specs.Rooms.{rooms_of}
+use Rattle.vme_line_task.specs.ReadBuffers.{buffers_of}
 use Rattle.vme_threads.proofs.Runs.{IsUnderWay}
 use Rattle.vme_threads.proofs.worker.Worker.run.Given as goal
 
@@ -8,7 +8,7 @@ use Rattle.vme_threads.proofs.worker.Worker.run.Given as goal
 abbrev pub invariant-loop-line : goal.invariant-loop-line
 invariant-loop-line g l = record {
   count : vec_len l.lines ≡ l.line;
-  room : length (lines_at l.config l.fn.self.desk.who) ≤ vec_capacity l.lines;
-  rooms : l.rooms ≡ drop l.line (rooms_of (script_at l.config l.fn.self.desk.who));
+  capacity : length (lines_at l.config l.fn.self.desk.who) ≤ vec_capacity l.lines;
+  buffers : l.buffers ≡ drop l.line (buffers_of (script_at l.config l.fn.self.desk.who));
   way : IsUnderWay l.config l.line l.fn.self.desk l.desk l.lines.items;
 }

@@ -1,4 +1,4 @@
-//! Room that is taken before a run and used at its end.
+//! BlockBuffer that is taken before a run and used at its end.
 ghost use Rattle.std.specs.Prelude.{◌≡◌, ◌≤◌, IfOk, vec_len, vec_capacity};
 ghost use Rattle.vme_threads.specs.Columns.{AreColumns};
 
@@ -12,44 +12,44 @@ use vme_shared::LineReply;
 /// The greatest number of boards: a backplane has 21 slots.
 const MOST_BOARDS: usize = 21;
 
-/// Room for all passes of all ports.
+/// BlockBuffer for all passes of all ports.
 #[derive(Drop)]
-pub struct Rooms {
+pub struct PassBuffers {
     pub(crate) columns: Vec<Vec<Pass<ByteMemory>>>,
     pub(crate) bus: Vec<Pass<Arbiter>>,
     ghost columns_len: { vec_len columns ≡ 21 },
-    ghost columns_room: { AreColumns columns.items },
+    ghost columns_capacity: { AreColumns columns.items },
     ghost bus_len: { vec_len bus ≡ 0 },
-    ghost bus_room: { 21 ≤ vec_capacity bus },
+    ghost bus_capacity: { 21 ≤ vec_capacity bus },
 }
 
-impl Rooms {
-    pub(crate) fn new(alloc: Global) -> Result<Rooms, AllocError> {
+impl PassBuffers {
+    pub(crate) fn new(alloc: Global) -> Result<PassBuffers, AllocError> {
         let bus = Vec::with_capacity(alloc, MOST_BOARDS)?;
         let mut columns = Vec::with_capacity(alloc, MOST_BOARDS)?;
         for _ in 0..MOST_BOARDS {
             columns.push_reserved(Vec::with_capacity(alloc, MOST_BOARDS)?);
         }
-        Ok(Rooms { columns, bus })
+        Ok(PassBuffers { columns, bus })
     }
 }
 
-/// Room for what a report tells.
+/// BlockBuffer for what a report tells.
 #[derive(Drop)]
-pub struct Sheet {
+pub struct ReportBuffers {
     pub(crate) lines: Vec<Vec<(u16, LineReply)>>,
     pub(crate) boards: Vec<BoardEnd>,
     pub(crate) bus_made: Vec<u64>,
 }
 
-impl Sheet {
-    ghost use Rattle.vme_threads.specs.Rooms.{IsBlank};
+impl ReportBuffers {
+    ghost use Rattle.vme_threads.specs.RunBuffers.{AreEmptyBuffers};
 
-    /// Room for the report of so many boards.
-    pub(crate) fn new(alloc: Global, count: usize) -> Result<Sheet, AllocError>
-        ensures { IfOk result (IsBlank count) }
+    /// BlockBuffer for the report of so many boards.
+    pub(crate) fn new(alloc: Global, count: usize) -> Result<ReportBuffers, AllocError>
+        ensures { IfOk result (AreEmptyBuffers count) }
     {
-        Ok(Sheet {
+        Ok(ReportBuffers {
             lines: Vec::with_capacity(alloc, count)?,
             boards: Vec::with_capacity(alloc, count)?,
             bus_made: Vec::with_capacity(alloc, count)?,

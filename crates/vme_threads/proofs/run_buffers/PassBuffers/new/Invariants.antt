@@ -1,6 +1,6 @@
 use Rattle.std.proofs.Common.{◌≡◌, ◌≤◌, vec_len, vec_capacity}
 use Rattle.vme_threads.specs.Columns.{AreColumns}
-use Rattle.vme_threads.proofs.rooms.Rooms.new.Given as goal
+use Rattle.vme_threads.proofs.run_buffers.PassBuffers.new.Given as goal
 
 -- as many columns as turns
 abbrev pub invariant-loop : goal.invariant-loop

@@ -1,90 +1,90 @@
-//! Room for the bytes that the lines of a script read.
+//! BlockBuffer for the bytes that the lines of a script read.
 ghost use Rattle.std.specs.Prelude.{◌≡◌, ◌<◌, ◌≤◌, ◌∷◌, length, IfOk};
-ghost use Rattle.vme_cycle.specs.BlockBuffers.{short_room};
-ghost use Rattle.vme_cycle.specs.Requests.{reply_room};
-ghost use Rattle.vme_line_task.specs.Rooms.{line_room, rooms_of};
+ghost use Rattle.vme_cycle.specs.BlockBuffers.{inline_capacity};
+ghost use Rattle.vme_cycle.specs.Requests.{read_len};
+ghost use Rattle.vme_line_task.specs.ReadBuffers.{line_read_len, buffers_of};
 
 use std::alloc::{AllocError, Global};
 use std::marker::Model;
 use std::vec::IntoIter;
-use vme_cycle::{Plan, Request, Room, SHORT};
+use vme_cycle::{Plan, Request, BlockBuffer, INLINE_LEN};
 use vme_grammar::Line;
 use vme_script::Script;
 
 /// Empty rooms, one for each line of a script that has not begun, in order. Only those that take
 /// memory are kept: any other is made anew as its line begins, so that most lines need one byte here.
 #[derive(Drop)]
-pub struct Rooms {
+pub struct ReadBuffers {
     /// Whether the room of each line takes memory.
     take_memory: IntoIter<bool, Global>,
     /// Those that do.
-    long: IntoIter<Room, Global>,
+    long: IntoIter<BlockBuffer, Global>,
 }
 
-impl Model for Rooms {
+impl Model for ReadBuffers {
     ghost use Rattle.std.specs.Prelude.{◌≡◌, List, length};
     ghost use Rattle.std.specs.Vec.Iter.{into_iter_items, into_iter_len};
-    ghost use Rattle.vme_cycle.specs.BlockBuffers.{RoomView};
-    ghost use Rattle.vme_line_task.specs.Rooms.{rooms_kept};
+    ghost use Rattle.vme_cycle.specs.BlockBuffers.{BufferView};
+    ghost use Rattle.vme_line_task.specs.ReadBuffers.{buffers_kept};
 
-    ghost Value = { List RoomView };
+    ghost Value = { List BufferView };
 
-    ghost view = { λ r. rooms_kept (into_iter_items r.take_memory) (into_iter_items r.long) };
+    ghost view = { λ r. buffers_kept (into_iter_items r.take_memory) (into_iter_items r.long) };
 
     ghost invariant = { λ r.
         (into_iter_len r.take_memory ≡ length (into_iter_items r.take_memory))
         × (into_iter_len r.long ≡ length (into_iter_items r.long)) };
 }
 
-impl Rooms {
+impl ReadBuffers {
     /// A room for each line of a script. All memory that their bytes need is taken here.
-    pub fn new(alloc: Global, script: &Script) -> Result<Rooms, AllocError>
-        ensures { IfOk result (λ rooms. rooms ≡ rooms_of script.now) }
+    pub fn new(alloc: Global, script: &Script) -> Result<ReadBuffers, AllocError>
+        ensures { IfOk result (λ buffers. buffers ≡ buffers_of script.now) }
     {
         let mut take_memory = Vec::with_capacity(alloc, script.len())?;
         let mut long = Vec::new(alloc);
         for line in 0..script.len() {
-            let count = long_room(script.line(line));
-            let takes_memory = SHORT < count;
+            let count = long_buffer(script.line(line));
+            let takes_memory = INLINE_LEN < count;
             if takes_memory {
-                long.push(Room::with_room(alloc, count)?)?;
+                long.push(BlockBuffer::with_capacity(alloc, count)?)?;
             }
             take_memory.push_reserved(takes_memory);
         }
-        Ok(Rooms {
+        Ok(ReadBuffers {
             take_memory: take_memory.into_iter(),
             long: long.into_iter(),
         })
     }
 
     /// The room of the next line, which is its own from then on.
-    pub fn take(&mut self) -> Room
+    pub fn take(&mut self) -> BlockBuffer
         requires { 0 < length self.old }
         ensures { self.old ≡ result ∷ self.new }
     {
         if self.take_memory.next().unwrap() {
             self.long.next().unwrap()
         } else {
-            Room::new()
+            BlockBuffer::new()
         }
     }
 }
 
 /// How many bytes a line reads, where they may be more than lie in a room itself; the request of any
 /// other line is not judged here.
-fn long_room(line: &Line) -> usize
-    ensures long { short_room < result → result ≡ line_room line.now }
-    ensures short { result ≤ short_room → line_room line.now ≤ short_room }
+fn long_buffer(line: &Line) -> usize
+    ensures long { inline_capacity < result → result ≡ line_read_len line.now }
+    ensures short { result ≤ inline_capacity → line_read_len line.now ≤ inline_capacity }
 {
     match line {
-        Line::Bus(request) if SHORT < most_read(request) => line_room(line),
+        Line::Bus(request) if INLINE_LEN < most_read(request) => line_read_len(line),
         _ => 0,
     }
 }
 
 /// How many bytes a request reads, if it is lawful.
 fn most_read(request: &Request) -> usize
-    ensures { result ≡ reply_room request.now }
+    ensures { result ≡ read_len request.now }
 {
     match request {
         Request::Read { n, .. } | Request::Modify { n, .. } => usize::from(*n),
@@ -94,12 +94,12 @@ fn most_read(request: &Request) -> usize
 }
 
 /// How many bytes a line reads by a request over the bus.
-pub fn line_room(line: &Line) -> usize
-    ensures { result ≡ line_room line.now }
+pub fn line_read_len(line: &Line) -> usize
+    ensures { result ≡ line_read_len line.now }
 {
     match line {
         Line::Bus(request) => match Plan::of(request) {
-            Ok(plan) => plan.reply_room(),
+            Ok(plan) => plan.read_len(),
             Err(_) => 0,
         },
         _ => 0,

@@ -6,7 +6,7 @@ use Rattle.std.proofs.lemmas.Bool.{cases_Bool, ltb-true, eqb-true}
 use Rattle.vme_cycle.specs.declared.request.Request.{Request}
 use Rattle.vme_cycle.specs.declared.request.Request.TheVariants as requests
 use Rattle.vme_cycle.specs.declared.modify.Modify.{Modify}
-use Rattle.vme_cycle.specs.Requests.{addr_of, datum_len, count_of, function_of, address_of, reply_room}
+use Rattle.vme_cycle.specs.Requests.{addr_of, datum_len, count_of, function_of, address_of, read_len}
 use Rattle.vme_cycle.specs.Lawful.{IsLawfulTransfer}
 use Rattle.vme_cycle.specs.SignalLines.{SignalLines}
 use Rattle.vme_cycle.specs.Plans.{signals_of}
@@ -22,7 +22,7 @@ use Rattle.vme_master.specs.declared.job.Job.{Job}
 use Rattle.vme_master.specs.declared.job.Job.TheVariants.{Bus, Local}
 use Rattle.vme_master.specs.declared.phase.Phase.TheVariants.{Moves}
 use Rattle.vme_master.specs.Jobs.{datum_call, request_aim}
-use Rattle.vme_master.specs.Machine.{job_aim, aim_len, bytes_of, phase_at, datum_phase, phase_broken, phase_replied, IsPlaced, HasRoom, IsEnough, IsSound, call_count, most_bytes, job_room}
+use Rattle.vme_master.specs.Machine.{job_aim, aim_len, bytes_of, phase_at, datum_phase, phase_broken, phase_replied, IsPlaced, HasRead, IsEnough, IsSound, call_count, most_bytes, job_read_len}
 
 -- one datum more of at most r bytes
 pub one_more : (r i n : ℕ) → i < n → r * i + r ≤ r * n
@@ -55,10 +55,10 @@ datum_is job place i at signals f placed here shown function lawful less same =
     rw (placed, shown, function) (ap (OnBoard place.0) own ∙ ap (λ n. OnBoard place.0 (Some (datum_command job.transfer.request i n))) here)
 
 -- all calls together read as many bytes at most as the request does
-pub all_bytes : (job : Job) → most_bytes job * call_count job ≡ job_room job
+pub all_bytes : (job : Job) → most_bytes job * call_count job ≡ job_read_len job
 all_bytes (Bus job) = bus_bytes job.transfer.request
   where
-    bus_bytes : (request : Request) → unwrap_or (aim_len (request_aim request)) 0 * count_of request ≡ reply_room request
+    bus_bytes : (request : Request) → unwrap_or (aim_len (request_aim request)) 0 * count_of request ≡ read_len request
     bus_bytes (requests.Read am addr n) = grind arith
     bus_bytes (requests.BlockRead am addr n count) = refl
     bus_bytes (requests.Modify am addr n f) = grind arith
@@ -68,7 +68,7 @@ all_bytes (Bus job) = bus_bytes job.transfer.request
 all_bytes (Local job) = refl
 
 -- and a request reads no more than all its data have
-pub reads_within : (request : Request) → reply_room request ≤ datum_len request * count_of request
+pub reads_within : (request : Request) → read_len request ≤ datum_len request * count_of request
 reads_within (requests.Read am addr n) = omega arith
 reads_within (requests.BlockRead am addr n count) = omega arith
 reads_within (requests.Modify am addr n f) = omega arith
@@ -95,73 +95,73 @@ replied_within (Bus job) reply form short = form_within job.transfer.request rep
 replied_within (Local job) reply form short = short
 
 -- a datum more has room
-pub room_before : (job : Job) (i room : ℕ) (read : List ℕ) (reply : Reply) → HasRoom job (Moves i) read
-    → has_form (aim_len (job_aim job)) reply ≡ true → length (bytes_of reply) ≤ 8 → job_room job ≤ room
-    → length read + length (bytes_of reply) ≤ room
-room_before job i room read reply had form small all =
+pub buffer_before : (job : Job) (i capacity : ℕ) (read : List ℕ) (reply : Reply) → HasRead job (Moves i) read
+    → has_form (aim_len (job_aim job)) reply ≡ true → length (bytes_of reply) ≤ 8 → job_read_len job ≤ capacity
+    → length read + length (bytes_of reply) ≤ capacity
+buffer_before job i capacity read reply had form small all =
     let next = one_more (most_bytes job) i (call_count job) had.0 in
     let more = replied_within job reply form small in
     let whole = all_bytes job in
     omega (arith, next, more, had.1, all, whole)
 
 -- and so does its phase
-broken_room : (job : Job) (i : ℕ) (read : List ℕ) → length read ≤ job_room job → HasRoom job (phase_broken job i) read
-broken_room (Bus job) i read room = room
-broken_room (Local job) i read room = room
+broken_buffer : (job : Job) (i : ℕ) (read : List ℕ) → length read ≤ job_read_len job → HasRead job (phase_broken job i) read
+broken_buffer (Bus job) i read capacity = capacity
+broken_buffer (Local job) i read capacity = capacity
 
-datum_room : (job : BusJob) (place : Option (ℕ × ℕ)) (i : ℕ) (read : List ℕ) → length read ≤ most_bytes (Bus job) * i
-    → length read ≤ job_room (Bus job) → HasRoom (Bus job) (datum_phase job place i) read
-datum_room job None i read so_far room = room
-datum_room job (Some place) i read so_far room =
+datum_buffer : (job : BusJob) (place : Option (ℕ × ℕ)) (i : ℕ) (read : List ℕ) → length read ≤ most_bytes (Bus job) * i
+    → length read ≤ job_read_len (Bus job) → HasRead (Bus job) (datum_phase job place i) read
+datum_buffer job None i read so_far capacity = capacity
+datum_buffer job (Some place) i read so_far capacity =
     elim (cases_Bool (nat_lt i (count_of job.transfer.request))) [
       | inl less ↦ rw less (ltb-true i (count_of job.transfer.request) less, so_far)
-      | inr past ↦ rw past room
+      | inr past ↦ rw past capacity
     ]
 
-next_room : (job : Job) (i : ℕ) (read : List ℕ) → i < call_count job → length read ≤ most_bytes job * (i + 1)
-    → length read ≤ job_room job → HasRoom job (phase_at job (i + 1)) read
-next_room (Bus job) i read less so_far room = datum_room job job.place (i + 1) read so_far room
-next_room (Local job) zero read less so_far room = room
-next_room (Local job) (suc i) read less so_far room = absurd (omega arith)
+next_buffer : (job : Job) (i : ℕ) (read : List ℕ) → i < call_count job → length read ≤ most_bytes job * (i + 1)
+    → length read ≤ job_read_len job → HasRead job (phase_at job (i + 1)) read
+next_buffer (Bus job) i read less so_far capacity = datum_buffer job job.place (i + 1) read so_far capacity
+next_buffer (Local job) zero read less so_far capacity = capacity
+next_buffer (Local job) (suc i) read less so_far capacity = absurd (omega arith)
 
 -- after a board replied
-replied_room : (job : Job) (i : ℕ) (read : List ℕ) (reply : Reply) → i < call_count job → length read ≤ most_bytes job * (i + 1)
-    → length read ≤ job_room job → HasRoom job (phase_replied job i reply) read
-replied_room job i read (Bytes datum) less so_far room = next_room job i read less so_far room
-replied_room job i read Done less so_far room = next_room job i read less so_far room
-replied_room job i read Berr less so_far room = broken_room job i read room
+replied_buffer : (job : Job) (i : ℕ) (read : List ℕ) (reply : Reply) → i < call_count job → length read ≤ most_bytes job * (i + 1)
+    → length read ≤ job_read_len job → HasRead job (phase_replied job i reply) read
+replied_buffer job i read (Bytes datum) less so_far capacity = next_buffer job i read less so_far capacity
+replied_buffer job i read Done less so_far capacity = next_buffer job i read less so_far capacity
+replied_buffer job i read Berr less so_far capacity = broken_buffer job i read capacity
 
-pub room_after : (job : Job) (i : ℕ) (read : List ℕ) (reply : Reply) → i < call_count job → length read ≤ most_bytes job * i
-    → length (bytes_of reply) ≤ most_bytes job → HasRoom job (phase_replied job i reply) (read ++ bytes_of reply)
-room_after job i read reply less had more =
+pub buffer_after : (job : Job) (i : ℕ) (read : List ℕ) (reply : Reply) → i < call_count job → length read ≤ most_bytes job * i
+    → length (bytes_of reply) ≤ most_bytes job → HasRead job (phase_replied job i reply) (read ++ bytes_of reply)
+buffer_after job i read reply less had more =
     let next = one_more (most_bytes job) i (call_count job) less in
     let split : most_bytes job * (i + 1) ≡ most_bytes job * i + most_bytes job = grind arith in
     let all = length-append read (bytes_of reply) in
     let whole = all_bytes job in
-    replied_room job i (read ++ bytes_of reply) reply less (omega (arith, all, split)) (omega (arith, all, next, whole))
+    replied_buffer job i (read ++ bytes_of reply) reply less (omega (arith, all, split)) (omega (arith, all, next, whole))
 
 -- the room stays enough
-datum_enough : (job : BusJob) (place : Option (ℕ × ℕ)) (i room : ℕ) → job_room (Bus job) ≤ room → IsEnough (Bus job) (datum_phase job place i) room
-datum_enough job None i room enough = enough
-datum_enough job (Some place) i room enough =
+datum_enough : (job : BusJob) (place : Option (ℕ × ℕ)) (i capacity : ℕ) → job_read_len (Bus job) ≤ capacity → IsEnough (Bus job) (datum_phase job place i) capacity
+datum_enough job None i capacity enough = enough
+datum_enough job (Some place) i capacity enough =
     elim (cases_Bool (nat_lt i (count_of job.transfer.request))) [ inl less ↦ rw less enough | inr past ↦ rw past enough ]
 
-pub enough_at : (job : Job) (i room : ℕ) → job_room job ≤ room → IsEnough job (phase_at job i) room
-enough_at (Bus job) i room enough = datum_enough job job.place i room enough
-enough_at (Local job) i room enough = elim (cases_Bool (i == 0)) [ inl first ↦ rw first enough | inr past ↦ rw past tt ]
+pub enough_at : (job : Job) (i capacity : ℕ) → job_read_len job ≤ capacity → IsEnough job (phase_at job i) capacity
+enough_at (Bus job) i capacity enough = datum_enough job job.place i capacity enough
+enough_at (Local job) i capacity enough = elim (cases_Bool (i == 0)) [ inl first ↦ rw first enough | inr past ↦ rw past tt ]
 
-enough_after : (job : Job) (i room : ℕ) (reply : Reply) → job_room job ≤ room → IsEnough job (phase_replied job i reply) room
-enough_after job i room (Bytes datum) enough = enough_at job (i + 1) room enough
-enough_after job i room Done enough = enough_at job (i + 1) room enough
-enough_after (Bus job) i room Berr enough = enough
-enough_after (Local job) i room Berr enough = tt
+enough_after : (job : Job) (i capacity : ℕ) (reply : Reply) → job_read_len job ≤ capacity → IsEnough job (phase_replied job i reply) capacity
+enough_after job i capacity (Bytes datum) enough = enough_at job (i + 1) capacity enough
+enough_after job i capacity Done enough = enough_at job (i + 1) capacity enough
+enough_after (Bus job) i capacity Berr enough = enough
+enough_after (Local job) i capacity Berr enough = tt
 
 -- and a task is as sound after it
-pub sound_after : (job : Job) (i room : ℕ) (read : List ℕ) (reply : Reply) → IsPlaced job → HasRoom job (Moves i) read
-    → has_form (aim_len (job_aim job)) reply ≡ true → length (bytes_of reply) ≤ 8 → job_room job ≤ room
-    → IsSound (record { job = job; phase = phase_replied job i reply; read = read ++ bytes_of reply }) room
-sound_after job i room read reply placed had form small enough = record {
+pub sound_after : (job : Job) (i capacity : ℕ) (read : List ℕ) (reply : Reply) → IsPlaced job → HasRead job (Moves i) read
+    → has_form (aim_len (job_aim job)) reply ≡ true → length (bytes_of reply) ≤ 8 → job_read_len job ≤ capacity
+    → IsSound (record { job = job; phase = phase_replied job i reply; read = read ++ bytes_of reply }) capacity
+sound_after job i capacity read reply placed had form small enough = record {
   placed = placed;
-  read = room_after job i read reply had.0 had.1 (replied_within job reply form small);
-  enough = enough_after job i room reply enough;
+  read = buffer_after job i read reply had.0 had.1 (replied_within job reply form small);
+  enough = enough_after job i capacity reply enough;
 }
