@@ -122,23 +122,23 @@ pub fn told(reply: ArbReply) -> Option<EventReply> {
 }
 
 /// A task of a lock or a mailbox.
-pub trait Asks {
+pub trait SharedMachine {
     fn call(&mut self, given: Option<EventReply>) -> SharedTodo;
 }
 
-impl<'a> Asks for LockTask<'a> {
+impl<'a> SharedMachine for LockTask<'a> {
     fn call(&mut self, given: Option<EventReply>) -> SharedTodo {
         self.next(given)
     }
 }
 
-impl<'a> Asks for PutTask<'a> {
+impl<'a> SharedMachine for PutTask<'a> {
     fn call(&mut self, given: Option<EventReply>) -> SharedTodo {
         self.next(given)
     }
 }
 
-impl<'a> Asks for TakeTask<'a> {
+impl<'a> SharedMachine for TakeTask<'a> {
     fn call(&mut self, given: Option<EventReply>) -> SharedTodo {
         self.next(given)
     }
@@ -170,7 +170,7 @@ pub fn expect_end(rt: &impl Abort, todo: &SharedTodo) -> SharedOutcome {
 
 /// Leads a task of slot 2 on level 3 through a course, each cycle of which is a transfer of its own:
 /// its outcome, which is the same at a further call.
-pub fn outcome(rt: &impl Abort, task: &mut impl Asks, course: Course) -> SharedOutcome {
+pub fn outcome(rt: &impl Abort, task: &mut impl SharedMachine, course: Course) -> SharedOutcome {
     let mut todo = task.call(None);
     for (cycle, given) in course {
         expect_turn(rt, &todo, ArbCmd::Ask { slot: 2, level: 3 });

@@ -10,7 +10,7 @@ ghost use Rattle.vme_core.specs.Data.{datum_cycle};
 use std::marker::Model;
 use vme_cycle::{Plan, Request};
 use vme_memory::{Access, ByteMemory, Reply};
-use vme_object::Asks;
+use vme_object::Operation;
 
 /// The cycle of a datum of a lawful transfer, for a memory where its first byte has an offset. Its
 /// lines are not laid out: a memory does what they would tell it. Contracts see it as the command.
@@ -60,13 +60,13 @@ impl<'a> DatumCycle<'a> {
     }
 }
 
-impl Asks<ByteMemory> for DatumCycle<'_> {
+impl Operation<ByteMemory> for DatumCycle<'_> {
     ghost use Rattle.vme_memory.specs.declared.command.BoardCmd.{BoardCmd};
 
     ghost command = { λ (d : BoardCmd). d };
 
     #[inline(always)]
-    fn ask(&self, memory: &mut ByteMemory) -> Reply {
+    fn perform(&self, memory: &mut ByteMemory) -> Reply {
         memory.access(&self.access())
     }
 }

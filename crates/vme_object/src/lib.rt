@@ -3,7 +3,7 @@
 //! is the smallest such thing.
 #![tactic(auto)]
 
-mod asks;
+mod operation;
 mod count;
 mod counter;
 mod held;
@@ -11,7 +11,7 @@ mod history;
 mod laws;
 mod object;
 
-pub use asks::{Asks, Given};
+pub use operation::{Operation, CommandRef};
 pub use count::next_count;
 pub use counter::{Counter, CounterCmd};
 pub use held::Held;

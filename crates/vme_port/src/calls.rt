@@ -11,14 +11,14 @@ use crate::seats::{FREE, TAKEN, Taking, WANTED};
 use crossbeam_utils::Backoff;
 use std::marker::Brand;
 use std::sync::Wait;
-use vme_object::{Asks, Given, Object};
+use vme_object::{Operation, CommandRef, Object};
 
 /// How often a call tries before it parks.
 const TRIES: u32 = 10;
 
 impl<O: Object> Port<O> {
     /// One try.
-    fn attempt<A: Asks<O>>(
+    fn attempt<A: Operation<O>>(
         &self,
         pass: &mut Pass<O>,
         asked: &A,
@@ -35,7 +35,7 @@ impl<O: Object> Port<O> {
         if !self.take::<Brand>(&mut pass.seat, taking) {
             return Err(TryFault::Busy);
         }
-        let Some(reply) = self.perform(&mut pass.seat, asked) else {
+        let Some(reply) = self.perform_counted(&mut pass.seat, asked) else {
             self.put_unchanged(&mut pass.seat);
             return Err(TryFault::Spent);
         };
@@ -58,12 +58,12 @@ impl<O: Object> Port<O> {
         ensures shared { IfBusy result (2 ≤ passes_of self.now) }
         ensures full { IfSpent result (length pass.new.seen ≡ 2 ^ 64 - 1) }
     {
-        self.attempt(pass, &Given { cmd }, Taking::Alone)
+        self.attempt(pass, &CommandRef { cmd }, Taking::Alone)
     }
 
     /// Parks until the object may be at home, and tries, until a try is not busy. A try that takes
     /// the object leaves the port wanted, so that its put wakes the next one who waits.
-    fn call_parked<R: Wait, A: Asks<O>>(
+    fn call_parked<R: Wait, A: Operation<O>>(
         &self,
         rt: &R,
         pass: &mut Pass<O>,
@@ -106,14 +106,14 @@ impl<O: Object> Port<O> {
         ensures adds { Adds O.step (opening self.now) (entries_of pass.old.who cmd.now result) pass.old pass.new }
         ensures full { IfErr result (λ _. length pass.new.seen ≡ 2 ^ 64 - 1) }
     {
-        self.ask(rt, pass, &Given { cmd })
+        self.call_operation(rt, pass, &CommandRef { cmd })
     }
 
     /// The same with what asks for the step of a command; the entry has that command.
     ///
     /// # Errors
     /// `Spent` where the history has 2^64 - 1 entries; no entry is added.
-    pub fn ask<R: Wait, A: Asks<O>>(
+    pub fn call_operation<R: Wait, A: Operation<O>>(
         &self,
         rt: &R,
         pass: &mut Pass<O>,
@@ -134,7 +134,7 @@ impl<O: Object> Port<O> {
     /// `put_unchanged` are, so that the code of a call that waits for nobody runs straight on.
     #[cold]
     #[inline(never)]
-    fn call_again<R: Wait, A: Asks<O>>(
+    fn call_again<R: Wait, A: Operation<O>>(
         &self,
         rt: &R,
         pass: &mut Pass<O>,

@@ -9,7 +9,7 @@ use crate::port::Port;
 use crate::rule::{Knows, Puts, Takes, Tells, View};
 use atomic_table::Seat;
 use std::marker::Brand;
-use vme_object::{Asks, Object, next_count};
+use vme_object::{Operation, Object, next_count};
 
 /// The word where the object is at home.
 pub(crate) const FREE: u64 = 0;
@@ -61,7 +61,7 @@ impl<O: Object> Port<O> {
     }
 
     /// Performs a command on the object that is out with the seat, unless its history is full.
-    pub(crate) fn perform<A: Asks<O>>(
+    pub(crate) fn perform_counted<A: Operation<O>>(
         &self,
         seat: &mut Seat<Home<O>, View<O::Cmd, O::Reply>>,
         asked: &A,
@@ -76,7 +76,7 @@ impl<O: Object> Port<O> {
             return None;
         };
         home.count = count;
-        Some(asked.ask(&mut home.object))
+        Some(asked.perform(&mut home.object))
     }
 
     /// Puts the object home with these entries behind its history, and wakes one who waits for it.
@@ -114,7 +114,7 @@ impl<O: Object> Port<O> {
     }
 
     /// Puts the object home with one entry. The entry is named so that the call can pick it.
-    pub(crate) fn put_entry<A: Asks<O>, W: Tells<O::Cmd, O::Reply>>(
+    pub(crate) fn put_entry<A: Operation<O>, W: Tells<O::Cmd, O::Reply>>(
         &self,
         seat: &mut Seat<Home<O>, View<O::Cmd, O::Reply>>,
         who: usize,

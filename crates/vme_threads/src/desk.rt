@@ -20,7 +20,7 @@ use vme_core::{Deed, EventReply};
 use vme_cycle::BlockBuffer;
 use vme_line_task::LineTask;
 use vme_memory::{ByteMemory, Reply};
-use vme_object::{Asks, Given};
+use vme_object::{Operation, CommandRef};
 use vme_port::{Pass, Spent};
 use vme_script::Config;
 use vme_shared::LineReply;
@@ -68,7 +68,7 @@ impl Desk {
     /// # Errors
     /// `Spent` where the board has made as many steps as can be counted.
     #[inline(always)]
-    pub(crate) fn command<R: Wait, A: Asks<ByteMemory>>(
+    pub(crate) fn command<R: Wait, A: Operation<ByteMemory>>(
         &mut self,
         rt: &R,
         ports: &Ports,
@@ -82,7 +82,7 @@ impl Desk {
     {
         let port = &ports.boards[board].port;
         let pass = &mut self.boards[board];
-        port.ask(rt, pass, cmd)
+        port.call_operation(rt, pass, cmd)
     }
 
     /// Makes what a deed asks, by a call of the port that it is for. A command is given where it lies,
@@ -104,7 +104,7 @@ impl Desk {
         match deed {
             Deed::Bus(cmd) => Ok(EventReply::Bus(self.tell(rt, ports, cmd)?)),
             Deed::Board { board, cmd } => {
-                Ok(EventReply::Board(self.command(rt, ports, *board, &Given { cmd: *cmd })?))
+                Ok(EventReply::Board(self.command(rt, ports, *board, &CommandRef { cmd: *cmd })?))
             }
             Deed::Datum { board, cycle } => {
                 Ok(EventReply::Board(self.command(rt, ports, *board, cycle)?))

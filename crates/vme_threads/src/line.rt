@@ -27,7 +27,7 @@ use vme_cycle::{Block, Request, BlockBuffer};
 use vme_grammar::Line;
 use vme_master::{Outcome, Task};
 use vme_memory::{BoardCmd, Reply};
-use vme_object::Given;
+use vme_object::CommandRef;
 use vme_port::Spent;
 use vme_script::Config;
 use vme_shared::LineReply;
@@ -77,7 +77,7 @@ impl Desk {
         if ports.stop.load(Ordering::SeqCst) {
             return Err(Spent);
         }
-        let reply = self.command(rt, ports, self.who, &Given { cmd })?;
+        let reply = self.command(rt, ports, self.who, &CommandRef { cmd })?;
         Ok(LineReply::Transfer(local_outcome(cmd, reply)))
     }
 

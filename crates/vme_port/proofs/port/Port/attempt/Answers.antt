@@ -25,8 +25,8 @@ returns-then-not-take-clause-shared g c =
     let rest = c.pass.invariant in
     shared_lost _ _ _ _ _ _ _ rest (c.if-not-take.ensures.told rest.only rest.alone)
 
-pub perform-requires-clause-out : goal.perform-requires-clause-out
-perform-requires-clause-out g c =
+pub perform_counted-requires-clause-out : goal.perform_counted-requires-clause-out
+perform_counted-requires-clause-out g c =
     let rest = c.pass.invariant in
     out _ _ _ rest.only _ (c.if-not-take.ensures.told rest.only rest.alone)
 

@@ -9,4 +9,4 @@ ghosts-take g a = record { opened = λ object passes. (object ≡ opening a.self
 
 -- the entry of the call
 abbrev pub ghosts-put_entry : goal.ghosts-put_entry
-ghosts-put_entry g a = record { entries = entry a.who (g.A.Asks.command a.asked.now) a.reply.now ∷ [] }
+ghosts-put_entry g a = record { entries = entry a.who (g.A.Operation.command a.asked.now) a.reply.now ∷ [] }

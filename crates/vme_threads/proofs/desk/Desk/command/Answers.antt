@@ -6,5 +6,5 @@ use Rattle.vme_threads.proofs.desk.Desk.command.Goals as goal
 -- the board's port answers, and its pass is put back in its place
 pub returns : goal.returns
 returns g c =
-    made_by_board c.args.ports.now c.args.self.now c.args.board (g.A.Asks.command c.args.cmd.now) c.ask.result c.index.result.now c.index_mut-pass.result.now c.ask.new.pass _
-    c.requires.fits c.requires.there c.index_mut-pass.ensures.value (makes_one _ _ _ _ _ c.ask.ensures.adds) refl refl refl
+    made_by_board c.args.ports.now c.args.self.now c.args.board (g.A.Operation.command c.args.cmd.now) c.call_operation.result c.index.result.now c.index_mut-pass.result.now c.call_operation.new.pass _
+    c.requires.fits c.requires.there c.index_mut-pass.ensures.value (makes_one _ _ _ _ _ c.call_operation.ensures.adds) refl refl refl

@@ -1,7 +1,7 @@
 use Rattle.std.proofs.Common.{ap, ◌∙◌, sym}
 use Rattle.vme_memory.specs.Locals.{answer_given}
 use Rattle.vme_memory.specs.Steps.{answer}
-use Rattle.vme_core.proofs.datum.DatumCycleAsksByteMemory.ask.Goals as goal
+use Rattle.vme_core.proofs.datum.DatumCycleOperationByteMemory.perform.Goals as goal
 
 -- the memory answers the command
 pub returns-clause-state : goal.returns-clause-state

@@ -3,26 +3,26 @@ ghost use Rattle.std.specs.Prelude.{◌≡◌};
 use crate::object::Object;
 
 /// What asks an object for the step of a command, which need not be laid out as one.
-pub trait Asks<O: Object> {
+pub trait Operation<O: Object> {
     ghost command: { Self → O.Cmd };
 
     /// Has the object take the command, as its step says.
-    fn ask(&self, object: &mut O) -> O::Reply
+    fn perform(&self, object: &mut O) -> O::Reply
         ensures state { object.new ≡ (O.step object.old (command self.now)).0 }
         ensures reply { result ≡ (O.step object.old (command self.now)).1 };
 }
 
 /// A command that is laid out.
 #[derive(Drop)]
-pub struct Given<'a, C> {
+pub struct CommandRef<'a, C> {
     /// The command.
     pub cmd: &'a C,
 }
 
-impl<O: Object> Asks<O> for Given<'_, O::Cmd> {
+impl<O: Object> Operation<O> for CommandRef<'_, O::Cmd> {
     ghost command = { λ g. g.cmd.now };
 
-    fn ask(&self, object: &mut O) -> O::Reply {
+    fn perform(&self, object: &mut O) -> O::Reply {
         object.apply(self.cmd)
     }
 }

@@ -1,5 +1,5 @@
 use Rattle.vme_port.proofs.Performs.{lent, full, performed}
-use Rattle.vme_port.proofs.port.Port.perform.Goals as goal
+use Rattle.vme_port.proofs.port.Port.perform_counted.Goals as goal
 
 pub slot_mut-home-requires : goal.slot_mut-home-requires
 slot_mut-home-requires g c = (c.requires.port, lent c.args.seat.now.me c.requires.out)
@@ -9,5 +9,5 @@ returns-in_default-clause-done g c = full c.args.seat.now.me c.slot_mut-home.res
 
 pub returns-clause-done : goal.returns-clause-done
 returns-clause-done g c =
-    performed g.O.Object.step (g.A.Asks.command c.args.asked.now) c.ask.result c.args.seat.now.me c.slot_mut-home.result.now _ c.slot_mut-home.ensures.value c.requires.out
-    c.in-Some.ensures.0 c.in-Some.ensures.1 c.ask.ensures.state c.ask.ensures.reply
+    performed g.O.Object.step (g.A.Operation.command c.args.asked.now) c.perform.result c.args.seat.now.me c.slot_mut-home.result.now _ c.slot_mut-home.ensures.value c.requires.out
+    c.in-Some.ensures.0 c.in-Some.ensures.1 c.perform.ensures.state c.perform.ensures.reply
