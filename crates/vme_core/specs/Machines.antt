@@ -10,7 +10,7 @@ use Rattle.vme_core.specs.declared.event.Target.TheVariants as at
 use Rattle.vme_core.specs.declared.fault.RunStop.{RunStop}
 use Rattle.vme_core.specs.declared.fault.RunStop.TheVariants as stops
 use Rattle.vme_core.specs.Tallies.{fresh_tally}
-use Rattle.vme_core.specs.Runs.{Machine, Move, Did, target_of, events_in, replies_in}
+use Rattle.vme_core.specs.Runs.{Machine, Transition, Did, target_of, events_in, replies_in}
 
 -- boards with these memories and the arbiter of this bus, before the first step (this project's own)
 abbrev pub opening : List Board → Arbitration → ℕ → Machine
@@ -41,7 +41,7 @@ made_of machine who target = option_and_then (λ made. slice_get made who) (coun
 
 -- events were done as a run, and its replies were appended (this project's own)
 pub record HasDone (events : List (ℕ × Event)) (before after : Machine) (old new : List EventReply) : Type 0 where
-  pub run : List Move
+  pub run : List Transition
   pub asked : events_in run ≡ events
   pub told : new ≡ old ++ replies_in run
   pub did : Did run before after

@@ -24,13 +24,13 @@ pub record Machine : Type 0 where
   pub bus : Tally Arbitration
 
 -- an event of a run: who gave it, to what, and the reply (this project's own)
-pub record Move : Type 0 where
+pub record Transition : Type 0 where
   pub who : ℕ
   pub event : Event
   pub reply : EventReply
 
 -- a move by its parts (this project's own)
-abbrev pub move : ℕ → Event → EventReply → Move
+abbrev pub move : ℕ → Event → EventReply → Transition
 move who event reply = record { who = who; event = event; reply = reply }
 
 -- what an event is given to (this project's own)
@@ -58,24 +58,24 @@ bus_entry who (asked.Bus cmd) (told.Board reply) = None
 bus_entry who (asked.Bus cmd) (told.Bus reply) = Some (entry who cmd reply)
 
 -- the history of a board in a run (this project's own)
-abbrev pub board_part : ℕ → List Move → List (Entry BoardCmd Reply)
+abbrev pub board_part : ℕ → List Transition → List (Entry BoardCmd Reply)
 board_part x run = filter_map (λ m. board_entry x m.who m.event m.reply) run
 
 -- the history of the arbiter in a run (this project's own)
-abbrev pub bus_part : List Move → List (Entry ArbCmd ArbReply)
+abbrev pub bus_part : List Transition → List (Entry ArbCmd ArbReply)
 bus_part run = filter_map (λ m. bus_entry m.who m.event m.reply) run
 
 -- the events of a run, each with who gave it (this project's own)
-abbrev pub events_in : List Move → List (ℕ × Event)
+abbrev pub events_in : List Transition → List (ℕ × Event)
 events_in run = map (λ m. (m.who, m.event)) run
 
 -- the replies of a run (this project's own)
-abbrev pub replies_in : List Move → List EventReply
+abbrev pub replies_in : List Transition → List EventReply
 replies_in run = map (λ m. m.reply) run
 
 -- the machine made a run: each reply is of its event's kind, and each board and the arbiter went through its own part
 -- (this project's own)
-pub record Did (run : List Move) (before after : Machine) : Type 0 where
+pub record Did (run : List Transition) (before after : Machine) : Type 0 where
   pub fitting : All (λ m. IsReplyTo m.event m.reply) run
   pub boards : AllAt (λ x b a. Went board_step (board_part x run) b a) before.boards after.boards
   pub bus : Went turn_step (bus_part run) before.bus after.bus

@@ -4,7 +4,7 @@ ghost use Rattle.vme_memory.specs.Boards.{Board};
 ghost use Rattle.vme_memory.specs.Locals.{board_step};
 ghost use Rattle.vme_arbiter.specs.Arbitration.{Arbitration, turn_step};
 ghost use Rattle.vme_core.specs.Tallies.{Tells};
-ghost use Rattle.vme_core.specs.Runs.{Machine, Move, Did, move, target_of, board_part, bus_part};
+ghost use Rattle.vme_core.specs.Runs.{Machine, Transition, Did, move, target_of, board_part, bus_part};
 ghost use Rattle.vme_core.specs.Calls.{call_of, machine_step};
 ghost use Rattle.vme_core.specs.Machines.{opening, IsThere};
 ghost use Rattle.vme_core.specs.declared.event.Event.{Event};
@@ -12,7 +12,7 @@ ghost use Rattle.vme_core.specs.declared.event.Event.{Event};
 /// Runs compose: a second one goes on from where the first ends.
 pub fn runs_compose()
     ensures nothing { (m : Machine) → Did [] m m }
-    ensures goes_on { (first then : List Move) (a b c : Machine) →
+    ensures goes_on { (first then : List Transition) (a b c : Machine) →
         Did first a b → Did then b c → Did (first ++ then) a c }
 {}
 
@@ -20,10 +20,10 @@ pub fn runs_compose()
 /// of the run; its steps are that part's entries, and what each who made are the who's own.
 #[tactic(auto, using(crate::proofs::lemmas::Tallies::went_tells))]
 pub fn opening_is_replayed()
-    ensures boards { (memories : List Board) (bus : Arbitration) (k : ℕ) (run : List Move) (after : Machine) →
+    ensures boards { (memories : List Board) (bus : Arbitration) (k : ℕ) (run : List Transition) (after : Machine) →
         Did run (opening memories bus k) after →
         AllAt (λ x memory b. Tells board_step memory (board_part x run) k b) memories after.boards }
-    ensures bus { (memories : List Board) (bus : Arbitration) (k : ℕ) (run : List Move) (after : Machine) →
+    ensures bus { (memories : List Board) (bus : Arbitration) (k : ℕ) (run : List Transition) (after : Machine) →
         Did run (opening memories bus k) after → Tells turn_step bus (bus_part run) k after.bus }
 {}
 

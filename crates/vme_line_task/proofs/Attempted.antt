@@ -28,78 +28,78 @@ use Rattle.vme_shared.specs.declared.outcome.SharedOutcome.TheVariants as shared
 use Rattle.vme_shared.specs.Tables as shares
 use Rattle.vme_shared.specs.Tables.{SharedNext, shared_next, shared_told}
 use Rattle.vme_shared.proofs.lemmas.Tenures as laws
-use Rattle.vme_line_task.specs.Scripts.{Attempt, Moves, Waits, Shares}
-use Rattle.vme_line_task.specs.Tables.{Makes, Ends, moves_next, waits_next, shares_next, attempt_next}
+use Rattle.vme_line_task.specs.Scripts.{Attempt, Transferring, Awaiting, Sharing}
+use Rattle.vme_line_task.specs.Tables.{Invokes, Returns, moves_next, waits_next, shares_next, attempt_next}
 use Rattle.vme_line_task.specs.Tenures.{job_told, attempt_told, IsGood, IsGranted}
 use Rattle.vme_line_task.proofs.lemmas.Below.{moves_makes, waits_makes, shares_makes}
 use Rattle.vme_line_task.proofs.Tenures.{good_end, good_freed, FreedBy, freed_stands, local_never, turn_told, datum_told, begin_told, IsOwnJob}
 
 -- before the first call
 pub attempt_begins : (a : Attempt) → attempt_told a (None ∷ []) ≡ None
-attempt_begins (Moves job) = begin_told job
-attempt_begins (Waits job want) = begin_told job
-attempt_begins (Shares s) = laws.begin_told s
+attempt_begins (Transferring job) = begin_told job
+attempt_begins (Awaiting job want) = begin_told job
+attempt_begins (Sharing s) = laws.begin_told s
 
 -- the transfers of an attempt are of a slot, on a level
 abbrev pub IsOwnAttempt : ℕ → ℕ → Attempt → Type 0
-IsOwnAttempt slot level (Moves job) = IsOwnJob slot level job
-IsOwnAttempt slot level (Waits job want) = IsOwnJob slot level job
-IsOwnAttempt slot level (Shares s) = (s.slot ≡ slot) × (s.level ≡ level)
+IsOwnAttempt slot level (Transferring job) = IsOwnJob slot level job
+IsOwnAttempt slot level (Awaiting job want) = IsOwnJob slot level job
+IsOwnAttempt slot level (Sharing s) = (s.slot ≡ slot) × (s.level ≡ level)
 
 -- its commands to the arbiter go by what the slot was told last
 job_turns : (slot level : ℕ) (job : Job) (g : Given) (cmd : ArbCmd) → IsOwnJob slot level job → is_level level ≡ true
-    → next_of job g ≡ tasks.Makes (OnBus cmd) → may_give slot (job_told job g) cmd ≡ true
+    → next_of job g ≡ tasks.Invokes (OnBus cmd) → may_give slot (job_told job g) cmd ≡ true
 job_turns slot level (Bus j) g cmd own lawful made =
     subst (λ (s : ℕ). may_give s (last_turn g) cmd ≡ true) own.0
     (turns_go_by j g cmd (subst (λ (l : ℕ). is_level l ≡ true) (sym own.1) lawful) made)
 job_turns slot level (Local j) g cmd own lawful made = absurd (local_never j g cmd made)
 
 pub attempt_turns : (slot level : ℕ) (a : Attempt) (g : Given) (cmd : ArbCmd) → IsOwnAttempt slot level a → is_level level ≡ true
-    → attempt_next a g ≡ Makes (OnBus cmd) → may_give slot (attempt_told a g) cmd ≡ true
-attempt_turns slot level (Moves job) g cmd own lawful made =
+    → attempt_next a g ≡ Invokes (OnBus cmd) → may_give slot (attempt_told a g) cmd ≡ true
+attempt_turns slot level (Transferring job) g cmd own lawful made =
     job_turns slot level job g cmd own lawful (moves_makes (next_of job g) (OnBus cmd) made)
-attempt_turns slot level (Waits job want) g cmd own lawful made =
+attempt_turns slot level (Awaiting job want) g cmd own lawful made =
     job_turns slot level job g cmd own lawful (waits_makes want (next_of job g) (OnBus cmd) made)
-attempt_turns slot level (Shares s) g cmd own lawful made =
+attempt_turns slot level (Sharing s) g cmd own lawful made =
     subst (λ (one : ℕ). may_give one (shared_told s g) cmd ≡ true) own.0
     (laws.turns_go_by s g cmd (subst (λ (l : ℕ). is_level l ≡ true) (sym own.1) lawful) (shares_makes (shared_next s g) (OnBus cmd) made))
 
 -- data go to a board while the slot is told that it holds the bus, or are those of a command to the local port
 abbrev pub IsTransfer : Attempt → Type 0
-IsTransfer (Moves (Bus j)) = Unit {0}
-IsTransfer (Moves (Local j)) = ⊥
-IsTransfer (Waits (Bus j) want) = Unit {0}
-IsTransfer (Waits (Local j) want) = ⊥
-IsTransfer (Shares s) = Unit {0}
+IsTransfer (Transferring (Bus j)) = Unit {0}
+IsTransfer (Transferring (Local j)) = ⊥
+IsTransfer (Awaiting (Bus j) want) = Unit {0}
+IsTransfer (Awaiting (Local j) want) = ⊥
+IsTransfer (Sharing s) = Unit {0}
 
 pub attempt_holds : (a : Attempt) (g : Given) (b : ℕ) (command : Option Command) → IsTransfer a
-    → attempt_next a g ≡ Makes (OnBoard b command) → attempt_told a g ≡ Some turned.Granted
-attempt_holds (Moves (Bus j)) g b command transfer made =
+    → attempt_next a g ≡ Invokes (OnBoard b command) → attempt_told a g ≡ Some turned.Granted
+attempt_holds (Transferring (Bus j)) g b command transfer made =
     holds_for_data j g b command (moves_makes (next_of (Bus j) g) (OnBoard b command) made)
-attempt_holds (Moves (Local j)) g b command transfer made = absurd transfer
-attempt_holds (Waits (Bus j) want) g b command transfer made =
+attempt_holds (Transferring (Local j)) g b command transfer made = absurd transfer
+attempt_holds (Awaiting (Bus j) want) g b command transfer made =
     holds_for_data j g b command (waits_makes want (next_of (Bus j) g) (OnBoard b command) made)
-attempt_holds (Waits (Local j) want) g b command transfer made = absurd transfer
-attempt_holds (Shares s) g b command transfer made =
+attempt_holds (Awaiting (Local j) want) g b command transfer made = absurd transfer
+attempt_holds (Sharing s) g b command transfer made =
     laws.holds_for_data s g b command (shares_makes (shared_next s g) (OnBoard b command) made)
 
 -- a good reply of the arbiter is what the slot is told
 pub attempt_turn : (a : Attempt) (g : Given) (cmd : ArbCmd) (reply : ArbReply) (bus : Arbitration) (slot : ℕ)
-    → attempt_next a g ≡ Makes (OnBus cmd) → IsGood (OnBus cmd) (told.Bus reply) → StandsAsTold bus slot (Some reply)
+    → attempt_next a g ≡ Invokes (OnBus cmd) → IsGood (OnBus cmd) (told.Bus reply) → StandsAsTold bus slot (Some reply)
     → StandsAsTold bus slot (attempt_told a (Some (told.Bus reply) ∷ g))
-attempt_turn (Moves job) g cmd reply bus slot made good stands =
+attempt_turn (Transferring job) g cmd reply bus slot made good stands =
     turn_told job g cmd reply bus slot (moves_makes (next_of job g) (OnBus cmd) made) stands
-attempt_turn (Waits job want) g cmd reply bus slot made good stands =
+attempt_turn (Awaiting job want) g cmd reply bus slot made good stands =
     turn_told job g cmd reply bus slot (waits_makes want (next_of job g) (OnBus cmd) made) stands
-attempt_turn (Shares s) g cmd reply bus slot made good stands =
+attempt_turn (Sharing s) g cmd reply bus slot made good stands =
     laws.turn_told s g cmd reply bus slot (shares_makes (shared_next s g) (OnBus cmd) made) good.fit good.granted stands
 
 -- and one of a board is not
-pub attempt_datum : (a : Attempt) (g : Given) (call : Call) (reply : Reply) → attempt_next a g ≡ Makes call → IsGood call (told.Board reply)
+pub attempt_datum : (a : Attempt) (g : Given) (call : Call) (reply : Reply) → attempt_next a g ≡ Invokes call → IsGood call (told.Board reply)
     → attempt_told a (Some (told.Board reply) ∷ g) ≡ attempt_told a g
-attempt_datum (Moves job) g call reply made good = datum_told job g reply
-attempt_datum (Waits job want) g call reply made good = datum_told job g reply
-attempt_datum (Shares s) g call reply made good =
+attempt_datum (Transferring job) g call reply made good = datum_told job g reply
+attempt_datum (Awaiting job want) g call reply made good = datum_told job g reply
+attempt_datum (Sharing s) g call reply made good =
     laws.datum_told s g call reply (shares_makes (shared_next s g) call made) good.fit
 
 -- an attempt that ends with a good reply is not denied, and leaves the slot as one that was told nothing; where the reply is a
@@ -112,31 +112,31 @@ pub record EndsWell (a : Attempt) (g : Given) (reply : EventReply) (answer : Lin
 -- so where its task has ended
 record EndsBy (next : Next) (answer : LineReply) : Type 0 where
   outcome : Outcome
-  ends : next ≡ tasks.Ends outcome
+  ends : next ≡ tasks.Returns outcome
   granted : outcome ≢ outcomes.Denied → IsGranted answer
 
-moves_ends : (next : Next) (answer : LineReply) → moves_next next ≡ Ends answer → EndsBy next answer
-moves_ends tasks.Rests answer ends = absurd cc
-moves_ends (tasks.Makes call) answer ends = absurd cc
-moves_ends (tasks.Ends outcome) answer ends = record {
+moves_ends : (next : Next) (answer : LineReply) → moves_next next ≡ Returns answer → EndsBy next answer
+moves_ends tasks.NotStarted answer ends = absurd cc
+moves_ends (tasks.Invokes call) answer ends = absurd cc
+moves_ends (tasks.Returns outcome) answer ends = record {
   outcome = outcome;
   ends = refl;
   granted = λ good. (λ denied. good cc, λ denied. absurd cc);
 }
 
-found_granted : (b : Bool) (answer : LineReply) → Ends (if b then replies.Met else replies.Timeout) ≡ Ends answer → IsGranted answer
+found_granted : (b : Bool) (answer : LineReply) → Returns (if b then replies.Met else replies.Timeout) ≡ Returns answer → IsGranted answer
 found_granted true answer ends = (λ denied. absurd cc, λ denied. absurd cc)
 found_granted false answer ends = (λ denied. absurd cc, λ denied. absurd cc)
 
-waits_ends : (want : List ℕ) (next : Next) (answer : LineReply) → waits_next want next ≡ Ends answer → EndsBy next answer
-waits_ends want tasks.Rests answer ends = absurd cc
-waits_ends want (tasks.Makes call) answer ends = absurd cc
-waits_ends want (tasks.Ends (outcomes.Read bytes)) answer ends = record {
+waits_ends : (want : List ℕ) (next : Next) (answer : LineReply) → waits_next want next ≡ Returns answer → EndsBy next answer
+waits_ends want tasks.NotStarted answer ends = absurd cc
+waits_ends want (tasks.Invokes call) answer ends = absurd cc
+waits_ends want (tasks.Returns (outcomes.Read bytes)) answer ends = record {
   outcome = outcomes.Read bytes;
   ends = refl;
   granted = λ good. found_granted (bytes_eq bytes.items want) answer ends;
 }
-waits_ends want (tasks.Ends outcome) answer ends = record {
+waits_ends want (tasks.Returns outcome) answer ends = record {
   outcome = outcome;
   ends = refl;
   granted = λ good. (λ denied. good cc, λ denied. absurd cc);
@@ -144,13 +144,13 @@ waits_ends want (tasks.Ends outcome) answer ends = record {
 
 record SharedEnd (next : SharedNext) (answer : LineReply) : Type 0 where
   outcome : SharedOutcome
-  ends : next ≡ shares.Ends outcome
+  ends : next ≡ shares.Returns outcome
   is : replies.Shared outcome ≡ answer
 
-shares_ends : (next : SharedNext) (answer : LineReply) → shares_next next ≡ Ends answer → SharedEnd next answer
-shares_ends shares.Rests answer ends = absurd cc
-shares_ends (shares.Makes call) answer ends = absurd cc
-shares_ends (shares.Ends outcome) answer ends = record { outcome = outcome; ends = refl; is = cc }
+shares_ends : (next : SharedNext) (answer : LineReply) → shares_next next ≡ Returns answer → SharedEnd next answer
+shares_ends shares.NotStarted answer ends = absurd cc
+shares_ends (shares.Invokes call) answer ends = absurd cc
+shares_ends (shares.Returns outcome) answer ends = record { outcome = outcome; ends = refl; is = cc }
 
 shared_granted : (outcome : SharedOutcome) → outcome ≢ shared.Denied → IsGranted (replies.Shared outcome)
 shared_granted outcome good = (λ denied. absurd cc, λ denied. good cc)
@@ -159,10 +159,10 @@ board_quiet : (job : Job) (g : Given) (reply : EventReply) (datum : Reply) → F
 board_quiet (Bus j) g reply datum freed board = absurd cc
 board_quiet (Local j) g reply datum freed board = refl
 
-pub attempt_ends : (a : Attempt) (g : Given) (call : Call) (reply : EventReply) (answer : LineReply) → attempt_next a g ≡ Makes call
-    → IsGood call reply → attempt_next a (Some reply ∷ g) ≡ Ends answer → EndsWell a g reply answer
-attempt_ends (Moves job) g call reply answer made good ends =
-    let was : next_of job g ≡ tasks.Makes call = moves_makes (next_of job g) call made in
+pub attempt_ends : (a : Attempt) (g : Given) (call : Call) (reply : EventReply) (answer : LineReply) → attempt_next a g ≡ Invokes call
+    → IsGood call reply → attempt_next a (Some reply ∷ g) ≡ Returns answer → EndsWell a g reply answer
+attempt_ends (Transferring job) g call reply answer made good ends =
+    let was : next_of job g ≡ tasks.Invokes call = moves_makes (next_of job g) call made in
     let by = moves_ends (next_of job (Some reply ∷ g)) answer ends in
     let freed = good_freed job g call reply by.outcome was good by.ends in
     record {
@@ -170,8 +170,8 @@ attempt_ends (Moves job) g call reply answer made good ends =
       free = λ bus slot stands. freed_stands job g reply bus slot freed stands;
       quiet = λ datum board. board_quiet job g reply datum freed board;
     }
-attempt_ends (Waits job want) g call reply answer made good ends =
-    let was : next_of job g ≡ tasks.Makes call = waits_makes want (next_of job g) call made in
+attempt_ends (Awaiting job want) g call reply answer made good ends =
+    let was : next_of job g ≡ tasks.Invokes call = waits_makes want (next_of job g) call made in
     let by = waits_ends want (next_of job (Some reply ∷ g)) answer ends in
     let freed = good_freed job g call reply by.outcome was good by.ends in
     record {
@@ -179,7 +179,7 @@ attempt_ends (Waits job want) g call reply answer made good ends =
       free = λ bus slot stands. freed_stands job g reply bus slot freed stands;
       quiet = λ datum board. board_quiet job g reply datum freed board;
     }
-attempt_ends (Shares s) g call reply answer made good ends =
+attempt_ends (Sharing s) g call reply answer made good ends =
     let by = shares_ends (shared_next s (Some reply ∷ g)) answer ends in
     let well = laws.ends_well s g call reply by.outcome (shares_makes (shared_next s g) call made) good.fit good.granted by.ends in
     record {

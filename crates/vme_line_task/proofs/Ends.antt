@@ -19,73 +19,73 @@ use Rattle.vme_shared.specs.Tables.{SharedJob, SharedNext, stage_job, stage_begu
 use Rattle.vme_shared.proofs.lemmas.Tenures.{end_stays}
 use Rattle.vme_grammar.specs.declared.line.Line.{Line}
 use Rattle.vme_script.specs.Configurations.{Configuration}
-use Rattle.vme_line_task.specs.Scripts.{Attempt, Moves, Waits, Shares, line_attempt}
+use Rattle.vme_line_task.specs.Scripts.{Attempt, Transferring, Awaiting, Sharing, line_attempt}
 use Rattle.vme_line_task.specs.Tenures.{IsGranted}
-use Rattle.vme_line_task.specs.Tables.{LineNext, Ends, moves_next, waits_next, shares_next, attempt_next, asks_again, next_asks_again, Attempts, next_attempt, attempts_of, lawful_next, next_given}
+use Rattle.vme_line_task.specs.Tables.{LineNext, Returns, moves_next, waits_next, shares_next, attempt_next, asks_again, next_asks_again, Attempts, next_attempt, attempts_of, lawful_next, next_given}
 
 -- a task's end is for good
-task_stays : (job : Job) (given : Given) (last : Option EventReply) (outcome : Outcome) → next_of job given ≡ tasks.Ends outcome
-    → next_of job (last ∷ given) ≡ tasks.Ends outcome
+task_stays : (job : Job) (given : Given) (last : Option EventReply) (outcome : Outcome) → next_of job given ≡ tasks.Returns outcome
+    → next_of job (last ∷ given) ≡ tasks.Returns outcome
 task_stays job given last outcome ended = ap (λ next. next_after job next last given) ended
 
 moves_stays : (job : Job) (given : Given) (last : Option EventReply) (answer : LineReply) (next : Next) → next_of job given ≡ next
-    → moves_next next ≡ Ends answer → moves_next (next_of job (last ∷ given)) ≡ Ends answer
-moves_stays job given last answer tasks.Rests is ends = absurd cc
-moves_stays job given last answer (tasks.Makes call) is ends = absurd cc
-moves_stays job given last answer (tasks.Ends outcome) is ends = ap moves_next (task_stays job given last outcome is) ∙ ends
+    → moves_next next ≡ Returns answer → moves_next (next_of job (last ∷ given)) ≡ Returns answer
+moves_stays job given last answer tasks.NotStarted is ends = absurd cc
+moves_stays job given last answer (tasks.Invokes call) is ends = absurd cc
+moves_stays job given last answer (tasks.Returns outcome) is ends = ap moves_next (task_stays job given last outcome is) ∙ ends
 
 waits_stays : (job : Job) (want : List ℕ) (given : Given) (last : Option EventReply) (answer : LineReply) (next : Next) → next_of job given ≡ next
-    → waits_next want next ≡ Ends answer → waits_next want (next_of job (last ∷ given)) ≡ Ends answer
-waits_stays job want given last answer tasks.Rests is ends = absurd cc
-waits_stays job want given last answer (tasks.Makes call) is ends = absurd cc
-waits_stays job want given last answer (tasks.Ends outcome) is ends = ap (waits_next want) (task_stays job given last outcome is) ∙ ends
+    → waits_next want next ≡ Returns answer → waits_next want (next_of job (last ∷ given)) ≡ Returns answer
+waits_stays job want given last answer tasks.NotStarted is ends = absurd cc
+waits_stays job want given last answer (tasks.Invokes call) is ends = absurd cc
+waits_stays job want given last answer (tasks.Returns outcome) is ends = ap (waits_next want) (task_stays job given last outcome is) ∙ ends
 
 shares_stays : (s : SharedJob) (given : Given) (last : Option EventReply) (answer : LineReply) (next : SharedNext) → shared_next s given ≡ next
-    → shares_next next ≡ Ends answer → shares_next (shared_next s (last ∷ given)) ≡ Ends answer
-shares_stays s given last answer shares.Rests is ends = absurd cc
-shares_stays s given last answer (shares.Makes call) is ends = absurd cc
-shares_stays s given last answer (shares.Ends outcome) is ends = ap shares_next (end_stays s given outcome last is) ∙ ends
+    → shares_next next ≡ Returns answer → shares_next (shared_next s (last ∷ given)) ≡ Returns answer
+shares_stays s given last answer shares.NotStarted is ends = absurd cc
+shares_stays s given last answer (shares.Invokes call) is ends = absurd cc
+shares_stays s given last answer (shares.Returns outcome) is ends = ap shares_next (end_stays s given outcome last is) ∙ ends
 
 -- and so is an attempt's
-attempt_stays : (a : Attempt) (given : Given) (last : Option EventReply) (answer : LineReply) → attempt_next a given ≡ Ends answer
-    → attempt_next a (last ∷ given) ≡ Ends answer
-attempt_stays (Moves job) given last answer ends = moves_stays job given last answer (next_of job given) refl ends
-attempt_stays (Waits job want) given last answer ends = waits_stays job want given last answer (next_of job given) refl ends
-attempt_stays (Shares s) given last answer ends = shares_stays s given last answer (shared_next s given) refl ends
+attempt_stays : (a : Attempt) (given : Given) (last : Option EventReply) (answer : LineReply) → attempt_next a given ≡ Returns answer
+    → attempt_next a (last ∷ given) ≡ Returns answer
+attempt_stays (Transferring job) given last answer ends = moves_stays job given last answer (next_of job given) refl ends
+attempt_stays (Awaiting job want) given last answer ends = waits_stays job want given last answer (next_of job given) refl ends
+attempt_stays (Sharing s) given last answer ends = shares_stays s given last answer (shared_next s given) refl ends
 
 -- an attempt that ends before its first call, or with it, is no denial and not made again: a transfer of it is refused
 pub record EndsAtOnce (answer : LineReply) : Type 0 where
   pub granted : IsGranted answer
   pub last : asks_again answer ≡ false
 
-at_once : (answer : LineReply) → Ends (Shared shared.Berr) ≡ Ends answer → EndsAtOnce answer
+at_once : (answer : LineReply) → Returns (Shared shared.Berr) ≡ Returns answer → EndsAtOnce answer
 at_once answer ends =
     let is : replies.Shared shared.Berr ≡ answer = cc in
     subst EndsAtOnce is (record { granted = (λ denied. absurd cc, λ denied. absurd cc); last = refl })
 
 stage_not_begun : (stage : Stage) (job : Result Job CycleFault) (answer : LineReply)
-    → shares_next (next_at (stage_begun stage [] job)) ≡ Ends answer → EndsAtOnce answer
+    → shares_next (next_at (stage_begun stage [] job)) ≡ Returns answer → EndsAtOnce answer
 stage_not_begun stage (Ok job) answer ends = absurd cc
 stage_not_begun stage (Err fault) answer ends = at_once answer ends
 
 stage_just_begun : (s : SharedJob) (stage : Stage) (job : Result Job CycleFault) (answer : LineReply)
-    → shares_next (next_at (progress_given s None (stage_begun stage [] job))) ≡ Ends answer → EndsAtOnce answer
+    → shares_next (next_at (progress_given s None (stage_begun stage [] job))) ≡ Returns answer → EndsAtOnce answer
 stage_just_begun s stage (Ok job) answer ends = absurd cc
 stage_just_begun s stage (Err fault) answer ends = at_once answer ends
 
-not_begun : (a : Attempt) (answer : LineReply) → attempt_next a [] ≡ Ends answer → EndsAtOnce answer
-not_begun (Moves job) answer ends = absurd cc
-not_begun (Waits job want) answer ends = absurd cc
-not_begun (Shares s) answer ends = stage_not_begun (first_stage s.request) (stage_job s (first_stage s.request)) answer ends
+not_begun : (a : Attempt) (answer : LineReply) → attempt_next a [] ≡ Returns answer → EndsAtOnce answer
+not_begun (Transferring job) answer ends = absurd cc
+not_begun (Awaiting job want) answer ends = absurd cc
+not_begun (Sharing s) answer ends = stage_not_begun (first_stage s.request) (stage_job s (first_stage s.request)) answer ends
 
-pub just_begun : (a : Attempt) (answer : LineReply) → attempt_next a (None ∷ []) ≡ Ends answer → EndsAtOnce answer
-just_begun (Moves job) answer ends = absurd cc
-just_begun (Waits job want) answer ends = absurd cc
-just_begun (Shares s) answer ends = stage_just_begun s (first_stage s.request) (stage_job s (first_stage s.request)) answer ends
+pub just_begun : (a : Attempt) (answer : LineReply) → attempt_next a (None ∷ []) ≡ Returns answer → EndsAtOnce answer
+just_begun (Transferring job) answer ends = absurd cc
+just_begun (Awaiting job want) answer ends = absurd cc
+just_begun (Sharing s) answer ends = stage_just_begun s (first_stage s.request) (stage_job s (first_stage s.request)) answer ends
 
 -- an attempt that has ended is the last one
 abbrev IsLast : Attempt → Attempts → Type 0
-IsLast a made = (answer : LineReply) → attempt_next a made.given ≡ Ends answer → (asks_again answer && nat_lt 1 made.left) ≡ false
+IsLast a made = (answer : LineReply) → attempt_next a made.given ≡ Returns answer → (asks_again answer && nat_lt 1 made.left) ≡ false
 
 last_attempt : (a : Attempt) (made : Attempts) → IsLast a (next_attempt made (attempt_next a made.given))
 last_attempt a made =
@@ -102,16 +102,16 @@ all_last a tries (last ∷ before) =
 
 -- so the line does not go on
 lawful_stays : (tries : ℕ) (attempt : Result Attempt CycleFault) (given : Given) (last : Option EventReply) (answer : LineReply)
-    → lawful_next tries attempt given ≡ Ends answer → lawful_next tries attempt (last ∷ given) ≡ Ends answer
+    → lawful_next tries attempt given ≡ Returns answer → lawful_next tries attempt (last ∷ given) ≡ Returns answer
 lawful_stays tries (Err fault) given last answer ends = ends
 lawful_stays tries (Ok a) given last answer ends =
     let made = attempts_of a tries given in
-    let stays : attempt_next a (last ∷ made.given) ≡ Ends answer = attempt_stays a made.given last answer ends in
+    let stays : attempt_next a (last ∷ made.given) ≡ Returns answer = attempt_stays a made.given last answer ends in
     let over : (asks_again answer && nat_lt 1 made.left) ≡ false = all_last a tries given answer ends in
     ap (λ (next : LineNext). attempt_next a (next_attempt (record { given = last ∷ made.given; left = made.left }) next).given) stays
     ∙ rw over stays
 
 pub answer_stays : (config : Configuration) (board : ℕ) (line : Line) (given : Given) (last : Option EventReply) (answer : LineReply)
-    → next_given config board line given ≡ Ends answer → next_given config board line (last ∷ given) ≡ Ends answer
+    → next_given config board line given ≡ Returns answer → next_given config board line (last ∷ given) ≡ Returns answer
 unfolding next_given
 answer_stays config board line given last answer ends = lawful_stays config.tries (line_attempt config board line) given last answer ends

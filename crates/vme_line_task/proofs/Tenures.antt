@@ -10,15 +10,15 @@ use Rattle.vme_arbiter.specs.Turns.{StandsAsTold}
 use Rattle.vme_core.specs.declared.event.EventReply.{EventReply}
 use Rattle.vme_core.specs.declared.event.EventReply.TheVariants as told
 use Rattle.vme_core.specs.Calls.{Call, OnBus}
-use Rattle.vme_master.specs.declared.aim.Aim.{Aim}
-use Rattle.vme_master.specs.declared.aim.Aim.TheVariants as aims
+use Rattle.vme_master.specs.declared.expected.ExpectedReply.{ExpectedReply}
+use Rattle.vme_master.specs.declared.expected.ExpectedReply.TheVariants as expected_replies
 use Rattle.vme_master.specs.declared.job.BusJob.{BusJob}
 use Rattle.vme_master.specs.declared.job.LocalJob.{LocalJob}
 use Rattle.vme_master.specs.declared.job.Job.{Job}
 use Rattle.vme_master.specs.declared.job.Job.TheVariants.{Bus, Local}
 use Rattle.vme_master.specs.declared.outcome.Outcome.{Outcome}
 use Rattle.vme_master.specs.declared.outcome.Outcome.TheVariants as outcomes
-use Rattle.vme_master.specs.Jobs.{local_call, fits, aim_outcome}
+use Rattle.vme_master.specs.Jobs.{local_call, fits, expected_outcome}
 use Rattle.vme_master.specs.Tables as tasks
 use Rattle.vme_master.specs.Tables.{Next, Given, next_of, next_after, outcome_by, row_of_reply, bus_row, local_row}
 use Rattle.vme_master.proofs.lemmas.Tenures.{ends_freed}
@@ -26,37 +26,37 @@ use Rattle.vme_master.proofs.lemmas.Locals.{local_calls}
 use Rattle.vme_line_task.specs.Tenures.{job_told, IsGood}
 
 -- what comes of bytes is no denial
-aim_granted : (aim : Aim) (bytes : List ℕ) → aim_outcome aim bytes ≢ outcomes.Denied
-aim_granted (aims.Read n) bytes = λ same. absurd cc
-aim_granted (aims.Modify n) bytes = λ same. absurd cc
-aim_granted aims.Write bytes = λ same. absurd cc
+expected_granted : (expected : ExpectedReply) (bytes : List ℕ) → expected_outcome expected bytes ≢ outcomes.Denied
+expected_granted (expected_replies.Read n) bytes = λ same. absurd cc
+expected_granted (expected_replies.Modify n) bytes = λ same. absurd cc
+expected_granted expected_replies.Write bytes = λ same. absurd cc
 
 outcome_granted : (j : BusJob) (place : Option (ℕ × ℕ)) (g : Given) → outcome_by j place g ≢ outcomes.Denied
 outcome_granted j None g = λ same. absurd cc
-outcome_granted j (Some place) [] = aim_granted _ _
-outcome_granted j (Some place) (None ∷ before) = aim_granted _ _
-outcome_granted j (Some place) (Some (told.Bus reply) ∷ before) = aim_granted _ _
-outcome_granted j (Some place) (Some (told.Board (Bytes datum)) ∷ before) = aim_granted _ _
-outcome_granted j (Some place) (Some (told.Board Done) ∷ before) = aim_granted _ _
+outcome_granted j (Some place) [] = expected_granted _ _
+outcome_granted j (Some place) (None ∷ before) = expected_granted _ _
+outcome_granted j (Some place) (Some (told.Bus reply) ∷ before) = expected_granted _ _
+outcome_granted j (Some place) (Some (told.Board (Bytes datum)) ∷ before) = expected_granted _ _
+outcome_granted j (Some place) (Some (told.Board Done) ∷ before) = expected_granted _ _
 outcome_granted j (Some place) (Some (told.Board Berr) ∷ before) = λ same. absurd cc
 
 -- an end that is a denial
 abbrev IsDenial : Next → Type 0
-IsDenial (tasks.Ends outcomes.Denied) = Unit {0}
+IsDenial (tasks.Returns outcomes.Denied) = Unit {0}
 IsDenial next = ⊥
 
-end_granted : (outcome : Outcome) → outcome ≢ outcomes.Denied → IsDenial (tasks.Ends outcome) → ⊥
+end_granted : (outcome : Outcome) → outcome ≢ outcomes.Denied → IsDenial (tasks.Returns outcome) → ⊥
 end_granted outcomes.Denied good denial = good refl
 end_granted (outcomes.Read bytes) good denial = denial
 end_granted outcomes.Done good denial = denial
 end_granted (outcomes.Old bytes) good denial = denial
 end_granted (outcomes.Berr count bytes) good denial = denial
 
-datum_granted : (j : BusJob) (i : ℕ) → IsDenial (tasks.Makes (tasks.datum_or_done j i)) → ⊥
+datum_granted : (j : BusJob) (i : ℕ) → IsDenial (tasks.Invokes (tasks.datum_or_done j i)) → ⊥
 datum_granted j i denial = denial
 
 -- a good reply's row is no denial
-row_granted : (job : Job) (g : Given) (call : Call) (reply : EventReply) → next_of job g ≡ tasks.Makes call → IsGood call reply
+row_granted : (job : Job) (g : Given) (call : Call) (reply : EventReply) → next_of job g ≡ tasks.Invokes call → IsGood call reply
     → IsDenial (row_of_reply job reply g) → ⊥
 row_granted (Bus j) g call (told.Bus turned.Waiting) made good denial = denial
 row_granted (Bus j) g call (told.Bus turned.Granted) made good denial = denial
@@ -65,8 +65,8 @@ row_granted (Bus j) g call (told.Board Done) made good denial = denial
 row_granted (Bus j) g call (told.Board Berr) made good denial = denial
 row_granted (Bus j) g call (told.Bus turned.Freed) made good denial = end_granted (outcome_by j j.place g) (outcome_granted j j.place g) denial
 row_granted (Bus j) g call (told.Bus turned.Denied) made good denial = good.granted refl
-row_granted (Local j) g call (told.Board (Bytes datum)) made good denial = end_granted _ (aim_granted _ datum.items) denial
-row_granted (Local j) g call (told.Board Done) made good denial = end_granted _ (aim_granted _ []) denial
+row_granted (Local j) g call (told.Board (Bytes datum)) made good denial = end_granted _ (expected_granted _ datum.items) denial
+row_granted (Local j) g call (told.Board Done) made good denial = end_granted _ (expected_granted _ []) denial
 row_granted (Local j) g call (told.Board Berr) made good denial = denial
 row_granted (Local j) g call (told.Bus reply) made good denial =
     let own : call ≡ local_call j = local_calls j g call made in
@@ -74,24 +74,24 @@ row_granted (Local j) g call (told.Bus reply) made good denial =
     absurd cc
 
 -- after a good reply a task goes by its row
-good_row : (job : Job) (g : Given) (call : Call) (reply : EventReply) → next_of job g ≡ tasks.Makes call → IsGood call reply
+good_row : (job : Job) (g : Given) (call : Call) (reply : EventReply) → next_of job g ≡ tasks.Invokes call → IsGood call reply
     → next_of job (Some reply ∷ g) ≡ row_of_reply job reply g
 good_row job g call reply made good = rw (made, good.fit) refl
 
 -- so its end is no denial
-pub good_end : (job : Job) (g : Given) (call : Call) (reply : EventReply) (outcome : Outcome) → next_of job g ≡ tasks.Makes call
-    → IsGood call reply → next_of job (Some reply ∷ g) ≡ tasks.Ends outcome → outcome ≢ outcomes.Denied
+pub good_end : (job : Job) (g : Given) (call : Call) (reply : EventReply) (outcome : Outcome) → next_of job g ≡ tasks.Invokes call
+    → IsGood call reply → next_of job (Some reply ∷ g) ≡ tasks.Returns outcome → outcome ≢ outcomes.Denied
 good_end job g call reply outcome made good ends = λ denied.
     row_granted job g call reply made good
-    (subst IsDenial (sym (ap tasks.Ends denied) ∙ sym ends ∙ good_row job g call reply made good) tt)
+    (subst IsDenial (sym (ap tasks.Returns denied) ∙ sym ends ∙ good_row job g call reply made good) tt)
 
 -- and the slot was told so, if it is a transfer's
 abbrev pub FreedBy : Job → EventReply → Type 0
 FreedBy (Bus j) reply = reply ≡ told.Bus turned.Freed
 FreedBy (Local j) reply = Unit {0}
 
-pub good_freed : (job : Job) (g : Given) (call : Call) (reply : EventReply) (outcome : Outcome) → next_of job g ≡ tasks.Makes call
-    → IsGood call reply → next_of job (Some reply ∷ g) ≡ tasks.Ends outcome → FreedBy job reply
+pub good_freed : (job : Job) (g : Given) (call : Call) (reply : EventReply) (outcome : Outcome) → next_of job g ≡ tasks.Invokes call
+    → IsGood call reply → next_of job (Some reply ∷ g) ≡ tasks.Returns outcome → FreedBy job reply
 good_freed (Bus j) g call reply outcome made good ends =
     ends_freed j g call reply outcome made ends (good_end (Bus j) g call reply outcome made good ends)
 good_freed (Local j) g call reply outcome made good ends = tt
@@ -103,12 +103,12 @@ freed_stands (Bus j) g reply bus slot freed stands = subst (λ r. StandsAsTold b
 freed_stands (Local j) g reply bus slot freed stands = stands
 
 -- no command of a local port goes to the arbiter
-pub local_never : (j : LocalJob) (g : Given) (cmd : ArbCmd) → next_of (Local j) g ≡ tasks.Makes (OnBus cmd) → ⊥
+pub local_never : (j : LocalJob) (g : Given) (cmd : ArbCmd) → next_of (Local j) g ≡ tasks.Invokes (OnBus cmd) → ⊥
 local_never j g cmd made = let own : OnBus cmd ≡ local_call j = local_calls j g (OnBus cmd) made in absurd cc
 
 -- a task is told what the arbiter replies
 pub turn_told : (job : Job) (g : Given) (cmd : ArbCmd) (reply : ArbReply) (bus : Arbitration) (slot : ℕ)
-    → next_of job g ≡ tasks.Makes (OnBus cmd) → StandsAsTold bus slot (Some reply)
+    → next_of job g ≡ tasks.Invokes (OnBus cmd) → StandsAsTold bus slot (Some reply)
     → StandsAsTold bus slot (job_told job (Some (told.Bus reply) ∷ g))
 turn_told (Bus j) g cmd reply bus slot made stands = stands
 turn_told (Local j) g cmd reply bus slot made stands = absurd (local_never j g cmd made)

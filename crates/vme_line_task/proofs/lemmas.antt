@@ -1,6 +1,6 @@
 pub mod Below
 pub mod Calls
-pub mod Courses
+pub mod Traces
 pub mod Kept
 pub mod LineBuffers
 pub mod Lines

@@ -4,5 +4,5 @@ pub mod Waits
 pub mod Tables
 pub mod Machine
 pub mod Events
-pub mod Courses
+pub mod Traces
 pub mod Tenures

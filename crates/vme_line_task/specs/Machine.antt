@@ -11,19 +11,19 @@ use Rattle.vme_shared.specs.Machine.{shared_fresh, shared_advance, shared_to_do}
 use Rattle.vme_grammar.specs.declared.line.Line.{Line}
 use Rattle.vme_script.specs.Configurations.{Configuration}
 use Rattle.vme_line_task.specs.declared.task.LineTask.{LineTask}
-use Rattle.vme_line_task.specs.declared.task.LineTask.TheVariants.{Refused, Tries, Over}
+use Rattle.vme_line_task.specs.declared.task.LineTask.TheVariants.{Refused, Running, Finished}
 use Rattle.vme_line_task.specs.declared.attempt.Attempts.{Attempts}
 use Rattle.vme_line_task.specs.declared.attempt.AttemptTask.{AttemptTask}
 use Rattle.vme_line_task.specs.declared.attempt.AttemptTask.TheVariants as tries
-use Rattle.vme_line_task.specs.Scripts.{Attempt, Moves, Waits, Shares, line_attempt}
-use Rattle.vme_line_task.specs.Tables.{LineNext, Makes, Ends, moves_next, waits_next, shares_next, next_asks_again, given_of}
+use Rattle.vme_line_task.specs.Scripts.{Attempt, Transferring, Awaiting, Sharing, line_attempt}
+use Rattle.vme_line_task.specs.Tables.{LineNext, Invokes, Returns, moves_next, waits_next, shares_next, next_asks_again, given_of}
 use Rattle.vme_line_task.specs.Events.{IsCallBelow}
 
 -- the task of an attempt before its first call (this project's own)
 abbrev pub attempt_fresh : Attempt → AttemptTask
-attempt_fresh (Moves job) = tries.Moves (fresh_task job)
-attempt_fresh (Waits job want) = tries.Waits (record { task = fresh_task job; want = record { items = want } })
-attempt_fresh (Shares s) = tries.Shares (shared_fresh s)
+attempt_fresh (Transferring job) = tries.Transfer (fresh_task job)
+attempt_fresh (Awaiting job want) = tries.Await (record { task = fresh_task job; want = record { items = want } })
+attempt_fresh (Sharing s) = tries.Shared (shared_fresh s)
 
 -- the task of what is attempted, or the refusal (this project's own)
 abbrev pub fresh_of : Result Attempt CycleFault → Result AttemptTask CycleFault
@@ -32,21 +32,21 @@ fresh_of (Err fault) = Err fault
 
 -- the same attempt before its first call (this project's own)
 abbrev pub attempt_anew : AttemptTask → AttemptTask
-attempt_anew (tries.Moves t) = tries.Moves (fresh_task t.job)
-attempt_anew (tries.Waits w) = tries.Waits (record { task = fresh_task w.task.job; want = w.want })
-attempt_anew (tries.Shares v) = tries.Shares (shared_fresh v.job)
+attempt_anew (tries.Transfer t) = tries.Transfer (fresh_task t.job)
+attempt_anew (tries.Await w) = tries.Await (record { task = fresh_task w.task.job; want = w.want })
+attempt_anew (tries.Shared v) = tries.Shared (shared_fresh v.job)
 
 -- an attempt after a call of it (this project's own)
 abbrev pub attempt_advance : AttemptTask → Option EventReply → AttemptTask
-attempt_advance (tries.Moves t) given = tries.Moves (advance t given)
-attempt_advance (tries.Waits w) given = tries.Waits (record { task = advance w.task given; want = w.want })
-attempt_advance (tries.Shares v) given = tries.Shares (shared_advance v given)
+attempt_advance (tries.Transfer t) given = tries.Transfer (advance t given)
+attempt_advance (tries.Await w) given = tries.Await (record { task = advance w.task given; want = w.want })
+attempt_advance (tries.Shared v) given = tries.Shared (shared_advance v given)
 
 -- what an attempt does next (this project's own)
 abbrev pub attempt_to_do : AttemptTask → LineNext
-attempt_to_do (tries.Moves t) = moves_next (to_do t)
-attempt_to_do (tries.Waits w) = waits_next w.want.items (to_do w.task)
-attempt_to_do (tries.Shares v) = shares_next (shared_to_do v)
+attempt_to_do (tries.Transfer t) = moves_next (to_do t)
+attempt_to_do (tries.Await w) = waits_next w.want.items (to_do w.task)
+attempt_to_do (tries.Shared v) = shares_next (shared_to_do v)
 
 -- where the attempt at work has ended with an answer that asks for another, that one has begun, while there may be one more
 -- (this project's own)
@@ -64,7 +64,7 @@ attempts_advance a given =
 
 -- a line before its first call, by what is attempted for it, or its refusal (this project's own)
 abbrev pub line_fresh : ℕ → Result Attempt CycleFault → LineTask
-line_fresh tries (Ok attempt) = Tries (record { attempt = attempt_fresh attempt; left = tries })
+line_fresh tries (Ok attempt) = Running (record { attempt = attempt_fresh attempt; left = tries })
 line_fresh tries (Err fault) = Refused fault
 
 -- a line of a board's processor before its first call (this project's own)
@@ -74,30 +74,30 @@ line_started config board line = line_fresh config.tries (line_attempt config bo
 -- a line after a call of it (this project's own)
 abbrev pub line_advance : LineTask → Option EventReply → LineTask
 line_advance (Refused fault) given = Refused fault
-line_advance (Tries a) given = Tries (attempts_advance a given)
-line_advance Over given = Over
+line_advance (Running a) given = Running (attempts_advance a given)
+line_advance Finished given = Finished
 
 -- what a line does next; one whose answer was taken is denied any other (this project's own)
 abbrev pub line_to_do : LineTask → LineNext
-line_to_do (Refused fault) = Ends (replies.Refused fault)
-line_to_do (Tries a) = attempt_to_do a.attempt
-line_to_do Over = Ends (replies.Transfer outcomes.Denied)
+line_to_do (Refused fault) = Returns (replies.Refused fault)
+line_to_do (Running a) = attempt_to_do a.attempt
+line_to_do Finished = Returns (replies.Transfer outcomes.Denied)
 
 -- how many attempts at a line there may be yet, the one at work among them; there is none at one that is refused or
 -- answered (this project's own)
 abbrev pub attempts_left : LineTask → ℕ
 attempts_left (Refused fault) = 0
-attempts_left (Tries a) = a.left
-attempts_left Over = 0
+attempts_left (Running a) = a.left
+attempts_left Finished = 0
 
 -- attempts of which this is next: where the answer was taken they are over (this project's own)
 abbrev pub attempts_taken : Attempts → LineNext → LineTask
-attempts_taken a (Ends answer) = Over
-attempts_taken a next = Tries a
+attempts_taken a (Returns answer) = Finished
+attempts_taken a next = Running a
 
 -- a line after its answer was taken, if it has one: a refusal stays as it is (this project's own)
 abbrev pub line_taken : LineTask → LineTask
-line_taken (Tries a) = attempts_taken a (attempt_to_do a.attempt)
+line_taken (Running a) = attempts_taken a (attempt_to_do a.attempt)
 line_taken task = task
 
 -- a line after calls with what it was given (this project's own)
@@ -115,4 +115,4 @@ line_after config board line replies = line_given config board line (given_of re
 
 -- the boards that a line calls, whatever it is given, are among the first n (this project's own)
 unfoldable pub IsLineBelow : ℕ → LineTask → Type 0
-IsLineBelow n task = (given : Given) (call : Call) → line_to_do (line_advanced task given) ≡ Makes call → IsCallBelow n call
+IsLineBelow n task = (given : Given) (call : Call) → line_to_do (line_advanced task given) ≡ Invokes call → IsCallBelow n call

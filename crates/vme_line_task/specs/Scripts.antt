@@ -51,9 +51,9 @@ HasItsMailbox config line = Unit {0}
 -- an attempt at a line: a transfer over the bus or a command to the local port; a transfer that is to read these bytes; or what
 -- is asked of a lock or a mailbox (this project's own)
 pub data Attempt : Type 0 where
-  Moves : Job → Attempt
-  Waits : Job → List ℕ → Attempt
-  Shares : SharedJob → Attempt
+  Transferring : Job → Attempt
+  Awaiting : Job → List ℕ → Attempt
+  Sharing : SharedJob → Attempt
 
 -- the transfer of a processor's lawful request (this project's own)
 abbrev pub transfer_job : Configuration → ℕ → Transfer → Job
@@ -80,15 +80,15 @@ shared_job config board request = record {
 
 -- the attempt of what is asked of a lock or a mailbox, or its refusal (this project's own)
 abbrev pub shared_attempt : Configuration → ℕ → SharedRequest → Result Attempt CycleFault
-shared_attempt config board request = unless_refused (Shares (shared_job config board request)) (shared_refusal request)
+shared_attempt config board request = unless_refused (Sharing (shared_job config board request)) (shared_refusal request)
 
 -- what is attempted for a line of a board's processor: a transfer over the bus; a command to the local port of its own board;
 -- where it waits for bytes, a read over the bus of as many; or what it asks of a lock or a mailbox (this project's own)
 abbrev pub line_attempt : Configuration → ℕ → Line → Result Attempt CycleFault
-line_attempt config board (Bus request) = request_attempt (λ t. Moves (transfer_job config board t)) (transfer_of request)
-line_attempt config board (Local cmd) = Ok (Moves (local_job board cmd))
+line_attempt config board (Bus request) = request_attempt (λ t. Transferring (transfer_job config board t)) (transfer_of request)
+line_attempt config board (Local cmd) = Ok (Transferring (local_job board cmd))
 line_attempt config board (Await am addr bytes) =
-    request_attempt (λ t. Waits (transfer_job config board t) bytes.items)
+    request_attempt (λ t. Awaiting (transfer_job config board t) bytes.items)
     (transfer_of (requests.Read am addr (length bytes.items)))
 line_attempt config board (Lock am addr) = shared_attempt config board (asked.Lock am addr)
 line_attempt config board (Unlock am addr) = shared_attempt config board (asked.Unlock am addr)

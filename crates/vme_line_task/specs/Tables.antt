@@ -14,40 +14,40 @@ use Rattle.vme_shared.specs.Tables as shares
 use Rattle.vme_shared.specs.Tables.{SharedNext, shared_next}
 use Rattle.vme_grammar.specs.declared.line.Line.{Line}
 use Rattle.vme_script.specs.Configurations.{Configuration}
-use Rattle.vme_line_task.specs.Scripts.{Attempt, Moves, Waits, Shares, line_attempt}
+use Rattle.vme_line_task.specs.Scripts.{Attempt, Transferring, Awaiting, Sharing, line_attempt}
 
 -- what a line does next: it rests until its first call; it makes a call, and wants the reply; or it has ended
 -- (this project's own)
 pub data LineNext : Type 0 where
-  Rests : LineNext
-  Makes : Call → LineNext
-  Ends : LineReply → LineNext
+  NotStarted : LineNext
+  Invokes : Call → LineNext
+  Returns : LineReply → LineNext
 
 -- a transfer or a command of a line is answered what comes of it (this project's own)
 abbrev pub moves_next : Next → LineNext
-moves_next tasks.Rests = Rests
-moves_next (tasks.Makes call) = Makes call
-moves_next (tasks.Ends outcome) = Ends (Transfer outcome)
+moves_next tasks.NotStarted = NotStarted
+moves_next (tasks.Invokes call) = Invokes call
+moves_next (tasks.Returns outcome) = Returns (Transfer outcome)
 
 -- a read that is to find bytes is answered whether these are they, and a bus error or a denial as it is
 -- (this project's own)
 abbrev pub waits_next : List ℕ → Next → LineNext
-waits_next want tasks.Rests = Rests
-waits_next want (tasks.Makes call) = Makes call
-waits_next want (tasks.Ends (outcomes.Read bytes)) = Ends (if bytes_eq bytes.items want then Met else Timeout)
-waits_next want (tasks.Ends outcome) = Ends (Transfer outcome)
+waits_next want tasks.NotStarted = NotStarted
+waits_next want (tasks.Invokes call) = Invokes call
+waits_next want (tasks.Returns (outcomes.Read bytes)) = Returns (if bytes_eq bytes.items want then Met else Timeout)
+waits_next want (tasks.Returns outcome) = Returns (Transfer outcome)
 
 -- what is asked of a lock or a mailbox is answered what comes of it (this project's own)
 abbrev pub shares_next : SharedNext → LineNext
-shares_next shares.Rests = Rests
-shares_next (shares.Makes call) = Makes call
-shares_next (shares.Ends outcome) = Ends (Shared outcome)
+shares_next shares.NotStarted = NotStarted
+shares_next (shares.Invokes call) = Invokes call
+shares_next (shares.Returns outcome) = Returns (Shared outcome)
 
 -- what an attempt does next, by what it was given so far (this project's own)
 abbrev pub attempt_next : Attempt → Given → LineNext
-attempt_next (Moves job) given = moves_next (next_of job given)
-attempt_next (Waits job want) given = waits_next want (next_of job given)
-attempt_next (Shares s) given = shares_next (shared_next s given)
+attempt_next (Transferring job) given = moves_next (next_of job given)
+attempt_next (Awaiting job want) given = waits_next want (next_of job given)
+attempt_next (Sharing s) given = shares_next (shared_next s given)
 
 -- the answers after which another attempt is made: other bytes were read; the lock was busy; the mailbox had no room, or no
 -- word (this project's own)
@@ -66,7 +66,7 @@ pub record Attempts : Type 0 where
 
 -- whether an attempt that does this next has ended with such an answer (this project's own)
 abbrev pub next_asks_again : LineNext → Bool
-next_asks_again (Ends answer) = asks_again answer
+next_asks_again (Returns answer) = asks_again answer
 next_asks_again next = false
 
 -- an attempt with such an answer is followed by the next, which begins at once, if there may be one more; any other answer is
@@ -88,7 +88,7 @@ attempts_of attempt tries (last ∷ before) = attempt_given attempt last (attemp
 -- a line does what the attempt at work does; one whose request is refused has ended without a call (this project's own)
 abbrev pub lawful_next : ℕ → Result Attempt CycleFault → Given → LineNext
 lawful_next tries (Ok attempt) given = attempt_next attempt (attempts_of attempt tries given).given
-lawful_next tries (Err fault) given = Ends (Refused fault)
+lawful_next tries (Err fault) given = Returns (Refused fault)
 
 -- what a line of a board's processor does next, by all that it was given, the newest first: each time the reply to its call,
 -- or none (this project's own)

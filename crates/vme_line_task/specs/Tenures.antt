@@ -19,7 +19,7 @@ use Rattle.vme_shared.specs.declared.reply.LineReply.TheVariants.{Transfer, Shar
 use Rattle.vme_shared.specs.Tables.{shared_told}
 use Rattle.vme_grammar.specs.declared.line.Line.{Line}
 use Rattle.vme_script.specs.Configurations.{Configuration}
-use Rattle.vme_line_task.specs.Scripts.{Attempt, Moves, Waits, Shares, line_attempt}
+use Rattle.vme_line_task.specs.Scripts.{Attempt, Transferring, Awaiting, Sharing, line_attempt}
 use Rattle.vme_line_task.specs.Tables.{attempts_of, given_of}
 
 -- what the arbiter told a transfer last, if anything; a command to a local port has nothing to do with it
@@ -30,9 +30,9 @@ job_told (Local job) given = None
 
 -- what the arbiter told an attempt last, if anything (this project's own)
 abbrev pub attempt_told : Attempt → Given → Option ArbReply
-attempt_told (Moves job) given = job_told job given
-attempt_told (Waits job want) given = job_told job given
-attempt_told (Shares s) given = shared_told s given
+attempt_told (Transferring job) given = job_told job given
+attempt_told (Awaiting job want) given = job_told job given
+attempt_told (Sharing s) given = shared_told s given
 
 -- the same of a line: what the attempt at work was told (this project's own)
 abbrev pub lawful_told : ℕ → Result Attempt CycleFault → Given → Option ArbReply

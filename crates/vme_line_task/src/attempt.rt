@@ -3,7 +3,7 @@ ghost use Rattle.std.specs.Prelude.{◌≡◌, ◌≢◌, ◌<◌, length, optio
 ghost use Rattle.vme_core.specs.Calls.{Call, call_of, machine_step};
 ghost use Rattle.vme_core.specs.Deeds.{call_asked, target_of_call, CanCount};
 ghost use Rattle.vme_core.specs.Machines.{whos};
-ghost use Rattle.vme_line_task.specs.Tables.{Rests, next_asks_again};
+ghost use Rattle.vme_line_task.specs.Tables.{NotStarted, next_asks_again};
 ghost use Rattle.vme_line_task.specs.Machine.{attempt_anew, attempt_advance, attempt_to_do, attempts_advance};
 ghost use Rattle.vme_line_task.specs.Events.{call_in, answer_in};
 
@@ -24,11 +24,11 @@ pub struct Attempts<'a> {
 #[derive(Debug, Drop)]
 pub enum AttemptTask<'a> {
     /// A transfer over the bus, or a command to the local port.
-    Moves(Task<'a>),
+    Transfer(Task<'a>),
     /// A read that is to find bytes.
-    Waits(WaitTask<'a>),
+    Await(WaitTask<'a>),
     /// What is asked of a lock or a mailbox.
-    Shares(SharedTask<'a>),
+    Shared(SharedTask<'a>),
 }
 
 impl Attempts<'_> {
@@ -37,7 +37,7 @@ impl Attempts<'_> {
     #[inline(always)]
     pub(crate) fn give(&mut self, given: Option<&EventReply>)
         ensures task { self.new ≡ attempts_advance self.old (option_copied given.entry) }
-        ensures begun { attempt_to_do self.new.attempt ≢ Rests }
+        ensures begun { attempt_to_do self.new.attempt ≢ NotStarted }
     {
         self.attempt.give(given);
         if self.left > 1 && self.attempt.asks_again() {
@@ -60,13 +60,13 @@ impl Attempts<'_> {
         ensures task { (call : Call) → call_in (attempt_to_do self.old.attempt) ≡ Some call →
             self.new ≡ attempts_advance self.old (Some (machine_step core.old who call).1) }
         ensures begun { (call : Call) → call_in (attempt_to_do self.old.attempt) ≡ Some call →
-            attempt_to_do self.new.attempt ≢ Rests }
+            attempt_to_do self.new.attempt ≢ NotStarted }
         ensures nothing { call_in (attempt_to_do self.old.attempt) ≡ None →
             (core.new ≡ core.old) × (self.new ≡ self.old) }
         ensures boards { length core.new.boards ≡ length core.old.boards }
         ensures whos { whos core.new ≡ whos core.old }
     {
-        if let AttemptTask::Moves(task) = &mut self.attempt {
+        if let AttemptTask::Transfer(task) = &mut self.attempt {
             task.make(core, who);
         } else {
             self.make_in_attempts(core, who);
@@ -85,7 +85,7 @@ impl Attempts<'_> {
         ensures task { (call : Call) → call_in (attempt_to_do self.old.attempt) ≡ Some call →
             self.new ≡ attempts_advance self.old (Some (machine_step core.old who call).1) }
         ensures begun { (call : Call) → call_in (attempt_to_do self.old.attempt) ≡ Some call →
-            attempt_to_do self.new.attempt ≢ Rests }
+            attempt_to_do self.new.attempt ≢ NotStarted }
         ensures nothing { call_in (attempt_to_do self.old.attempt) ≡ None →
             (core.new ≡ core.old) × (self.new ≡ self.old) }
         ensures boards { length core.new.boards ≡ length core.old.boards }
@@ -103,12 +103,12 @@ impl AttemptTask<'_> {
     #[inline(always)]
     fn give(&mut self, given: Option<&EventReply>)
         ensures task { self.new ≡ attempt_advance self.old (option_copied given.entry) }
-        ensures begun { attempt_to_do self.new ≢ Rests }
+        ensures begun { attempt_to_do self.new ≢ NotStarted }
     {
         match self {
-            AttemptTask::Moves(task) => task.give(given),
-            AttemptTask::Waits(wait) => wait.give(given),
-            AttemptTask::Shares(task) => task.give(given),
+            AttemptTask::Transfer(task) => task.give(given),
+            AttemptTask::Await(wait) => wait.give(given),
+            AttemptTask::Shared(task) => task.give(given),
         }
     }
 
@@ -117,9 +117,9 @@ impl AttemptTask<'_> {
         ensures { option_map call_of result ≡ call_in (attempt_to_do self.now) }
     {
         match self {
-            AttemptTask::Moves(task) => task.event(),
-            AttemptTask::Waits(wait) => wait.event(),
-            AttemptTask::Shares(task) => task.event(),
+            AttemptTask::Transfer(task) => task.event(),
+            AttemptTask::Await(wait) => wait.event(),
+            AttemptTask::Shared(task) => task.event(),
         }
     }
 
@@ -129,9 +129,9 @@ impl AttemptTask<'_> {
         ensures { option_map call_asked result ≡ call_in (attempt_to_do self.now) }
     {
         match self {
-            AttemptTask::Moves(task) => task.deed(),
-            AttemptTask::Waits(wait) => wait.deed(),
-            AttemptTask::Shares(task) => task.deed(),
+            AttemptTask::Transfer(task) => task.deed(),
+            AttemptTask::Await(wait) => wait.deed(),
+            AttemptTask::Shared(task) => task.deed(),
         }
     }
 
@@ -141,9 +141,9 @@ impl AttemptTask<'_> {
         ensures { result ≡ is_some (answer_in (attempt_to_do self.now)) }
     {
         match self {
-            AttemptTask::Moves(task) => task.is_over(),
-            AttemptTask::Waits(wait) => wait.is_over(),
-            AttemptTask::Shares(task) => task.outcome().is_some(),
+            AttemptTask::Transfer(task) => task.is_over(),
+            AttemptTask::Await(wait) => wait.is_over(),
+            AttemptTask::Shared(task) => task.outcome().is_some(),
         }
     }
 
@@ -152,9 +152,9 @@ impl AttemptTask<'_> {
         ensures { result ≡ answer_in (attempt_to_do self.old) }
     {
         match self {
-            AttemptTask::Moves(task) => Some(LineReply::Transfer(task.take_outcome()?)),
-            AttemptTask::Waits(wait) => wait.take_answer(),
-            AttemptTask::Shares(task) => Some(LineReply::Shared(task.outcome()?)),
+            AttemptTask::Transfer(task) => Some(LineReply::Transfer(task.take_outcome()?)),
+            AttemptTask::Await(wait) => wait.take_answer(),
+            AttemptTask::Shared(task) => Some(LineReply::Shared(task.outcome()?)),
         }
     }
 
@@ -164,9 +164,9 @@ impl AttemptTask<'_> {
         ensures { result ≡ next_asks_again (attempt_to_do self.now) }
     {
         match self {
-            AttemptTask::Moves(_) => false,
-            AttemptTask::Waits(wait) => wait.asks_again(),
-            AttemptTask::Shares(task) => matches!(
+            AttemptTask::Transfer(_) => false,
+            AttemptTask::Await(wait) => wait.asks_again(),
+            AttemptTask::Shared(task) => matches!(
                 task.outcome(),
                 Some(SharedOutcome::Busy | SharedOutcome::Full | SharedOutcome::Empty)
             ),
@@ -181,9 +181,9 @@ impl AttemptTask<'_> {
         ensures { self.new ≡ attempt_anew self.old }
     {
         match self {
-            AttemptTask::Moves(_) => {}
-            AttemptTask::Waits(wait) => wait.again(),
-            AttemptTask::Shares(task) => task.again(),
+            AttemptTask::Transfer(_) => {}
+            AttemptTask::Await(wait) => wait.again(),
+            AttemptTask::Shared(task) => task.again(),
         }
     }
 }

@@ -10,17 +10,17 @@ ghost use Rattle.vme_arbiter.specs.Turns.{may_give, StandsAsTold};
 ghost use Rattle.vme_core.specs.declared.event.EventReply.{EventReply};
 ghost use Rattle.vme_core.specs.declared.event.EventReply.TheVariants as told;
 ghost use Rattle.vme_core.specs.Calls.{Call, OnBoard, OnBus, call_of};
-ghost use Rattle.vme_core.specs.Runs.{Move};
+ghost use Rattle.vme_core.specs.Runs.{Transition};
 ghost use Rattle.vme_master.specs.Tables.{Given};
 ghost use Rattle.vme_shared.specs.declared.reply.LineReply.{LineReply};
 ghost use Rattle.vme_grammar.specs.declared.line.Line.{Line};
 ghost use Rattle.vme_grammar.specs.Grammar.{IsOwnLine};
 ghost use Rattle.vme_script.specs.Configurations.{Configuration};
 ghost use Rattle.vme_line_task.specs.Scripts.{slot_at, level_at, lines_at};
-ghost use Rattle.vme_line_task.specs.Tables.{Makes, Ends, next_given, line_next};
+ghost use Rattle.vme_line_task.specs.Tables.{Invokes, Returns, next_given, line_next};
 ghost use Rattle.vme_line_task.specs.Machine.{line_given, line_after, line_to_do};
 ghost use Rattle.vme_line_task.specs.Events.{IsCallBelow};
-ghost use Rattle.vme_line_task.specs.Courses.{Course, Follows};
+ghost use Rattle.vme_line_task.specs.Traces.{ScriptState, IsTracePrefix};
 ghost use Rattle.vme_line_task.specs.Tenures.{line_told, IsLocal, IsGood, IsGranted};
 
 /// A line goes by the table: after calls with any replies, fitting or not, it does next what the
@@ -32,33 +32,33 @@ pub fn lines_go_by_the_table()
         line_to_do (line_after config board line replies) ≡ line_next config board line replies }
     ensures end { (config : Configuration) (board : ℕ) (line : Line) (given : Given)
         (last : Option EventReply) (answer : LineReply) →
-        next_given config board line given ≡ Ends answer →
-        next_given config board line (last ∷ given) ≡ Ends answer }
+        next_given config board line given ≡ Returns answer →
+        next_given config board line (last ∷ given) ≡ Returns answer }
 {}
 
 /// Each board that a line calls is there.
 pub fn lines_call_boards_that_are_there()
     ensures { (config : Configuration) (board : ℕ) (line : Line) (given : Given) (call : Call) →
-        board < length config.boards → next_given config board line given ≡ Makes call →
+        board < length config.boards → next_given config board line given ≡ Invokes call →
         IsCallBelow (length config.boards) call }
 {}
 
 /// A processor comes through its script line by line: it begins before the first line; a call of the
 /// next line with its reply leads on in that line; and where that line is answered, past it.
-pub fn courses_go_line_by_line()
+pub fn traces_go_line_by_line()
     ensures begin { (config : Configuration) (board : ℕ) →
-        Follows config board [] (record { ended = []; replies = [] }) }
-    ensures call { (config : Configuration) (board : ℕ) (moves : List Move) (course : Course)
-        (line : Line) (m : Move) → Follows config board moves course →
-        slice_get (lines_at config board) (length course.ended) ≡ Some line →
-        line_next config board line course.replies ≡ Makes (call_of m.event) →
-        Follows config board (moves ++ m ∷ [])
-        (record { ended = course.ended; replies = m.reply ∷ course.replies }) }
-    ensures answer { (config : Configuration) (board : ℕ) (moves : List Move) (course : Course)
-        (line : Line) (answer : LineReply) → Follows config board moves course →
-        slice_get (lines_at config board) (length course.ended) ≡ Some line →
-        line_next config board line course.replies ≡ Ends answer →
-        Follows config board moves (record { ended = course.ended ++ answer ∷ []; replies = [] }) }
+        IsTracePrefix config board [] (record { ended = []; replies = [] }) }
+    ensures call { (config : Configuration) (board : ℕ) (moves : List Transition) (script_state : ScriptState)
+        (line : Line) (m : Transition) → IsTracePrefix config board moves script_state →
+        slice_get (lines_at config board) (length script_state.ended) ≡ Some line →
+        line_next config board line script_state.replies ≡ Invokes (call_of m.event) →
+        IsTracePrefix config board (moves ++ m ∷ [])
+        (record { ended = script_state.ended; replies = m.reply ∷ script_state.replies }) }
+    ensures answer { (config : Configuration) (board : ℕ) (moves : List Transition) (script_state : ScriptState)
+        (line : Line) (answer : LineReply) → IsTracePrefix config board moves script_state →
+        slice_get (lines_at config board) (length script_state.ended) ≡ Some line →
+        line_next config board line script_state.replies ≡ Returns answer →
+        IsTracePrefix config board moves (record { ended = script_state.ended ++ answer ∷ []; replies = [] }) }
 {}
 
 /// A line keeps its tenure of the bus, as its transfers do. Its commands to the arbiter are its
@@ -70,33 +70,33 @@ pub fn lines_keep_their_tenure()
     ensures begin { (config : Configuration) (board : ℕ) (line : Line) →
         line_told config board line [] ≡ None }
     ensures first { (config : Configuration) (board : ℕ) (line : Line) (answer : LineReply) →
-        line_next config board line [] ≡ Ends answer → IsGranted answer }
+        line_next config board line [] ≡ Returns answer → IsGranted answer }
     ensures turns { (config : Configuration) (board : ℕ) (line : Line) (replies : List EventReply)
         (cmd : ArbCmd) → IsTrue (is_level (level_at config board)) →
-        line_next config board line replies ≡ Makes (OnBus cmd) →
+        line_next config board line replies ≡ Invokes (OnBus cmd) →
         IsTrue (may_give (slot_at config board) (line_told config board line replies) cmd) }
     ensures holds { (config : Configuration) (board : ℕ) (line : Line) (replies : List EventReply)
         (b : ℕ) (command : Option Command) → IsOwnLine line →
-        line_next config board line replies ≡ Makes (OnBoard b command) →
+        line_next config board line replies ≡ Invokes (OnBoard b command) →
         IsLocal command ⊎ (line_told config board line replies ≡ Some Granted) }
     ensures turn { (config : Configuration) (board : ℕ) (line : Line) (replies : List EventReply)
         (cmd : ArbCmd) (reply : ArbReply) (bus : Arbitration) (slot : ℕ) →
-        line_next config board line replies ≡ Makes (OnBus cmd) →
+        line_next config board line replies ≡ Invokes (OnBus cmd) →
         IsGood (OnBus cmd) (told.Bus reply) → StandsAsTold bus slot (Some reply) →
         StandsAsTold bus slot (line_told config board line (told.Bus reply ∷ replies)) }
     ensures datum { (config : Configuration) (board : ℕ) (line : Line) (replies : List EventReply)
-        (call : Call) (reply : Reply) → line_next config board line replies ≡ Makes call →
+        (call : Call) (reply : Reply) → line_next config board line replies ≡ Invokes call →
         IsGood call (told.Board reply) →
         line_told config board line (told.Board reply ∷ replies)
         ≡ line_told config board line replies }
     ensures granted { (config : Configuration) (board : ℕ) (line : Line) (replies : List EventReply)
         (call : Call) (reply : EventReply) (answer : LineReply) →
-        line_next config board line replies ≡ Makes call → IsGood call reply →
-        line_next config board line (reply ∷ replies) ≡ Ends answer → IsGranted answer }
+        line_next config board line replies ≡ Invokes call → IsGood call reply →
+        line_next config board line (reply ∷ replies) ≡ Returns answer → IsGranted answer }
     ensures end { (config : Configuration) (board : ℕ) (line : Line) (replies : List EventReply)
         (call : Call) (reply : EventReply) (answer : LineReply) (bus : Arbitration) (slot : ℕ) →
-        line_next config board line replies ≡ Makes call → IsGood call reply →
-        line_next config board line (reply ∷ replies) ≡ Ends answer →
+        line_next config board line replies ≡ Invokes call → IsGood call reply →
+        line_next config board line (reply ∷ replies) ≡ Returns answer →
         StandsAsTold bus slot (line_told config board line (reply ∷ replies)) →
         StandsAsTold bus slot None }
 {}

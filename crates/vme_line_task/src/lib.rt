@@ -13,7 +13,7 @@ mod wait;
 
 pub use attempt::{AttemptTask, Attempts};
 pub use laws::{
-    courses_go_line_by_line, lines_call_boards_that_are_there, lines_go_by_the_table,
+    traces_go_line_by_line, lines_call_boards_that_are_there, lines_go_by_the_table,
     lines_keep_their_tenure,
 };
 pub use read_buffers::{ReadBuffers, line_read_len};

@@ -7,7 +7,7 @@ ghost use Rattle.vme_cycle.specs.Lawful.{Transfer as LawfulRequest, transfer_of}
 ghost use Rattle.vme_script.specs.Boards.{entries_of};
 ghost use Rattle.vme_master.specs.Machine.{bus_task};
 ghost use Rattle.vme_shared.specs.Mailboxes.{IsAsked};
-ghost use Rattle.vme_line_task.specs.Scripts.{slot_at, level_at, mailbox_at, HasMailbox, HasItsMailbox, Waits, transfer_job, request_attempt, shared_attempt, line_attempt};
+ghost use Rattle.vme_line_task.specs.Scripts.{slot_at, level_at, mailbox_at, HasMailbox, HasItsMailbox, Awaiting, transfer_job, request_attempt, shared_attempt, line_attempt};
 ghost use Rattle.vme_line_task.specs.ReadBuffers.{request_read_len, line_read_len};
 ghost use Rattle.vme_line_task.specs.Machine.{fresh_of};
 
@@ -35,8 +35,8 @@ pub(crate) fn attempt_of<'a>(
     ensures { result ≡ fresh_of (line_attempt config.now board line.now) }
 {
     match line {
-        Line::Bus(request) => Ok(AttemptTask::Moves(transfer(config, board, request, buffer)?)),
-        Line::Local(cmd) => Ok(AttemptTask::Moves(Task::local(board, cmd.copy()))),
+        Line::Bus(request) => Ok(AttemptTask::Transfer(transfer(config, board, request, buffer)?)),
+        Line::Local(cmd) => Ok(AttemptTask::Transfer(Task::local(board, cmd.copy()))),
         Line::Await { am, addr, bytes } => waits(config, board, *am, *addr, bytes),
         Line::Lock { am, addr } => shares(
             config,
@@ -102,13 +102,13 @@ fn waits<'a>(
 ) -> Result<AttemptTask<'a>, CycleFault>
     requires { board < length config.now.boards }
     ensures { result
-        ≡ fresh_of (request_attempt (λ t. Waits (transfer_job config.now board t) bytes.now.items)
+        ≡ fresh_of (request_attempt (λ t. Awaiting (transfer_job config.now board t) bytes.now.items)
         (transfer_of (Read am addr (length bytes.now.items)))) }
 {
     let n = bytes.as_slice().len() as u8;
     let task = short_transfer(config, board, Request::Read { am, addr, n })?;
     let want = copy_bytes(bytes);
-    Ok(AttemptTask::Waits(WaitTask::of(task, want)))
+    Ok(AttemptTask::Await(WaitTask::of(task, want)))
 }
 
 /// The task of a request of a board's processor that reads few bytes, or the refusal of the request.
@@ -144,7 +144,7 @@ fn shares<'a>(
     let slot = config.slot(board);
     let level = config.level(board);
     let task = SharedTask::start(config.map(), slot, level, request)?;
-    Ok(AttemptTask::Shares(task))
+    Ok(AttemptTask::Shared(task))
 }
 
 /// The mailbox with a number, counted from 1 on.

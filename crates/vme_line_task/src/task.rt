@@ -7,10 +7,10 @@ ghost use Rattle.vme_script.specs.Configurations.{Configuration};
 ghost use Rattle.vme_master.specs.Tables.{Given};
 ghost use Rattle.vme_line_task.specs.Scripts.{HasItsMailbox, lines_at};
 ghost use Rattle.vme_line_task.specs.ReadBuffers.{line_read_len};
-ghost use Rattle.vme_line_task.specs.Tables.{Rests, next_given};
+ghost use Rattle.vme_line_task.specs.Tables.{NotStarted, next_given};
 ghost use Rattle.vme_line_task.specs.Machine.{line_started, line_advance, line_to_do, line_taken, line_given, attempts_left, IsLineBelow};
 ghost use Rattle.vme_line_task.specs.declared.attempt.AttemptTask.TheVariants as tries;
-ghost use Rattle.vme_line_task.specs.declared.task.LineTask.TheVariants.{Tries};
+ghost use Rattle.vme_line_task.specs.declared.task.LineTask.TheVariants.{Running};
 ghost use Rattle.vme_line_task.specs.Events.{next_in, call_in, answer_in, IsEventBelow, IsTodoBelow};
 
 use crate::attempt::{AttemptTask, Attempts};
@@ -29,9 +29,9 @@ pub enum LineTask<'a> {
     /// Its request is refused.
     Refused(CycleFault),
     /// Attempts at it, one after another.
-    Tries(Attempts<'a>),
+    Running(Attempts<'a>),
     /// Its answer was taken.
-    Over,
+    Finished,
 }
 
 impl<'a> LineTask<'a> {
@@ -74,10 +74,10 @@ impl<'a> LineTask<'a> {
     #[inline(always)]
     pub fn give(&mut self, given: Option<&EventReply>)
         ensures task { self.new ≡ line_advance self.old (option_copied given.entry) }
-        ensures begun { line_to_do self.new ≢ Rests }
+        ensures begun { line_to_do self.new ≢ NotStarted }
         ensures below { (n : ℕ) → IsLineBelow n self.old → IsLineBelow n self.new }
     {
-        if let LineTask::Tries(attempts) = self {
+        if let LineTask::Running(attempts) = self {
             attempts.give(given);
         }
     }
@@ -88,8 +88,8 @@ impl<'a> LineTask<'a> {
         ensures there { (n : ℕ) → IsLineBelow n self.now → IfSome result (IsEventBelow n) }
     {
         match self {
-            LineTask::Refused(_) | LineTask::Over => None,
-            LineTask::Tries(attempts) => attempts.attempt.event(),
+            LineTask::Refused(_) | LineTask::Finished => None,
+            LineTask::Running(attempts) => attempts.attempt.event(),
         }
     }
 
@@ -98,7 +98,7 @@ impl<'a> LineTask<'a> {
     pub fn deed(&self) -> Option<Deed<'_>>
         ensures { option_map call_asked result ≡ call_in (line_to_do self.now) }
     {
-        let LineTask::Tries(attempts) = self else {
+        let LineTask::Running(attempts) = self else {
             return None;
         };
         attempts.attempt.deed()
@@ -114,14 +114,14 @@ impl<'a> LineTask<'a> {
             core.new ≡ (machine_step core.old who call).0 }
         ensures task { (call : Call) → call_in (line_to_do self.old) ≡ Some call →
             self.new ≡ line_advance self.old (Some (machine_step core.old who call).1) }
-        ensures begun { (call : Call) → call_in (line_to_do self.old) ≡ Some call → line_to_do self.new ≢ Rests }
+        ensures begun { (call : Call) → call_in (line_to_do self.old) ≡ Some call → line_to_do self.new ≢ NotStarted }
         ensures nothing { call_in (line_to_do self.old) ≡ None → (core.new ≡ core.old) × (self.new ≡ self.old) }
         ensures below { (call : Call) (n : ℕ) → call_in (line_to_do self.old) ≡ Some call →
             IsLineBelow n self.old → IsLineBelow n self.new }
         ensures boards { length core.new.boards ≡ length core.old.boards }
         ensures whos { whos core.new ≡ whos core.old }
     {
-        if let LineTask::Tries(attempts) = self {
+        if let LineTask::Running(attempts) = self {
             attempts.make(core, who);
         }
     }
@@ -132,8 +132,8 @@ impl<'a> LineTask<'a> {
         ensures { result ≡ is_some (answer_in (line_to_do self.now)) }
     {
         match self {
-            LineTask::Refused(_) | LineTask::Over => true,
-            LineTask::Tries(attempts) => attempts.attempt.is_over(),
+            LineTask::Refused(_) | LineTask::Finished => true,
+            LineTask::Running(attempts) => attempts.attempt.is_over(),
         }
     }
 
@@ -143,8 +143,8 @@ impl<'a> LineTask<'a> {
         ensures { result ≡ attempts_left self.now }
     {
         match self {
-            LineTask::Refused(_) | LineTask::Over => 0,
-            LineTask::Tries(attempts) => attempts.left,
+            LineTask::Refused(_) | LineTask::Finished => 0,
+            LineTask::Running(attempts) => attempts.left,
         }
     }
 
@@ -156,18 +156,18 @@ impl<'a> LineTask<'a> {
     {
         match self {
             LineTask::Refused(fault) => Some(LineReply::Refused(*fault)),
-            LineTask::Tries(attempts) if attempts.attempt.is_over() => {
+            LineTask::Running(attempts) if attempts.attempt.is_over() => {
                 let answer = attempts.attempt.take_answer();
-                *self = LineTask::Over;
+                *self = LineTask::Finished;
                 answer
             }
-            LineTask::Tries(_) => None,
-            LineTask::Over => Some(LineReply::Transfer(Outcome::Denied)),
+            LineTask::Running(_) => None,
+            LineTask::Finished => Some(LineReply::Transfer(Outcome::Denied)),
         }
     }
 
     fn todo(&mut self) -> LineTodo
-        requires { line_to_do self.old ≢ Rests }
+        requires { line_to_do self.old ≢ NotStarted }
         ensures todo { next_in result ≡ line_to_do self.old }
         ensures task { self.new ≡ line_taken self.old }
     {
@@ -208,7 +208,7 @@ impl<'a> LineTask<'a> {
         ensures { result ≡ line_started config.now board line.now }
     {
         match attempt_of(config, board, line, buffer) {
-            Ok(attempt) => LineTask::Tries(Attempts {
+            Ok(attempt) => LineTask::Running(Attempts {
                 attempt,
                 left: config.tries(),
             }),
@@ -220,10 +220,10 @@ impl<'a> LineTask<'a> {
 /// A transfer or a command, with the attempts that there may be at a line.
 #[inline(always)]
 fn once(task: Task<'_>, left: u32) -> LineTask<'_>
-    ensures { result ≡ Tries (record { attempt = tries.Moves task.entry; left = left }) }
+    ensures { result ≡ Running (record { attempt = tries.Transfer task.entry; left = left }) }
 {
-    LineTask::Tries(Attempts {
-        attempt: AttemptTask::Moves(task),
+    LineTask::Running(Attempts {
+        attempt: AttemptTask::Transfer(task),
         left,
     })
 }

@@ -6,7 +6,7 @@ ghost use Rattle.vme_core.specs.Calls.{call_of};
 ghost use Rattle.vme_core.specs.Deeds.{call_asked};
 ghost use Rattle.vme_master.specs.Machine.{advance, fresh_task, to_do, job_read_len};
 ghost use Rattle.vme_shared.specs.declared.reply.LineReply.TheVariants.{Met, Timeout};
-ghost use Rattle.vme_line_task.specs.Tables.{Rests, waits_next, next_asks_again};
+ghost use Rattle.vme_line_task.specs.Tables.{NotStarted, waits_next, next_asks_again};
 ghost use Rattle.vme_line_task.specs.Events.{call_in, answer_in};
 
 use std::marker::Model;
@@ -50,7 +50,7 @@ impl<'a> WaitTask<'a> {
     #[tactic(auto, using(vme_master::proofs::Stands::job_stays))]
     pub(crate) fn give(&mut self, given: Option<&EventReply>)
         ensures task { self.new ≡ record self.old { task = advance self.old.task (option_copied given.entry) } }
-        ensures begun { waits_next self.new.want.items (to_do self.new.task) ≢ Rests }
+        ensures begun { waits_next self.new.want.items (to_do self.new.task) ≢ NotStarted }
     {
         self.task.give(given);
     }

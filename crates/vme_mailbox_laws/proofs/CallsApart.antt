@@ -10,37 +10,37 @@ use Rattle.vme_shared.specs.Tables as shares
 use Rattle.vme_shared.specs.Tables.{SharedJob, shared_next}
 use Rattle.vme_grammar.specs.declared.line.Line.{Line}
 use Rattle.vme_script.specs.Configurations.{Configuration}
-use Rattle.vme_line_task.specs.Scripts.{Attempt, Moves, Waits, Shares, line_attempt}
-use Rattle.vme_line_task.specs.Tables.{Makes, attempts_of, lawful_next, next_given, given_of, line_next}
+use Rattle.vme_line_task.specs.Scripts.{Attempt, Transferring, Awaiting, Sharing, line_attempt}
+use Rattle.vme_line_task.specs.Tables.{Invokes, attempts_of, lawful_next, next_given, given_of, line_next}
 use Rattle.vme_line_task.proofs.lemmas.Below.{moves_makes, waits_makes, shares_makes}
 
 -- a task makes a call, by something that it was given
 abbrev pub JobCalls : Job → Call → Type 0
-JobCalls job call = (g : Given) × (next_of job g ≡ tasks.Makes call)
+JobCalls job call = (g : Given) × (next_of job g ≡ tasks.Invokes call)
 
 -- and so does what is asked of a lock or a mailbox
 abbrev pub SharedCalls : SharedJob → Call → Type 0
-SharedCalls s call = (g : Given) × (shared_next s g ≡ shares.Makes call)
+SharedCalls s call = (g : Given) × (shared_next s g ≡ shares.Invokes call)
 
 -- and what is attempted, if it is not refused
 abbrev pub Calls : Result Attempt CycleFault → Call → Type 0
-Calls (Ok (Moves job)) call = JobCalls job call
-Calls (Ok (Waits job want)) call = JobCalls job call
-Calls (Ok (Shares s)) call = SharedCalls s call
+Calls (Ok (Transferring job)) call = JobCalls job call
+Calls (Ok (Awaiting job want)) call = JobCalls job call
+Calls (Ok (Sharing s)) call = SharedCalls s call
 Calls (Err fault) call = ⊥
 
 lawful_calls : (tries : ℕ) (attempt : Result Attempt CycleFault) (given : Given) (call : Call)
-    → lawful_next tries attempt given ≡ Makes call → Calls attempt call
-lawful_calls tries (Ok (Moves job)) given call made =
-    let g = (attempts_of (Moves job) tries given).given in (g, moves_makes (next_of job g) call made)
-lawful_calls tries (Ok (Waits job want)) given call made =
-    let g = (attempts_of (Waits job want) tries given).given in (g, waits_makes want (next_of job g) call made)
-lawful_calls tries (Ok (Shares s)) given call made =
-    let g = (attempts_of (Shares s) tries given).given in (g, shares_makes (shared_next s g) call made)
+    → lawful_next tries attempt given ≡ Invokes call → Calls attempt call
+lawful_calls tries (Ok (Transferring job)) given call made =
+    let g = (attempts_of (Transferring job) tries given).given in (g, moves_makes (next_of job g) call made)
+lawful_calls tries (Ok (Awaiting job want)) given call made =
+    let g = (attempts_of (Awaiting job want) tries given).given in (g, waits_makes want (next_of job g) call made)
+lawful_calls tries (Ok (Sharing s)) given call made =
+    let g = (attempts_of (Sharing s) tries given).given in (g, shares_makes (shared_next s g) call made)
 lawful_calls tries (Err fault) given call made = absurd cc
 
 pub line_calls : (config : Configuration) (who : ℕ) (line : Line) (replies : List EventReply) (call : Call)
-    → line_next config who line replies ≡ Makes call → Calls (line_attempt config who line) call
+    → line_next config who line replies ≡ Invokes call → Calls (line_attempt config who line) call
 unfolding next_given
 line_calls config who line replies call made =
     lawful_calls config.tries (line_attempt config who line) (given_of replies) call made

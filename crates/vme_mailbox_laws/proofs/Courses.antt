@@ -14,7 +14,7 @@ use Rattle.vme_core.specs.Calls.{Call, OnBoard}
 use Rattle.vme_master.specs.declared.job.BusJob.{BusJob}
 use Rattle.vme_master.specs.declared.job.Job.{Job}
 use Rattle.vme_master.specs.declared.job.Job.TheVariants.{Bus}
-use Rattle.vme_master.specs.Jobs.{ask_call, look_call, done_call, aim_outcome}
+use Rattle.vme_master.specs.Jobs.{ask_call, look_call, done_call, expected_outcome}
 use Rattle.vme_master.specs.Tables as tasks
 use Rattle.vme_master.specs.Tables.{Next, Given, next_of}
 use Rattle.vme_shared.specs.MailboxSteps.{BoardMailbox}
@@ -29,15 +29,15 @@ use Rattle.vme_shared.specs.declared.stage.Stage.{Stage}
 use Rattle.vme_shared.specs.declared.stage.Stage.TheVariants.{Locks}
 use Rattle.vme_shared.specs.declared.stage.Stage.TheVariants as stages
 use Rattle.vme_shared.specs.declared.stage.Step.{Step}
-use Rattle.vme_shared.specs.declared.stage.Step.TheVariants.{Goes, Stops}
+use Rattle.vme_shared.specs.declared.stage.Step.TheVariants.{Continue, Finish}
 use Rattle.vme_shared.specs.Mailboxes.{IsAsked}
 use Rattle.vme_shared.proofs.lemmas.Starts.{all_lawful}
 use Rattle.vme_shared.specs.Steps.{first_stage, step_after}
 use Rattle.vme_shared.specs.Tables as shares
-use Rattle.vme_shared.specs.Tables.{SharedJob, Makes, Progress, At, Over, stage_job, stage_begun, step_begun, progress_by, progress_given, progress_of, task_shown, next_at}
+use Rattle.vme_shared.specs.Tables.{SharedJob, Invokes, Progress, At, Over, stage_job, stage_begun, step_begun, progress_by, progress_given, progress_of, task_shown, next_at}
 use Rattle.vme_mailbox_laws.specs.Along.{mailbox_in, UsesMailbox, IsGood, AllGood, IsCount, AllCounts, phase_given, phase_along, words_given, put_told, taken_told}
 use Rattle.vme_mailbox_laws.proofs.Single.{IsGoodTo, Waits, Answered, reply_bytes, waits_fresh, waits_called, waits_told, answered_by, ended}
-use Rattle.vme_mailbox_laws.proofs.Stages.{IsStage, is_stage, stage_command, stage_aim}
+use Rattle.vme_mailbox_laws.proofs.Stages.{IsStage, is_stage, stage_command, stage_expected}
 use Rattle.vme_mailbox_laws.proofs.Rows.{Before, Words, Leads, IsFine, IsFineEnd, goes}
 
 -- a stage's datum is to be answered yet, in the phase before it; or it was, and leads on
@@ -45,7 +45,7 @@ abbrev pub AtWork : BoardMailbox → SharedRequest → Stage → BusJob → Give
 AtWork m request stage bus g phase put taken =
     (Waits bus g × (Before m request stage phase × Words request stage put taken))
     ⊎ ((reply : Reply) × Answered bus reply g
-    × Leads m request (step_after request stage (aim_outcome (stage_aim stage) (reply_bytes reply))) phase put taken)
+    × Leads m request (step_after request stage (expected_outcome (stage_expected stage) (reply_bytes reply))) phase put taken)
 
 -- a stage at work, in a phase
 pub record IsAt (m : BoardMailbox) (board : ℕ) (request : SharedRequest) (stage : Stage) (job : Job) (g : Given) (at : Option Phase)
@@ -99,9 +99,9 @@ module _ (s : SharedJob) (board : ℕ) (m : BoardMailbox) (uses : UsesMailbox s 
   -- a step is taken
   stepped : (step : Step) (at : Option Phase) (phase : Phase) (put taken : List ℕ) → at ≡ Some phase → Leads m s.request step phase put taken
       → Stands m board s.request (step_begun s step) at put taken
-  stepped (Goes stage) at phase put taken there leads =
+  stepped (Continue stage) at phase put taken there leads =
       begun stage (None ∷ []) (stage_job s stage) at phase put taken refl there leads.0 leads.1 (λ bus. waits_called bus [] (waits_fresh bus) refl)
-  stepped (Stops end) at phase put taken there leads =
+  stepped (Finish end) at phase put taken there leads =
       record { is = there ∙ ap Some leads.0; put_is = leads.1; taken_is = leads.2; fine = leads.3 }
 
   -- the first stage
@@ -157,24 +157,24 @@ module _ (s : SharedJob) (board : ℕ) (m : BoardMailbox) (uses : UsesMailbox s 
   turned_on : (stage : Stage) (job : Job) (g : Given) (at : Option Phase) (put taken : List ℕ) (last : Option EventReply) (call : Call)
       (stands : IsAt m board s.request stage job g at put taken) → Waits stands.own.bus g
       → Before m s.request stage stands.phase × Words s.request stage put taken
-      → ((call ≡ ask_call stands.own.bus) ⊎ (call ≡ look_call stands.own.bus)) → next_of job g ≡ tasks.Makes call
+      → ((call ≡ ask_call stands.own.bus) ⊎ (call ≡ look_call stands.own.bus)) → next_of job g ≡ tasks.Invokes call
       → IsGood (next_at (At stage job g)) last → Moved (At stage job g) last at put taken
   turned_on stage job g at put taken None call stands waits before which makes good =
       absurd (subst (λ n. IsGood (task_shown n) None) makes good)
   turned_on stage job g at put taken (Some (told.Board reply)) call stands waits before which makes good =
       let fine = subst (λ n. IsGood (task_shown n) (Some (told.Board reply))) makes good in
       elim which [
-        | inl asks ↦ let fit = subst (λ c. IsGood (Makes c) (Some (told.Board reply))) asks fine in let no_fit = fit.0 in absurd cc
-        | inr looks ↦ let fit = subst (λ c. IsGood (Makes c) (Some (told.Board reply))) looks fine in let no_fit = fit.0 in absurd cc
+        | inl asks ↦ let fit = subst (λ c. IsGood (Invokes c) (Some (told.Board reply))) asks fine in let no_fit = fit.0 in absurd cc
+        | inr looks ↦ let fit = subst (λ c. IsGood (Invokes c) (Some (told.Board reply))) looks fine in let no_fit = fit.0 in absurd cc
       ]
   turned_on stage job g at put taken (Some (told.Bus reply)) call stands waits before which makes good =
       let fine = subst (λ n. IsGood (task_shown n) (Some (told.Bus reply))) makes good in
-      let makes_bus : next_of (Bus stands.own.bus) g ≡ tasks.Makes call = ap (λ j. next_of j g) (sym stands.own.is) ∙ makes in
+      let makes_bus : next_of (Bus stands.own.bus) g ≡ tasks.Invokes call = ap (λ j. next_of j g) (sym stands.own.is) ∙ makes in
       let same : phase_given m board (next_at (At stage job g)) (Some (told.Bus reply)) at ≡ at =
       ap (λ n. phase_given m board (task_shown n) (Some (told.Bus reply)) at) makes
       ∙ elim which [
-        | inl asks ↦ ap (λ c. phase_given m board (Makes c) (Some (told.Bus reply)) at) asks
-        | inr looks ↦ ap (λ c. phase_given m board (Makes c) (Some (told.Bus reply)) at) looks
+        | inl asks ↦ ap (λ c. phase_given m board (Invokes c) (Some (told.Bus reply)) at) asks
+        | inr looks ↦ ap (λ c. phase_given m board (Invokes c) (Some (told.Bus reply)) at) looks
       ] in
       waits_on stage job g at put taken (Some (told.Bus reply)) stands (waits_told stands.own.bus stands.own.one g call reply which waits makes_bus fine)
       before same
@@ -183,14 +183,14 @@ module _ (s : SharedJob) (board : ℕ) (m : BoardMailbox) (uses : UsesMailbox s 
   datum_on : (stage : Stage) (job : Job) (g : Given) (at : Option Phase) (put taken : List ℕ) (last : Option EventReply)
       (stands : IsAt m board s.request stage job g at put taken) → Waits stands.own.bus g
       → Before m s.request stage stands.phase × Words s.request stage put taken
-      → next_of job g ≡ tasks.Makes (OnBoard board (Some (stage_command m stage))) → IsGood (next_at (At stage job g)) last
+      → next_of job g ≡ tasks.Invokes (OnBoard board (Some (stage_command m stage))) → IsGood (next_at (At stage job g)) last
       → IsCount (phase_given m board (next_at (At stage job g)) last at) → Moved (At stage job g) last at put taken
   datum_on stage job g at put taken None stands waits before makes good count = absurd (subst (λ n. IsGood (task_shown n) None) makes good)
   datum_on stage job g at put taken (Some (told.Bus reply)) stands waits before makes good count =
       let fine = subst (λ n. IsGood (task_shown n) (Some (told.Bus reply))) makes good in let no_fit = fine.0 in absurd cc
   datum_on stage job g at put taken (Some (told.Board reply)) stands waits before makes good count =
       let fine = subst (λ n. IsGood (task_shown n) (Some (told.Board reply))) makes good in
-      let makes_bus : next_of (Bus stands.own.bus) g ≡ tasks.Makes (OnBoard board (Some (stage_command m stage))) =
+      let makes_bus : next_of (Bus stands.own.bus) g ≡ tasks.Invokes (OnBoard board (Some (stage_command m stage))) =
       ap (λ j. next_of j g) (sym stands.own.is) ∙ makes in
       let answered = answered_by stands.own.bus stands.own.one g (OnBoard board (Some (stage_command m stage))) reply waits makes_bus fine in
       let fine_reply : IsFine m stage reply = record { form = fine.0; good = λ error. fine.1 (ap told.Board error) } in
@@ -213,20 +213,20 @@ module _ (s : SharedJob) (board : ℕ) (m : BoardMailbox) (uses : UsesMailbox s 
   -- the bus is given back, and the stage's outcome leads on
   freed : (stage : Stage) (job : Job) (g : Given) (at : Option Phase) (put taken : List ℕ) (last : Option EventReply) (reply : Reply)
       (stands : IsAt m board s.request stage job g at put taken) → Answered stands.own.bus reply g
-      → Leads m s.request (step_after s.request stage (aim_outcome (stage_aim stage) (reply_bytes reply))) stands.phase put taken
+      → Leads m s.request (step_after s.request stage (expected_outcome (stage_expected stage) (reply_bytes reply))) stands.phase put taken
       → IsGood (next_at (At stage job g)) last → Moved (At stage job g) last at put taken
   freed stage job g at put taken last reply stands answered leads good =
-      let makes : next_of job g ≡ tasks.Makes (done_call stands.own.bus) = ap (λ j. next_of j g) stands.own.is ∙ answered.next in
+      let makes : next_of job g ≡ tasks.Invokes (done_call stands.own.bus) = ap (λ j. next_of j g) stands.own.is ∙ answered.next in
       let fine : IsGoodTo (next_of (Bus stands.own.bus) g) last =
       subst (λ n. IsGoodTo n last) (sym answered.next) (subst (λ n. IsGood (task_shown n) last) makes good) in
       let end = ended stands.own.bus stands.own.one g last reply stands.own.place stands.own.placed answered fine in
-      let outcome = aim_outcome (stage_aim stage) (reply_bytes reply) in
-      let ends : next_of job (last ∷ g) ≡ tasks.Ends outcome =
-      ap (λ j. next_of j (last ∷ g)) stands.own.is ∙ end.1 ∙ ap (λ a. tasks.Ends (aim_outcome a (reply_bytes reply))) stands.own.aim in
+      let outcome = expected_outcome (stage_expected stage) (reply_bytes reply) in
+      let ends : next_of job (last ∷ g) ≡ tasks.Returns outcome =
+      ap (λ j. next_of j (last ∷ g)) stands.own.is ∙ end.1 ∙ ap (λ a. tasks.Returns (expected_outcome a (reply_bytes reply))) stands.own.expected in
       let to : progress_given s last (At stage job g) ≡ step_begun s (step_after s.request stage outcome) =
       ap (progress_by s stage job (last ∷ g)) ends in
       let same : phase_given m board (next_at (At stage job g)) last at ≡ at =
-      ap (λ n. phase_given m board (task_shown n) last at) makes ∙ ap (λ l. phase_given m board (Makes (done_call stands.own.bus)) l at) end.0 in
+      ap (λ n. phase_given m board (task_shown n) last at) makes ∙ ap (λ l. phase_given m board (Invokes (done_call stands.own.bus)) l at) end.0 in
       moved_to (At stage job g) (step_begun s (step_after s.request stage outcome)) last at at put taken to same
       (unmoved m board s.request (step_begun s (step_after s.request stage outcome)) at at put taken refl
       (stepped (step_after s.request stage outcome) at stands.phase put taken stands.is leads))
@@ -234,12 +234,12 @@ module _ (s : SharedJob) (board : ℕ) (m : BoardMailbox) (uses : UsesMailbox s 
   -- it rests until its first call
   called : (stage : Stage) (job : Job) (g : Given) (at : Option Phase) (put taken : List ℕ) (last : Option EventReply)
       (stands : IsAt m board s.request stage job g at put taken) → Waits stands.own.bus g
-      → Before m s.request stage stands.phase × Words s.request stage put taken → next_of job g ≡ tasks.Rests
+      → Before m s.request stage stands.phase × Words s.request stage put taken → next_of job g ≡ tasks.NotStarted
       → IsGood (next_at (At stage job g)) last → Moved (At stage job g) last at put taken
   called stage job g at put taken (Some reply) stands waits before rests good =
       let none = subst (λ n. IsGood (task_shown n) (Some reply)) rests good in absurd cc
   called stage job g at put taken None stands waits before rests good =
-      let rests_bus : next_of (Bus stands.own.bus) g ≡ tasks.Rests = ap (λ j. next_of j g) (sym stands.own.is) ∙ rests in
+      let rests_bus : next_of (Bus stands.own.bus) g ≡ tasks.NotStarted = ap (λ j. next_of j g) (sym stands.own.is) ∙ rests in
       waits_on stage job g at put taken None stands (waits_called stands.own.bus g waits rests_bus) before
       (ap (λ n. phase_given m board (task_shown n) None at) rests)
 
@@ -258,7 +258,7 @@ module _ (s : SharedJob) (board : ℕ) (m : BoardMailbox) (uses : UsesMailbox s 
               | inr (inr (inl looks)) ↦
                   turned_on stage job g at put taken last (look_call stands.own.bus) stands waiting.0 waiting.1 (inr refl) (to_job ∙ looks) good
               | inr (inr (inr datum)) ↦
-                  datum_on stage job g at put taken last stands waiting.0 waiting.1 (to_job ∙ datum ∙ ap tasks.Makes stands.own.datum) good count
+                  datum_on stage job g at put taken last stands waiting.0 waiting.1 (to_job ∙ datum ∙ ap tasks.Invokes stands.own.datum) good count
             ]
         | inr answered ↦ freed stage job g at put taken last answered.0 stands answered.1 answered.2 good
       ]
@@ -280,8 +280,8 @@ module _ (s : SharedJob) (board : ℕ) (m : BoardMailbox) (uses : UsesMailbox s 
   before_count (stages.Unlocks end) phase before = absurd before
 
   leads_count : (step : Step) (phase : Phase) (put taken : List ℕ) → Leads m s.request step phase put taken → IsCount (Some phase)
-  leads_count (Goes stage) phase put taken leads = before_count stage phase leads.0
-  leads_count (Stops end) phase put taken leads = subst (λ p. IsCount (Some p)) (sym leads.0) tt
+  leads_count (Continue stage) phase put taken leads = before_count stage phase leads.0
+  leads_count (Finish end) phase put taken leads = subst (λ p. IsCount (Some p)) (sym leads.0) tt
 
   pub stands_count : (progress : Progress) (at : Option Phase) (put taken : List ℕ) → Stands m board s.request progress at put taken → IsCount at
   stands_count (Over end) at put taken stands = subst IsCount (sym stands.is) tt
@@ -289,14 +289,14 @@ module _ (s : SharedJob) (board : ℕ) (m : BoardMailbox) (uses : UsesMailbox s 
       subst IsCount (sym stands.is)
       (elim stands.work [
         | inl waiting ↦ before_count stage stands.phase waiting.1.0
-        | inr answered ↦ leads_count (step_after s.request stage (aim_outcome (stage_aim stage) (reply_bytes answered.0))) stands.phase put taken answered.2
+        | inr answered ↦ leads_count (step_after s.request stage (expected_outcome (stage_expected stage) (reply_bytes answered.0))) stands.phase put taken answered.2
       ])
 
   -- a command with a good reply goes by the rows
   datum_goes : (stage : Stage) (job : Job) (g : Given) (at : Option Phase) (put taken : List ℕ) (reply : Reply)
       (stands : IsAt m board s.request stage job g at put taken) → Waits stands.own.bus g
       → Before m s.request stage stands.phase × Words s.request stage put taken
-      → IsGood (Makes (OnBoard board (Some (stage_command m stage)))) (Some (told.Board reply))
+      → IsGood (Invokes (OnBoard board (Some (stage_command m stage)))) (Some (told.Board reply))
       → is_some (after_command m at (Some (stage_command m stage)) reply) ≡ true
   datum_goes stage job g at put taken reply stands waits before fine =
       let fine_reply : IsFine m stage reply = record { form = fine.0; good = λ error. fine.1 (ap told.Board error) } in
@@ -305,28 +305,28 @@ module _ (s : SharedJob) (board : ℕ) (m : BoardMailbox) (uses : UsesMailbox s 
       rw stands.is (rw went.is refl)
 
   pub command_goes : (progress : Progress) (at : Option Phase) (put taken : List ℕ) (x : ℕ) (command : Option Command) (reply : Reply)
-      → Stands m board s.request progress at put taken → next_at progress ≡ Makes (OnBoard x command)
-      → IsGood (Makes (OnBoard x command)) (Some (told.Board reply)) → is_some (after_command m at command reply) ≡ true
+      → Stands m board s.request progress at put taken → next_at progress ≡ Invokes (OnBoard x command)
+      → IsGood (Invokes (OnBoard x command)) (Some (told.Board reply)) → is_some (after_command m at command reply) ≡ true
   command_goes (Over end) at put taken x command reply stands makes good = absurd cc
   command_goes (At stage job g) at put taken x command reply stands makes good =
       let to_job = ap (λ j. task_shown (next_of j g)) (sym stands.own.is) ∙ makes in
       elim stands.work [
         | inl waiting ↦
             elim waiting.0.next [
-              | inl rests ↦ let no_call : shares.Rests ≡ Makes (OnBoard x command) = ap task_shown (sym rests) ∙ to_job in absurd cc
+              | inl rests ↦ let no_call : shares.NotStarted ≡ Invokes (OnBoard x command) = ap task_shown (sym rests) ∙ to_job in absurd cc
               | inr (inl asks) ↦
-                  let other : Makes (ask_call stands.own.bus) ≡ Makes (OnBoard x command) = ap task_shown (sym asks) ∙ to_job in absurd cc
+                  let other : Invokes (ask_call stands.own.bus) ≡ Invokes (OnBoard x command) = ap task_shown (sym asks) ∙ to_job in absurd cc
               | inr (inr (inl looks)) ↦
-                  let other : Makes (look_call stands.own.bus) ≡ Makes (OnBoard x command) = ap task_shown (sym looks) ∙ to_job in absurd cc
+                  let other : Invokes (look_call stands.own.bus) ≡ Invokes (OnBoard x command) = ap task_shown (sym looks) ∙ to_job in absurd cc
               | inr (inr (inr datum)) ↦
-                  let call : Makes (OnBoard board (Some (stage_command m stage))) ≡ Makes (OnBoard x command) =
-                  ap Makes (sym stands.own.datum) ∙ ap task_shown (sym datum) ∙ to_job in
+                  let call : Invokes (OnBoard board (Some (stage_command m stage))) ≡ Invokes (OnBoard x command) =
+                  ap Invokes (sym stands.own.datum) ∙ ap task_shown (sym datum) ∙ to_job in
                   let own : command ≡ Some (stage_command m stage) = cc in
                   let fine = subst (λ n. IsGood n (Some (told.Board reply))) (sym call) good in
                   rw own (datum_goes stage job g at put taken reply stands waiting.0 waiting.1 fine)
             ]
         | inr answered ↦
-            let other : Makes (done_call stands.own.bus) ≡ Makes (OnBoard x command) = ap task_shown (sym answered.1.next) ∙ to_job in absurd cc
+            let other : Invokes (done_call stands.own.bus) ≡ Invokes (OnBoard x command) = ap task_shown (sym answered.1.next) ∙ to_job in absurd cc
       ]
 
   -- by all that was given

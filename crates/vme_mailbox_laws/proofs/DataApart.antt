@@ -17,7 +17,7 @@ use Rattle.vme_memory.specs.Data.{datum_command}
 use Rattle.vme_core.specs.Calls.{OnBoard}
 use Rattle.vme_master.specs.declared.job.BusJob.{BusJob}
 use Rattle.vme_master.specs.Jobs.{bus_job}
-use Rattle.vme_master.specs.Tables.{Given, Makes, data_in, next_of}
+use Rattle.vme_master.specs.Tables.{Given, Invokes, data_in, next_of}
 use Rattle.vme_master.proofs.lemmas.Tenures.{data_go_on}
 use Rattle.vme_shared.specs.MailboxSteps.{offset_of, len_of}
 use Rattle.vme_script.specs.declared.place.Place.{Place}
@@ -61,7 +61,7 @@ same_command c d same = cc
 
 -- what a transfer sends to a board is among the bytes of its request
 pub sent : (entries : List Entry) (slot level : ℕ) (request : Request) (t : Transfer) (g : Given) (x : ℕ) (c : Command)
-    → transfer_of request ≡ Ok t → next_of (bus_job entries slot level t) g ≡ Makes (OnBoard x (Some c))
+    → transfer_of request ≡ Ok t → next_of (bus_job entries slot level t) g ≡ Invokes (OnBoard x (Some c))
     → (bytes : Place) × (request_bytes entries request ≡ Some bytes) × IsAmong bytes x c
 unfolding request_bytes
 sent entries slot level request t g x c is makes =

@@ -28,10 +28,10 @@ use Rattle.vme_shared.specs.declared.request.SharedRequest.{SharedRequest}
 use Rattle.vme_shared.specs.declared.request.SharedRequest.TheVariants as asked
 use Rattle.vme_shared.specs.declared.stage.Stage.{Stage}
 use Rattle.vme_shared.specs.declared.stage.Step.{Step}
-use Rattle.vme_shared.specs.declared.stage.Step.TheVariants.{Goes, Stops}
+use Rattle.vme_shared.specs.declared.stage.Step.TheVariants.{Continue, Finish}
 use Rattle.vme_shared.specs.Mailboxes.{mailbox_request, stage_request, set_lock, clear_lock}
 use Rattle.vme_shared.specs.Steps.{first_stage, step_after}
-use Rattle.vme_shared.specs.Tables.{SharedJob, Makes, Progress, At, Over, transfer_job, stage_job, stage_begun, step_begun, progress_by, progress_given, progress_of, next_at, shared_next}
+use Rattle.vme_shared.specs.Tables.{SharedJob, Invokes, Progress, At, Over, transfer_job, stage_job, stage_begun, step_begun, progress_by, progress_given, progress_of, next_at, shared_next}
 use Rattle.vme_shared.proofs.lemmas.Tenures.{shown_makes}
 use Rattle.vme_mailbox_laws.specs.Along.{mailbox_in, LiesAt, UsesMailbox, IsGood, GoesTo}
 use Rattle.vme_mailbox_laws.proofs.Stages.{shape, own_request, distance, distance_within, stage_command, stage_touches}
@@ -48,13 +48,13 @@ own_begun s stage g (Ok job) own = own
 own_begun s stage g (Err fault) own = tt
 
 own_stepped : (s : SharedJob) (step : Step) → OwnJob s (step_begun s step)
-own_stepped s (Goes stage) = own_begun s stage (None ∷ []) (stage_job s stage) refl
-own_stepped s (Stops end) = tt
+own_stepped s (Continue stage) = own_begun s stage (None ∷ []) (stage_job s stage) refl
+own_stepped s (Finish end) = tt
 
 own_by : (s : SharedJob) (stage : Stage) (job : Job) (g : Given) (next : Next) → stage_job s stage ≡ Ok job → OwnJob s (progress_by s stage job g next)
-own_by s stage job g tasks.Rests own = own
-own_by s stage job g (tasks.Makes call) own = own
-own_by s stage job g (tasks.Ends outcome) own = own_stepped s (step_after s.request stage outcome)
+own_by s stage job g tasks.NotStarted own = own
+own_by s stage job g (tasks.Invokes call) own = own
+own_by s stage job g (tasks.Returns outcome) own = own_stepped s (step_after s.request stage outcome)
 
 own_given : (s : SharedJob) (last : Option EventReply) (progress : Progress) → OwnJob s progress → OwnJob s (progress_given s last progress)
 own_given s last (At stage job g) own = own_by s stage job (last ∷ g) (next_of job (last ∷ g)) own
@@ -73,7 +73,7 @@ record Sent (s : SharedJob) (request : Request) (x : ℕ) (command : Option Comm
   own : command ≡ Some (datum_command request 0 offset)
 
 sent_by : (s : SharedJob) (request : Request) (t : Transfer) (g : Given) (x : ℕ) (command : Option Command) → count_of request ≡ 1
-    → transfer_of request ≡ Ok t → next_of (bus_job s.map s.slot s.level t) g ≡ tasks.Makes (OnBoard x command) → Sent s request x command
+    → transfer_of request ≡ Ok t → next_of (bus_job s.map s.slot s.level t) g ≡ tasks.Invokes (OnBoard x command) → Sent s request x command
 sent_by s request t g x command one lawful makes =
     let from = comes_from request t lawful in
     let bus : BusJob = record { slot = s.slot; level = s.level; transfer = t; place = selection_at s.map t.am (addr_of t.request) } in
@@ -93,7 +93,7 @@ sent_by s request t g x command one lawful makes =
     }
 
 sent_in : (s : SharedJob) (request : Request) (result : Result Transfer CycleFault) (job : Job) (g : Given) (x : ℕ) (command : Option Command)
-    → count_of request ≡ 1 → transfer_of request ≡ result → transfer_job s result ≡ Ok job → next_of job g ≡ tasks.Makes (OnBoard x command)
+    → count_of request ≡ 1 → transfer_of request ≡ result → transfer_job s result ≡ Ok job → next_of job g ≡ tasks.Invokes (OnBoard x command)
     → Sent s request x command
 sent_in s request (Ok t) job g x command one is made makes =
     let same : job ≡ bus_job s.map s.slot s.level t = cc in
@@ -107,7 +107,7 @@ single (asked.Unlock am addr) stage = refl
 single (asked.Put mailbox word) stage = (shape mailbox (record { offset = 0; slots = mailbox.slots }) stage refl).count
 single (asked.Take mailbox) stage = (shape mailbox (record { offset = 0; slots = mailbox.slots }) stage refl).count
 
-sent_at : (s : SharedJob) (progress : Progress) (x : ℕ) (command : Option Command) → OwnJob s progress → next_at progress ≡ Makes (OnBoard x command)
+sent_at : (s : SharedJob) (progress : Progress) (x : ℕ) (command : Option Command) → OwnJob s progress → next_at progress ≡ Invokes (OnBoard x command)
     → (stage : Stage) × Sent s (stage_request s.request stage) x command
 sent_at s (At stage job g) x command own makes = (
   stage,
@@ -117,7 +117,7 @@ sent_at s (At stage job g) x command own makes = (
 sent_at s (Over end) x command own makes = absurd cc
 
 -- whatever was given
-sent : (s : SharedJob) (given : Given) (x : ℕ) (command : Option Command) → shared_next s given ≡ Makes (OnBoard x command)
+sent : (s : SharedJob) (given : Given) (x : ℕ) (command : Option Command) → shared_next s given ≡ Invokes (OnBoard x command)
     → (stage : Stage) × Sent s (stage_request s.request stage) x command
 sent s given x command makes = sent_at s (progress_of s given) x command (own_job s given) makes
 
@@ -141,7 +141,7 @@ mailbox_sent s mailbox board x m stage command lies some out =
 -- the board of its mailbox gets the commands of its stages
 pub stage_commands : (s : SharedJob) (given : Given) (mailbox : Mailbox) (board x : ℕ) (m : BoardMailbox) (command : Option Command)
     → mailbox_in s.request ≡ Some mailbox → LiesAt s.map mailbox board m → 1 ≤ m.slots
-    → shared_next s given ≡ Makes (OnBoard x command)
+    → shared_next s given ≡ Invokes (OnBoard x command)
     → (x ≡ board) × ((stage : Stage) × (command ≡ Some (stage_command m stage)))
 stage_commands s given mailbox board x m command asks lies some makes =
     let out = sent s given x command makes in
@@ -150,23 +150,23 @@ stage_commands s given mailbox board x m command asks lies some makes =
     (is.0, (out.0, is.1))
 
 pub commands : (s : SharedJob) (given : Given) (board x : ℕ) (m : BoardMailbox) (command : Option Command) → UsesMailbox s board m
-    → shared_next s given ≡ Makes (OnBoard x command) → (x ≡ board) × ((stage : Stage) × (command ≡ Some (stage_command m stage)))
+    → shared_next s given ≡ Invokes (OnBoard x command) → (x ≡ board) × ((stage : Stage) × (command ≡ Some (stage_command m stage)))
 commands s given board x m command uses makes =
     stage_commands s given uses.mailbox board x m command uses.asked uses.lies (some_slot s board m uses) makes
 
 pub touching : (s : SharedJob) (given : Given) (board x : ℕ) (m : BoardMailbox) (command : Option Command) → UsesMailbox s board m
-    → shared_next s given ≡ Makes (OnBoard x command) → (x ≡ board) × ((c : Command) × (command ≡ Some c) × (touches m c ≡ true))
+    → shared_next s given ≡ Invokes (OnBoard x command) → (x ≡ board) × ((c : Command) × (command ≡ Some c) × (touches m c ≡ true))
 touching s given board x m command uses makes =
     let own = commands s given board x m command uses makes in
     (own.0, (stage_command m own.1.0, own.1.1, stage_touches m own.1.0 (some_slot s board m uses)))
 
 -- and answered
 pub answered : (s : SharedJob) (given : Given) (board x : ℕ) (m : BoardMailbox) (command : Option Command) (memory : Board) → UsesMailbox s board m
-    → LiesIn memory m → shared_next s given ≡ Makes (OnBoard x command)
+    → LiesIn memory m → shared_next s given ≡ Invokes (OnBoard x command)
     → IsGood (shared_next s given) (Some (told.Board (command_step memory command).1))
 answered s given board x m command memory uses lies makes =
     let own = commands s given board x m command uses makes in
-    let fine : IsGood (Makes (OnBoard x (Some (stage_command m own.1.0)))) (Some (told.Board (command_step memory (Some (stage_command m own.1.0))).1)) = (
+    let fine : IsGood (Invokes (OnBoard x (Some (stage_command m own.1.0)))) (Some (told.Board (command_step memory (Some (stage_command m own.1.0))).1)) = (
       reply_form memory (stage_command m own.1.0),
       λ error. let berr : (command_step memory (Some (stage_command m own.1.0))).1 ≡ Berr = cc in stage_answered memory m lies own.1.0 berr,
       λ denied. absurd cc,
@@ -175,14 +175,14 @@ answered s given board x m command memory uses lies makes =
 
 -- of a lock
 pub taken : (s : SharedJob) (given : Given) (am addr board : ℕ) (command : Option Command) → s.request ≡ asked.Lock am addr
-    → shared_next s given ≡ Makes (OnBoard board command) → GoesTo s.map am addr board (λ offset. Modify offset 1 Set) command
+    → shared_next s given ≡ Invokes (OnBoard board command) → GoesTo s.map am addr board (λ offset. Modify offset 1 Set) command
 taken s given am addr board command is makes =
     let out = sent s given board command makes in
     let own : Sent s (set_lock am addr) board command = subst (λ r. Sent s (stage_request r out.0) board command) is out.1 in
     record { code = own.code; row = own.row; offset = own.offset; selected = own.selected; own = own.own }
 
 pub given_back : (s : SharedJob) (given : Given) (am addr board : ℕ) (command : Option Command) → s.request ≡ asked.Unlock am addr
-    → shared_next s given ≡ Makes (OnBoard board command) → GoesTo s.map am addr board (λ offset. Write offset (0 ∷ [])) command
+    → shared_next s given ≡ Invokes (OnBoard board command) → GoesTo s.map am addr board (λ offset. Write offset (0 ∷ [])) command
 given_back s given am addr board command is makes =
     let out = sent s given board command makes in
     let own : Sent s (clear_lock am addr) board command = subst (λ r. Sent s (stage_request r out.0) board command) is out.1 in

@@ -12,7 +12,7 @@ use Rattle.vme_core.specs.declared.event.Event.{Event}
 use Rattle.vme_core.specs.declared.event.Event.TheVariants as asked
 use Rattle.vme_core.specs.declared.event.EventReply.{EventReply}
 use Rattle.vme_core.specs.declared.event.EventReply.TheVariants as told
-use Rattle.vme_core.specs.Runs.{Move, move, board_entry, board_part}
+use Rattle.vme_core.specs.Runs.{Transition, move, board_entry, board_part}
 use Rattle.vme_core.specs.Calls.{Call, OnBoard, call_of}
 use Rattle.vme_shared.specs.MailboxSteps.{BoardMailbox, touches}
 use Rattle.vme_shared.specs.Phases.{Phase, Idle, after_command}
@@ -27,9 +27,9 @@ use Rattle.vme_shared.specs.Tables.{SharedJob, SharedNext, progress_of, shared_n
 use Rattle.vme_shared.proofs.lemmas.Starts.{rests}
 use Rattle.vme_grammar.specs.declared.line.Line.{Line}
 use Rattle.vme_script.specs.Configurations.{Configuration}
-use Rattle.vme_line_task.specs.Scripts.{Shares, line_attempt}
-use Rattle.vme_line_task.specs.Tables.{Makes, Ends, Attempts, shares_next, attempt_next, next_asks_again, next_attempt, attempts_of, lawful_next, next_given, given_of, line_next}
-use Rattle.vme_line_task.specs.Courses.{Goes}
+use Rattle.vme_line_task.specs.Scripts.{Sharing, line_attempt}
+use Rattle.vme_line_task.specs.Tables.{Invokes, Returns, Attempts, shares_next, attempt_next, next_asks_again, next_attempt, attempts_of, lawful_next, next_given, given_of, line_next}
+use Rattle.vme_line_task.specs.Traces.{Continues}
 use Rattle.vme_mailbox_laws.specs.Along.{UsesMailbox, IsGood, IsCount, phase_given, put_told, taken_told}
 use Rattle.vme_mailbox_laws.proofs.Courses.{Stands, IsOver, opening, moves}
 use Rattle.vme_mailbox_laws.proofs.Ends.{ends_in}
@@ -39,7 +39,7 @@ use Rattle.vme_mailbox_laws.proofs.Through.{Wanted, behind, Through}
 use Rattle.vme_mailbox_laws.proofs.Tasks.{IsIn, move_on}
 
 -- a board's part of moves, of the first and the others
-pub part_cons : (x : ℕ) (m : Move) (run : List Move) → board_part x (m ∷ run) ≡ board_part x (m ∷ []) ++ board_part x run
+pub part_cons : (x : ℕ) (m : Transition) (run : List Transition) → board_part x (m ∷ run) ≡ board_part x (m ∷ []) ++ board_part x run
 part_cons x m run = by_entry (board_entry x m.who m.event m.reply) refl
   where
     by_entry : (e : Option (Entry BoardCmd Reply)) → board_entry x m.who m.event m.reply ≡ e → board_part x (m ∷ run) ≡ board_part x (m ∷ []) ++ board_part x run
@@ -47,32 +47,32 @@ part_cons x m run = by_entry (board_entry x m.who m.event m.reply) refl
     by_entry (Some e) is = rw is refl
 
 -- a call of what is asked of a mailbox is the line's
-shares_makes : (n : SharedNext) (call : Call) → shares_next n ≡ Makes call → n ≡ shares.Makes call
-shares_makes shares.Rests call is = absurd cc
-shares_makes (shares.Makes other) call is = cc
-shares_makes (shares.Ends outcome) call is = absurd cc
+shares_makes : (n : SharedNext) (call : Call) → shares_next n ≡ Invokes call → n ≡ shares.Invokes call
+shares_makes shares.NotStarted call is = absurd cc
+shares_makes (shares.Invokes other) call is = cc
+shares_makes (shares.Returns outcome) call is = absurd cc
 
 -- and so is its end
-pub shares_ends : (n : SharedNext) (answer : LineReply) → shares_next n ≡ Ends answer → (outcome : SharedOutcome) × (n ≡ shares.Ends outcome) × (answer ≡ Shared outcome)
-shares_ends shares.Rests answer is = absurd cc
-shares_ends (shares.Makes call) answer is = absurd cc
-shares_ends (shares.Ends outcome) answer is = (outcome, refl, cc)
+pub shares_ends : (n : SharedNext) (answer : LineReply) → shares_next n ≡ Returns answer → (outcome : SharedOutcome) × (n ≡ shares.Returns outcome) × (answer ≡ Shared outcome)
+shares_ends shares.NotStarted answer is = absurd cc
+shares_ends (shares.Invokes call) answer is = absurd cc
+shares_ends (shares.Returns outcome) answer is = (outcome, refl, cc)
 
 -- an end after which another attempt is made has put and taken nothing
 again_ends : (n : SharedNext) → next_asks_again (shares_next n) ≡ true
-    → (outcome : SharedOutcome) × (n ≡ shares.Ends outcome) × ((request : SharedRequest) → put_told outcome request ≡ []) × (taken_told outcome ≡ [])
-again_ends shares.Rests is = absurd cc
-again_ends (shares.Makes call) is = absurd cc
-again_ends (shares.Ends shared.Busy) is = (shared.Busy, refl, λ request. refl, refl)
-again_ends (shares.Ends shared.Full) is = (shared.Full, refl, λ request. refl, refl)
-again_ends (shares.Ends shared.Empty) is = (shared.Empty, refl, λ request. refl, refl)
-again_ends (shares.Ends outcome) is = absurd cc
+    → (outcome : SharedOutcome) × (n ≡ shares.Returns outcome) × ((request : SharedRequest) → put_told outcome request ≡ []) × (taken_told outcome ≡ [])
+again_ends shares.NotStarted is = absurd cc
+again_ends (shares.Invokes call) is = absurd cc
+again_ends (shares.Returns shared.Busy) is = (shared.Busy, refl, λ request. refl, refl)
+again_ends (shares.Returns shared.Full) is = (shared.Full, refl, λ request. refl, refl)
+again_ends (shares.Returns shared.Empty) is = (shared.Empty, refl, λ request. refl, refl)
+again_ends (shares.Returns outcome) is = absurd cc
 
 module _ (s : SharedJob) (board : ℕ) (m : BoardMailbox) (uses : UsesMailbox s board m) where
   -- a fresh attempt
   begins : IsIn s board m uses (None ∷ []) (Some Idle) [] []
   begins =
-      let rest : shared_next s [] ≡ shares.Rests = rests s uses.started in
+      let rest : shared_next s [] ≡ shares.NotStarted = rests s uses.started in
       let good : IsGood (shared_next s []) None = subst (λ n. IsGood n None) (sym rest) refl in
       let same : phase_given m board (shared_next s []) None (Some Idle) ≡ Some Idle = ap (λ n. phase_given m board n None (Some Idle)) rest in
       subst (λ p. Stands m board s.request (progress_of s (None ∷ [])) p (put_by (Some Idle) p) (taken_by (Some Idle) p)) same
@@ -80,7 +80,7 @@ module _ (s : SharedJob) (board : ℕ) (m : BoardMailbox) (uses : UsesMailbox s 
 
   -- where the attempt has ended, so that another is made, that one begins
   settles : (made : Attempts) (at : Option Phase) (put taken : List ℕ) → IsIn s board m uses made.given at put taken
-      → IsIn s board m uses (next_attempt made (attempt_next (Shares s) made.given)).given at put taken
+      → IsIn s board m uses (next_attempt made (attempt_next (Sharing s) made.given)).given at put taken
   settles made at put taken stands =
       elim (cases_Bool (next_asks_again (shares_next (shared_next s made.given)) && nat_lt 1 made.left)) [
         | inl again ↦
@@ -92,13 +92,13 @@ module _ (s : SharedJob) (board : ℕ) (m : BoardMailbox) (uses : UsesMailbox s 
         | inr on ↦ rw on stands
       ]
 
-  module _ (config : Configuration) (who : ℕ) (line : Line) (is : line_attempt config who line ≡ Ok (Shares s)) where
+  module _ (config : Configuration) (who : ℕ) (line : Line) (is : line_attempt config who line ≡ Ok (Sharing s)) where
     -- what the line's attempt at work was given
     abbrev pub InLine : List EventReply → Option Phase → List ℕ → List ℕ → Type 0
-    InLine replies at put taken = IsIn s board m uses (attempts_of (Shares s) config.tries (given_of replies)).given at put taken
+    InLine replies at put taken = IsIn s board m uses (attempts_of (Sharing s) config.tries (given_of replies)).given at put taken
 
     own_next : (replies : List EventReply)
-        → line_next config who line replies ≡ shares_next (shared_next s (attempts_of (Shares s) config.tries (given_of replies)).given)
+        → line_next config who line replies ≡ shares_next (shared_next s (attempts_of (Sharing s) config.tries (given_of replies)).given)
     unfolding next_given
     own_next replies = ap (λ a. lawful_next config.tries a (given_of replies)) is
 
@@ -106,14 +106,14 @@ module _ (s : SharedJob) (board : ℕ) (m : BoardMailbox) (uses : UsesMailbox s 
     line_begins = settles (record { given = None ∷ []; left = config.tries }) (Some Idle) [] [] begins
 
     -- all moves of the line
-    pub line_moves : (before : List EventReply) (run : List Move) (replies : List EventReply) (at : Option Phase) (put taken : List ℕ)
-        (rest : List (Entry BoardCmd Reply)) (wanted : Wanted) → InLine before at put taken → Goes config who line before run replies → AllTurned run
+    pub line_moves : (before : List EventReply) (run : List Transition) (replies : List EventReply) (at : Option Phase) (put taken : List ℕ)
+        (rest : List (Entry BoardCmd Reply)) (wanted : Wanted) → InLine before at put taken → Continues config who line before run replies → AllTurned run
         → ((next : Option Phase) (ps ts : List ℕ) → InLine replies next ps ts → Through m next rest (behind wanted ps ts))
         → Through m at (board_part board run ++ rest) (behind wanted put taken)
     line_moves before [] replies at put taken rest wanted stands goes turned leads =
         leads at put taken (subst (λ l. InLine l at put taken) goes stands)
     line_moves before (mv ∷ run) replies at put taken rest wanted stands goes turned leads =
-        let made = attempts_of (Shares s) config.tries (given_of before) in
+        let made = attempts_of (Sharing s) config.tries (given_of before) in
         let makes = shares_makes (shared_next s made.given) (call_of mv.event) (sym (own_next before) ∙ goes.0) in
         let whole : (board_part board (mv ∷ []) ++ board_part board run) ++ rest ≡ board_part board (mv ∷ run) ++ rest =
         ap (λ es. es ++ rest) (sym (part_cons board mv run)) in
@@ -125,10 +125,10 @@ module _ (s : SharedJob) (board : ℕ) (m : BoardMailbox) (uses : UsesMailbox s 
 
     -- the end of the line
     pub line_over : (replies : List EventReply) (answer : LineReply) (at : Option Phase) (put taken : List ℕ) → InLine replies at put taken
-        → line_next config who line replies ≡ Ends answer
+        → line_next config who line replies ≡ Returns answer
         → (outcome : SharedOutcome) × (answer ≡ Shared outcome) × IsOver s.request outcome at put taken
     line_over replies answer at put taken stands ends =
-        let made = attempts_of (Shares s) config.tries (given_of replies) in
+        let made = attempts_of (Sharing s) config.tries (given_of replies) in
         let end = shares_ends (shared_next s made.given) answer (sym (own_next replies) ∙ ends) in
         (end.0, end.2, ends_in m board s.request (progress_of s made.given) at put taken end.0 stands end.1)
 
@@ -159,13 +159,13 @@ move_beside m board who (asked.Board x cmd) (told.Board reply) more wanted alone
     ]
 
 -- all moves of such a line
-pub moves_beside : (config : Configuration) (who : ℕ) (line : Line) (board : ℕ) (m : BoardMailbox) (before : List EventReply) (run : List Move)
+pub moves_beside : (config : Configuration) (who : ℕ) (line : Line) (board : ℕ) (m : BoardMailbox) (before : List EventReply) (run : List Transition)
     (replies : List EventReply) (more : List (Entry BoardCmd Reply)) (wanted : Wanted) → LeavesAlone config who line board m
-    → Goes config who line before run replies → Through m (Some Idle) more wanted → Through m (Some Idle) (board_part board run ++ more) wanted
+    → Continues config who line before run replies → Through m (Some Idle) more wanted → Through m (Some Idle) (board_part board run ++ more) wanted
 moves_beside config who line board m before [] replies more wanted alone goes through = through
 moves_beside config who line board m before (mv ∷ run) replies more wanted alone goes through =
     let whole : (board_part board (mv ∷ []) ++ board_part board run) ++ more ≡ board_part board (mv ∷ run) ++ more =
     ap (λ es. es ++ more) (sym (part_cons board mv run)) in
     subst (λ es. Through m (Some Idle) es wanted) (sym (append_assoc (board_part board (mv ∷ [])) (board_part board run) more) ∙ whole)
-    (move_beside m board mv.who mv.event mv.reply (board_part board run ++ more) wanted (λ c is. alone before c (goes.0 ∙ ap Makes is))
+    (move_beside m board mv.who mv.event mv.reply (board_part board run ++ more) wanted (λ c is. alone before c (goes.0 ∙ ap Invokes is))
     (moves_beside config who line board m (mv.reply ∷ before) run replies more wanted alone goes.1 through))

@@ -9,7 +9,7 @@ use Rattle.vme_memory.specs.declared.reply.Reply.{Reply}
 use Rattle.vme_memory.specs.declared.reply.Reply.TheVariants.{Bytes, Done, Berr}
 use Rattle.vme_memory.specs.Data.{reply_len, has_form}
 use Rattle.vme_master.specs.declared.outcome.Outcome.{Outcome}
-use Rattle.vme_master.specs.Jobs.{aim_outcome}
+use Rattle.vme_master.specs.Jobs.{expected_outcome}
 use Rattle.vme_shared.specs.MailboxSteps as places
 use Rattle.vme_shared.specs.MailboxSteps.{BoardMailbox, touches}
 use Rattle.vme_shared.specs.Phases.{Phase, Idle, Locked, First, Both, Written, Fetched, Counted, has_space, is_unlock, Writes, access_of, next_phase, after_command}
@@ -22,12 +22,12 @@ use Rattle.vme_shared.specs.declared.request.SharedRequest.TheVariants as asked
 use Rattle.vme_shared.specs.declared.stage.Stage.{Stage}
 use Rattle.vme_shared.specs.declared.stage.Stage.TheVariants.{Locks, ReadsPutCount, ReadsTakeCount, WritesWord, RaisesPutCount, ReadsWord, RaisesTakeCount, Unlocks}
 use Rattle.vme_shared.specs.declared.stage.Step.{Step}
-use Rattle.vme_shared.specs.declared.stage.Step.TheVariants.{Goes, Stops}
+use Rattle.vme_shared.specs.declared.stage.Step.TheVariants.{Continue, Finish}
 use Rattle.vme_shared.specs.Mailboxes.{raised}
 use Rattle.vme_shared.specs.Steps.{has_top_bit, word_in, words_between, counted_stage, mailbox_step, step_after}
 use Rattle.vme_mailbox_laws.specs.Along.{mailbox_in, IsCount, put_told, taken_told}
 use Rattle.vme_mailbox_laws.proofs.Single.{reply_bytes}
-use Rattle.vme_mailbox_laws.proofs.Stages.{stage_command, stage_aim, stage_touches}
+use Rattle.vme_mailbox_laws.proofs.Stages.{stage_command, stage_expected, stage_touches}
 
 -- the phase in which an unlock finds the mailbox
 abbrev pub BeforeUnlock : SharedOutcome → Phase → Type 0
@@ -62,8 +62,8 @@ IsFineEnd end = (end ≢ shared.Berr) × (end ≢ shared.Denied)
 
 -- where a step leads
 abbrev pub Leads : BoardMailbox → SharedRequest → Step → Phase → List ℕ → List ℕ → Type 0
-Leads m request (Goes stage) phase put taken = Before m request stage phase × Words request stage put taken
-Leads m request (Stops end) phase put taken = (phase ≡ Idle) × (put ≡ put_told end request) × (taken ≡ taken_told end) × IsFineEnd end
+Leads m request (Continue stage) phase put taken = Before m request stage phase × Words request stage put taken
+Leads m request (Finish end) phase put taken = (phase ≡ Idle) × (put ≡ put_told end request) × (taken ≡ taken_told end) × IsFineEnd end
 
 -- a reply has the form that a stage wants, and is no bus error
 pub record IsFine (m : BoardMailbox) (stage : Stage) (reply : Reply) : Type 0 where
@@ -76,7 +76,7 @@ pub record Went (m : BoardMailbox) (request : SharedRequest) (stage : Stage) (ph
   pub is : after_command m (Some phase) (Some (stage_command m stage)) reply ≡ Some next
   pub leads :
       IsCount (Some next)
-      → Leads m request (step_after request stage (aim_outcome (stage_aim stage) (reply_bytes reply))) next
+      → Leads m request (step_after request stage (expected_outcome (stage_expected stage) (reply_bytes reply))) next
       (put ++ put_by (Some phase) (Some next)) (taken ++ taken_by (Some phase) (Some next))
 
 -- a write with its length and its number
@@ -119,13 +119,13 @@ module _ (m : BoardMailbox) (request : SharedRequest) (mailbox : Mailbox) (is : 
   -- a stage goes on to a next phase by a step
   goes_by : (stage : Stage) (phase : Phase) (reply : Reply) (next : Phase) (step : Step)
       → next_phase m phase (access_of (stage_command m stage) reply) ≡ Some next
-      → mailbox_step request stage (aim_outcome (stage_aim stage) (reply_bytes reply)) ≡ step
+      → mailbox_step request stage (expected_outcome (stage_expected stage) (reply_bytes reply)) ≡ step
       → (IsCount (Some next) → Leads m request step next (put ++ put_by (Some phase) (Some next)) (taken ++ taken_by (Some phase) (Some next)))
       → Went m request stage phase put taken reply
   goes_by stage phase reply next step row table leads = record {
     next = next;
     is = step_in m stage phase reply (Some next) some row;
-    leads = λ count. rw (own_step stage (aim_outcome (stage_aim stage) (reply_bytes reply))) (rw table (leads count));
+    leads = λ count. rw (own_step stage (expected_outcome (stage_expected stage) (reply_bytes reply))) (rw table (leads count));
   }
 
   row_locks : (reply : Reply) → IsFine m Locks reply → Words request Locks put taken → Went m request Locks Idle put taken reply
@@ -134,10 +134,10 @@ module _ (m : BoardMailbox) (request : SharedRequest) (mailbox : Mailbox) (is : 
       let found = locks_found datum.items long in
       elim (cases_Bool (nat_le 128 (number_of datum.items))) [
         | inl held ↦
-            goes_by Locks Idle (Bytes datum) Idle (Stops shared.Busy) (rw (same_place (places.lock_at m)) (rw held refl)) (rw (found ∙ held) refl)
+            goes_by Locks Idle (Bytes datum) Idle (Finish shared.Busy) (rw (same_place (places.lock_at m)) (rw held refl)) (rw (found ∙ held) refl)
             (λ count. (refl, nothing put none.0, nothing taken none.1, (λ same. absurd cc, λ same. absurd cc)))
         | inr free ↦
-            goes_by Locks Idle (Bytes datum) Locked (Goes ReadsPutCount) (rw (same_place (places.lock_at m)) (rw free refl)) (rw (found ∙ free) refl)
+            goes_by Locks Idle (Bytes datum) Locked (Continue ReadsPutCount) (rw (same_place (places.lock_at m)) (rw free refl)) (rw (found ∙ free) refl)
             (λ count. (refl, (nothing put none.0, nothing taken none.1)))
       ]
   row_locks Done fine none = let form = fine.form in absurd cc
@@ -146,7 +146,7 @@ module _ (m : BoardMailbox) (request : SharedRequest) (mailbox : Mailbox) (is : 
   row_reads_put_count : (reply : Reply) → IsFine m ReadsPutCount reply → Words request ReadsPutCount put taken
       → Went m request ReadsPutCount Locked put taken reply
   row_reads_put_count (Bytes datum) fine none =
-      goes_by ReadsPutCount Locked (Bytes datum) (First (number_of datum.items)) (Goes (ReadsTakeCount (number_of datum.items)))
+      goes_by ReadsPutCount Locked (Bytes datum) (First (number_of datum.items)) (Continue (ReadsTakeCount (number_of datum.items)))
       (rw (same_place (places.put_count_at m)) refl) (rw fine.form refl)
       (λ count. ((refl, count), (nothing put none.0, nothing taken none.1)))
   row_reads_put_count Done fine none = let form = fine.form in absurd cc
@@ -185,7 +185,7 @@ module _ (m : BoardMailbox) (request : SharedRequest) (mailbox : Mailbox) (is : 
   row_reads_take_count : (p : ℕ) (reply : Reply) → p < 2 ^ 32 → IsFine m (ReadsTakeCount p) reply → Words request (ReadsTakeCount p) put taken
       → Went m request (ReadsTakeCount p) (First p) put taken reply
   row_reads_take_count p (Bytes datum) small fine none =
-      goes_by (ReadsTakeCount p) (First p) (Bytes datum) (Both p (number_of datum.items)) (Goes (counted_stage request p (number_of datum.items)))
+      goes_by (ReadsTakeCount p) (First p) (Bytes datum) (Both p (number_of datum.items)) (Continue (counted_stage request p (number_of datum.items)))
       (rw (same_place (places.take_count_at m)) refl) (rw fine.form refl)
       (λ count. counted p (number_of datum.items) small none.0 none.1)
   row_reads_take_count p Done small fine none = let form = fine.form in absurd cc
@@ -194,7 +194,7 @@ module _ (m : BoardMailbox) (request : SharedRequest) (mailbox : Mailbox) (is : 
   row_reads_word : (p t : ℕ) (reply : Reply) → (p == t) ≡ false → IsFine m (ReadsWord t) reply → Words request (ReadsWord t) put taken
       → Went m request (ReadsWord t) (Both p t) put taken reply
   row_reads_word p t (Bytes datum) other fine none =
-      goes_by (ReadsWord t) (Both p t) (Bytes datum) (Fetched t (number_of datum.items)) (Goes (RaisesTakeCount t (number_of datum.items)))
+      goes_by (ReadsWord t) (Both p t) (Bytes datum) (Fetched t (number_of datum.items)) (Continue (RaisesTakeCount t (number_of datum.items)))
       (rw (same_place (places.word_at m t)) (rw other refl)) (rw fine.form refl) (λ count. (refl, (nothing put none.0, nothing taken none.1)))
   row_reads_word p t Done other fine none = let form = fine.form in absurd cc
   row_reads_word p t Berr other fine none = absurd (fine.good refl)
@@ -209,7 +209,7 @@ module _ (m : BoardMailbox) (request : SharedRequest) (mailbox : Mailbox) (is : 
   row_writes_word p t word own (Bytes datum) has is_put fine none = let form = fine.form in absurd cc
   row_writes_word p t word own Done has is_put fine none =
       let below : p < 2 ^ 32 - 1 = ltb-true p (2 ^ 32 - 1) (and_parts _ _ has).0 in
-      goes_by (WritesWord p word) (Both p t) Done (Written p (word % 2 ^ 32)) (Goes (RaisesPutCount p))
+      goes_by (WritesWord p word) (Both p t) Done (Written p (word % 2 ^ 32)) (Continue (RaisesPutCount p))
       (
       ap (λ x. next_phase m (Both p t) (Writes (places.word_at m p) 4 x)) (number_of-number_bytes 4 word)
       ∙ rw (no_unlock p (word % 2 ^ 32)) (rw (same_place (places.word_at m p)) (rw has refl))
@@ -223,7 +223,7 @@ module _ (m : BoardMailbox) (request : SharedRequest) (mailbox : Mailbox) (is : 
   row_raises_put_count p word own (Bytes datum) below is_put fine none = let form = fine.form in absurd cc
   row_raises_put_count p word own Done below is_put fine none =
       let number : number_of (number_bytes 4 (raised p)) ≡ p + 1 = number_of-number_bytes 4 (raised p) ∙ omega arith in
-      goes_by (RaisesPutCount p) (Written p (word % 2 ^ 32)) Done Counted (Goes (Unlocks shared.Put))
+      goes_by (RaisesPutCount p) (Written p (word % 2 ^ 32)) Done Counted (Continue (Unlocks shared.Put))
       (
       ap (λ x. next_phase m (Written p (word % 2 ^ 32)) (Writes (places.put_count_at m) 4 x)) number
       ∙ rw (same_place (places.put_count_at m)) (rw (same_place (p + 1)) refl)
@@ -237,7 +237,7 @@ module _ (m : BoardMailbox) (request : SharedRequest) (mailbox : Mailbox) (is : 
   row_raises_take_count t word (Bytes datum) fine none = let form = fine.form in absurd cc
   row_raises_take_count t word Done fine none =
       let number : number_of (number_bytes 4 (raised t)) ≡ (t + 1) % 2 ^ 32 = number_of-number_bytes 4 (raised t) ∙ omega arith in
-      goes_by (RaisesTakeCount t word) (Fetched t word) Done Counted (Goes (Unlocks (shared.Took word)))
+      goes_by (RaisesTakeCount t word) (Fetched t word) Done Counted (Continue (Unlocks (shared.Took word)))
       (
       ap (λ x. next_phase m (Fetched t word) (Writes (places.take_count_at m) 4 x)) number
       ∙ rw (same_place (places.take_count_at m)) (rw (same_place ((t + 1) % 2 ^ 32)) refl)
@@ -251,7 +251,7 @@ module _ (m : BoardMailbox) (request : SharedRequest) (mailbox : Mailbox) (is : 
       → IsFine m (Unlocks end) reply → Words request (Unlocks end) put taken → Went m request (Unlocks end) phase put taken reply
   unlocked end phase (Bytes datum) ok goes no_put no_taken fine told = let form = fine.form in absurd cc
   unlocked end phase Done ok goes no_put no_taken fine told =
-      goes_by (Unlocks end) phase Done Idle (Stops end) goes refl
+      goes_by (Unlocks end) phase Done Idle (Finish end) goes refl
       (λ count. (
         refl,
         ap (λ ws. put ++ ws) no_put ∙ append-nil put ∙ told.0,

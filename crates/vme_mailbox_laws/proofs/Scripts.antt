@@ -6,7 +6,7 @@ use Rattle.std.proofs.lemmas.List.{append_assoc}
 use Rattle.vme_object.specs.declared.history.Entry.{Entry}
 use Rattle.vme_memory.specs.declared.command.BoardCmd.{BoardCmd}
 use Rattle.vme_memory.specs.declared.reply.Reply.{Reply}
-use Rattle.vme_core.specs.Runs.{Move, board_part}
+use Rattle.vme_core.specs.Runs.{Transition, board_part}
 use Rattle.vme_shared.specs.MailboxSteps.{BoardMailbox}
 use Rattle.vme_shared.specs.Phases.{Phase, Idle}
 use Rattle.vme_shared.specs.declared.mailbox.Mailbox.{Mailbox}
@@ -20,8 +20,8 @@ use Rattle.vme_shared.specs.Tables.{SharedJob}
 use Rattle.vme_grammar.specs.declared.line.Line.{Line}
 use Rattle.vme_grammar.specs.declared.line.Line.TheVariants as lines
 use Rattle.vme_script.specs.Configurations.{Configuration}
-use Rattle.vme_line_task.specs.Scripts.{Shares, shared_job, unless_refused, line_attempt, mailbox_at}
-use Rattle.vme_line_task.specs.Courses.{LineCourse, IsCourse}
+use Rattle.vme_line_task.specs.Scripts.{Sharing, shared_job, unless_refused, line_attempt, mailbox_at}
+use Rattle.vme_line_task.specs.Traces.{LineTrace, IsTrace}
 use Rattle.vme_mailbox_laws.specs.Along.{UsesMailbox, put_told, taken_told}
 use Rattle.vme_mailbox_laws.proofs.Courses.{IsOver}
 use Rattle.vme_mailbox_laws.specs.Names.{names, told_put, told_taken, lines_put, lines_taken, LeavesAlone, AllLeave, IsMailboxOf}
@@ -56,11 +56,11 @@ taken_tells (shared.Took word) = refl
 taken_tells outcome = refl
 
 -- moves in two parts
-turned_parts : (a b : List Move) → AllTurned (a ++ b) → AllTurned a × AllTurned b
+turned_parts : (a b : List Transition) → AllTurned (a ++ b) → AllTurned a × AllTurned b
 turned_parts [] b turned = (tt, turned)
 turned_parts (mv ∷ a) b turned = let parts = turned_parts a b turned.1 in ((turned.0, parts.0), parts.1)
 
-part_append : (x : ℕ) (a b : List Move) → board_part x (a ++ b) ≡ board_part x a ++ board_part x b
+part_append : (x : ℕ) (a b : List Transition) → board_part x (a ++ b) ≡ board_part x a ++ board_part x b
 part_append x [] b = refl
 part_append x (mv ∷ a) b =
     part_cons x mv (a ++ b) ∙ ap (λ es. board_part x (mv ∷ []) ++ es) (part_append x a b)
@@ -80,61 +80,61 @@ module _ (config : Configuration) (who box board : ℕ) (m : BoardMailbox) (is :
   at_end request outcome next ps ts rest wanted over through = rw (over.is, over.put_is, over.taken_is) through
 
   -- a line with such an attempt
-  shared_line : (line : Line) (s : SharedJob) (uses : UsesMailbox s board m) (run : List Move) (answer : LineReply)
-      (rest : List (Entry BoardCmd Reply)) (wanted : Wanted) → line_attempt config who line ≡ Ok (Shares s) → LineCourse config who line run answer
+  shared_line : (line : Line) (s : SharedJob) (uses : UsesMailbox s board m) (run : List Transition) (answer : LineReply)
+      (rest : List (Entry BoardCmd Reply)) (wanted : Wanted) → line_attempt config who line ≡ Ok (Sharing s) → LineTrace config who line run answer
       → AllTurned run
       → ((outcome : SharedOutcome) → answer ≡ Shared outcome → Through m (Some Idle) rest (behind wanted (put_told outcome s.request) (taken_told outcome)))
       → Through m (Some Idle) (board_part board run ++ rest) wanted
-  shared_line line s uses run answer rest wanted attempt course turned leads =
-      line_moves s board m uses config who line attempt [] run course.replies (Some Idle) [] [] rest wanted
-      (line_begins s board m uses config who line attempt) course.goes turned
+  shared_line line s uses run answer rest wanted attempt trace turned leads =
+      line_moves s board m uses config who line attempt [] run trace.replies (Some Idle) [] [] rest wanted
+      (line_begins s board m uses config who line attempt) trace.goes turned
       (λ next ps ts stands.
-      let over = line_over s board m uses config who line attempt course.replies answer next ps ts stands course.ends in
+      let over = line_over s board m uses config who line attempt trace.replies answer next ps ts stands trace.ends in
       at_end s.request over.0 next ps ts rest wanted over.2 (leads over.0 over.1))
 
   -- a line of any kind
-  one_line : (line : Line) (run : List Move) (answer : LineReply) (rest : List (Entry BoardCmd Reply)) (wanted : Wanted)
-      → (names box line ≡ false → LeavesAlone config who line board m) → LineCourse config who line run answer → AllTurned run
+  one_line : (line : Line) (run : List Transition) (answer : LineReply) (rest : List (Entry BoardCmd Reply)) (wanted : Wanted)
+      → (names box line ≡ false → LeavesAlone config who line board m) → LineTrace config who line run answer → AllTurned run
       → After line answer rest wanted → Through m (Some Idle) (board_part board run ++ rest) wanted
-  one_line line run answer rest wanted alone course turned after =
+  one_line line run answer rest wanted alone trace turned after =
       elim (cases_Bool (names box line)) [
-        | inl named ↦ by_name line run answer rest wanted named course turned (rw named at after)
-        | inr other ↦ moves_beside config who line board m [] run course.replies rest wanted (alone other) course.goes (rw other at after)
+        | inl named ↦ by_name line run answer rest wanted named trace turned (rw named at after)
+        | inr other ↦ moves_beside config who line board m [] run trace.replies rest wanted (alone other) trace.goes (rw other at after)
       ]
     where
-      by_name : (line : Line) (run : List Move) (answer : LineReply) (rest : List (Entry BoardCmd Reply)) (wanted : Wanted)
-          → names box line ≡ true → LineCourse config who line run answer → AllTurned run
+      by_name : (line : Line) (run : List Transition) (answer : LineReply) (rest : List (Entry BoardCmd Reply)) (wanted : Wanted)
+          → names box line ≡ true → LineTrace config who line run answer → AllTurned run
           → Through m (Some Idle) rest (behind wanted (told_put line answer) (told_taken answer))
           → Through m (Some Idle) (board_part board run ++ rest) wanted
-      by_name (lines.Put other word) run answer rest wanted named course turned after =
+      by_name (lines.Put other word) run answer rest wanted named trace turned after =
           let same : other ≡ box = eqb-true other box named in
-          let attempt : line_attempt config who (lines.Put other word) ≡ Ok (Shares (shared_job config who (requests.Put (mailbox_at config box) word))) =
+          let attempt : line_attempt config who (lines.Put other word) ≡ Ok (Sharing (shared_job config who (requests.Put (mailbox_at config box) word))) =
           ap (λ b. line_attempt config who (lines.Put b word)) same
-          ∙ ap (unless_refused (Shares (shared_job config who (requests.Put (mailbox_at config box) word)))) is.lawful in
+          ∙ ap (unless_refused (Sharing (shared_job config who (requests.Put (mailbox_at config box) word)))) is.lawful in
           shared_line (lines.Put other word) (shared_job config who (requests.Put (mailbox_at config box) word)) (puts config who box board word m is) run
-          answer rest wanted attempt course turned
+          answer rest wanted attempt trace turned
           (λ outcome told.
           rw (put_tells other word (mailbox_at config box) outcome, taken_tells outcome)
           (subst (λ a. Through m (Some Idle) rest (behind wanted (told_put (lines.Put other word) a) (told_taken a))) told after))
-      by_name (lines.Take other) run answer rest wanted named course turned after =
+      by_name (lines.Take other) run answer rest wanted named trace turned after =
           let same : other ≡ box = eqb-true other box named in
-          let attempt : line_attempt config who (lines.Take other) ≡ Ok (Shares (shared_job config who (requests.Take (mailbox_at config box)))) =
+          let attempt : line_attempt config who (lines.Take other) ≡ Ok (Sharing (shared_job config who (requests.Take (mailbox_at config box)))) =
           ap (λ b. line_attempt config who (lines.Take b)) same
-          ∙ ap (unless_refused (Shares (shared_job config who (requests.Take (mailbox_at config box))))) is.lawful in
+          ∙ ap (unless_refused (Sharing (shared_job config who (requests.Take (mailbox_at config box))))) is.lawful in
           shared_line (lines.Take other) (shared_job config who (requests.Take (mailbox_at config box))) (takes config who box board m is) run
-          answer rest wanted attempt course turned
+          answer rest wanted attempt trace turned
           (λ outcome told.
           rw (take_puts_nothing other (mailbox_at config box) outcome, taken_tells outcome)
           (subst (λ a. Through m (Some Idle) rest (behind wanted (told_put (lines.Take other) a) (told_taken a))) told after))
-      by_name line run answer rest wanted named course turned after = absurd cc
+      by_name line run answer rest wanted named trace turned after = absurd cc
 
   -- the whole script
-  pub script : (ls : List Line) (run : List Move) (answers : List LineReply) (wanted : Wanted) → AllLeave config who box board m ls
-      → IsCourse config who ls run answers → AllTurned run → wanted (Some Idle) (lines_put box ls answers) (lines_taken box ls answers)
+  pub script : (ls : List Line) (run : List Transition) (answers : List LineReply) (wanted : Wanted) → AllLeave config who box board m ls
+      → IsTrace config who ls run answers → AllTurned run → wanted (Some Idle) (lines_put box ls answers) (lines_taken box ls answers)
       → Through m (Some Idle) (board_part board run) wanted
-  script [] run [] wanted alone course turned done = rw course done
-  script [] run (answer ∷ answers) wanted alone course turned done = absurd course
-  script (line ∷ ls) run [] wanted alone course turned done = absurd course
+  script [] run [] wanted alone trace turned done = rw trace done
+  script [] run (answer ∷ answers) wanted alone trace turned done = absurd trace
+  script (line ∷ ls) run [] wanted alone trace turned done = absurd trace
   script (line ∷ ls) run (answer ∷ answers) wanted alone (first, rest, whole, own, later) turned done =
       let split = turned_parts first rest (subst AllTurned whole turned) in
       let parts : board_part board run ≡ board_part board first ++ board_part board rest = ap (board_part board) whole ∙ part_append board first rest in

@@ -26,7 +26,7 @@ use Rattle.vme_script.specs.declared.place.Place.{Place}
 use Rattle.vme_script.specs.Bytes.{transfer_bytes, request_bytes, local_bytes}
 use Rattle.vme_script.specs.Boards.{entries_of}
 use Rattle.vme_script.specs.Configurations.{Configuration}
-use Rattle.vme_line_task.specs.Scripts.{Moves, Waits, Shares, slot_at, level_at, transfer_job, request_attempt, unless_refused, shared_job, shared_attempt}
+use Rattle.vme_line_task.specs.Scripts.{Transferring, Awaiting, Sharing, slot_at, level_at, transfer_job, request_attempt, unless_refused, shared_job, shared_attempt}
 use Rattle.vme_mailbox_laws.proofs.Apart.{IsAmong}
 use Rattle.vme_mailbox_laws.proofs.DataApart.{sent}
 use Rattle.vme_mailbox_laws.proofs.CallsApart.{JobCalls, SharedCalls, Calls}
@@ -43,23 +43,23 @@ by_transfer config who request x c t is calls =
     sent (entries_of config.boards) (slot_at config who) (level_at config who) request t calls.0 x c is calls.1
 
 pub bus_sends : (config : Configuration) (who : ℕ) (request : Request) (x : ℕ) (c : Command)
-    → Calls (request_attempt (λ t. Moves (transfer_job config who t)) (transfer_of request)) (OnBoard x (Some c))
+    → Calls (request_attempt (λ t. Transferring (transfer_job config who t)) (transfer_of request)) (OnBoard x (Some c))
     → Among (request_bytes (entries_of config.boards) request) x c
 bus_sends config who request x c calls = by_result (transfer_of request) refl calls
   where
     by_result : (result : Result Transfer CycleFault) → transfer_of request ≡ result
-        → Calls (request_attempt (λ t. Moves (transfer_job config who t)) result) (OnBoard x (Some c))
+        → Calls (request_attempt (λ t. Transferring (transfer_job config who t)) result) (OnBoard x (Some c))
         → Among (request_bytes (entries_of config.boards) request) x c
     by_result (Ok t) is calls = by_transfer config who request x c t is calls
     by_result (Err fault) is calls = absurd calls
 
 pub await_sends : (config : Configuration) (who : ℕ) (request : Request) (want : List ℕ) (x : ℕ) (c : Command)
-    → Calls (request_attempt (λ t. Waits (transfer_job config who t) want) (transfer_of request)) (OnBoard x (Some c))
+    → Calls (request_attempt (λ t. Awaiting (transfer_job config who t) want) (transfer_of request)) (OnBoard x (Some c))
     → Among (request_bytes (entries_of config.boards) request) x c
 await_sends config who request want x c calls = by_result (transfer_of request) refl calls
   where
     by_result : (result : Result Transfer CycleFault) → transfer_of request ≡ result
-        → Calls (request_attempt (λ t. Waits (transfer_job config who t) want) result) (OnBoard x (Some c))
+        → Calls (request_attempt (λ t. Awaiting (transfer_job config who t) want) result) (OnBoard x (Some c))
         → Among (request_bytes (entries_of config.boards) request) x c
     by_result (Ok t) is calls = by_transfer config who request x c t is calls
     by_result (Err fault) is calls = absurd calls
@@ -97,7 +97,7 @@ pub shared_calls : (config : Configuration) (who : ℕ) (request : SharedRequest
 shared_calls config who request call calls = by_refusal (shared_refusal request) refl calls
   where
     by_refusal : (refusal : Option CycleFault) → shared_refusal request ≡ refusal
-        → Calls (unless_refused (Shares (shared_job config who request)) refusal) call
+        → Calls (unless_refused (Sharing (shared_job config who request)) refusal) call
         → SharedCalls (shared_job config who request) call × (shared_refusal request ≡ None)
     by_refusal None is calls = (calls, is)
     by_refusal (Some fault) is calls = absurd calls

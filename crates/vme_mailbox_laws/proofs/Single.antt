@@ -11,8 +11,8 @@ use Rattle.vme_core.specs.declared.event.EventReply.TheVariants as told
 use Rattle.vme_core.specs.Calls.{Call}
 use Rattle.vme_master.specs.declared.job.BusJob.{BusJob}
 use Rattle.vme_master.specs.declared.job.Job.TheVariants.{Bus}
-use Rattle.vme_master.specs.Jobs.{ask_call, look_call, done_call, datum_call, fits, request_aim, aim_outcome}
-use Rattle.vme_master.specs.Tables.{Next, Rests, Makes, Ends, Given, data_in, bytes_in, datum_or_done, next_of}
+use Rattle.vme_master.specs.Jobs.{ask_call, look_call, done_call, datum_call, fits, request_expected, expected_outcome}
+use Rattle.vme_master.specs.Tables.{Next, NotStarted, Invokes, Returns, Given, data_in, bytes_in, datum_or_done, next_of}
 
 -- the bytes of a reply
 abbrev pub reply_bytes : Reply → List ℕ
@@ -22,18 +22,18 @@ reply_bytes Berr = []
 
 -- what is good to what a task does next
 abbrev pub IsGoodTo : Next → Option EventReply → Type 0
-IsGoodTo Rests last = last ≡ None
-IsGoodTo (Makes call) None = ⊥
-IsGoodTo (Makes call) (Some reply) = IsTrue (fits call reply) × (reply ≢ told.Board Berr) × (reply ≢ told.Bus turned.Denied)
-IsGoodTo (Ends outcome) last = Unit {0}
+IsGoodTo NotStarted last = last ≡ None
+IsGoodTo (Invokes call) None = ⊥
+IsGoodTo (Invokes call) (Some reply) = IsTrue (fits call reply) × (reply ≢ told.Board Berr) × (reply ≢ told.Bus turned.Denied)
+IsGoodTo (Returns outcome) last = Unit {0}
 
 -- its datum was not yet answered: it rests, it asks or looks, or its datum goes to the board
 pub record Waits (job : BusJob) (g : Given) : Type 0 where
   pub none : data_in g ≡ 0
   pub bytes : bytes_in g ≡ []
   pub next :
-      (next_of (Bus job) g ≡ Rests) ⊎ ((next_of (Bus job) g ≡ Makes (ask_call job))
-      ⊎ ((next_of (Bus job) g ≡ Makes (look_call job)) ⊎ (next_of (Bus job) g ≡ Makes (datum_call job job.place 0))))
+      (next_of (Bus job) g ≡ NotStarted) ⊎ ((next_of (Bus job) g ≡ Invokes (ask_call job))
+      ⊎ ((next_of (Bus job) g ≡ Invokes (look_call job)) ⊎ (next_of (Bus job) g ≡ Invokes (datum_call job job.place 0))))
 
 -- its datum was answered, and the bus is given back next
 pub record Answered (job : BusJob) (reply : Reply) (g : Given) : Type 0 where
@@ -41,14 +41,14 @@ pub record Answered (job : BusJob) (reply : Reply) (g : Given) : Type 0 where
   pub is : g ≡ Some (told.Board reply) ∷ before
   pub bytes : bytes_in g ≡ reply_bytes reply
   pub good : reply ≢ Berr
-  pub next : next_of (Bus job) g ≡ Makes (done_call job)
+  pub next : next_of (Bus job) g ≡ Invokes (done_call job)
 
 -- before its first call
 pub waits_fresh : (job : BusJob) → Waits job []
 waits_fresh job = record { none = refl; bytes = refl; next = inl refl }
 
 -- at its first call
-pub waits_called : (job : BusJob) (g : Given) → Waits job g → next_of (Bus job) g ≡ Rests → Waits job (None ∷ g)
+pub waits_called : (job : BusJob) (g : Given) → Waits job g → next_of (Bus job) g ≡ NotStarted → Waits job (None ∷ g)
 waits_called job g waits rests = record { none = waits.none; bytes = waits.bytes; next = inr (inl (rw rests refl)) }
 
 module _ (job : BusJob) (one : count_of job.transfer.request ≡ 1) where
@@ -60,11 +60,11 @@ module _ (job : BusJob) (one : count_of job.transfer.request ≡ 1) where
 
   -- the arbiter replied to an ask or a look
   pub waits_told : (g : Given) (cmd : Call) (reply : ArbReply) → ((cmd ≡ ask_call job) ⊎ (cmd ≡ look_call job)) → Waits job g
-      → next_of (Bus job) g ≡ Makes cmd → IsGoodTo (Makes cmd) (Some (told.Bus reply)) → Waits job (Some (told.Bus reply) ∷ g)
+      → next_of (Bus job) g ≡ Invokes cmd → IsGoodTo (Invokes cmd) (Some (told.Bus reply)) → Waits job (Some (told.Bus reply) ∷ g)
   waits_told g cmd turned.Granted which waits makes good = record {
     none = waits.none;
     bytes = waits.bytes;
-    next = inr (inr (inr (rw makes (rw good.0 (ap Makes first_datum)))));
+    next = inr (inr (inr (rw makes (rw good.0 (ap Invokes first_datum)))));
   }
   waits_told g cmd turned.Waiting which waits makes good = record {
     none = waits.none;
@@ -76,28 +76,28 @@ module _ (job : BusJob) (one : count_of job.transfer.request ≡ 1) where
   waits_told g cmd turned.Denied which waits makes good = absurd (good.2 refl)
 
   -- a board replied to the datum
-  pub answered_by : (g : Given) (call : Call) (reply : Reply) → Waits job g → next_of (Bus job) g ≡ Makes call
-      → IsGoodTo (Makes call) (Some (told.Board reply)) → Answered job reply (Some (told.Board reply) ∷ g)
+  pub answered_by : (g : Given) (call : Call) (reply : Reply) → Waits job g → next_of (Bus job) g ≡ Invokes call
+      → IsGoodTo (Invokes call) (Some (told.Board reply)) → Answered job reply (Some (told.Board reply) ∷ g)
   answered_by g call (Bytes datum) waits makes good = record {
     before = g;
     is = refl;
     bytes = ap (λ bytes. bytes ++ datum.items) waits.bytes;
     good = λ error. absurd cc;
-    next = rw makes (rw good.0 (ap Makes (past_datum (data_in g) waits.none)));
+    next = rw makes (rw good.0 (ap Invokes (past_datum (data_in g) waits.none)));
   }
   answered_by g call Done waits makes good = record {
     before = g;
     is = refl;
     bytes = waits.bytes;
     good = λ error. absurd cc;
-    next = rw makes (rw good.0 (ap Makes (past_datum (data_in g) waits.none)));
+    next = rw makes (rw good.0 (ap Invokes (past_datum (data_in g) waits.none)));
   }
   answered_by g call Berr waits makes good = absurd (good.1 refl)
 
   -- the bus is free again: the outcome is what the request is for
   ended_by : (g before : Given) (reply : Reply) (place : ℕ × ℕ) → job.place ≡ Some place → g ≡ Some (told.Board reply) ∷ before → reply ≢ Berr
-      → next_of (Bus job) g ≡ Makes (done_call job)
-      → next_of (Bus job) (Some (told.Bus turned.Freed) ∷ g) ≡ Ends (aim_outcome (request_aim job.transfer.request) (bytes_in g))
+      → next_of (Bus job) g ≡ Invokes (done_call job)
+      → next_of (Bus job) (Some (told.Bus turned.Freed) ∷ g) ≡ Returns (expected_outcome (request_expected job.transfer.request) (bytes_in g))
   ended_by g before (Bytes datum) place placed is good next = rw next (rw placed (rw is refl))
   ended_by g before Done place placed is good next = rw next (rw placed (rw is refl))
   ended_by g before Berr place placed is good next = absurd (good refl)
@@ -105,12 +105,12 @@ module _ (job : BusJob) (one : count_of job.transfer.request ≡ 1) where
   pub ended : (g : Given) (last : Option EventReply) (reply : Reply) (place : ℕ × ℕ) → job.place ≡ Some place → Answered job reply g
       → IsGoodTo (next_of (Bus job) g) last
       → (last ≡ Some (told.Bus turned.Freed))
-      × (next_of (Bus job) (last ∷ g) ≡ Ends (aim_outcome (request_aim job.transfer.request) (reply_bytes reply)))
+      × (next_of (Bus job) (last ∷ g) ≡ Returns (expected_outcome (request_expected job.transfer.request) (reply_bytes reply)))
   ended g last reply place placed answered good = by_last last (subst (λ n. IsGoodTo n last) answered.next good)
     where
-      by_last : (last : Option EventReply) → IsGoodTo (Makes (done_call job)) last
+      by_last : (last : Option EventReply) → IsGoodTo (Invokes (done_call job)) last
           → (last ≡ Some (told.Bus turned.Freed))
-          × (next_of (Bus job) (last ∷ g) ≡ Ends (aim_outcome (request_aim job.transfer.request) (reply_bytes reply)))
+          × (next_of (Bus job) (last ∷ g) ≡ Returns (expected_outcome (request_expected job.transfer.request) (reply_bytes reply)))
       by_last None fine = absurd fine
       by_last (Some (told.Board r)) fine = let fit = fine.0 in absurd cc
       by_last (Some (told.Bus turned.Granted)) fine = let fit = fine.0 in absurd cc
@@ -118,6 +118,6 @@ module _ (job : BusJob) (one : count_of job.transfer.request ≡ 1) where
       by_last (Some (told.Bus turned.Freed)) fine = (
         refl,
         ended_by g answered.before reply place placed answered.is answered.good answered.next
-            ∙ ap (λ bytes. Ends (aim_outcome (request_aim job.transfer.request) bytes)) answered.bytes,
+            ∙ ap (λ bytes. Returns (expected_outcome (request_expected job.transfer.request) bytes)) answered.bytes,
       )
       by_last (Some (told.Bus turned.Denied)) fine = absurd (fine.2 refl)

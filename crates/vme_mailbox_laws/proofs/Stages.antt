@@ -13,12 +13,12 @@ use Rattle.vme_decode.specs.Select.{selection_at}
 use Rattle.vme_memory.specs.Steps.{Command, Read, Write, Modify}
 use Rattle.vme_memory.specs.Data.{datum_command}
 use Rattle.vme_core.specs.Calls.{OnBoard}
-use Rattle.vme_master.specs.declared.aim.Aim.{Aim}
-use Rattle.vme_master.specs.declared.aim.Aim.TheVariants as aims
+use Rattle.vme_master.specs.declared.expected.ExpectedReply.{ExpectedReply}
+use Rattle.vme_master.specs.declared.expected.ExpectedReply.TheVariants as expected_replies
 use Rattle.vme_master.specs.declared.job.BusJob.{BusJob}
 use Rattle.vme_master.specs.declared.job.Job.{Job}
 use Rattle.vme_master.specs.declared.job.Job.TheVariants.{Bus}
-use Rattle.vme_master.specs.Jobs.{bus_job, datum_call, request_aim}
+use Rattle.vme_master.specs.Jobs.{bus_job, datum_call, request_expected}
 use Rattle.vme_shared.specs.MailboxSteps as places
 use Rattle.vme_shared.specs.Layout.{mailbox_len}
 use Rattle.vme_shared.specs.MailboxSteps.{BoardMailbox, end_of, touches, offset_of, len_of}
@@ -55,15 +55,15 @@ stage_command m (RaisesTakeCount t word) = Write (places.take_count_at m) (numbe
 stage_command m (Unlocks end) = Write (places.lock_at m) (0 ∷ [])
 
 -- what it is for
-abbrev pub stage_aim : Stage → Aim
-stage_aim Locks = aims.Modify 1
-stage_aim ReadsPutCount = aims.Read 4
-stage_aim (ReadsTakeCount p) = aims.Read 4
-stage_aim (WritesWord p word) = aims.Write
-stage_aim (RaisesPutCount p) = aims.Write
-stage_aim (ReadsWord t) = aims.Read 4
-stage_aim (RaisesTakeCount t word) = aims.Write
-stage_aim (Unlocks end) = aims.Write
+abbrev pub stage_expected : Stage → ExpectedReply
+stage_expected Locks = expected_replies.Modify 1
+stage_expected ReadsPutCount = expected_replies.Read 4
+stage_expected (ReadsTakeCount p) = expected_replies.Read 4
+stage_expected (WritesWord p word) = expected_replies.Write
+stage_expected (RaisesPutCount p) = expected_replies.Write
+stage_expected (ReadsWord t) = expected_replies.Read 4
+stage_expected (RaisesTakeCount t word) = expected_replies.Write
+stage_expected (Unlocks end) = expected_replies.Write
 
 -- all are within the mailbox
 pub distance_within : (m : BoardMailbox) (stage : Stage) → 1 ≤ m.slots → distance m stage < mailbox_len m.slots
@@ -98,28 +98,28 @@ pub record Shape (mailbox : Mailbox) (m : BoardMailbox) (stage : Stage) (request
   pub code : code_of request ≡ mailbox.am
   pub addr : addr_of request ≡ mailbox.addr + distance m stage
   pub count : count_of request ≡ 1
-  pub aim : request_aim request ≡ stage_aim stage
+  pub expected : request_expected request ≡ stage_expected stage
   pub own : datum_command request 0 (m.offset + distance m stage) ≡ stage_command m stage
 
 pub shape : (mailbox : Mailbox) (m : BoardMailbox) (stage : Stage) → m.slots ≡ mailbox.slots → Shape mailbox m stage (mailbox_request mailbox stage)
 shape mailbox m Locks slots =
     let here : m.offset + 0 ≡ m.offset = omega arith in
-    record { code = refl; addr = omega arith; count = refl; aim = refl; own = ap (λ a. Modify a 1 Set) here }
-shape mailbox m ReadsPutCount slots = record { code = refl; addr = refl; count = refl; aim = refl; own = refl }
-shape mailbox m (ReadsTakeCount p) slots = record { code = refl; addr = refl; count = refl; aim = refl; own = refl }
+    record { code = refl; addr = omega arith; count = refl; expected = refl; own = ap (λ a. Modify a 1 Set) here }
+shape mailbox m ReadsPutCount slots = record { code = refl; addr = refl; count = refl; expected = refl; own = refl }
+shape mailbox m (ReadsTakeCount p) slots = record { code = refl; addr = refl; count = refl; expected = refl; own = refl }
 shape mailbox m (WritesWord p word) slots =
     let same : p % mailbox.slots ≡ p % m.slots = ap (λ n. p % n) (sym slots) in
     let here : m.offset + (16 + 4 * (p % m.slots)) ≡ places.word_at m p = omega arith in
-    record { code = refl; addr = omega arith; count = refl; aim = refl; own = ap (λ a. Write a (number_bytes 4 word)) here }
-shape mailbox m (RaisesPutCount p) slots = record { code = refl; addr = refl; count = refl; aim = refl; own = refl }
+    record { code = refl; addr = omega arith; count = refl; expected = refl; own = ap (λ a. Write a (number_bytes 4 word)) here }
+shape mailbox m (RaisesPutCount p) slots = record { code = refl; addr = refl; count = refl; expected = refl; own = refl }
 shape mailbox m (ReadsWord t) slots =
     let same : t % mailbox.slots ≡ t % m.slots = ap (λ n. t % n) (sym slots) in
     let here : m.offset + (16 + 4 * (t % m.slots)) ≡ places.word_at m t = omega arith in
-    record { code = refl; addr = omega arith; count = refl; aim = refl; own = ap (λ a. Read a 4) here }
-shape mailbox m (RaisesTakeCount t word) slots = record { code = refl; addr = refl; count = refl; aim = refl; own = refl }
+    record { code = refl; addr = omega arith; count = refl; expected = refl; own = ap (λ a. Read a 4) here }
+shape mailbox m (RaisesTakeCount t word) slots = record { code = refl; addr = refl; count = refl; expected = refl; own = refl }
 shape mailbox m (Unlocks end) slots =
     let here : m.offset + 0 ≡ m.offset = omega arith in
-    record { code = refl; addr = omega arith; count = refl; aim = refl; own = ap (λ a. Write a (0 ∷ [])) here }
+    record { code = refl; addr = omega arith; count = refl; expected = refl; own = ap (λ a. Write a (0 ∷ [])) here }
 
 -- a stage of what is asked of a mailbox is one of the mailbox
 pub own_request : (request : SharedRequest) (mailbox : Mailbox) (stage : Stage) → mailbox_in request ≡ Some mailbox
@@ -137,7 +137,7 @@ pub record IsStage (m : BoardMailbox) (board : ℕ) (stage : Stage) (job : Job) 
   pub place : ℕ × ℕ
   pub placed : bus.place ≡ Some place
   pub datum : datum_call bus bus.place 0 ≡ OnBoard board (Some (stage_command m stage))
-  pub aim : request_aim bus.transfer.request ≡ stage_aim stage
+  pub expected : request_expected bus.transfer.request ≡ stage_expected stage
 
 by_transfer : (s : SharedJob) (mailbox : Mailbox) (board : ℕ) (m : BoardMailbox) (stage : Stage) (request : Request) (t : Transfer)
     → 1 ≤ m.slots → LiesAt s.map mailbox board m → Shape mailbox m stage request → transfer_of request ≡ Ok t
@@ -158,7 +158,7 @@ by_transfer s mailbox board m stage request t some lies form lawful =
       datum = rw there
           (ap (λ c. OnBoard board (Some c))
           (ap (λ a. datum_command t.request 0 a) here ∙ ap (λ r. datum_command r 0 (m.offset + distance m stage)) from.same ∙ form.own));
-      aim = ap request_aim from.same ∙ form.aim;
+      expected = ap request_expected from.same ∙ form.expected;
     }
 
 by_result : (s : SharedJob) (mailbox : Mailbox) (board : ℕ) (m : BoardMailbox) (stage : Stage) (request : Request) (job : Job)

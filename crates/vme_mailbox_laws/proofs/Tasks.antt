@@ -18,7 +18,7 @@ use Rattle.vme_master.specs.Tables.{Given}
 use Rattle.vme_shared.specs.MailboxSteps.{BoardMailbox}
 use Rattle.vme_shared.specs.Phases.{Phase, after_command}
 use Rattle.vme_shared.specs.Words.{put_by, taken_by}
-use Rattle.vme_shared.specs.Tables.{SharedJob, Makes, progress_of, shared_next}
+use Rattle.vme_shared.specs.Tables.{SharedJob, Invokes, progress_of, shared_next}
 use Rattle.vme_shared.proofs.lemmas.Quiet.{no_put, no_taken}
 use Rattle.vme_mailbox_laws.specs.Along.{UsesMailbox, IsGood, IsCount, phase_given}
 use Rattle.vme_mailbox_laws.proofs.Datums.{commands, answered}
@@ -39,7 +39,7 @@ module _ (s : SharedJob) (board : ℕ) (m : BoardMailbox) (uses : UsesMailbox s 
 
   -- a good reply to its call leads on
   given_on : (given : Given) (at : Option Phase) (put taken : List ℕ) (call : Call) (reply : EventReply) (next : Option Phase) → IsIn given at put taken
-      → shared_next s given ≡ Makes call → IsGood (Makes call) (Some reply) → phase_given m board (Makes call) (Some reply) at ≡ next → IsCount next
+      → shared_next s given ≡ Invokes call → IsGood (Invokes call) (Some reply) → phase_given m board (Invokes call) (Some reply) at ≡ next → IsCount next
       → IsIn (Some reply ∷ given) next (put ++ put_by at next) (taken ++ taken_by at next)
   given_on given at put taken call reply next stands makes good leads count =
       let after : phase_given m board (shared_next s given) (Some reply) at ≡ next =
@@ -49,23 +49,23 @@ module _ (s : SharedJob) (board : ℕ) (m : BoardMailbox) (uses : UsesMailbox s 
       (subst IsCount (sym after) count))
 
   -- a board in which the mailbox lies gives a good reply
-  by_answer : (given : Given) (x : ℕ) (cmd : BoardCmd) (who : ℕ) (reply : Reply) → shared_next s given ≡ Makes (OnBoard x (command_given cmd))
-      → IsAnswered m (entry who cmd reply) → IsGood (Makes (OnBoard x (command_given cmd))) (Some (told.Board reply))
+  by_answer : (given : Given) (x : ℕ) (cmd : BoardCmd) (who : ℕ) (reply : Reply) → shared_next s given ≡ Invokes (OnBoard x (command_given cmd))
+      → IsAnswered m (entry who cmd reply) → IsGood (Invokes (OnBoard x (command_given cmd))) (Some (told.Board reply))
   unfolding answer_given
   by_answer given x cmd who reply makes is =
       let fine = answered s given board x m (command_given cmd) is.memory uses is.lies makes in
-      subst (λ r. IsGood (Makes (OnBoard x (command_given cmd))) (Some (told.Board r))) (sym is.replied)
+      subst (λ r. IsGood (Invokes (OnBoard x (command_given cmd))) (Some (told.Board r))) (sym is.replied)
       (subst (λ n. IsGood n (Some (told.Board (command_step is.memory (command_given cmd)).1))) makes fine)
 
   -- a move of it, and what comes after
   pub one_move : (given : Given) (at : Option Phase) (put taken : List ℕ) (who : ℕ) (event : Event) (reply : EventReply)
-      (rest : List (Entry BoardCmd Reply)) (wanted : Wanted) → IsIn given at put taken → shared_next s given ≡ Makes (call_of event) → IsTurned event reply
+      (rest : List (Entry BoardCmd Reply)) (wanted : Wanted) → IsIn given at put taken → shared_next s given ≡ Invokes (call_of event) → IsTurned event reply
       → ((next : Option Phase) (a b : List ℕ) → IsIn (Some reply ∷ given) next (put ++ a) (taken ++ b) → Through m next rest (behind wanted a b))
       → Through m at (board_part board (move who event reply ∷ []) ++ rest) wanted
   one_move given at put taken who (asked.Bus cmd) (told.Board reply) rest wanted stands makes good leads = absurd good
   one_move given at put taken who (asked.Board x cmd) (told.Bus reply) rest wanted stands makes good leads = absurd good
   one_move given at put taken who (asked.Bus cmd) (told.Bus reply) rest wanted stands makes good leads =
-      let fine : IsGood (Makes (OnBus cmd)) (Some (told.Bus reply)) = (good.0, λ error. absurd cc, good.1) in
+      let fine : IsGood (Invokes (OnBus cmd)) (Some (told.Bus reply)) = (good.0, λ error. absurd cc, good.1) in
       let count = stands_count s board m uses (progress_of s given) at put taken stands in
       let next = given_on given at put taken (OnBus cmd) (told.Bus reply) at stands makes fine refl count in
       let words_put : put ++ put_by at at ≡ put ++ [] = ap (λ ws. put ++ ws) (no_put at) in
@@ -76,11 +76,11 @@ module _ (s : SharedJob) (board : ℕ) (m : BoardMailbox) (uses : UsesMailbox s 
       let own = commands s given board x m (command_given cmd) uses makes in
       let there : (x == board) ≡ true = eq-eqb x board own.0 in
       rw there (λ is.
-      let fine : IsGood (Makes (OnBoard x (command_given cmd))) (Some (told.Board reply)) = by_answer given x cmd who reply makes is in
+      let fine : IsGood (Invokes (OnBoard x (command_given cmd))) (Some (told.Board reply)) = by_answer given x cmd who reply makes is in
       let goes = command_goes s board m uses (progress_of s given) at put taken x (command_given cmd) reply stands makes fine in (
         goes,
         λ count.
-            let after : phase_given m board (Makes (OnBoard x (command_given cmd))) (Some (told.Board reply)) at ≡ after_command m at (command_given cmd) reply =
+            let after : phase_given m board (Invokes (OnBoard x (command_given cmd))) (Some (told.Board reply)) at ≡ after_command m at (command_given cmd) reply =
             rw there refl in
             leads (after_command m at (command_given cmd) reply) (put_by at (after_command m at (command_given cmd) reply))
             (taken_by at (after_command m at (command_given cmd) reply))
@@ -90,7 +90,7 @@ module _ (s : SharedJob) (board : ℕ) (m : BoardMailbox) (uses : UsesMailbox s 
 
   -- the same, by all words since the beginning
   pub move_on : (given : Given) (at : Option Phase) (put taken : List ℕ) (who : ℕ) (event : Event) (reply : EventReply)
-      (rest : List (Entry BoardCmd Reply)) (wanted : Wanted) → IsIn given at put taken → shared_next s given ≡ Makes (call_of event) → IsTurned event reply
+      (rest : List (Entry BoardCmd Reply)) (wanted : Wanted) → IsIn given at put taken → shared_next s given ≡ Invokes (call_of event) → IsTurned event reply
       → ((next : Option Phase) (ps ts : List ℕ) → IsIn (Some reply ∷ given) next ps ts → Through m next rest (behind wanted ps ts))
       → Through m at (board_part board (move who event reply ∷ []) ++ rest) (behind wanted put taken)
   move_on given at put taken who event reply rest wanted stands makes good leads =

@@ -9,7 +9,7 @@ use Rattle.vme_shared.proofs.lemmas.Places.{rest_below}
 use Rattle.vme_shared.specs.declared.mailbox.Mailbox.{Mailbox}
 use Rattle.vme_shared.specs.declared.stage.Stage.{Stage}
 use Rattle.vme_shared.specs.declared.stage.Stage.TheVariants.{Locks, ReadsPutCount, ReadsTakeCount, WritesWord, RaisesPutCount, ReadsWord, RaisesTakeCount, Unlocks}
-use Rattle.vme_shared.specs.Tables.{SharedJob, Makes, shared_next}
+use Rattle.vme_shared.specs.Tables.{SharedJob, Invokes, shared_next}
 use Rattle.vme_mailbox_laws.specs.Along.{mailbox_in, LiesAt, UsesMailbox, IsWithin, overlap}
 use Rattle.vme_mailbox_laws.proofs.Stages.{stage_command}
 use Rattle.vme_mailbox_laws.proofs.Courses.{some_slot}
@@ -28,7 +28,7 @@ stage_within m (Unlocks end) some = record { from = omega arith; to = omega arit
 
 pub within : (s : SharedJob) (given : Given) (mailbox : Mailbox) (board x : ℕ) (mine : BoardMailbox) (command : Option Command)
     → mailbox_in s.request ≡ Some mailbox → LiesAt s.map mailbox board mine → 1 ≤ mailbox.slots
-    → shared_next s given ≡ Makes (OnBoard x command)
+    → shared_next s given ≡ Invokes (OnBoard x command)
     → (x ≡ board) × ((c : Command) × (command ≡ Some c) × IsWithin mine c)
 within s given mailbox board x mine command asks lies some makes =
     let slot : 1 ≤ mine.slots = rw lies.slots some in
@@ -37,7 +37,7 @@ within s given mailbox board x mine command asks lies some makes =
 
 -- of one that was not refused at its start
 pub within_used : (s : SharedJob) (given : Given) (board x : ℕ) (m : BoardMailbox) (command : Command) → UsesMailbox s board m
-    → shared_next s given ≡ Makes (OnBoard x (Some command)) → (x ≡ board) × IsWithin m command
+    → shared_next s given ≡ Invokes (OnBoard x (Some command)) → (x ≡ board) × IsWithin m command
 within_used s given board x m command uses makes =
     let some : 1 ≤ uses.mailbox.slots = rw (← uses.lies.slots) (some_slot s board m uses) in
     let own = within s given uses.mailbox board x m (Some command) uses.asked uses.lies some makes in
@@ -62,7 +62,7 @@ beside mine other c inside apart =
 
 pub others : (s : SharedJob) (given : Given) (mailbox : Mailbox) (board x : ℕ) (mine other : BoardMailbox) (command : Command)
     → mailbox_in s.request ≡ Some mailbox → LiesAt s.map mailbox board mine → 1 ≤ mailbox.slots → overlap mine other ≡ false
-    → shared_next s given ≡ Makes (OnBoard x (Some command)) → touches other command ≡ false
+    → shared_next s given ≡ Invokes (OnBoard x (Some command)) → touches other command ≡ false
 others s given mailbox board x mine other command asks lies some apart makes =
     let own = within s given mailbox board x mine (Some command) asks lies some makes in
     let same : own.1.0 ≡ command = cc in

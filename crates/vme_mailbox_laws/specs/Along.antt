@@ -20,7 +20,7 @@ use Rattle.vme_shared.specs.declared.outcome.SharedOutcome.TheVariants as shared
 use Rattle.vme_shared.specs.declared.request.SharedRequest.{SharedRequest}
 use Rattle.vme_shared.specs.declared.request.SharedRequest.TheVariants as asked
 use Rattle.vme_shared.specs.Mailboxes.{IsAsked, shared_refusal}
-use Rattle.vme_shared.specs.Tables.{SharedJob, SharedNext, Rests, Makes, Ends, shared_next}
+use Rattle.vme_shared.specs.Tables.{SharedJob, SharedNext, NotStarted, Invokes, Returns, shared_next}
 
 -- the mailbox that is asked for, if one is (this project's own)
 abbrev pub mailbox_in : SharedRequest → Option Mailbox
@@ -48,10 +48,10 @@ pub record UsesMailbox (s : SharedJob) (board : ℕ) (m : BoardMailbox) : Type 0
 -- what was given is good to what was done next: none before the first call, and then a reply that fits and is neither a bus
 -- error nor a denial (this project's own)
 abbrev pub IsGood : SharedNext → Option EventReply → Type 0
-IsGood Rests last = last ≡ None
-IsGood (Makes call) None = ⊥
-IsGood (Makes call) (Some reply) = IsTrue (fits call reply) × (reply ≢ told.Board Berr) × (reply ≢ told.Bus Denied)
-IsGood (Ends outcome) last = Unit {0}
+IsGood NotStarted last = last ≡ None
+IsGood (Invokes call) None = ⊥
+IsGood (Invokes call) (Some reply) = IsTrue (fits call reply) × (reply ≢ told.Board Berr) × (reply ≢ told.Bus Denied)
+IsGood (Returns outcome) last = Unit {0}
 
 -- and so was all before it (this project's own)
 abbrev pub AllGood : SharedJob → Given → Type 0
@@ -60,7 +60,7 @@ AllGood s (last ∷ before) = IsGood (shared_next s before) last × AllGood s be
 
 -- the phase after a call and what was given to it: a command to the board, with its reply, moves it (this project's own)
 abbrev pub phase_given : BoardMailbox → ℕ → SharedNext → Option EventReply → Option Phase → Option Phase
-phase_given m board (Makes (OnBoard x command)) (Some (told.Board reply)) phase =
+phase_given m board (Invokes (OnBoard x command)) (Some (told.Board reply)) phase =
     if x == board then after_command m phase command reply else phase
 phase_given m board next last phase = phase
 

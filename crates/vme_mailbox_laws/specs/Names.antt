@@ -14,7 +14,7 @@ use Rattle.vme_grammar.specs.declared.line.Line.TheVariants.{Put, Take}
 use Rattle.vme_script.specs.Boards.{entries_of}
 use Rattle.vme_script.specs.Configurations.{Configuration}
 use Rattle.vme_line_task.specs.Scripts.{mailbox_at, lines_at}
-use Rattle.vme_line_task.specs.Tables.{Makes, line_next}
+use Rattle.vme_line_task.specs.Tables.{Invokes, line_next}
 
 -- whether a line puts into the mailbox with a number, or takes from it (this project's own)
 abbrev pub names : ℕ → Line → Bool
@@ -47,7 +47,7 @@ lines_taken box lines answers = []
 -- no command of a line to the board at a place touches a mailbox there (this project's own)
 abbrev pub LeavesAlone : Configuration → ℕ → Line → ℕ → BoardMailbox → Type 0
 LeavesAlone config who line board m =
-    (replies : List EventReply) (command : Command) → line_next config who line replies ≡ Makes (OnBoard board (Some command))
+    (replies : List EventReply) (command : Command) → line_next config who line replies ≡ Invokes (OnBoard board (Some command))
     → touches m command ≡ false
 
 -- each of these lines names the mailbox with a number, or leaves it alone (this project's own)

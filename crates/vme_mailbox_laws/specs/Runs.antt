@@ -10,13 +10,13 @@ use Rattle.vme_core.specs.declared.event.Event.{Event}
 use Rattle.vme_core.specs.declared.event.Event.TheVariants as asked
 use Rattle.vme_core.specs.declared.event.EventReply.{EventReply}
 use Rattle.vme_core.specs.declared.event.EventReply.TheVariants as told
-use Rattle.vme_core.specs.Runs.{Move, board_part}
+use Rattle.vme_core.specs.Runs.{Transition, board_part}
 use Rattle.vme_core.specs.Calls.{OnBus}
 use Rattle.vme_master.specs.Jobs.{fits}
 use Rattle.vme_shared.specs.declared.reply.LineReply.{LineReply}
 use Rattle.vme_script.specs.Configurations.{Configuration}
 use Rattle.vme_line_task.specs.Scripts.{lines_at}
-use Rattle.vme_line_task.specs.Courses.{IsCourse}
+use Rattle.vme_line_task.specs.Traces.{IsTrace}
 
 -- a reply is of its event's kind, and that of the arbiter fits and is no denial (this project's own)
 abbrev pub IsTurned : Event → EventReply → Type 0
@@ -25,15 +25,15 @@ IsTurned (asked.Board x cmd) (told.Board reply) = Unit {0}
 IsTurned event reply = ⊥
 
 -- the same of all moves (this project's own)
-abbrev pub AllTurned : List Move → Type 0
+abbrev pub AllTurned : List Transition → Type 0
 AllTurned [] = Unit {0}
 AllTurned (m ∷ run) = IsTurned m.event m.reply × AllTurned run
 
--- a history of the board at a place is shared out among runs, one of each processor, each of which is the course of its script
+-- a history of the board at a place is shared out among runs, one of each processor, each of which is the trace of its script
 -- with its answers, with good replies of the arbiter (this project's own)
-pub record ShareHistory (config : Configuration) (board : ℕ) (h : List (Entry BoardCmd Reply)) (runs : List (List Move))
+pub record ShareHistory (config : Configuration) (board : ℕ) (h : List (Entry BoardCmd Reply)) (runs : List (List Transition))
     (answers : List (List LineReply)) : Type 0 where
   pub known : All (λ e. e.who < length runs) h
   pub owns : Each (λ who run. own who h ≡ board_part board run) runs
-  pub course : AllAt (λ who run told. IsCourse config who (lines_at config who) run told) runs answers
+  pub trace : AllAt (λ who run told. IsTrace config who (lines_at config who) run told) runs answers
   pub turned : Each (λ who run. AllTurned run) runs

@@ -6,7 +6,7 @@ ghost use Rattle.vme_memory.specs.declared.command.BoardCmd.{BoardCmd};
 ghost use Rattle.vme_memory.specs.declared.reply.Reply.{Reply};
 ghost use Rattle.vme_memory.specs.Boards.{Board};
 ghost use Rattle.vme_memory.specs.Locals.{board_step};
-ghost use Rattle.vme_core.specs.Runs.{Move};
+ghost use Rattle.vme_core.specs.Runs.{Transition};
 ghost use Rattle.vme_shared.specs.MailboxSteps.{BoardMailbox, LiesIn, IsNewMailbox};
 ghost use Rattle.vme_shared.specs.Phases.{Idle, IsProper};
 ghost use Rattle.vme_shared.specs.Words.{put_by, taken_by, words_put, words_taken, words_along};
@@ -29,25 +29,25 @@ ghost use Rattle.vme_mailbox_laws.specs.Runs.{ShareHistory};
 /// the answers of its lines tell.
 pub fn scripts_go_by_the_rows()
     ensures proper { (config : Configuration) (box board : ℕ) (m : BoardMailbox) (memory : Board)
-        (h : List (Entry BoardCmd Reply)) (runs : List (List Move)) (answers : List (List LineReply)) →
+        (h : List (Entry BoardCmd Reply)) (runs : List (List Transition)) (answers : List (List LineReply)) →
         IsMailboxOf config box board m → IsNewMailbox memory m → IsLegal board_step memory h →
         ShareHistory config board h runs answers → IsProper m h }
     ensures order { (config : Configuration) (box board : ℕ) (m : BoardMailbox) (memory : Board)
-        (h : List (Entry BoardCmd Reply)) (runs : List (List Move)) (answers : List (List LineReply)) →
+        (h : List (Entry BoardCmd Reply)) (runs : List (List Transition)) (answers : List (List LineReply)) →
         IsMailboxOf config box board m → IsNewMailbox memory m → IsLegal board_step memory h →
         ShareHistory config board h runs answers → Begins (words_taken m h) (words_put m h) }
     ensures capacity { (config : Configuration) (box board : ℕ) (m : BoardMailbox) (memory : Board)
-        (h : List (Entry BoardCmd Reply)) (runs : List (List Move)) (answers : List (List LineReply)) →
+        (h : List (Entry BoardCmd Reply)) (runs : List (List Transition)) (answers : List (List LineReply)) →
         IsMailboxOf config box board m → IsNewMailbox memory m → IsLegal board_step memory h →
         ShareHistory config board h runs answers →
         length (words_put m h) ≤ length (words_taken m h) + m.slots }
     ensures put { (config : Configuration) (box board : ℕ) (m : BoardMailbox) (memory : Board)
-        (h : List (Entry BoardCmd Reply)) (runs : List (List Move)) (answers : List (List LineReply)) →
+        (h : List (Entry BoardCmd Reply)) (runs : List (List Transition)) (answers : List (List LineReply)) →
         IsMailboxOf config box board m → IsNewMailbox memory m → IsLegal board_step memory h →
         ShareHistory config board h runs answers →
         Each (λ who told. own_words_put who m h ≡ lines_put box (lines_at config who) told) answers }
     ensures taken { (config : Configuration) (box board : ℕ) (m : BoardMailbox) (memory : Board)
-        (h : List (Entry BoardCmd Reply)) (runs : List (List Move)) (answers : List (List LineReply)) →
+        (h : List (Entry BoardCmd Reply)) (runs : List (List Transition)) (answers : List (List LineReply)) →
         IsMailboxOf config box board m → IsNewMailbox memory m → IsLegal board_step memory h →
         ShareHistory config board h runs answers →
         Each (λ who told. own_words_taken who m h ≡ lines_taken box (lines_at config who) told) answers }

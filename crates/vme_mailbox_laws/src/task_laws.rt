@@ -12,7 +12,7 @@ ghost use Rattle.vme_shared.specs.declared.mailbox.Mailbox.{Mailbox};
 ghost use Rattle.vme_shared.specs.declared.outcome.SharedOutcome.{SharedOutcome};
 ghost use Rattle.vme_shared.specs.declared.outcome.SharedOutcome.TheVariants.{Berr, Denied};
 ghost use Rattle.vme_shared.specs.declared.request.SharedRequest.TheVariants.{Lock, Unlock};
-ghost use Rattle.vme_shared.specs.Tables.{SharedJob, Makes, Ends, shared_next};
+ghost use Rattle.vme_shared.specs.Tables.{SharedJob, Invokes, Returns, shared_next};
 ghost use Rattle.vme_mailbox_laws.specs.Along.{mailbox_in, LiesAt, IsWithin, overlap, UsesMailbox, IsGood, AllGood, AllCounts, phase_along, words_given, put_told, taken_told, GoesTo};
 
 /// Each command of a put or a take to a board goes to the board of its mailbox, and touches the
@@ -21,11 +21,11 @@ ghost use Rattle.vme_mailbox_laws.specs.Along.{mailbox_in, LiesAt, IsWithin, ove
 pub fn puts_and_takes_touch_their_mailbox_alone()
     ensures touches { (s : SharedJob) (given : Given) (board x : ℕ) (m : BoardMailbox)
         (command : Option Command) → UsesMailbox s board m →
-        shared_next s given ≡ Makes (OnBoard x command) →
+        shared_next s given ≡ Invokes (OnBoard x command) →
         (x ≡ board) × ((c : Command) × (command ≡ Some c) × IsTrue (touches m c)) }
     ensures answered { (s : SharedJob) (given : Given) (board x : ℕ) (m : BoardMailbox)
         (command : Option Command) (memory : Board) → UsesMailbox s board m → LiesIn memory m →
-        shared_next s given ≡ Makes (OnBoard x command) →
+        shared_next s given ≡ Invokes (OnBoard x command) →
         IsGood (shared_next s given) (Some (told.Board (command_step memory command).1)) }
 {}
 
@@ -36,12 +36,12 @@ pub fn puts_and_takes_stay_in_their_mailbox()
     ensures within { (s : SharedJob) (given : Given) (mailbox : Mailbox) (board x : ℕ)
         (mine : BoardMailbox) (command : Option Command) → mailbox_in s.request ≡ Some mailbox →
         LiesAt s.map mailbox board mine → 1 ≤ mailbox.slots →
-        shared_next s given ≡ Makes (OnBoard x command) →
+        shared_next s given ≡ Invokes (OnBoard x command) →
         (x ≡ board) × ((c : Command) × (command ≡ Some c) × IsWithin mine c) }
     ensures others { (s : SharedJob) (given : Given) (mailbox : Mailbox) (board x : ℕ)
         (mine other : BoardMailbox) (command : Command) → mailbox_in s.request ≡ Some mailbox →
         LiesAt s.map mailbox board mine → 1 ≤ mailbox.slots → overlap mine other ≡ false →
-        shared_next s given ≡ Makes (OnBoard x (Some command)) → touches other command ≡ false }
+        shared_next s given ≡ Invokes (OnBoard x (Some command)) → touches other command ≡ false }
 {}
 
 /// Whatever good replies it is given, a put or a take goes by the rows of its mailbox: each of its
@@ -54,19 +54,19 @@ pub fn puts_and_takes_go_by_the_rows()
         IsTrue (is_some (phase_along m board s given)) }
     ensures leaves { (s : SharedJob) (given : Given) (board : ℕ) (m : BoardMailbox)
         (outcome : SharedOutcome) → UsesMailbox s board m → AllGood s given →
-        AllCounts m board s given → shared_next s given ≡ Ends outcome →
+        AllCounts m board s given → shared_next s given ≡ Returns outcome →
         phase_along m board s given ≡ Some Idle }
     ensures fine { (s : SharedJob) (given : Given) (board : ℕ) (m : BoardMailbox)
         (outcome : SharedOutcome) → UsesMailbox s board m → AllGood s given →
-        AllCounts m board s given → shared_next s given ≡ Ends outcome →
+        AllCounts m board s given → shared_next s given ≡ Returns outcome →
         (outcome ≢ Berr) × (outcome ≢ Denied) }
     ensures put { (s : SharedJob) (given : Given) (board : ℕ) (m : BoardMailbox)
         (outcome : SharedOutcome) → UsesMailbox s board m → AllGood s given →
-        AllCounts m board s given → shared_next s given ≡ Ends outcome →
+        AllCounts m board s given → shared_next s given ≡ Returns outcome →
         words_given put_by m board s given ≡ put_told outcome s.request }
     ensures taken { (s : SharedJob) (given : Given) (board : ℕ) (m : BoardMailbox)
         (outcome : SharedOutcome) → UsesMailbox s board m → AllGood s given →
-        AllCounts m board s given → shared_next s given ≡ Ends outcome →
+        AllCounts m board s given → shared_next s given ≡ Returns outcome →
         words_given taken_by m board s given ≡ taken_told outcome }
 {}
 
@@ -74,10 +74,10 @@ pub fn puts_and_takes_go_by_the_rows()
 /// no other command goes to a board.
 pub fn locks_touch_their_byte_alone()
     ensures taken { (s : SharedJob) (given : Given) (am addr board : ℕ) (command : Option Command) →
-        s.request ≡ Lock am addr → shared_next s given ≡ Makes (OnBoard board command) →
+        s.request ≡ Lock am addr → shared_next s given ≡ Invokes (OnBoard board command) →
         GoesTo s.map am addr board (λ offset. Modify offset 1 Set) command }
     ensures given_back { (s : SharedJob) (given : Given) (am addr board : ℕ)
         (command : Option Command) → s.request ≡ Unlock am addr →
-        shared_next s given ≡ Makes (OnBoard board command) →
+        shared_next s given ≡ Invokes (OnBoard board command) →
         GoesTo s.map am addr board (λ offset. Write offset (0 ∷ [])) command }
 {}

@@ -1,4 +1,4 @@
-pub mod Aims
+pub mod Expected
 pub mod Locals
 pub mod ReadLengths
 pub mod Stands

@@ -5,27 +5,27 @@ use Rattle.vme_master.specs.declared.outcome.Outcome.{Outcome}
 use Rattle.vme_master.specs.declared.outcome.Outcome.TheVariants as outcomes
 use Rattle.vme_master.specs.declared.todo.Todo.{Todo}
 use Rattle.vme_master.specs.declared.todo.Todo.TheVariants as todos
-use Rattle.vme_master.specs.Tables.{Next, Makes, Ends}
+use Rattle.vme_master.specs.Tables.{Next, Invokes, Returns}
 use Rattle.vme_master.specs.Machine.{TaskView, to_do}
 
 -- the call of an event that is to be made, or the end (this project's own)
 abbrev pub next_in : Todo → Next
-next_in (todos.Call event) = Makes (call_of event)
-next_in (todos.Finished outcome) = Ends outcome
+next_in (todos.Call event) = Invokes (call_of event)
+next_in (todos.Finished outcome) = Returns outcome
 
 -- the call that is made next, if one is (this project's own)
 abbrev pub call_in : Next → Option Call
-call_in (Makes call) = Some call
+call_in (Invokes call) = Some call
 call_in next = None
 
 -- the end, if it has come (this project's own)
 abbrev pub outcome_in : Next → Option Outcome
-outcome_in (Ends outcome) = Some outcome
+outcome_in (Returns outcome) = Some outcome
 outcome_in next = None
 
 -- all bytes that were to be read, if it has ended with them (this project's own)
 abbrev pub read_in : Next → Option (List ℕ)
-read_in (Ends (outcomes.Read bytes)) = Some bytes.items
+read_in (Returns (outcomes.Read bytes)) = Some bytes.items
 read_in next = None
 
 -- a task that has given out what came of it: where it has ended, none of the bytes that were read are left

@@ -22,8 +22,8 @@ use Rattle.vme_master.specs.declared.job.BusJob.{BusJob}
 use Rattle.vme_master.specs.declared.job.LocalJob.{LocalJob}
 use Rattle.vme_master.specs.declared.job.Job.{Job}
 use Rattle.vme_master.specs.declared.job.Job.TheVariants.{Bus, Local}
-use Rattle.vme_master.specs.declared.aim.Aim.{Aim}
-use Rattle.vme_master.specs.declared.aim.Aim.TheVariants as aims
+use Rattle.vme_master.specs.declared.expected.ExpectedReply.{ExpectedReply}
+use Rattle.vme_master.specs.declared.expected.ExpectedReply.TheVariants as expected_replies
 use Rattle.vme_master.specs.declared.outcome.Outcome.{Outcome}
 use Rattle.vme_master.specs.declared.outcome.Outcome.TheVariants as outcomes
 
@@ -76,31 +76,31 @@ fits (OnBoard board command) (told.Board reply) = has_form (option_and_then repl
 fits call reply = false
 
 -- what a request is for, with the length of its data (this project's own)
-abbrev pub request_aim : Request → Aim
-request_aim (requests.Read am addr n) = aims.Read n
-request_aim (requests.BlockRead am addr n count) = aims.Read n
-request_aim (requests.Modify am addr n f) = aims.Modify n
-request_aim (requests.Write am addr bytes) = aims.Write
-request_aim (requests.BlockWrite am addr n bytes) = aims.Write
-request_aim (requests.BlockFill am addr n count bytes) = aims.Write
+abbrev pub request_expected : Request → ExpectedReply
+request_expected (requests.Read am addr n) = expected_replies.Read n
+request_expected (requests.BlockRead am addr n count) = expected_replies.Read n
+request_expected (requests.Modify am addr n f) = expected_replies.Modify n
+request_expected (requests.Write am addr bytes) = expected_replies.Write
+request_expected (requests.BlockWrite am addr n bytes) = expected_replies.Write
+request_expected (requests.BlockFill am addr n count bytes) = expected_replies.Write
 
 -- the same of a command to a board; what is none is answered by a bus error, and no bytes are wanted (this project's own)
-abbrev pub command_aim : Option Command → Aim
-command_aim (Some (LocalRead at n)) = aims.Read n
-command_aim (Some (Read at n)) = aims.Read n
-command_aim (Some (BlockRead at n)) = aims.Read n
-command_aim (Some (LocalModify at n f)) = aims.Modify n
-command_aim (Some (Modify at n f)) = aims.Modify n
-command_aim (Some (LocalWrite at new)) = aims.Write
-command_aim (Some (Write at new)) = aims.Write
-command_aim (Some (BlockWrite at new)) = aims.Write
-command_aim None = aims.Write
+abbrev pub command_expected : Option Command → ExpectedReply
+command_expected (Some (LocalRead at n)) = expected_replies.Read n
+command_expected (Some (Read at n)) = expected_replies.Read n
+command_expected (Some (BlockRead at n)) = expected_replies.Read n
+command_expected (Some (LocalModify at n f)) = expected_replies.Modify n
+command_expected (Some (Modify at n f)) = expected_replies.Modify n
+command_expected (Some (LocalWrite at new)) = expected_replies.Write
+command_expected (Some (Write at new)) = expected_replies.Write
+command_expected (Some (BlockWrite at new)) = expected_replies.Write
+command_expected None = expected_replies.Write
 
 -- what comes of it where all was answered, with the bytes that were replied (this project's own)
-abbrev pub aim_outcome : Aim → List ℕ → Outcome
-aim_outcome (aims.Read n) bytes = outcomes.Read (record { items = bytes })
-aim_outcome (aims.Modify n) bytes = outcomes.Old (record { items = bytes })
-aim_outcome aims.Write bytes = outcomes.Done
+abbrev pub expected_outcome : ExpectedReply → List ℕ → Outcome
+expected_outcome (expected_replies.Read n) bytes = outcomes.Read (record { items = bytes })
+expected_outcome (expected_replies.Modify n) bytes = outcomes.Old (record { items = bytes })
+expected_outcome expected_replies.Write bytes = outcomes.Done
 
 -- and where a bus error came after so many data, with the bytes that were replied before it (this project's own)
 abbrev pub error_outcome : ℕ → List ℕ → Outcome

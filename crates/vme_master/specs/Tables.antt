@@ -13,14 +13,14 @@ use Rattle.vme_master.specs.declared.job.Job.{Job}
 use Rattle.vme_master.specs.declared.job.Job.TheVariants.{Bus, Local}
 use Rattle.vme_master.specs.declared.outcome.Outcome.{Outcome}
 use Rattle.vme_master.specs.declared.outcome.Outcome.TheVariants as outcomes
-use Rattle.vme_master.specs.Jobs.{ask_call, look_call, done_call, datum_call, local_call, fits, request_aim, command_aim, aim_outcome, error_outcome}
+use Rattle.vme_master.specs.Jobs.{ask_call, look_call, done_call, datum_call, local_call, fits, request_expected, command_expected, expected_outcome, error_outcome}
 
 -- what a task does next: it rests until its first call; it makes a call, and wants the reply; or it has ended
 -- (this project's own)
 pub data Next : Type 0 where
-  Rests : Next
-  Makes : Call → Next
-  Ends : Outcome → Next
+  NotStarted : Next
+  Invokes : Call → Next
+  Returns : Outcome → Next
 
 -- what a task was given so far, the newest first: each time the reply to its call, or none (this project's own)
 abbrev pub Given : Type 0
@@ -48,24 +48,24 @@ datum_or_done job i = if nat_lt i (count_of job.transfer.request) then datum_cal
 abbrev pub outcome_by : BusJob → Option (ℕ × ℕ) → Given → Outcome
 outcome_by job None before = error_outcome 0 []
 outcome_by job (Some place) (Some (told.Board Berr) ∷ before) = error_outcome (data_in before) (bytes_in before)
-outcome_by job (Some place) before = aim_outcome (request_aim job.transfer.request) (bytes_in before)
+outcome_by job (Some place) before = expected_outcome (request_expected job.transfer.request) (bytes_in before)
 
 -- the table of a transfer over the bus, by the last reply, which fits, and what was given before (this project's own)
 abbrev pub bus_row : BusJob → EventReply → Given → Next
-bus_row job (told.Bus turned.Waiting) before = Makes (look_call job)
-bus_row job (told.Bus turned.Granted) before = Makes (datum_or_done job 0)
-bus_row job (told.Board (Bytes datum)) before = Makes (datum_or_done job (data_in before + 1))
-bus_row job (told.Board Done) before = Makes (datum_or_done job (data_in before + 1))
-bus_row job (told.Board Berr) before = Makes (done_call job)
-bus_row job (told.Bus turned.Freed) before = Ends (outcome_by job job.place before)
-bus_row job (told.Bus turned.Denied) before = Ends outcomes.Denied
+bus_row job (told.Bus turned.Waiting) before = Invokes (look_call job)
+bus_row job (told.Bus turned.Granted) before = Invokes (datum_or_done job 0)
+bus_row job (told.Board (Bytes datum)) before = Invokes (datum_or_done job (data_in before + 1))
+bus_row job (told.Board Done) before = Invokes (datum_or_done job (data_in before + 1))
+bus_row job (told.Board Berr) before = Invokes (done_call job)
+bus_row job (told.Bus turned.Freed) before = Returns (outcome_by job job.place before)
+bus_row job (told.Bus turned.Denied) before = Returns outcomes.Denied
 
 -- the table of a command to a local port, by the reply, which fits (this project's own)
 abbrev pub local_row : LocalJob → EventReply → Next
-local_row job (told.Board (Bytes datum)) = Ends (aim_outcome (command_aim (command_given job.cmd)) datum.items)
-local_row job (told.Board Done) = Ends (aim_outcome (command_aim (command_given job.cmd)) [])
-local_row job (told.Board Berr) = Ends (error_outcome 0 [])
-local_row job (told.Bus reply) = Ends outcomes.Denied
+local_row job (told.Board (Bytes datum)) = Returns (expected_outcome (command_expected (command_given job.cmd)) datum.items)
+local_row job (told.Board Done) = Returns (expected_outcome (command_expected (command_given job.cmd)) [])
+local_row job (told.Board Berr) = Returns (error_outcome 0 [])
+local_row job (told.Bus reply) = Returns outcomes.Denied
 
 -- either table (this project's own)
 abbrev pub row_of_reply : Job → EventReply → Given → Next
@@ -80,13 +80,13 @@ first_call (Local job) = local_call job
 -- what comes after what was next: the first call is given no reply, each later one a reply that fits, and an end is for good;
 -- anything else is a denial (this project's own)
 abbrev pub next_after : Job → Next → Option EventReply → Given → Next
-next_after job Rests None before = Makes (first_call job)
-next_after job Rests (Some reply) before = Ends outcomes.Denied
-next_after job (Makes call) None before = Ends outcomes.Denied
-next_after job (Makes call) (Some reply) before = if fits call reply then row_of_reply job reply before else Ends outcomes.Denied
-next_after job (Ends outcome) given before = Ends outcome
+next_after job NotStarted None before = Invokes (first_call job)
+next_after job NotStarted (Some reply) before = Returns outcomes.Denied
+next_after job (Invokes call) None before = Returns outcomes.Denied
+next_after job (Invokes call) (Some reply) before = if fits call reply then row_of_reply job reply before else Returns outcomes.Denied
+next_after job (Returns outcome) given before = Returns outcome
 
 -- what a task does next, by what it was given so far (this project's own)
 abbrev pub next_of : Job → Given → Next
-next_of job [] = Rests
+next_of job [] = NotStarted
 next_of job (last ∷ before) = next_after job (next_of job before) last before

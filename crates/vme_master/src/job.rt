@@ -5,11 +5,11 @@ ghost use Rattle.vme_memory.specs.Locals.{command_given};
 ghost use Rattle.vme_core.specs.Calls.{OnBoard, call_of};
 ghost use Rattle.vme_core.specs.Deeds.{call_asked};
 ghost use Rattle.vme_master.specs.Jobs.{ask_call, look_call, done_call, datum_call, local_call};
-ghost use Rattle.vme_master.specs.Machine.{job_aim, datum_phase, phase_at, phase_broken, first_phase, phase_told, phase_replied, makes, bus_next, local_next, job_next, end_outcome, IsPlaced, IsShort, call_count, job_read_len};
-ghost use Rattle.vme_master.specs.declared.phase.Phase.TheVariants.{Moves};
+ghost use Rattle.vme_master.specs.Machine.{job_expected, datum_phase, phase_at, phase_broken, first_phase, phase_told, phase_replied, makes, bus_next, local_next, job_next, end_outcome, IsPlaced, IsShort, call_count, job_read_len};
+ghost use Rattle.vme_master.specs.declared.phase.Phase.TheVariants.{Transferring};
 ghost use Rattle.vme_master.specs.Events.{call_in};
 
-use crate::aim::Aim;
+use crate::expected::ExpectedReply;
 use crate::outcome::Outcome;
 use crate::phase::Phase;
 use vme_arbiter::{ArbCmd, ArbReply};
@@ -104,32 +104,32 @@ impl BusJob<'_> {
     /// What it asks in a phase, if anything.
     #[inline(always)]
     fn deed(&self, phase: Phase) -> Option<Deed<'_>>
-        requires in_count { (i : ℕ) → phase ≡ Moves i → i < count_of self.now.transfer.request }
+        requires in_count { (i : ℕ) → phase ≡ Transferring i → i < count_of self.now.transfer.request }
         requires placed { IsPlaced (Job.Bus self.now) }
         ensures { (read : List ℕ) → option_map call_asked result ≡ call_in (bus_next self.now phase read) }
     {
         let (slot, level) = (self.slot, self.level);
         match phase {
-            Phase::Asks => Some(Deed::Bus(ArbCmd::Ask { slot, level })),
-            Phase::Looks => Some(Deed::Bus(ArbCmd::Look { slot })),
-            Phase::Moves { i } => Some(self.moves(i)),
-            Phase::Frees { .. } => Some(Deed::Bus(ArbCmd::Done { slot })),
-            Phase::Fresh | Phase::Ended { .. } | Phase::Denied => None,
+            Phase::Requesting => Some(Deed::Bus(ArbCmd::Ask { slot, level })),
+            Phase::Polling => Some(Deed::Bus(ArbCmd::Look { slot })),
+            Phase::Transferring { i } => Some(self.moves(i)),
+            Phase::Releasing { .. } => Some(Deed::Bus(ArbCmd::Done { slot })),
+            Phase::New | Phase::Finished { .. } | Phase::Denied => None,
         }
     }
 
     /// The event that it makes in a phase, if any.
     fn event(&self, phase: Phase) -> Option<Event>
-        requires in_count { (i : ℕ) → phase ≡ Moves i → i < count_of self.now.transfer.request }
+        requires in_count { (i : ℕ) → phase ≡ Transferring i → i < count_of self.now.transfer.request }
         requires placed { IsPlaced (Job.Bus self.now) }
         ensures { (read : List ℕ) → option_map call_of result ≡ call_in (bus_next self.now phase read) }
     {
         match phase {
-            Phase::Asks => Some(self.ask()),
-            Phase::Looks => Some(self.look()),
-            Phase::Moves { i } => Some(self.datum(i)),
-            Phase::Frees { .. } => Some(self.done()),
-            Phase::Fresh | Phase::Ended { .. } | Phase::Denied => None,
+            Phase::Requesting => Some(self.ask()),
+            Phase::Polling => Some(self.look()),
+            Phase::Transferring { i } => Some(self.datum(i)),
+            Phase::Releasing { .. } => Some(self.done()),
+            Phase::New | Phase::Finished { .. } | Phase::Denied => None,
         }
     }
 
@@ -139,12 +139,12 @@ impl BusJob<'_> {
         ensures { result ≡ datum_phase self.now self.now.place i }
     {
         if self.place.is_none() {
-            return Phase::Frees { berr: Some(0) };
+            return Phase::Releasing { berr: Some(0) };
         }
         if i < count {
-            Phase::Moves { i }
+            Phase::Transferring { i }
         } else {
-            Phase::Frees { berr: None }
+            Phase::Releasing { berr: None }
         }
     }
 }
@@ -172,7 +172,7 @@ impl LocalJob {
         ensures { (read : List ℕ) → option_map call_asked result ≡ call_in (local_next self.now phase read) }
     {
         match phase {
-            Phase::Moves { .. } => Some(Deed::Board {
+            Phase::Transferring { .. } => Some(Deed::Board {
                 board: self.board,
                 cmd: &self.cmd,
             }),
@@ -185,7 +185,7 @@ impl LocalJob {
         ensures { (read : List ℕ) → option_map call_of result ≡ call_in (local_next self.now phase read) }
     {
         match phase {
-            Phase::Moves { .. } => Some(Event::Board {
+            Phase::Transferring { .. } => Some(Event::Board {
                 board: self.board,
                 cmd: self.cmd.copy(),
             }),
@@ -204,20 +204,20 @@ pub enum Job<'a> {
 }
 
 impl Job<'_> {
-    pub(crate) fn aim(&self) -> Aim
-        ensures value { result ≡ job_aim self.now }
+    pub(crate) fn expected(&self) -> ExpectedReply
+        ensures value { result ≡ job_expected self.now }
         ensures short { IsShort result (job_read_len self.now) }
     {
         match self {
-            Job::Bus(job) => Aim::of_plan(&job.transfer.plan()),
-            Job::Local(job) => Aim::of_command(&job.cmd),
+            Job::Bus(job) => ExpectedReply::of_plan(&job.transfer.plan()),
+            Job::Local(job) => ExpectedReply::of_command(&job.cmd),
         }
     }
 
     /// What it asks in a phase, if anything.
     #[inline(always)]
     pub(crate) fn deed(&self, phase: Phase) -> Option<Deed<'_>>
-        requires in_count { (i : ℕ) → phase ≡ Moves i → i < call_count self.now }
+        requires in_count { (i : ℕ) → phase ≡ Transferring i → i < call_count self.now }
         requires placed { IsPlaced self.now }
         ensures { (read : List ℕ) → option_map call_asked result ≡ call_in (job_next self.now phase read) }
     {
@@ -229,7 +229,7 @@ impl Job<'_> {
 
     /// The event that it makes in a phase, if any.
     pub(crate) fn event(&self, phase: Phase) -> Option<Event>
-        requires in_count { (i : ℕ) → phase ≡ Moves i → i < call_count self.now }
+        requires in_count { (i : ℕ) → phase ≡ Transferring i → i < call_count self.now }
         requires placed { IsPlaced self.now }
         ensures { (read : List ℕ) → option_map call_of result ≡ call_in (job_next self.now phase read) }
     {
@@ -244,8 +244,8 @@ impl Job<'_> {
         ensures { result ≡ makes self.now phase }
     {
         match (self, phase) {
-            (_, Phase::Moves { .. }) => true,
-            (Job::Bus(_), Phase::Asks | Phase::Looks | Phase::Frees { .. }) => true,
+            (_, Phase::Transferring { .. }) => true,
+            (Job::Bus(_), Phase::Requesting | Phase::Polling | Phase::Releasing { .. }) => true,
             _ => false,
         }
     }
@@ -269,8 +269,8 @@ impl Job<'_> {
     {
         match self {
             Job::Bus(job) => job.at(i, count),
-            Job::Local(_) if i == 0 => Phase::Moves { i },
-            Job::Local(_) => Phase::Ended { berr: None },
+            Job::Local(_) if i == 0 => Phase::Transferring { i },
+            Job::Local(_) => Phase::Finished { berr: None },
         }
     }
 
@@ -280,7 +280,7 @@ impl Job<'_> {
         ensures { result ≡ first_phase self.now }
     {
         match self {
-            Job::Bus(_) => Phase::Asks,
+            Job::Bus(_) => Phase::Requesting,
             Job::Local(_) => self.at(0, count),
         }
     }
@@ -292,7 +292,7 @@ impl Job<'_> {
     {
         match reply {
             ArbReply::Granted => self.at(0, count),
-            ArbReply::Waiting => Phase::Looks,
+            ArbReply::Waiting => Phase::Polling,
             ArbReply::Freed | ArbReply::Denied => Phase::Denied,
         }
     }
@@ -306,8 +306,8 @@ impl Job<'_> {
         prove!(i < count);
         match (self, reply) {
             (_, Reply::Bytes(_) | Reply::Done) => self.at(i + 1, count),
-            (Job::Bus(_), Reply::Berr) => Phase::Frees { berr: Some(i) },
-            (Job::Local(_), Reply::Berr) => Phase::Ended { berr: Some(i) },
+            (Job::Bus(_), Reply::Berr) => Phase::Releasing { berr: Some(i) },
+            (Job::Local(_), Reply::Berr) => Phase::Finished { berr: Some(i) },
         }
     }
 
@@ -315,17 +315,17 @@ impl Job<'_> {
     /// many data.
     pub(crate) fn end(&self, berr: Option<u16>, read: BlockBuffer) -> Outcome
         requires { length read.items ≤ job_read_len self.now }
-        ensures { result ≡ end_outcome (job_aim self.now) berr read.items }
+        ensures { result ≡ end_outcome (job_expected self.now) berr read.items }
     {
         prove!(0 < self.count());
-        match (berr, self.aim()) {
+        match (berr, self.expected()) {
             (Some(count), _) => Outcome::Berr {
                 count,
                 bytes: read.into_block(),
             },
-            (None, Aim::Read { .. }) => Outcome::Read(read.into_block()),
-            (None, Aim::Modify { .. }) => Outcome::Old(Datum::try_from(read.as_slice()).unwrap()),
-            (None, Aim::Write) => Outcome::Done,
+            (None, ExpectedReply::Read { .. }) => Outcome::Read(read.into_block()),
+            (None, ExpectedReply::Modify { .. }) => Outcome::Old(Datum::try_from(read.as_slice()).unwrap()),
+            (None, ExpectedReply::Write) => Outcome::Done,
         }
     }
 }

@@ -21,7 +21,7 @@ ghost use Rattle.vme_master.specs.declared.job.Job.TheVariants.{Bus, Local};
 ghost use Rattle.vme_master.specs.declared.outcome.Outcome.{Outcome};
 ghost use Rattle.vme_master.specs.declared.outcome.Outcome.TheVariants.{Denied};
 ghost use Rattle.vme_master.specs.Jobs.{bus_job, local_call, fits, error_outcome};
-ghost use Rattle.vme_master.specs.Tables.{Given, Makes, Ends, next_of};
+ghost use Rattle.vme_master.specs.Tables.{Given, Invokes, Returns, next_of};
 ghost use Rattle.vme_master.specs.Machine.{task_given, to_do};
 ghost use Rattle.vme_master.specs.Laws.{last_turn, IsNextDatum, IsBelow};
 
@@ -32,13 +32,13 @@ ghost use Rattle.vme_master.specs.Laws.{last_turn, IsNextDatum, IsBelow};
 pub fn tasks_go_by_the_table()
     ensures table { (job : Job) (given : Given) → to_do (task_given job given) ≡ next_of job given }
     ensures misfit { (job : Job) (given : Given) (call : Call) (reply : EventReply) →
-        next_of job given ≡ Makes call → fits call reply ≡ false →
-        next_of job (Some reply ∷ given) ≡ Ends Denied }
+        next_of job given ≡ Invokes call → fits call reply ≡ false →
+        next_of job (Some reply ∷ given) ≡ Returns Denied }
     ensures absent { (job : Job) (given : Given) (call : Call) →
-        next_of job given ≡ Makes call → next_of job (None ∷ given) ≡ Ends Denied }
-    ensures early { (job : Job) (reply : EventReply) → next_of job (Some reply ∷ []) ≡ Ends Denied }
+        next_of job given ≡ Invokes call → next_of job (None ∷ given) ≡ Returns Denied }
+    ensures early { (job : Job) (reply : EventReply) → next_of job (Some reply ∷ []) ≡ Returns Denied }
     ensures end { (job : Job) (given : Given) (outcome : Outcome) (last : Option EventReply) →
-        next_of job given ≡ Ends outcome → next_of job (last ∷ given) ≡ Ends outcome }
+        next_of job given ≡ Returns outcome → next_of job (last ∷ given) ≡ Returns outcome }
 {}
 
 /// A transfer's calls on a board are the commands of its data, one for each and in their order, on
@@ -46,12 +46,12 @@ pub fn tasks_go_by_the_table()
 /// is selected there is no such call, and the bus timer's error is what comes of it.
 pub fn data_go_in_order()
     ensures data { (job : BusJob) (given : Given) (board : ℕ) (command : Option Command) →
-        next_of (Bus job) given ≡ Makes (OnBoard board command) →
+        next_of (Bus job) given ≡ Invokes (OnBoard board command) →
         IsNextDatum job given board command }
     ensures local { (job : LocalJob) (given : Given) (call : Call) →
-        next_of (Local job) given ≡ Makes call → call ≡ local_call job }
+        next_of (Local job) given ≡ Invokes call → call ≡ local_call job }
     ensures nowhere { (job : BusJob) (given : Given) (outcome : Outcome) → job.place ≡ None →
-        next_of (Bus job) given ≡ Ends outcome →
+        next_of (Bus job) given ≡ Returns outcome →
         (outcome ≡ Denied) ⊎ (outcome ≡ error_outcome 0 []) }
 {}
 
@@ -60,12 +60,12 @@ pub fn data_go_in_order()
 pub fn boards_are_of_the_map()
     ensures falls { (map : List Entry) (slot level : ℕ) (t : Transfer) (given : Given) (board : ℕ)
         (command : Option Command) →
-        next_of (bus_job map slot level t) given ≡ Makes (OnBoard board command) →
+        next_of (bus_job map slot level t) given ≡ Invokes (OnBoard board command) →
         (offset : ℕ) × FallsTo map t.am (addr_of t.request) board offset }
     ensures map { (map : List Entry) (slot level : ℕ) (t : Transfer) →
         IsBelow (length map) (bus_job map slot level t) }
     ensures below { (n : ℕ) (job : Job) (given : Given) (board : ℕ) (command : Option Command) →
-        IsBelow n job → next_of job given ≡ Makes (OnBoard board command) → board < n }
+        IsBelow n job → next_of job given ≡ Invokes (OnBoard board command) → board < n }
 {}
 
 /// A transfer keeps to its tenure of the bus. Its commands to the arbiter are its slot's own, and go
@@ -73,17 +73,17 @@ pub fn boards_are_of_the_map()
 /// denial it ends with the reply `Freed` alone.
 pub fn transfers_keep_their_tenure()
     ensures own { (job : BusJob) (given : Given) (cmd : ArbCmd) →
-        next_of (Bus job) given ≡ Makes (OnBus cmd) →
+        next_of (Bus job) given ≡ Invokes (OnBus cmd) →
         (cmd ≡ turns.Ask job.slot job.level)
         ⊎ ((cmd ≡ turns.Look job.slot) ⊎ (cmd ≡ turns.Done job.slot)) }
     ensures turns { (job : BusJob) (given : Given) (cmd : ArbCmd) → IsTrue (is_level job.level) →
-        next_of (Bus job) given ≡ Makes (OnBus cmd) →
+        next_of (Bus job) given ≡ Invokes (OnBus cmd) →
         IsTrue (may_give job.slot (last_turn given) cmd) }
     ensures holds { (job : BusJob) (given : Given) (board : ℕ) (command : Option Command) →
-        next_of (Bus job) given ≡ Makes (OnBoard board command) → last_turn given ≡ Some Granted }
+        next_of (Bus job) given ≡ Invokes (OnBoard board command) → last_turn given ≡ Some Granted }
     ensures frees { (job : BusJob) (given : Given) (call : Call) (reply : EventReply)
-        (outcome : Outcome) → next_of (Bus job) given ≡ Makes call →
-        next_of (Bus job) (Some reply ∷ given) ≡ Ends outcome → outcome ≢ Denied →
+        (outcome : Outcome) → next_of (Bus job) given ≡ Invokes call →
+        next_of (Bus job) (Some reply ∷ given) ≡ Returns outcome → outcome ≢ Denied →
         reply ≡ told.Bus Freed }
 {}
 

@@ -3,7 +3,7 @@
 //! command to a board's local port of that board; and in the end what came of it.
 #![tactic(auto)]
 
-mod aim;
+mod expected;
 mod job;
 mod laws;
 mod outcome;

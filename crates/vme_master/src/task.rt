@@ -8,11 +8,11 @@ ghost use Rattle.vme_master.specs.Jobs.{bus_job, local_job};
 ghost use Rattle.vme_core.specs.Calls.{Call, call_of, machine_step};
 ghost use Rattle.vme_core.specs.Deeds.{call_asked, target_of_call, CanCount};
 ghost use Rattle.vme_core.specs.Machines.{whos};
-ghost use Rattle.vme_master.specs.Tables.{Given, Rests, next_of};
+ghost use Rattle.vme_master.specs.Tables.{Given, NotStarted, next_of};
 ghost use Rattle.vme_master.specs.Machine.{bytes_of, fresh_task, bus_task, advance, task_given, to_do, is_called, job_read_len, IsPlaced};
 ghost use Rattle.vme_master.specs.Events.{next_in, call_in, outcome_in, read_in, given_out};
 
-use crate::aim::Aim;
+use crate::expected::ExpectedReply;
 use crate::job::{BusJob, Job, LocalJob};
 use crate::outcome::Outcome;
 use crate::phase::Phase;
@@ -34,7 +34,7 @@ pub struct Task<'a> {
     phase: Phase,
     read: BlockBuffer,
     // Of the job, and kept, since each reply asks for them.
-    aim: Aim,
+    expected: ExpectedReply,
     count: u16,
 }
 
@@ -45,7 +45,7 @@ impl<'a> Model for Task<'a> {
 
     ghost view = { λ t. record { job = t.job; phase = t.phase; read = t.read.items } };
 
-    ghost invariant = { λ t. IsKept (record { job = t.job; phase = t.phase; read = t.read.items }) t.read.capacity t.aim t.count };
+    ghost invariant = { λ t. IsKept (record { job = t.job; phase = t.phase; read = t.read.items }) t.read.capacity t.expected t.count };
 }
 
 impl<'a> Task<'a> {
@@ -118,12 +118,12 @@ impl<'a> Task<'a> {
         requires enough { job_read_len job ≤ buffer.capacity }
         ensures { result ≡ fresh_task job.entry }
     {
-        let (aim, count) = (job.aim(), job.count());
+        let (expected, count) = (job.expected(), job.count());
         Task {
             job,
-            phase: Phase::Fresh,
+            phase: Phase::New,
             read: buffer,
-            aim,
+            expected,
             count,
         }
     }
@@ -145,7 +145,7 @@ impl<'a> Task<'a> {
     #[inline(always)]
     pub fn give(&mut self, reply: Option<&EventReply>)
         ensures task { self.new ≡ advance self.old (option_copied reply.entry) }
-        ensures begun { to_do self.new ≢ Rests }
+        ensures begun { to_do self.new ≢ NotStarted }
     {
         match reply {
             None => self.call(),
@@ -179,36 +179,36 @@ impl<'a> Task<'a> {
             core.new ≡ (machine_step core.old who call).0 }
         ensures task { (call : Call) → call_in (to_do self.old) ≡ Some call →
             self.new ≡ advance self.old (Some (machine_step core.old who call).1) }
-        ensures begun { (call : Call) → call_in (to_do self.old) ≡ Some call → to_do self.new ≢ Rests }
+        ensures begun { (call : Call) → call_in (to_do self.old) ≡ Some call → to_do self.new ≢ NotStarted }
         ensures nothing { call_in (to_do self.old) ≡ None → (core.new ≡ core.old) × (self.new ≡ self.old) }
         ensures boards { length core.new.boards ≡ length core.old.boards }
         ensures whos { whos core.new ≡ whos core.old }
     {
         match (&self.job, self.phase) {
-            (Job::Bus(job), Phase::Asks) => {
+            (Job::Bus(job), Phase::Requesting) => {
                 let (slot, level) = (job.slot, job.level);
                 let reply = core.tell(who, ArbCmd::Ask { slot, level });
-                self.turn(Phase::Asks, reply);
+                self.turn(Phase::Requesting, reply);
             }
-            (Job::Bus(job), Phase::Looks) => {
+            (Job::Bus(job), Phase::Polling) => {
                 let reply = core.tell(who, ArbCmd::Look { slot: job.slot });
-                self.turn(Phase::Looks, reply);
+                self.turn(Phase::Polling, reply);
             }
-            (Job::Bus(job), Phase::Frees { berr }) => {
+            (Job::Bus(job), Phase::Releasing { berr }) => {
                 let reply = core.tell(who, ArbCmd::Done { slot: job.slot });
-                self.turn(Phase::Frees { berr }, reply);
+                self.turn(Phase::Releasing { berr }, reply);
             }
-            (Job::Bus(job), Phase::Moves { i }) => {
+            (Job::Bus(job), Phase::Transferring { i }) => {
                 let Some((board, offset)) = job.place else {
                     let reply = core.tell(who, ArbCmd::Done { slot: job.slot });
-                    return self.turn(Phase::Moves { i }, reply);
+                    return self.turn(Phase::Transferring { i }, reply);
                 };
                 let reply = core.datum(who, board, &job.moves_to(board, offset, i));
-                self.answer(Phase::Moves { i }, &reply);
+                self.answer(Phase::Transferring { i }, &reply);
             }
-            (Job::Local(job), Phase::Moves { i }) => {
+            (Job::Local(job), Phase::Transferring { i }) => {
                 let reply = core.command(who, job.board, &job.cmd);
-                self.answer(Phase::Moves { i }, &reply);
+                self.answer(Phase::Transferring { i }, &reply);
             }
             _ => {}
         }
@@ -220,8 +220,8 @@ impl<'a> Task<'a> {
         ensures { result ≡ is_some (outcome_in (to_do self.now)) }
     {
         match self.phase {
-            Phase::Fresh => false,
-            Phase::Ended { .. } | Phase::Denied => true,
+            Phase::New => false,
+            Phase::Finished { .. } | Phase::Denied => true,
             phase => !self.job.is_at_work(phase),
         }
     }
@@ -230,8 +230,8 @@ impl<'a> Task<'a> {
     pub fn read(&self) -> Option<&[u8]>
         ensures { option_map (λ bytes. bytes.now) result ≡ read_in (to_do self.now) }
     {
-        match (self.phase, self.aim) {
-            (Phase::Ended { berr: None }, Aim::Read { .. }) => Some(self.read.as_slice()),
+        match (self.phase, self.expected) {
+            (Phase::Finished { berr: None }, ExpectedReply::Read { .. }) => Some(self.read.as_slice()),
             _ => None,
         }
     }
@@ -244,8 +244,8 @@ impl<'a> Task<'a> {
         ensures task { self.new ≡ given_out self.old }
     {
         match self.phase {
-            Phase::Fresh => None,
-            Phase::Ended { berr } => {
+            Phase::New => None,
+            Phase::Finished { berr } => {
                 let read = mem::replace(&mut self.read, BlockBuffer::new());
                 Some(self.job.end(berr, read))
             }
@@ -263,7 +263,7 @@ impl<'a> Task<'a> {
         requires { job_read_len self.old.job ≤ inline_capacity }
         ensures { self.new ≡ fresh_task self.old.job }
     {
-        self.phase = Phase::Fresh;
+        self.phase = Phase::New;
         self.read.clear();
     }
 
@@ -274,8 +274,8 @@ impl<'a> Task<'a> {
         ensures called { IsTrue (is_called self.new.phase) }
     {
         self.phase = match self.phase {
-            Phase::Fresh => self.job.first_phase(self.count),
-            Phase::Ended { berr } => Phase::Ended { berr },
+            Phase::New => self.job.first_phase(self.count),
+            Phase::Finished { berr } => Phase::Finished { berr },
             _ => Phase::Denied,
         };
     }
@@ -288,9 +288,9 @@ impl<'a> Task<'a> {
         ensures called { IsTrue (is_called self.new.phase) }
     {
         self.phase = match (phase, reply) {
-            (Phase::Asks | Phase::Looks, _) => self.job.phase_told(reply, self.count),
-            (Phase::Frees { berr }, ArbReply::Freed) => Phase::Ended { berr },
-            (Phase::Ended { berr }, _) => Phase::Ended { berr },
+            (Phase::Requesting | Phase::Polling, _) => self.job.phase_told(reply, self.count),
+            (Phase::Releasing { berr }, ArbReply::Freed) => Phase::Finished { berr },
+            (Phase::Finished { berr }, _) => Phase::Finished { berr },
             _ => Phase::Denied,
         };
     }
@@ -303,18 +303,18 @@ impl<'a> Task<'a> {
         ensures called { IsTrue (is_called self.new.phase) }
     {
         match phase {
-            Phase::Moves { i } if self.aim.accepts(reply) => {
+            Phase::Transferring { i } if self.expected.accepts(reply) => {
                 prove!(i < self.count);
                 append(&mut self.read, reply);
                 self.phase = self.job.phase_replied(i, reply, self.count);
             }
-            Phase::Ended { .. } => {}
+            Phase::Finished { .. } => {}
             _ => self.phase = Phase::Denied,
         }
     }
 
     fn todo(&mut self) -> Todo
-        requires { to_do self.old ≢ Rests }
+        requires { to_do self.old ≢ NotStarted }
         ensures todo { next_in result ≡ to_do self.old }
         ensures task { self.new ≡ given_out self.old }
     {

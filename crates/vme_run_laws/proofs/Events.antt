@@ -37,13 +37,13 @@ use Rattle.vme_shared.specs.declared.request.SharedRequest.{SharedRequest}
 use Rattle.vme_shared.specs.declared.request.SharedRequest.TheVariants as asked_shared
 use Rattle.vme_shared.specs.declared.stage.Stage.{Stage}
 use Rattle.vme_shared.specs.declared.stage.Step.{Step}
-use Rattle.vme_shared.specs.declared.stage.Step.TheVariants.{Goes, Stops}
+use Rattle.vme_shared.specs.declared.stage.Step.TheVariants.{Continue, Finish}
 use Rattle.vme_shared.specs.Mailboxes.{stage_request, shared_refusal}
 use Rattle.vme_shared.specs.Steps.{first_stage, step_after}
 use Rattle.vme_shared.specs.Tables as shares
 use Rattle.vme_shared.specs.Tables.{SharedJob, Progress, At, Over, transfer_job as shared_transfer, stage_job, stage_begun, step_begun, progress_by, progress_given, progress_of, task_shown, next_at, shared_next}
-use Rattle.vme_line_task.specs.Scripts.{Attempt, Moves, Waits, Shares, slot_at, level_at, mailbox_at, transfer_job, request_attempt, unless_refused, shared_job, line_attempt}
-use Rattle.vme_line_task.specs.Tables.{Makes, attempt_next, attempts_of, lawful_next, next_given}
+use Rattle.vme_line_task.specs.Scripts.{Attempt, Transferring, Awaiting, Sharing, slot_at, level_at, mailbox_at, transfer_job, request_attempt, unless_refused, shared_job, line_attempt}
+use Rattle.vme_line_task.specs.Tables.{Invokes, attempt_next, attempts_of, lawful_next, next_given}
 use Rattle.vme_line_task.proofs.lemmas.Below.{moves_makes, waits_makes, shares_makes}
 use Rattle.vme_line_task.specs.Events.{IsCallBelow}
 
@@ -54,7 +54,7 @@ pub record HasEvent (call : Call) : Type 0 where
 
 -- a datum of a lawful transfer, on a board whose range begins at a multiple of four
 data_event : (config : Configuration) → IsLawful config → (slot level : ℕ) (t : Transfer) → IsLawfulTransfer t → (g : Given) (x : ℕ)
-    (command : Option Command) → next_of (bus_job (entries_of config.boards) slot level t) g ≡ tasks.Makes (OnBoard x command)
+    (command : Option Command) → next_of (bus_job (entries_of config.boards) slot level t) g ≡ tasks.Invokes (OnBoard x command)
     → HasEvent (OnBoard x command)
 data_event config lawful slot level t whole g x command made =
     let j : BusJob =
@@ -71,7 +71,7 @@ data_event config lawful slot level t whole g x command made =
 
 -- a local command
 local_event : (board : ℕ) (cmd : BoardCmd) (g : Given) (x : ℕ) (command : Option Command)
-    → next_of (local_job board cmd) g ≡ tasks.Makes (OnBoard x command) → HasEvent (OnBoard x command)
+    → next_of (local_job board cmd) g ≡ tasks.Invokes (OnBoard x command) → HasEvent (OnBoard x command)
 local_event board cmd g x command made =
     let own : OnBoard x command ≡ OnBoard board (command_given cmd) = local_calls (record { board = board; cmd = cmd }) g (OnBoard x command) made in
     record { event = asked.Board board cmd; is = sym own }
@@ -79,9 +79,9 @@ local_event board cmd g x command made =
 -- a request's
 lawful_event : (config : Configuration) → IsLawful config → (board : ℕ) (request : Request) (transfer : Result Transfer CycleFault)
     (attempt : Transfer → Attempt) (given : Given) (x : ℕ) (command : Option Command) → transfer_of request ≡ transfer
-    → ((t : Transfer) (g : Given) → attempt_next (attempt t) g ≡ Makes (OnBoard x command)
-    → next_of (transfer_job config board t) g ≡ tasks.Makes (OnBoard x command))
-    → lawful_next config.tries (request_attempt attempt transfer) given ≡ Makes (OnBoard x command) → HasEvent (OnBoard x command)
+    → ((t : Transfer) (g : Given) → attempt_next (attempt t) g ≡ Invokes (OnBoard x command)
+    → next_of (transfer_job config board t) g ≡ tasks.Invokes (OnBoard x command))
+    → lawful_next config.tries (request_attempt attempt transfer) given ≡ Invokes (OnBoard x command) → HasEvent (OnBoard x command)
 lawful_event config lawful board request (Err fault) attempt given x command is makes made = absurd cc
 lawful_event config lawful board request (Ok t) attempt given x command is makes made =
     let g = (attempts_of (attempt t) config.tries given).given in
@@ -93,7 +93,7 @@ record IsOfStage (s : SharedJob) (call : Call) : Type 0 where
   job : Job
   given : Given
   own : stage_job s stage ≡ Ok job
-  makes : next_of job given ≡ tasks.Makes call
+  makes : next_of job given ≡ tasks.Invokes call
 
 abbrev OwnAt : SharedJob → Progress → Type 0
 OwnAt s (At stage job given) = stage_job s stage ≡ Ok job
@@ -105,14 +105,14 @@ stage_own s stage given (Ok job) own = own
 stage_own s stage given (Err fault) own = tt
 
 step_own : (s : SharedJob) (step : Step) → OwnAt s (step_begun s step)
-step_own s (Goes stage) = stage_own s stage (None ∷ []) (stage_job s stage) refl
-step_own s (Stops end) = tt
+step_own s (Continue stage) = stage_own s stage (None ∷ []) (stage_job s stage) refl
+step_own s (Finish end) = tt
 
 next_own : (s : SharedJob) (stage : Stage) (job : Job) (given : Given) (next : Next) → stage_job s stage ≡ Ok job
     → OwnAt s (progress_by s stage job given next)
-next_own s stage job given tasks.Rests own = own
-next_own s stage job given (tasks.Makes call) own = own
-next_own s stage job given (tasks.Ends outcome) own = step_own s (step_after s.request stage outcome)
+next_own s stage job given tasks.NotStarted own = own
+next_own s stage job given (tasks.Invokes call) own = own
+next_own s stage job given (tasks.Returns outcome) own = step_own s (step_after s.request stage outcome)
 
 given_own : (s : SharedJob) (last : Option EventReply) (p : Progress) → OwnAt s p → OwnAt s (progress_given s last p)
 given_own s last (At stage job given) own = next_own s stage job (last ∷ given) (next_of job (last ∷ given)) own
@@ -122,50 +122,50 @@ progress_own : (s : SharedJob) (given : Given) → OwnAt s (progress_of s given)
 progress_own s [] = stage_own s (first_stage s.request) [] (stage_job s (first_stage s.request)) refl
 progress_own s (last ∷ before) = given_own s last (progress_of s before) (progress_own s before)
 
-shown_makes : (next : Next) (call : Call) → task_shown next ≡ shares.Makes call → next ≡ tasks.Makes call
-shown_makes tasks.Rests call made = absurd cc
-shown_makes (tasks.Makes other) call made = cc
-shown_makes (tasks.Ends outcome) call made = absurd cc
+shown_makes : (next : Next) (call : Call) → task_shown next ≡ shares.Invokes call → next ≡ tasks.Invokes call
+shown_makes tasks.NotStarted call made = absurd cc
+shown_makes (tasks.Invokes other) call made = cc
+shown_makes (tasks.Returns outcome) call made = absurd cc
 
-stage_calls : (s : SharedJob) (p : Progress) (call : Call) → OwnAt s p → next_at p ≡ shares.Makes call → IsOfStage s call
+stage_calls : (s : SharedJob) (p : Progress) (call : Call) → OwnAt s p → next_at p ≡ shares.Invokes call → IsOfStage s call
 stage_calls s (At stage job given) call own made =
     record { stage = stage; job = job; given = given; own = own; makes = shown_makes (next_of job given) call made }
 stage_calls s (Over end) call own made = absurd cc
 
 stage_event : (config : Configuration) → IsLawful config → (board : ℕ) (request : SharedRequest) (cycle : Request)
     (transfer : Result Transfer CycleFault) (job : Job) (g : Given) (x : ℕ) (command : Option Command) → transfer_of cycle ≡ transfer
-    → shared_transfer (shared_job config board request) transfer ≡ Ok job → next_of job g ≡ tasks.Makes (OnBoard x command)
+    → shared_transfer (shared_job config board request) transfer ≡ Ok job → next_of job g ≡ tasks.Invokes (OnBoard x command)
     → HasEvent (OnBoard x command)
 stage_event config lawful board request cycle (Err fault) job g x command is own made = absurd cc
 stage_event config lawful board request cycle (Ok t) job g x command is own made =
     let same : job ≡ transfer_job config board t = sym cc in
     data_event config lawful (slot_at config board) (level_at config board) t (transfer_is_lawful cycle t is) g x command
-    (subst (λ (one : Job). next_of one g ≡ tasks.Makes (OnBoard x command)) same made)
+    (subst (λ (one : Job). next_of one g ≡ tasks.Invokes (OnBoard x command)) same made)
 
 shared_event : (config : Configuration) → IsLawful config → (board : ℕ) (request : SharedRequest) (refusal : Option CycleFault) (given : Given)
     (x : ℕ) (command : Option Command)
-    → lawful_next config.tries (unless_refused (Shares (shared_job config board request)) refusal) given ≡ Makes (OnBoard x command)
+    → lawful_next config.tries (unless_refused (Sharing (shared_job config board request)) refusal) given ≡ Invokes (OnBoard x command)
     → HasEvent (OnBoard x command)
 shared_event config lawful board request (Some fault) given x command made = absurd cc
 shared_event config lawful board request None given x command made =
     let s = shared_job config board request in
-    let g = (attempts_of (Shares s) config.tries given).given in
+    let g = (attempts_of (Sharing s) config.tries given).given in
     let at = stage_calls s (progress_of s g) (OnBoard x command) (progress_own s g) (shares_makes (shared_next s g) (OnBoard x command) made) in
     stage_event config lawful board request (stage_request request at.stage) (transfer_of (stage_request request at.stage)) at.job at.given x command
     refl at.own at.makes
 
 line_event : (config : Configuration) → IsLawful config → (board : ℕ) (line : Line) (given : Given) (call : Call)
-    → lawful_next config.tries (line_attempt config board line) given ≡ Makes call → HasEvent call
+    → lawful_next config.tries (line_attempt config board line) given ≡ Invokes call → HasEvent call
 line_event config lawful board line given (OnBus cmd) made = record { event = asked.Bus cmd; is = refl }
 line_event config lawful board (lines.Bus request) given (OnBoard x command) made =
-    lawful_event config lawful board request (transfer_of request) (λ t. Moves (transfer_job config board t)) given x command refl
+    lawful_event config lawful board request (transfer_of request) (λ t. Transferring (transfer_job config board t)) given x command refl
     (λ t g makes. moves_makes (next_of (transfer_job config board t) g) (OnBoard x command) makes) made
 line_event config lawful board (lines.Local cmd) given (OnBoard x command) made =
-    let g = (attempts_of (Moves (local_job board cmd)) config.tries given).given in
+    let g = (attempts_of (Transferring (local_job board cmd)) config.tries given).given in
     local_event board cmd g x command (moves_makes (next_of (local_job board cmd) g) (OnBoard x command) made)
 line_event config lawful board (lines.Await am addr bytes) given (OnBoard x command) made =
     let request = requests.Read am addr (length bytes.items) in
-    lawful_event config lawful board request (transfer_of request) (λ t. Waits (transfer_job config board t) bytes.items) given x command refl
+    lawful_event config lawful board request (transfer_of request) (λ t. Awaiting (transfer_job config board t) bytes.items) given x command refl
     (λ t g makes. waits_makes bytes.items (next_of (transfer_job config board t) g) (OnBoard x command) makes) made
 line_event config lawful board (lines.Lock am addr) given (OnBoard x command) made =
     shared_event config lawful board (asked_shared.Lock am addr) (shared_refusal (asked_shared.Lock am addr)) given x command made
@@ -179,7 +179,7 @@ line_event config lawful board (lines.Take box) given (OnBoard x command) made =
     shared_event config lawful board request (shared_refusal request) given x command made
 
 pub has_event : (config : Configuration) → IsLawful config → (board : ℕ) (line : Line) (given : Given) (call : Call)
-    → next_given config board line given ≡ Makes call → HasEvent call
+    → next_given config board line given ≡ Invokes call → HasEvent call
 unfolding next_given
 has_event config lawful board line given call made = line_event config lawful board line given call made
 

@@ -4,7 +4,7 @@ use Rattle.std.specs.Str.{bytes_eq}
 use Rattle.std.proofs.lemmas.List.Elements.{All-nil, All-cons}
 use Rattle.vme_object.specs.Each.{Each}
 use Rattle.vme_cycle.specs.declared.fault.CycleFault.{CycleFault}
-use Rattle.vme_core.specs.Runs.{Move}
+use Rattle.vme_core.specs.Runs.{Transition}
 use Rattle.vme_master.specs.declared.outcome.Outcome.TheVariants as outcomes
 use Rattle.vme_master.specs.Tables as tasks
 use Rattle.vme_master.specs.Tables.{Next, Given, next_of}
@@ -14,66 +14,66 @@ use Rattle.vme_shared.specs.Tables as shares
 use Rattle.vme_shared.specs.Tables.{SharedNext, shared_next}
 use Rattle.vme_grammar.specs.declared.line.Line.{Line}
 use Rattle.vme_script.specs.Configurations.{Configuration}
-use Rattle.vme_line_task.specs.Scripts.{Attempt, Moves, Waits, Shares, lines_at, line_attempt}
-use Rattle.vme_line_task.specs.Tables.{Ends, moves_next, waits_next, shares_next, attempt_next, attempts_of, lawful_next, next_given}
-use Rattle.vme_line_task.specs.Courses.{IsCourse}
+use Rattle.vme_line_task.specs.Scripts.{Attempt, Transferring, Awaiting, Sharing, lines_at, line_attempt}
+use Rattle.vme_line_task.specs.Tables.{Returns, moves_next, waits_next, shares_next, attempt_next, attempts_of, lawful_next, next_given}
+use Rattle.vme_line_task.specs.Traces.{IsTrace}
 use Rattle.vme_threads.specs.declared.report.Report.{Report}
 use Rattle.vme_threads.specs.Rans.{answers_in}
 use Rattle.vme_threads.specs.Reports.{IsReportOf}
 use Rattle.vme_run_laws.specs.Finished.{AreFinished}
 
 -- a transfer or a command
-by_moves : (next : Next) (answer : LineReply) → moves_next next ≡ Ends answer → answer ≢ Unfinished
-by_moves tasks.Rests answer ends over = cc
-by_moves (tasks.Makes call) answer ends over = cc
-by_moves (tasks.Ends outcome) answer ends over = cc
+by_moves : (next : Next) (answer : LineReply) → moves_next next ≡ Returns answer → answer ≢ Unfinished
+by_moves tasks.NotStarted answer ends over = cc
+by_moves (tasks.Invokes call) answer ends over = cc
+by_moves (tasks.Returns outcome) answer ends over = cc
 
 -- the bytes were found or not
-by_bytes : (found : Bool) (answer : LineReply) → Ends (if found then Met else Timeout) ≡ Ends answer → answer ≢ Unfinished
+by_bytes : (found : Bool) (answer : LineReply) → Returns (if found then Met else Timeout) ≡ Returns answer → answer ≢ Unfinished
 by_bytes true answer ends over = cc
 by_bytes false answer ends over = cc
 
-by_waits : (want : List ℕ) (next : Next) (answer : LineReply) → waits_next want next ≡ Ends answer → answer ≢ Unfinished
-by_waits want tasks.Rests answer ends over = cc
-by_waits want (tasks.Makes call) answer ends over = cc
-by_waits want (tasks.Ends (outcomes.Read bytes)) answer ends over = by_bytes (bytes_eq bytes.items want) answer ends over
-by_waits want (tasks.Ends outcome) answer ends over = cc
+by_waits : (want : List ℕ) (next : Next) (answer : LineReply) → waits_next want next ≡ Returns answer → answer ≢ Unfinished
+by_waits want tasks.NotStarted answer ends over = cc
+by_waits want (tasks.Invokes call) answer ends over = cc
+by_waits want (tasks.Returns (outcomes.Read bytes)) answer ends over = by_bytes (bytes_eq bytes.items want) answer ends over
+by_waits want (tasks.Returns outcome) answer ends over = cc
 
 -- a lock or a mailbox
-by_shares : (next : SharedNext) (answer : LineReply) → shares_next next ≡ Ends answer → answer ≢ Unfinished
-by_shares shares.Rests answer ends over = cc
-by_shares (shares.Makes call) answer ends over = cc
-by_shares (shares.Ends outcome) answer ends over = cc
+by_shares : (next : SharedNext) (answer : LineReply) → shares_next next ≡ Returns answer → answer ≢ Unfinished
+by_shares shares.NotStarted answer ends over = cc
+by_shares (shares.Invokes call) answer ends over = cc
+by_shares (shares.Returns outcome) answer ends over = cc
 
-by_attempt : (a : Attempt) (given : Given) (answer : LineReply) → attempt_next a given ≡ Ends answer → answer ≢ Unfinished
-by_attempt (Moves job) given answer ends over = by_moves (next_of job given) answer ends over
-by_attempt (Waits job want) given answer ends over = by_waits want (next_of job given) answer ends over
-by_attempt (Shares s) given answer ends over = by_shares (shared_next s given) answer ends over
+by_attempt : (a : Attempt) (given : Given) (answer : LineReply) → attempt_next a given ≡ Returns answer → answer ≢ Unfinished
+by_attempt (Transferring job) given answer ends over = by_moves (next_of job given) answer ends over
+by_attempt (Awaiting job want) given answer ends over = by_waits want (next_of job given) answer ends over
+by_attempt (Sharing s) given answer ends over = by_shares (shared_next s given) answer ends over
 
 -- any line
-by_line : (tries : ℕ) (attempt : Result Attempt CycleFault) (given : Given) (answer : LineReply) → lawful_next tries attempt given ≡ Ends answer
+by_line : (tries : ℕ) (attempt : Result Attempt CycleFault) (given : Given) (answer : LineReply) → lawful_next tries attempt given ≡ Returns answer
     → answer ≢ Unfinished
 by_line tries (Ok a) given answer ends over = by_attempt a (attempts_of a tries given).given answer ends over
 by_line tries (Err fault) given answer ends over = cc
 
 -- by the table
-by_table : (config : Configuration) (board : ℕ) (line : Line) (given : Given) (answer : LineReply) → next_given config board line given ≡ Ends answer
+by_table : (config : Configuration) (board : ℕ) (line : Line) (given : Given) (answer : LineReply) → next_given config board line given ≡ Returns answer
     → answer ≢ Unfinished
 unfolding next_given
 by_table config board line given answer ends over = by_line config.tries (line_attempt config board line) given answer ends over
 
--- all lines of a course
-course_finished : (config : Configuration) (board : ℕ) (ls : List Line) (run : List Move) (answers : List LineReply)
-    → IsCourse config board ls run answers → All (λ (answer : LineReply). answer ≢ Unfinished) answers
-course_finished config board [] run [] course = All-nil (λ (answer : LineReply). answer ≢ Unfinished)
-course_finished config board [] run (answer ∷ answers) course = absurd course
-course_finished config board (line ∷ ls) run [] course = absurd course
-course_finished config board (line ∷ ls) run (answer ∷ answers) course =
-    All-cons (λ (answer : LineReply). answer ≢ Unfinished) answer answers (by_table config board line _ answer course.3.ends)
-    (course_finished config board ls course.1 answers course.4)
+-- all lines of a script_state
+script_state_finished : (config : Configuration) (board : ℕ) (ls : List Line) (run : List Transition) (answers : List LineReply)
+    → IsTrace config board ls run answers → All (λ (answer : LineReply). answer ≢ Unfinished) answers
+script_state_finished config board [] run [] script_state = All-nil (λ (answer : LineReply). answer ≢ Unfinished)
+script_state_finished config board [] run (answer ∷ answers) script_state = absurd script_state
+script_state_finished config board (line ∷ ls) run [] script_state = absurd script_state
+script_state_finished config board (line ∷ ls) run (answer ∷ answers) script_state =
+    All-cons (λ (answer : LineReply). answer ≢ Unfinished) answer answers (by_table config board line _ answer script_state.3.ends)
+    (script_state_finished config board ls script_state.1 answers script_state.4)
 
 -- all lines of a report
 pub report_finished : (config : Configuration) (report : Report) → IsReportOf config report → Each (λ who lines. AreFinished lines.items) report.lines.items
 report_finished config report is who d who< =
-    course_finished config who (lines_at config who) (slice_index_or is.runs who []) (answers_in (slice_index_or report.lines.items who d).items)
-    (is.course.each who [] d (omega (arith, who<, is.course.count)))
+    script_state_finished config who (lines_at config who) (slice_index_or is.runs who []) (answers_in (slice_index_or report.lines.items who d).items)
+    (is.trace.each who [] d (omega (arith, who<, is.trace.count)))

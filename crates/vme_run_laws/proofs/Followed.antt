@@ -7,129 +7,129 @@ use Rattle.std.proofs.lemmas.List.{append-nil, map-append, length-map}
 use Rattle.std.proofs.lemmas.List.Elements.{filter-append}
 use Rattle.vme_arbiter.specs.Arbitration.{opening_bus, turn_step}
 use Rattle.vme_core.specs.Tallies.{fresh_tally}
-use Rattle.vme_core.specs.Runs.{Machine, Move, Did, bus_part}
+use Rattle.vme_core.specs.Runs.{Machine, Transition, Did, bus_part}
 use Rattle.vme_core.specs.Calls.{Call, call_of}
 use Rattle.vme_core.proofs.lemmas.Dones.{did_nil, did_trans, opened_boards}
 use Rattle.vme_core.proofs.lemmas.Tallies.{went_tells}
 use Rattle.vme_script.specs.Configurations.{Configuration, opening_memory}
 use Rattle.vme_script.specs.Lawful.{IsLawful}
-use Rattle.vme_line_task.specs.Courses.{Course, Follows}
-use Rattle.vme_line_task.proofs.lemmas.Courses.{follows_nothing}
-use Rattle.vme_stepper.specs.Turns.{World, course_turn, lines_left, turn_in, turn_at, place_of, turn, run, opening_world, world_after}
-use Rattle.vme_run_laws.specs.TurnCalls.{first_call, course_call, place_call, turn_call}
+use Rattle.vme_line_task.specs.Traces.{ScriptState, IsTracePrefix}
+use Rattle.vme_line_task.proofs.lemmas.Traces.{follows_nothing}
+use Rattle.vme_stepper.specs.Turns.{SystemState, script_state_turn, lines_left, turn_in, turn_at, place_of, turn, run, initial_state, state_after}
+use Rattle.vme_run_laws.specs.TurnCalls.{first_call, script_state_call, place_call, turn_call}
 use Rattle.vme_run_laws.specs.Moves.{calls_from, calls_in, moves_of, AreRun}
 use Rattle.vme_run_laws.proofs.Places.{set_same, set_other, place_is}
-use Rattle.vme_run_laws.proofs.Moving.{Moved, course_moved}
-use Rattle.vme_run_laws.proofs.Runs.{course_begun}
+use Rattle.vme_run_laws.proofs.Moving.{Moved, script_state_moved}
+use Rattle.vme_run_laws.proofs.Runs.{script_state_begun}
 
 -- each processor has come so far by its own moves
-abbrev pub AllFollow : Configuration → List Move → World → Type 0
-AllFollow config moves world = (b : ℕ) (c : Course) → slice_get world.courses b ≡ Some c → Follows config b (moves_of b moves) c
+abbrev pub AllFollow : Configuration → List Transition → SystemState → Type 0
+AllFollow config moves system = (b : ℕ) (c : ScriptState) → slice_get system.script_states b ≡ Some c → IsTracePrefix config b (moves_of b moves) c
 
 -- turns make more moves
-pub record Goes (config : Configuration) (before : List Move) (calls : List (ℕ × Call)) (from to : World) : Type 0 where
-  pub more : List Move
+pub record Goes (config : Configuration) (before : List Transition) (calls : List (ℕ × Call)) (from to : SystemState) : Type 0 where
+  pub more : List Transition
   pub same : calls_in more ≡ calls
   pub did : Did more from.machine to.machine
   pub follow : AllFollow config (before ++ more) to
   pub count : length to.machine.boards ≡ length from.machine.boards
 
-goes_nowhere : (config : Configuration) (before : List Move) (world : World) → AllFollow config before world → Goes config before [] world world
-goes_nowhere config before world follow = record {
+goes_nowhere : (config : Configuration) (before : List Transition) (system : SystemState) → AllFollow config before system → Goes config before [] system system
+goes_nowhere config before system follow = record {
   more = [];
   same = refl;
-  did = did_nil world.machine;
-  follow = subst (λ (ms : List Move). AllFollow config ms world) (sym (append-nil before)) follow;
+  did = did_nil system.machine;
+  follow = subst (λ (ms : List Transition). AllFollow config ms system) (sym (append-nil before)) follow;
   count = refl;
 }
 
-by_course : (config : Configuration) (before : List Move) (world : World) (board : ℕ) (found : Option Course) → IsLawful config
-    → board < length config.boards → length world.machine.boards ≡ length config.boards → AllFollow config before world
-    → slice_get world.courses board ≡ found
-    → Goes config before (option_to_list (course_call config board found)) world (turn_in config world board found)
-by_course config before world board None lawful there count follow is = goes_nowhere config before world follow
-by_course config before world board (Some c) lawful there count follow is =
+by_script_state : (config : Configuration) (before : List Transition) (system : SystemState) (board : ℕ) (found : Option ScriptState) → IsLawful config
+    → board < length config.boards → length system.machine.boards ≡ length config.boards → AllFollow config before system
+    → slice_get system.script_states board ≡ found
+    → Goes config before (option_to_list (script_state_call config board found)) system (turn_in config system board found)
+by_script_state config before system board None lawful there count follow is = goes_nowhere config before system follow
+by_script_state config before system board (Some c) lawful there count follow is =
     record { more = moved.more; same = moved.calls; did = moved.did; follow = each; count = moved.count }
   where
-    next : Machine × Course
-    next = course_turn config board (lines_left config board c) world.machine c
+    next : Machine × ScriptState
+    next = script_state_turn config board (lines_left config board c) system.machine c
 
-    moved : Moved config board world.machine (moves_of board before) (first_call config board (lines_left config board c) c.replies) next
-    moved = course_moved config lawful board there (lines_left config board c) world.machine (moves_of board before) c refl count (follow board c is)
+    moved : Moved config board system.machine (moves_of board before) (first_call config board (lines_left config board c) c.replies) next
+    moved = script_state_moved config lawful board there (lines_left config board c) system.machine (moves_of board before) c refl count (follow board c is)
 
-    own : Follows config board (moves_of board (before ++ moved.more)) next.1
+    own : IsTracePrefix config board (moves_of board (before ++ moved.more)) next.1
     own =
-        subst (λ (ms : List Move). Follows config board ms next.1)
-        (ap (λ ms. moves_of board before ++ ms) (sym moved.own) ∙ sym (filter-append (λ (m : Move). m.who == board) before moved.more))
+        subst (λ (ms : List Transition). IsTracePrefix config board ms next.1)
+        (ap (λ ms. moves_of board before ++ ms) (sym moved.own) ∙ sym (filter-append (λ (m : Transition). m.who == board) before moved.more))
         moved.follows
 
-    other : (b : ℕ) (one : Course) → b ≢ board → slice_get world.courses b ≡ Some one → Follows config b (moves_of b (before ++ moved.more)) one
+    other : (b : ℕ) (one : ScriptState) → b ≢ board → slice_get system.script_states b ≡ Some one → IsTracePrefix config b (moves_of b (before ++ moved.more)) one
     other b one apart at =
-        subst (λ (ms : List Move). Follows config b ms one)
+        subst (λ (ms : List Transition). IsTracePrefix config b ms one)
         (sym (append-nil (moves_of b before)) ∙ ap (λ ms. moves_of b before ++ ms) (sym (moved.others b (λ same. apart (sym same))))
-        ∙ sym (filter-append (λ (m : Move). m.who == b) before moved.more))
+        ∙ sym (filter-append (λ (m : Transition). m.who == b) before moved.more))
         (follow b one at)
 
-    each : (b : ℕ) (one : Course) → slice_get (slice_set world.courses board next.1) b ≡ Some one → Follows config b (moves_of b (before ++ moved.more)) one
+    each : (b : ℕ) (one : ScriptState) → slice_get (slice_set system.script_states board next.1) b ≡ Some one → IsTracePrefix config b (moves_of b (before ++ moved.more)) one
     each b one at =
         elim (eqb_tells b board) [
           | inl same ↦
-              let mine : next.1 ≡ one = set_same world.courses board next.1 one
-              (ap (slice_get (slice_set world.courses board next.1)) (sym same.1) ∙ at) in
-              subst (λ (p : ℕ). Follows config p (moves_of p (before ++ moved.more)) one) (sym same.1)
-              (subst (Follows config board (moves_of board (before ++ moved.more))) mine own)
-          | inr apart ↦ other b one apart.1 (sym (set_other world.courses board b next.1 (λ same. apart.1 (sym same))) ∙ at)
+              let mine : next.1 ≡ one = set_same system.script_states board next.1 one
+              (ap (slice_get (slice_set system.script_states board next.1)) (sym same.1) ∙ at) in
+              subst (λ (p : ℕ). IsTracePrefix config p (moves_of p (before ++ moved.more)) one) (sym same.1)
+              (subst (IsTracePrefix config board (moves_of board (before ++ moved.more))) mine own)
+          | inr apart ↦ other b one apart.1 (sym (set_other system.script_states board b next.1 (λ same. apart.1 (sym same))) ∙ at)
         ]
 
-by_place : (config : Configuration) (before : List Move) (world : World) (slot : ℕ) (place : Option ℕ) → IsLawful config
-    → length world.machine.boards ≡ length config.boards → AllFollow config before world → place_of config slot ≡ place
-    → Goes config before (option_to_list (place_call config world place)) world (turn_at config world place)
-by_place config before world slot None lawful count follow is = goes_nowhere config before world follow
-by_place config before world slot (Some board) lawful count follow is =
-    by_course config before world board (slice_get world.courses board) lawful (place_is config slot board is).there count follow refl
+by_place : (config : Configuration) (before : List Transition) (system : SystemState) (slot : ℕ) (place : Option ℕ) → IsLawful config
+    → length system.machine.boards ≡ length config.boards → AllFollow config before system → place_of config slot ≡ place
+    → Goes config before (option_to_list (place_call config system place)) system (turn_at config system place)
+by_place config before system slot None lawful count follow is = goes_nowhere config before system follow
+by_place config before system slot (Some board) lawful count follow is =
+    by_script_state config before system board (slice_get system.script_states board) lawful (place_is config slot board is).there count follow refl
 
-turn_goes : (config : Configuration) (before : List Move) (world : World) (slot : ℕ) → IsLawful config
-    → length world.machine.boards ≡ length config.boards → AllFollow config before world
-    → Goes config before (option_to_list (turn_call config world slot)) world (turn config world slot)
+turn_goes : (config : Configuration) (before : List Transition) (system : SystemState) (slot : ℕ) → IsLawful config
+    → length system.machine.boards ≡ length config.boards → AllFollow config before system
+    → Goes config before (option_to_list (turn_call config system slot)) system (turn config system slot)
 unfolding turn turn_call
-turn_goes config before world slot lawful count follow = by_place config before world slot (place_of config slot) lawful count follow refl
+turn_goes config before system slot lawful count follow = by_place config before system slot (place_of config slot) lawful count follow refl
 
-run_goes : (config : Configuration) (before : List Move) (world : World) (slots : List ℕ) → IsLawful config
-    → length world.machine.boards ≡ length config.boards → AllFollow config before world
-    → Goes config before (calls_from config world slots) world (run config world slots)
-run_goes config before world [] lawful count follow = goes_nowhere config before world follow
-run_goes config before world (slot ∷ slots) lawful count follow =
-    let one = turn_goes config before world slot lawful count follow in
-    let next = turn config world slot in
+run_goes : (config : Configuration) (before : List Transition) (system : SystemState) (slots : List ℕ) → IsLawful config
+    → length system.machine.boards ≡ length config.boards → AllFollow config before system
+    → Goes config before (calls_from config system slots) system (run config system slots)
+run_goes config before system [] lawful count follow = goes_nowhere config before system follow
+run_goes config before system (slot ∷ slots) lawful count follow =
+    let one = turn_goes config before system slot lawful count follow in
+    let next = turn config system slot in
     let then = run_goes config (before ++ one.more) next slots lawful (one.count ∙ count) one.follow in
     record {
       more = one.more ++ then.more;
-      same = map-append (λ (m : Move). (m.who, call_of m.event)) one.more then.more
-          ∙ ap (λ calls. calls ++ calls_in then.more) one.same ∙ ap (λ calls. option_to_list (turn_call config world slot) ++ calls) then.same;
-      did = did_trans one.more then.more world.machine next.machine (run config next slots).machine one.did then.did;
-      follow = subst (λ (ms : List Move). AllFollow config ms (run config next slots)) (append_assoc before one.more then.more) then.follow;
+      same = map-append (λ (m : Transition). (m.who, call_of m.event)) one.more then.more
+          ∙ ap (λ calls. calls ++ calls_in then.more) one.same ∙ ap (λ calls. option_to_list (turn_call config system slot) ++ calls) then.same;
+      did = did_trans one.more then.more system.machine next.machine (run config next slots).machine one.did then.did;
+      follow = subst (λ (ms : List Transition). AllFollow config ms (run config next slots)) (append_assoc before one.more then.more) then.follow;
       count = then.count ∙ one.count;
     }
 
 -- before the first turn
-opening_follow : (config : Configuration) → AllFollow config [] (opening_world config)
-opening_follow config b c found = subst (Follows config b []) (course_begun config.scripts b c found) (follows_nothing config b)
+opening_follow : (config : Configuration) → AllFollow config [] (initial_state config)
+opening_follow config b c found = subst (IsTracePrefix config b []) (script_state_begun config.scripts b c found) (follows_nothing config b)
 
-opening_count : (config : Configuration) → length (opening_world config).machine.boards ≡ length config.boards
+opening_count : (config : Configuration) → length (initial_state config).machine.boards ≡ length config.boards
 opening_count config =
     length-map (map opening_memory config.boards) (fresh_tally (length config.boards)) ∙ length-map config.boards opening_memory
 
-pub are_run : (config : Configuration) (slots : List ℕ) → IsLawful config → (run : List Move) × AreRun config slots run
-unfolding world_after
+pub are_run : (config : Configuration) (slots : List ℕ) → IsLawful config → (run : List Transition) × AreRun config slots run
+unfolding state_after
 are_run config slots lawful =
-    let all = run_goes config [] (opening_world config) slots lawful (opening_count config) (opening_follow config) in
+    let all = run_goes config [] (initial_state config) slots lawful (opening_count config) (opening_follow config) in
     let memories = map opening_memory config.boards in
-    let after = run config (opening_world config) slots in (
+    let after = run config (initial_state config) slots in (
       all.more,
       record {
         calls = all.same;
         boards = opened_boards memories (opening_bus config.arbiter) (length config.boards) all.more after.machine all.did;
         bus = went_tells turn_step (opening_bus config.arbiter) (bus_part all.more) (length config.boards) after.machine.bus all.did.bus;
-        courses = all.follow;
+        script_states = all.follow;
       },
     )

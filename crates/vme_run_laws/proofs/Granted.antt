@@ -21,7 +21,7 @@ use Rattle.vme_core.specs.declared.event.Event.{Event}
 use Rattle.vme_core.specs.declared.event.Event.TheVariants as asked
 use Rattle.vme_core.specs.declared.event.EventReply.{EventReply}
 use Rattle.vme_core.specs.declared.event.EventReply.TheVariants as told
-use Rattle.vme_core.specs.Runs.{Move, move, IsReplyTo, board_part, bus_part}
+use Rattle.vme_core.specs.Runs.{Transition, move, IsReplyTo, board_part, bus_part}
 use Rattle.vme_core.specs.Calls.{Call, OnBoard, OnBus, call_of}
 use Rattle.vme_master.proofs.lemmas.Locals.{board_fits}
 use Rattle.vme_master.specs.declared.outcome.Outcome.TheVariants.{Denied}
@@ -31,8 +31,8 @@ use Rattle.vme_grammar.specs.declared.line.Line.{Line}
 use Rattle.vme_script.specs.Configurations.{Configuration, opening_memory}
 use Rattle.vme_script.specs.Lawful.{IsLawful}
 use Rattle.vme_line_task.specs.Scripts.{slot_at, lines_at}
-use Rattle.vme_line_task.specs.Tables.{Makes, Ends, line_next, given_of}
-use Rattle.vme_line_task.specs.Courses.{Goes, IsCourse}
+use Rattle.vme_line_task.specs.Tables.{Invokes, Returns, line_next, given_of}
+use Rattle.vme_line_task.specs.Traces.{Continues, IsTrace}
 use Rattle.vme_line_task.specs.Tenures.{line_told, IsGood, IsGranted}
 use Rattle.vme_line_task.proofs.lemmas.Kept.{line_begins, line_first, line_turns, line_turn, line_datum, line_ends}
 use Rattle.vme_line_task.proofs.lemmas.Below.{next_below}
@@ -49,7 +49,7 @@ Well n (asked.Board x cmd) (told.Board reply) = x < n → IsGood (OnBoard x (com
 Well n (asked.Bus cmd) (told.Bus reply) = Unit {0}
 Well n event reply = ⊥
 
-abbrev AllWell : ℕ → List Move → Type 0
+abbrev AllWell : ℕ → List Transition → Type 0
 AllWell n [] = Unit {0}
 AllWell n (m ∷ run) = Well n m.event m.reply × AllWell n run
 
@@ -58,14 +58,14 @@ abbrev Told : Event → EventReply → Type 0
 Told (asked.Bus cmd) (told.Bus reply) = IsGood (OnBus cmd) (told.Bus reply)
 Told event reply = Unit {0}
 
-abbrev AllTold : List Move → Type 0
+abbrev AllTold : List Transition → Type 0
 AllTold [] = Unit {0}
 AllTold (m ∷ run) = Told m.event m.reply × AllTold run
 
 -- an end of a line is no denial and leaves the slot free
 record Closes (config : Configuration) (board : ℕ) (line : Line) (before : List EventReply) : Type 0 where
-  granted : (answer : LineReply) → line_next config board line before ≡ Ends answer → IsGranted answer
-  free : (answer : LineReply) (slot : ℕ) → line_next config board line before ≡ Ends answer → Leads slot (line_told config board line before) None
+  granted : (answer : LineReply) → line_next config board line before ≡ Returns answer → IsGranted answer
+  free : (answer : LineReply) (slot : ℕ) → line_next config board line before ≡ Returns answer → Leads slot (line_told config board line before) None
 
 closes_first : (config : Configuration) (board : ℕ) (line : Line) → Closes config board line []
 closes_first config board line = record {
@@ -74,7 +74,7 @@ closes_first config board line = record {
 }
 
 closes_next : (config : Configuration) (board : ℕ) (line : Line) (before : List EventReply) (call : Call) (reply : EventReply)
-    → line_next config board line before ≡ Makes call → IsGood call reply → Closes config board line (reply ∷ before)
+    → line_next config board line before ≡ Invokes call → IsGood call reply → Closes config board line (reply ∷ before)
 closes_next config board line before call reply made good = record {
   granted = λ answer ends. (line_ends config board line before call reply answer made good ends).granted;
   free = λ answer slot ends bus stands. (line_ends config board line before call reply answer made good ends).free bus slot stands;
@@ -82,11 +82,11 @@ closes_next config board line before call reply made good = record {
 
 module _ (config : Configuration) (lawful : IsLawful config) (board : ℕ) (there : board < length config.boards) where
   -- what comes after a line
-  abbrev After : List Move → Type 0
+  abbrev After : List Transition → Type 0
   After rest = (last : Option ArbReply) → Leads (slot_at config board) last None → GoesWhile (slot_at config board) last (bus_part rest)
 
-  by_move : (line : Line) (before : List EventReply) (who : ℕ) (event : Event) (reply : EventReply) (tail : List Move) (last : Option ArbReply)
-      → line_next config board line before ≡ Makes (call_of event) → Well (length config.boards) event reply
+  by_move : (line : Line) (before : List EventReply) (who : ℕ) (event : Event) (reply : EventReply) (tail : List Transition) (last : Option ArbReply)
+      → line_next config board line before ≡ Invokes (call_of event) → Well (length config.boards) event reply
       → Leads (slot_at config board) last (line_told config board line before)
       → ((last : Option ArbReply) → Closes config board line (reply ∷ before)
       → Leads (slot_at config board) last (line_told config board line (reply ∷ before)) → GoesWhile (slot_at config board) last (bus_part tail))
@@ -104,33 +104,33 @@ module _ (config : Configuration) (lawful : IsLawful config) (board : ℕ) (ther
   by_move line before who (asked.Board x cmd) (told.Bus reply) tail last made well leads then = absurd well
   by_move line before who (asked.Bus cmd) (told.Board reply) tail last made well leads then = absurd well
 
-  by_line : (line : Line) (before : List EventReply) (moves rest : List Move) (replies : List EventReply) (answer : LineReply)
-      (last : Option ArbReply) → Goes config board line before moves replies → line_next config board line replies ≡ Ends answer
+  by_line : (line : Line) (before : List EventReply) (moves rest : List Transition) (replies : List EventReply) (answer : LineReply)
+      (last : Option ArbReply) → Continues config board line before moves replies → line_next config board line replies ≡ Returns answer
       → Closes config board line before → Leads (slot_at config board) last (line_told config board line before)
       → AllWell (length config.boards) (moves ++ rest) → (AllWell (length config.boards) rest → After rest)
       → GoesWhile (slot_at config board) last (bus_part (moves ++ rest))
   by_line line before [] rest replies answer last goes ends closes leads well then =
-      let over : line_next config board line before ≡ Ends answer = ap (line_next config board line) goes ∙ ends in
+      let over : line_next config board line before ≡ Returns answer = ap (line_next config board line) goes ∙ ends in
       then well last (λ bus stands. closes.free answer (slot_at config board) over bus (leads bus stands))
   by_line line before (m ∷ moves) rest replies answer last goes ends closes leads well then =
       by_move line before m.who m.event m.reply (moves ++ rest) last goes.0 well.0 leads
       (λ now closed led. by_line line (m.reply ∷ before) moves rest replies answer now goes.1 ends closed led well.1 then)
 
-  by_course : (ls : List Line) (run : List Move) (answers : List LineReply) → IsCourse config board ls run answers
+  by_script_state : (ls : List Line) (run : List Transition) (answers : List LineReply) → IsTrace config board ls run answers
       → AllWell (length config.boards) run → After run
-  by_course [] run [] course well last free = subst (λ (r : List Move). GoesWhile (slot_at config board) last (bus_part r)) (sym course) tt
-  by_course [] run (answer ∷ answers) course well last free = absurd course
-  by_course (line ∷ ls) run [] course well last free = absurd course
-  by_course (line ∷ ls) run (answer ∷ answers) course well last free =
-      subst (λ (r : List Move). GoesWhile (slot_at config board) last (bus_part r)) (sym course.2)
-      (by_line line [] course.0 course.1 course.3.replies answer last course.3.goes course.3.ends (closes_first config board line)
+  by_script_state [] run [] script_state well last free = subst (λ (r : List Transition). GoesWhile (slot_at config board) last (bus_part r)) (sym script_state) tt
+  by_script_state [] run (answer ∷ answers) script_state well last free = absurd script_state
+  by_script_state (line ∷ ls) run [] script_state well last free = absurd script_state
+  by_script_state (line ∷ ls) run (answer ∷ answers) script_state well last free =
+      subst (λ (r : List Transition). GoesWhile (slot_at config board) last (bus_part r)) (sym script_state.2)
+      (by_line line [] script_state.0 script_state.1 script_state.3.replies answer last script_state.3.goes script_state.3.ends (closes_first config board line)
       (λ bus stands. subst (StandsAsTold bus (slot_at config board)) (sym (line_begins config board line)) (free bus stands))
-      (subst (AllWell (length config.boards)) course.2 well)
-      (λ well_rest. by_course ls course.1 answers course.4 well_rest))
+      (subst (AllWell (length config.boards)) script_state.2 well)
+      (λ well_rest. by_script_state ls script_state.1 answers script_state.4 well_rest))
 
   -- so where all replies are good, no answer is a denial
   move_good : (line : Line) (before : List EventReply) (event : Event) (reply : EventReply)
-      → line_next config board line before ≡ Makes (call_of event) → Well (length config.boards) event reply → Told event reply
+      → line_next config board line before ≡ Invokes (call_of event) → Well (length config.boards) event reply → Told event reply
       → IsGood (call_of event) reply
   move_good line before (asked.Board x cmd) (told.Board reply) made well good =
       well (next_below config board line (given_of before) (OnBoard x (command_given cmd)) there made)
@@ -138,13 +138,13 @@ module _ (config : Configuration) (lawful : IsLawful config) (board : ℕ) (ther
   move_good line before (asked.Board x cmd) (told.Bus reply) made well good = absurd well
   move_good line before (asked.Bus cmd) (told.Board reply) made well good = absurd well
 
-  record Left (rest : List Move) (answer : LineReply) : Type 0 where
+  record Left (rest : List Transition) (answer : LineReply) : Type 0 where
     granted : IsGranted answer
     well : AllWell (length config.boards) rest
     good : AllTold rest
 
-  line_granted : (line : Line) (before : List EventReply) (moves rest : List Move) (replies : List EventReply) (answer : LineReply)
-      → Goes config board line before moves replies → line_next config board line replies ≡ Ends answer
+  line_granted : (line : Line) (before : List EventReply) (moves rest : List Transition) (replies : List EventReply) (answer : LineReply)
+      → Continues config board line before moves replies → line_next config board line replies ≡ Returns answer
       → Closes config board line before → AllWell (length config.boards) (moves ++ rest) → AllTold (moves ++ rest) → Left rest answer
   line_granted line before [] rest replies answer goes ends closes well good = record {
     granted = closes.granted answer (ap (line_next config board line) goes ∙ ends);
@@ -156,16 +156,16 @@ module _ (config : Configuration) (lawful : IsLawful config) (board : ℕ) (ther
       (closes_next config board line before (call_of m.event) m.reply goes.0 (move_good line before m.event m.reply goes.0 well.0 good.0))
       well.1 good.1
 
-  course_granted : (ls : List Line) (run : List Move) (answers : List LineReply) → IsCourse config board ls run answers
+  script_state_granted : (ls : List Line) (run : List Transition) (answers : List LineReply) → IsTrace config board ls run answers
       → AllWell (length config.boards) run → AllTold run → All IsGranted answers
-  course_granted [] run [] course well good = All-nil IsGranted
-  course_granted [] run (answer ∷ answers) course well good = absurd course
-  course_granted (line ∷ ls) run [] course well good = absurd course
-  course_granted (line ∷ ls) run (answer ∷ answers) course well good =
-      let left = line_granted line [] course.0 course.1 course.3.replies answer course.3.goes course.3.ends (closes_first config board line)
-      (subst (AllWell (length config.boards)) course.2 well) (subst AllTold course.2 good) in
+  script_state_granted [] run [] script_state well good = All-nil IsGranted
+  script_state_granted [] run (answer ∷ answers) script_state well good = absurd script_state
+  script_state_granted (line ∷ ls) run [] script_state well good = absurd script_state
+  script_state_granted (line ∷ ls) run (answer ∷ answers) script_state well good =
+      let left = line_granted line [] script_state.0 script_state.1 script_state.3.replies answer script_state.3.goes script_state.3.ends (closes_first config board line)
+      (subst (AllWell (length config.boards)) script_state.2 well) (subst AllTold script_state.2 good) in
       All-cons IsGranted answer answers left.granted
-      (course_granted ls course.1 answers course.4 left.well left.good)
+      (script_state_granted ls script_state.1 answers script_state.4 left.well left.good)
 
 -- replies of a board by its history
 abbrev Fit : ℕ → Entry BoardCmd Reply → Type 0
@@ -194,11 +194,11 @@ abbrev FitAt : ℕ → Event → EventReply → Type 0
 FitAt x (asked.Board b cmd) (told.Board reply) = b ≡ x → IsGood (OnBoard b (command_given cmd)) (told.Board reply)
 FitAt x event reply = Unit {0}
 
-abbrev AllFitAt : ℕ → List Move → Type 0
+abbrev AllFitAt : ℕ → List Transition → Type 0
 AllFitAt x [] = Unit {0}
 AllFitAt x (m ∷ run) = FitAt x m.event m.reply × AllFitAt x run
 
-fit_head : (x who : ℕ) (event : Event) (reply : EventReply) (tail : List Move) → All (Fit x) (board_part x (move who event reply ∷ tail))
+fit_head : (x who : ℕ) (event : Event) (reply : EventReply) (tail : List Transition) → All (Fit x) (board_part x (move who event reply ∷ tail))
     → FitAt x event reply × All (Fit x) (board_part x tail)
 fit_head x who (asked.Board b cmd) (told.Board reply) tail all =
     elim (cases_Bool (eqb b x)) [
@@ -213,7 +213,7 @@ fit_head x who (asked.Board b cmd) (told.Board reply) tail all =
 fit_head x who (asked.Board b cmd) (told.Bus reply) tail all = (tt, all)
 fit_head x who (asked.Bus cmd) reply tail all = (tt, all)
 
-fit_moves : (x : ℕ) (run : List Move) → All (Fit x) (board_part x run) → AllFitAt x run
+fit_moves : (x : ℕ) (run : List Transition) → All (Fit x) (board_part x run) → AllFitAt x run
 fit_moves x [] all = tt
 fit_moves x (m ∷ run) all =
     let parts = fit_head x m.who m.event m.reply run all in
@@ -225,17 +225,17 @@ well_move n (asked.Bus cmd) (told.Bus reply) kind fit = tt
 well_move n (asked.Board x cmd) (told.Bus reply) kind fit = kind
 well_move n (asked.Bus cmd) (told.Board reply) kind fit = kind
 
-abbrev OfKind : Move → Type 0
+abbrev OfKind : Transition → Type 0
 OfKind m = IsReplyTo m.event m.reply
 
-well_moves : (n : ℕ) (run : List Move) → All OfKind run → ((x : ℕ) → x < n → AllFitAt x run) → AllWell n run
+well_moves : (n : ℕ) (run : List Transition) → All OfKind run → ((x : ℕ) → x < n → AllFitAt x run) → AllWell n run
 well_moves n [] kind fit = tt
 well_moves n (m ∷ run) kind fit = (
   well_move n m.event m.reply (All-head OfKind m run kind) (λ x less. (fit x less).0),
   well_moves n run (All-tail OfKind m run kind) (λ x less. (fit x less).1),
 )
 
-told_head : (who : ℕ) (event : Event) (reply : EventReply) (tail : List Move) → All GoodTurn (bus_part (move who event reply ∷ tail))
+told_head : (who : ℕ) (event : Event) (reply : EventReply) (tail : List Transition) → All GoodTurn (bus_part (move who event reply ∷ tail))
     → Told event reply × All GoodTurn (bus_part tail)
 told_head who (asked.Board b cmd) reply tail all = (tt, all)
 told_head who (asked.Bus cmd) (told.Board reply) tail all = (tt, all)
@@ -244,14 +244,14 @@ told_head who (asked.Bus cmd) (told.Bus reply) tail all = (
   All-tail GoodTurn (record { who = who; cmd = cmd; reply = reply }) (bus_part tail) all,
 )
 
-told_moves : (run : List Move) → All GoodTurn (bus_part run) → AllTold run
+told_moves : (run : List Transition) → All GoodTurn (bus_part run) → AllTold run
 told_moves [] all = tt
 told_moves (m ∷ run) all =
     let parts = told_head m.who m.event m.reply run all in
     (parts.0, told_moves run parts.1)
 
 -- the part of a who in a history of all
-part_good : {S C R : Type 0} (step : S → C → S × R) (start : S) (part : List Move → List (Entry C R)) (runs : List (List Move)) (object : S)
+part_good : {S C R : Type 0} (step : S → C → S × R) (start : S) (part : List Transition → List (Entry C R)) (runs : List (List Transition)) (object : S)
     (steps : ℕ) (made : List ℕ) (P : Entry C R → Type 0) (has : HasHistory step start (map part runs) object steps made) (who : ℕ)
     → who < length runs → All P has.history → All P (part (slice_index_or runs who []))
 part_good step start part runs object steps made P has who below all =
@@ -293,10 +293,10 @@ all_turns config lawful report is =
     let within : who < length is.runs = omega (arith, below, is.workers) in
     let owned = is.bus.1.owns who (bus_part []) (subst (λ (n : ℕ). who < n) (sym (length-map is.runs bus_part)) within)
     ∙ get_or-map bus_part is.runs who [] (bus_part []) within in
-    let some = some_of report.lines.items who (omega (arith, within, is.course.count)) in
+    let some = some_of report.lines.items who (omega (arith, within, is.trace.count)) in
     subst (GoesWhile (slot_at config who) None) (sym owned)
-    (by_course config lawful who below (lines_at config who) (slice_index_or is.runs who []) (answers_in (slice_index_or report.lines.items who some).items)
-    (is.course.each who [] some within) (run_well config report is who within) None (λ bus stands. stands)))
+    (by_script_state config lawful who below (lines_at config who) (slice_index_or is.runs who []) (answers_in (slice_index_or report.lines.items who some).items)
+    (is.trace.each who [] some within) (run_well config report is who within) None (λ bus stands. stands)))
 
 none_denied : (h : List (Entry ArbCmd ArbReply)) → All GoodTurn h → All (λ e. e.reply ≢ turned.Denied) h
 none_denied [] good = All-nil (λ (e : Entry ArbCmd ArbReply). e.reply ≢ turned.Denied)
@@ -314,10 +314,10 @@ report_turns config report lawful is = none_denied is.bus.1.history (all_turns c
 pub report_granted : (config : Configuration) (report : Report) → IsLawful config → IsReportOf config report
     → Each (λ who lines. AreGranted lines.items) report.lines.items
 report_granted config report lawful is who d below =
-    let within : who < length is.runs = omega (arith, below, is.course.count) in
+    let within : who < length is.runs = omega (arith, below, is.trace.count) in
     let there : who < length config.boards = omega (arith, within, is.workers) in
-    course_granted config lawful who there (lines_at config who) (slice_index_or is.runs who [])
-    (answers_in (slice_index_or report.lines.items who d).items) (is.course.each who [] d within) (run_well config report is who within)
+    script_state_granted config lawful who there (lines_at config who) (slice_index_or is.runs who [])
+    (answers_in (slice_index_or report.lines.items who d).items) (is.trace.each who [] d within) (run_well config report is who within)
     (told_moves (slice_index_or is.runs who [])
     (part_good turn_step (opening_bus config.arbiter) bus_part is.runs is.bus.0 report.arbiter_steps report.arbiter_made.items GoodTurn is.bus.1 who within
     (all_turns config lawful report is)))

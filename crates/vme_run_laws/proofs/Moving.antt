@@ -10,7 +10,7 @@ use Rattle.vme_memory.specs.Steps.{Command}
 use Rattle.vme_core.specs.declared.event.Event.{Event}
 use Rattle.vme_core.specs.declared.event.EventReply.{EventReply}
 use Rattle.vme_core.specs.Tallies.{Tally}
-use Rattle.vme_core.specs.Runs.{Machine, Move, Did, move}
+use Rattle.vme_core.specs.Runs.{Machine, Transition, Did, move}
 use Rattle.vme_core.specs.Calls.{Call, OnBoard, OnBus, call_of, board_after, machine_step}
 use Rattle.vme_core.proofs.lemmas.Calls.{did_call}
 use Rattle.vme_core.proofs.lemmas.Dones.{did_nil}
@@ -19,12 +19,12 @@ use Rattle.vme_grammar.specs.declared.line.Line.{Line}
 use Rattle.vme_script.specs.Configurations.{Configuration}
 use Rattle.vme_script.specs.Lawful.{IsLawful}
 use Rattle.vme_line_task.specs.Scripts.{lines_at}
-use Rattle.vme_line_task.specs.Tables.{LineNext, Rests, Makes, Ends, line_next, given_of}
-use Rattle.vme_line_task.specs.Courses.{Course, Follows}
+use Rattle.vme_line_task.specs.Tables.{LineNext, NotStarted, Invokes, Returns, line_next, given_of}
+use Rattle.vme_line_task.specs.Traces.{ScriptState, IsTracePrefix}
 use Rattle.vme_line_task.specs.Events.{IsCallBelow}
 use Rattle.vme_line_task.proofs.lemmas.Below.{next_below}
-use Rattle.vme_line_task.proofs.lemmas.Courses.{follows_call, follows_answer}
-use Rattle.vme_stepper.specs.Turns.{course, settled, call_made, turn_by, course_turn, lines_left}
+use Rattle.vme_line_task.proofs.lemmas.Traces.{follows_call, follows_answer}
+use Rattle.vme_stepper.specs.Turns.{script_state, settled, call_made, turn_by, script_state_turn, lines_left}
 use Rattle.vme_run_laws.specs.TurnCalls.{call_or, first_call}
 use Rattle.vme_run_laws.specs.Moves.{calls_in, moves_of}
 use Rattle.vme_run_laws.proofs.Places.{left_after}
@@ -56,42 +56,42 @@ other_move who other event reply apart =
     elim (eqb_tells who other) [ inl same ↦ absurd (apart same.1) | inr not_same ↦ let no : (who == other) ≡ false = not_same.0 in rw no refl ]
 
 -- a turn of a board's processor is a move of it, or none
-pub record Moved (config : Configuration) (board : ℕ) (machine : Machine) (mine : List Move) (call : Option Call) (after : Machine × Course) : Type 0 where
-  pub more : List Move
+pub record Moved (config : Configuration) (board : ℕ) (machine : Machine) (mine : List Transition) (call : Option Call) (after : Machine × ScriptState) : Type 0 where
+  pub more : List Transition
   pub calls : calls_in more ≡ option_to_list (option_map {U = ℕ × Call} (λ one. (board, one)) call)
   pub did : Did more machine after.0
-  pub follows : Follows config board (mine ++ more) after.1
+  pub follows : IsTracePrefix config board (mine ++ more) after.1
   pub own : moves_of board more ≡ more
   pub others : (b : ℕ) → board ≢ b → moves_of b more ≡ []
   pub count : length after.0.boards ≡ length machine.boards
 
 module _ (config : Configuration) (lawful : IsLawful config) (board : ℕ) (there : board < length config.boards) where
   -- no move
-  nothing_moved : (machine : Machine) (mine : List Move) (c : Course) → Follows config board mine c
+  nothing_moved : (machine : Machine) (mine : List Transition) (c : ScriptState) → IsTracePrefix config board mine c
       → Moved config board machine mine None (machine, c)
   nothing_moved machine mine c follows = record {
     more = [];
     calls = refl;
     did = did_nil machine;
-    follows = subst (λ (ms : List Move). Follows config board ms c) (sym (append-nil mine)) follows;
+    follows = subst (λ (ms : List Transition). IsTracePrefix config board ms c) (sym (append-nil mine)) follows;
     own = refl;
     others = λ b apart. refl;
     count = refl;
   }
 
   -- a line that was given these replies: it goes on, or is answered
-  settled_follows : (mine : List Move) (ended : List LineReply) (replies : List EventReply) (line : Line) (next : LineNext)
-      → slice_get (lines_at config board) (length ended) ≡ Some line → Follows config board mine (course ended replies)
-      → line_next config board line replies ≡ next → Follows config board mine (settled ended replies next)
-  settled_follows mine ended replies line (Ends answer) found follows is =
-      follows_answer config board mine (course ended replies) line answer follows found is
-  settled_follows mine ended replies line (Makes call) found follows is = follows
-  settled_follows mine ended replies line Rests found follows is = follows
+  settled_follows : (mine : List Transition) (ended : List LineReply) (replies : List EventReply) (line : Line) (next : LineNext)
+      → slice_get (lines_at config board) (length ended) ≡ Some line → IsTracePrefix config board mine (script_state ended replies)
+      → line_next config board line replies ≡ next → IsTracePrefix config board mine (settled ended replies next)
+  settled_follows mine ended replies line (Returns answer) found follows is =
+      follows_answer config board mine (script_state ended replies) line answer follows found is
+  settled_follows mine ended replies line (Invokes call) found follows is = follows
+  settled_follows mine ended replies line NotStarted found follows is = follows
 
   -- a call
-  call_moved : (machine : Machine) (mine : List Move) (c : Course) (line : Line) (call : Call)
+  call_moved : (machine : Machine) (mine : List Transition) (c : ScriptState) (line : Line) (call : Call)
       → slice_get (lines_at config board) (length c.ended) ≡ Some line → length machine.boards ≡ length config.boards
-      → Follows config board mine c → line_next config board line c.replies ≡ Makes call
+      → IsTracePrefix config board mine c → line_next config board line c.replies ≡ Invokes call
       → Moved config board machine mine (Some call) (call_made config board line machine c call)
   call_moved machine mine c line call found count follows made =
       let has = has_event config lawful board line (given_of c.replies) call made in
@@ -102,7 +102,7 @@ module _ (config : Configuration) (lawful : IsLawful config) (board : ℕ) (ther
       let did : Did (m ∷ []) machine step.0 =
       subst (λ (one : Call). Did (move board has.event (machine_step machine board one).1 ∷ []) machine (machine_step machine board one).0) has.is
       (did_call machine board has.event is_there) in
-      let next : line_next config board line c.replies ≡ Makes (call_of m.event) = made ∙ ap Makes (sym has.is) in
+      let next : line_next config board line c.replies ≡ Invokes (call_of m.event) = made ∙ ap Invokes (sym has.is) in
       record {
         more = m ∷ [];
         calls = ap (λ one. (board, one) ∷ []) has.is;
@@ -115,25 +115,25 @@ module _ (config : Configuration) (lawful : IsLawful config) (board : ℕ) (ther
       }
 
   -- a turn with these lines left
-  by_next : (machine : Machine) (mine : List Move) (c : Course) (line : Line) (rest : List Line) (next : LineNext) (after : Course → Machine × Course)
-      → lines_left config board c ≡ line ∷ rest → length machine.boards ≡ length config.boards → Follows config board mine c
+  by_next : (machine : Machine) (mine : List Transition) (c : ScriptState) (line : Line) (rest : List Line) (next : LineNext) (after : ScriptState → Machine × ScriptState)
+      → lines_left config board c ≡ line ∷ rest → length machine.boards ≡ length config.boards → IsTracePrefix config board mine c
       → line_next config board line c.replies ≡ next
-      → ((now : Course) → now.replies ≡ [] → lines_left config board now ≡ rest → Follows config board mine now
+      → ((now : ScriptState) → now.replies ≡ [] → lines_left config board now ≡ rest → IsTracePrefix config board mine now
       → Moved config board machine mine (first_call config board rest []) (after now))
       → Moved config board machine mine (call_or next (first_call config board rest [])) (turn_by config board line machine c next after)
-  by_next machine mine c line rest (Makes call) after left count follows is then =
+  by_next machine mine c line rest (Invokes call) after left count follows is then =
       call_moved machine mine c line call (first_left (length c.ended) (lines_at config board) line rest left) count follows is
-  by_next machine mine c line rest (Ends answer) after left count follows is then =
-      then (course (c.ended ++ answer ∷ []) []) refl (left_after config board c.ended answer line rest left)
+  by_next machine mine c line rest (Returns answer) after left count follows is then =
+      then (script_state (c.ended ++ answer ∷ []) []) refl (left_after config board c.ended answer line rest left)
       (follows_answer config board mine c line answer follows (first_left (length c.ended) (lines_at config board) line rest left) is)
-  by_next machine mine c line rest Rests after left count follows is then = nothing_moved machine mine c follows
+  by_next machine mine c line rest NotStarted after left count follows is then = nothing_moved machine mine c follows
 
-  pub course_moved : (lines : List Line) (machine : Machine) (mine : List Move) (c : Course) → lines_left config board c ≡ lines
-      → length machine.boards ≡ length config.boards → Follows config board mine c
-      → Moved config board machine mine (first_call config board lines c.replies) (course_turn config board lines machine c)
-  course_moved [] machine mine c left count follows = nothing_moved machine mine c follows
-  course_moved (line ∷ rest) machine mine c left count follows =
-      by_next machine mine c line rest (line_next config board line c.replies) (λ now. course_turn config board rest machine now) left count follows refl
+  pub script_state_moved : (lines : List Line) (machine : Machine) (mine : List Transition) (c : ScriptState) → lines_left config board c ≡ lines
+      → length machine.boards ≡ length config.boards → IsTracePrefix config board mine c
+      → Moved config board machine mine (first_call config board lines c.replies) (script_state_turn config board lines machine c)
+  script_state_moved [] machine mine c left count follows = nothing_moved machine mine c follows
+  script_state_moved (line ∷ rest) machine mine c left count follows =
+      by_next machine mine c line rest (line_next config board line c.replies) (λ now. script_state_turn config board rest machine now) left count follows refl
       (λ now none left_now follows_now.
-      subst (λ (rs : List EventReply). Moved config board machine mine (first_call config board rest rs) (course_turn config board rest machine now)) none
-      (course_moved rest machine mine now left_now count follows_now))
+      subst (λ (rs : List EventReply). Moved config board machine mine (first_call config board rest rs) (script_state_turn config board rest machine now)) none
+      (script_state_moved rest machine mine now left_now count follows_now))

@@ -14,7 +14,7 @@ use Rattle.vme_script.specs.declared.script.ScriptLine.{ScriptLine}
 use Rattle.vme_script.specs.Configurations.{Configuration}
 use Rattle.vme_script.specs.Lawful.{IsLawful}
 use Rattle.vme_line_task.specs.Scripts.{slot_at, level_at, script_at, lines_at}
-use Rattle.vme_line_task.specs.Courses.{Course}
+use Rattle.vme_line_task.specs.Traces.{ScriptState}
 use Rattle.vme_stepper.specs.Turns.{lines_left, place_of}
 
 -- what was written at a place is read there
@@ -107,7 +107,7 @@ drop_own zero lines own = own
 drop_own (suc n) [] own = tt
 drop_own (suc n) (line ∷ lines) own = drop_own n lines own.1
 
-pub left_own : (config : Configuration) (board : ℕ) (c : Course) → IsLawful config → board < length config.boards
+pub left_own : (config : Configuration) (board : ℕ) (c : ScriptState) → IsLawful config → board < length config.boards
     → AllOwn (lines_left config board c)
 left_own config board c lawful there =
     let found : slice_get config.scripts board ≡ Some (script_at config board) =

@@ -20,7 +20,7 @@ use Rattle.vme_core.specs.declared.event.Event.{Event}
 use Rattle.vme_core.specs.declared.event.Event.TheVariants as asked
 use Rattle.vme_core.specs.declared.event.EventReply.{EventReply}
 use Rattle.vme_core.specs.declared.event.EventReply.TheVariants as told
-use Rattle.vme_core.specs.Runs.{Move, move, IsReplyTo, board_part, bus_part}
+use Rattle.vme_core.specs.Runs.{Transition, move, IsReplyTo, board_part, bus_part}
 use Rattle.vme_core.specs.Calls.{OnBus}
 use Rattle.vme_master.specs.Jobs.{fits}
 use Rattle.vme_master.proofs.lemmas.Locals.{turn_fits}
@@ -29,7 +29,7 @@ use Rattle.vme_script.specs.declared.board.BoardConfig.{BoardConfig}
 use Rattle.vme_script.specs.Configurations.{Configuration, opening_memory}
 use Rattle.vme_script.specs.Lawful.{IsLawful}
 use Rattle.vme_line_task.specs.Scripts.{lines_at}
-use Rattle.vme_line_task.specs.Courses.{IsCourse}
+use Rattle.vme_line_task.specs.Traces.{IsTrace}
 use Rattle.vme_mailbox_laws.specs.Runs.{IsTurned, AllTurned, ShareHistory}
 use Rattle.vme_threads.specs.declared.report.BoardEnd.{BoardEnd}
 use Rattle.vme_threads.specs.declared.report.Report.{Report}
@@ -61,7 +61,7 @@ all_own P who (e ∷ h) all =
     ]
 
 -- so each move is turned well
-one_turned : (who : ℕ) (event : Event) (reply : EventReply) (tail : List Move) → IsReplyTo event reply
+one_turned : (who : ℕ) (event : Event) (reply : EventReply) (tail : List Transition) → IsReplyTo event reply
     → All Fine (bus_part (move who event reply ∷ tail)) → IsTurned event reply × All Fine (bus_part tail)
 one_turned who (asked.Board x cmd) (told.Board reply) tail kind all = (tt, all)
 one_turned who (asked.Board x cmd) (told.Bus reply) tail kind all = absurd kind
@@ -71,10 +71,10 @@ one_turned who (asked.Bus cmd) (told.Bus reply) tail kind all = (
   All-tail Fine (record { who = who; cmd = cmd; reply = reply }) (bus_part tail) all,
 )
 
-abbrev OfKind : Move → Type 0
+abbrev OfKind : Transition → Type 0
 OfKind m = IsReplyTo m.event m.reply
 
-all_turned : (run : List Move) → All OfKind run → All Fine (bus_part run) → AllTurned run
+all_turned : (run : List Transition) → All OfKind run → All Fine (bus_part run) → AllTurned run
 all_turned [] kind all = tt
 all_turned (m ∷ run) kind all =
     let first = one_turned m.who m.event m.reply run (All-head OfKind m run kind) all in
@@ -90,7 +90,7 @@ abbrev pub told_in : Report → List (List LineReply)
 told_in report = map (λ lines. answers_in lines.items) report.lines.items
 
 module _ (config : Configuration) (report : Report) (lawful : IsLawful config) (is : IsReportOf config report) where
-  turned_run : (who : ℕ) (d : List Move) → who < length is.runs → AllTurned (slice_index_or is.runs who d)
+  turned_run : (who : ℕ) (d : List Transition) → who < length is.runs → AllTurned (slice_index_or is.runs who d)
   turned_run who d below =
       let bus = is.bus.1 in
       let owned = bus.owns who (bus_part d) (subst (λ (n : ℕ). who < n) (sym (length-map is.runs bus_part)) below)
@@ -109,14 +109,14 @@ module _ (config : Configuration) (report : Report) (lawful : IsLawful config) (
         owns = λ who d less.
             has.owns who (board_part board d) (subst (λ (n : ℕ). who < n) (sym (length-map is.runs (board_part board))) less)
             ∙ get_or-map (board_part board) is.runs who d (board_part board d) less;
-        course = record {
-          count = length-map report.lines.items _ ∙ is.course.count;
+        script_state = record {
+          count = length-map report.lines.items _ ∙ is.trace.count;
           each = λ who a b less.
-              let there : who < length report.lines.items = omega (arith, less, is.course.count) in
+              let there : who < length report.lines.items = omega (arith, less, is.trace.count) in
               let d = some_of report.lines.items who there in
               let run = slice_index_or is.runs who a in
-              subst (λ (answers : List LineReply). IsCourse config who (lines_at config who) run answers)
-              (sym (get_or-map (λ lines. answers_in lines.items) report.lines.items who d b there)) (is.course.each who a d less);
+              subst (λ (answers : List LineReply). IsTrace config who (lines_at config who) run answers)
+              (sym (get_or-map (λ lines. answers_in lines.items) report.lines.items who d b there)) (is.trace.each who a d less);
         };
         turned = λ who d less. turned_run who d less;
       }

@@ -11,11 +11,11 @@ use Rattle.vme_shared.specs.declared.reply.LineReply.{LineReply}
 use Rattle.vme_grammar.specs.declared.line.Line.{Line}
 use Rattle.vme_script.specs.Configurations.{Configuration}
 use Rattle.vme_line_task.specs.Scripts.{slot_at, lines_at}
-use Rattle.vme_line_task.specs.Tables.{LineNext, Rests, Makes, Ends, line_next}
-use Rattle.vme_line_task.specs.Courses.{Course}
+use Rattle.vme_line_task.specs.Tables.{LineNext, NotStarted, Invokes, Returns, line_next}
+use Rattle.vme_line_task.specs.Traces.{ScriptState}
 use Rattle.vme_line_task.specs.Tenures.{line_told, IsGood, IsGranted}
 use Rattle.vme_line_task.proofs.lemmas.Kept.{line_begins, line_ends}
-use Rattle.vme_stepper.specs.Turns.{course, settled, lines_left}
+use Rattle.vme_stepper.specs.Turns.{script_state, settled, lines_left}
 
 -- what the slot was told last, in the line that comes next
 abbrev pub told_left : Configuration → ℕ → List Line → List EventReply → Option ArbReply
@@ -23,7 +23,7 @@ told_left config board [] replies = None
 told_left config board (line ∷ lines) replies = line_told config board line replies
 
 abbrev pub NotEnded : LineNext → Type 0
-NotEnded (Ends answer) = ⊥
+NotEnded (Returns answer) = ⊥
 NotEnded next = Unit {0}
 
 -- that line has not ended, if it has some reply
@@ -31,7 +31,7 @@ abbrev pub IsOpen : Configuration → ℕ → List Line → List EventReply → 
 IsOpen config board [] replies = Unit {0}
 IsOpen config board (line ∷ lines) replies = (replies ≡ []) ⊎ NotEnded (line_next config board line replies)
 
-pub record CourseStands (config : Configuration) (bus : Arbitration) (board : ℕ) (c : Course) : Type 0 where
+pub record ScriptStands (config : Configuration) (bus : Arbitration) (board : ℕ) (c : ScriptState) : Type 0 where
   pub stands : StandsAsTold bus (slot_at config board) (told_left config board (lines_left config board c) c.replies)
   pub opens : IsOpen config board (lines_left config board c) c.replies
   pub granted : All IsGranted c.ended
@@ -47,7 +47,7 @@ opens_begins config board (line ∷ lines) = inl refl
 
 -- between lines
 pub rests_standing : (config : Configuration) (bus : Arbitration) (board : ℕ) (ended : List LineReply)
-    → StandsAsTold bus (slot_at config board) None → All IsGranted ended → CourseStands config bus board (course ended [])
+    → StandsAsTold bus (slot_at config board) None → All IsGranted ended → ScriptStands config bus board (script_state ended [])
 rests_standing config bus board ended stands granted =
     let left = drop (length ended) (lines_at config board) in
     record {
@@ -58,7 +58,7 @@ rests_standing config bus board ended stands granted =
 
 -- a line that has ended had no reply
 pub ended_begins : (config : Configuration) (board : ℕ) (line : Line) (lines : List Line) (replies : List EventReply) (answer : LineReply)
-    → IsOpen config board (line ∷ lines) replies → line_next config board line replies ≡ Ends answer → replies ≡ []
+    → IsOpen config board (line ∷ lines) replies → line_next config board line replies ≡ Returns answer → replies ≡ []
 ended_begins config board line lines replies answer (inl none) ends = none
 ended_begins config board line lines replies answer (inr goes) ends = absurd (subst NotEnded ends goes)
 
@@ -66,7 +66,7 @@ ended_begins config board line lines replies answer (inr goes) ends = absurd (su
 goes_on : (config : Configuration) (bus : Arbitration) (board : ℕ) (ended : List LineReply) (replies : List EventReply) (line : Line)
     (rest : List Line) (reply : EventReply) (next : LineNext) → drop (length ended) (lines_at config board) ≡ line ∷ rest
     → StandsAsTold bus (slot_at config board) (line_told config board line (reply ∷ replies)) → All IsGranted ended
-    → line_next config board line (reply ∷ replies) ≡ next → NotEnded next → CourseStands config bus board (course ended (reply ∷ replies))
+    → line_next config board line (reply ∷ replies) ≡ next → NotEnded next → ScriptStands config bus board (script_state ended (reply ∷ replies))
 goes_on config bus board ended replies line rest reply next left stands granted is open_still = record {
   stands = subst (λ (ls : List Line). StandsAsTold bus (slot_at config board) (told_left config board ls (reply ∷ replies))) (sym left) stands;
   opens = subst (λ (ls : List Line). IsOpen config board ls (reply ∷ replies)) (sym left) (inr (subst NotEnded (sym is) open_still));
@@ -76,14 +76,14 @@ goes_on config bus board ended replies line rest reply next left stands granted 
 -- a line goes on by a good reply, or is answered
 pub settled_stands : (config : Configuration) (bus : Arbitration) (board : ℕ) (ended : List LineReply) (replies : List EventReply) (line : Line)
     (rest : List Line) (call : Call) (reply : EventReply) (next : LineNext) → drop (length ended) (lines_at config board) ≡ line ∷ rest
-    → line_next config board line replies ≡ Makes call → IsGood call reply
+    → line_next config board line replies ≡ Invokes call → IsGood call reply
     → StandsAsTold bus (slot_at config board) (line_told config board line (reply ∷ replies)) → All IsGranted ended
-    → line_next config board line (reply ∷ replies) ≡ next → CourseStands config bus board (settled ended (reply ∷ replies) next)
-settled_stands config bus board ended replies line rest call reply (Ends answer) left made good stands granted is =
+    → line_next config board line (reply ∷ replies) ≡ next → ScriptStands config bus board (settled ended (reply ∷ replies) next)
+settled_stands config bus board ended replies line rest call reply (Returns answer) left made good stands granted is =
     let well = line_ends config board line replies call reply answer made good is in
     rests_standing config bus board (ended ++ answer ∷ []) (well.free bus (slot_at config board) stands)
     (All-push IsGranted ended answer granted well.granted)
-settled_stands config bus board ended replies line rest call reply (Makes other) left made good stands granted is =
-    goes_on config bus board ended replies line rest reply (Makes other) left stands granted is tt
-settled_stands config bus board ended replies line rest call reply Rests left made good stands granted is =
-    goes_on config bus board ended replies line rest reply Rests left stands granted is tt
+settled_stands config bus board ended replies line rest call reply (Invokes other) left made good stands granted is =
+    goes_on config bus board ended replies line rest reply (Invokes other) left stands granted is tt
+settled_stands config bus board ended replies line rest call reply NotStarted left made good stands granted is =
+    goes_on config bus board ended replies line rest reply NotStarted left stands granted is tt

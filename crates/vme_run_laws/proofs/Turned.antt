@@ -20,52 +20,52 @@ use Rattle.vme_grammar.specs.Grammar.{IsOwnLine}
 use Rattle.vme_script.specs.Configurations.{Configuration}
 use Rattle.vme_script.specs.Lawful.{IsLawful}
 use Rattle.vme_line_task.specs.Scripts.{slot_at}
-use Rattle.vme_line_task.specs.Tables.{LineNext, Rests, Makes, Ends, line_next}
-use Rattle.vme_line_task.specs.Courses.{Course}
+use Rattle.vme_line_task.specs.Tables.{LineNext, NotStarted, Invokes, Returns, line_next}
+use Rattle.vme_line_task.specs.Traces.{ScriptState}
 use Rattle.vme_line_task.specs.Tenures.{line_told, IsLocal, IsGranted}
 use Rattle.vme_line_task.proofs.lemmas.Kept.{line_first, line_turns, line_holds, line_turn, line_datum}
-use Rattle.vme_stepper.specs.Turns.{course, settled, call_made, turn_by, course_turn, lines_left}
+use Rattle.vme_stepper.specs.Turns.{script_state, settled, call_made, turn_by, script_state_turn, lines_left}
 use Rattle.vme_run_laws.specs.TurnCalls.{call_or, first_call}
 use Rattle.vme_run_laws.proofs.Places.{lawful_slot, lawful_level, left_after, AllOwn}
 use Rattle.vme_run_laws.proofs.Called.{board_called, bus_called, call_granted}
-use Rattle.vme_run_laws.proofs.Standing.{told_left, IsOpen, CourseStands, told_begins, rests_standing, ended_begins, settled_stands}
+use Rattle.vme_run_laws.proofs.Standing.{told_left, IsOpen, ScriptStands, told_begins, rests_standing, ended_begins, settled_stands}
 
 -- after a turn of a board's processor the bus is orderly, the processor stands well, and other slots stand as they did
-pub record Stays (config : Configuration) (board : ℕ) (before : Arbitration) (after : Machine × Course) : Type 0 where
+pub record Stays (config : Configuration) (board : ℕ) (before : Arbitration) (after : Machine × ScriptState) : Type 0 where
   pub orderly : IsOrderly after.0.bus.object
-  pub own : CourseStands config after.0.bus.object board after.1
+  pub own : ScriptStands config after.0.bus.object board after.1
   pub others : (slot : ℕ) (last : Option ArbReply) → slot_at config board ≢ slot → StandsAsTold before slot last
       → StandsAsTold after.0.bus.object slot last
 
 module _ (config : Configuration) (lawful : IsLawful config) (board : ℕ) (there : board < length config.boards) where
   -- a call of the next line on a board
-  data_stay : (machine : Machine) (c : Course) (line : Line) (rest : List Line) (x : ℕ) (command : Option Command)
+  data_stay : (machine : Machine) (c : ScriptState) (line : Line) (rest : List Line) (x : ℕ) (command : Option Command)
       → lines_left config board c ≡ line ∷ rest → IsOrderly machine.bus.object → All IsGranted c.ended
       → StandsAsTold machine.bus.object (slot_at config board) (line_told config board line c.replies)
-      → line_next config board line c.replies ≡ Makes (OnBoard x command)
+      → line_next config board line c.replies ≡ Invokes (OnBoard x command)
       → Stays config board machine.bus.object (call_made config board line machine c (OnBoard x command))
   data_stay machine c line rest x command left orderly granted stands made =
       let step = machine_step machine board (OnBoard x command) in
       let called = board_called machine board x command in
       let same : step.0.bus.object ≡ machine.bus.object = ap (λ b. b.object) called.bus in
       let told_same = line_datum config board line c.replies (OnBoard x command) called.reply made called.good in
-      let own : CourseStands config machine.bus.object board
+      let own : ScriptStands config machine.bus.object board
       (settled c.ended (told.Board called.reply ∷ c.replies) (line_next config board line (told.Board called.reply ∷ c.replies))) =
       settled_stands config machine.bus.object board c.ended c.replies line rest (OnBoard x command) (told.Board called.reply) _ left made
       called.good (subst (StandsAsTold machine.bus.object (slot_at config board)) (sym told_same) stands) granted refl in
       let settled_by = λ (reply : EventReply). settled c.ended (reply ∷ c.replies) (line_next config board line (reply ∷ c.replies)) in
       record {
         orderly = subst IsOrderly (sym same) orderly;
-        own = subst (λ (bus : Arbitration). CourseStands config bus board (settled_by step.1)) (sym same)
-            (subst (λ (reply : EventReply). CourseStands config machine.bus.object board (settled_by reply)) (sym called.replied) own);
+        own = subst (λ (bus : Arbitration). ScriptStands config bus board (settled_by step.1)) (sym same)
+            (subst (λ (reply : EventReply). ScriptStands config machine.bus.object board (settled_by reply)) (sym called.replied) own);
         others = λ slot last apart was. subst (λ (bus : Arbitration). StandsAsTold bus slot last) (sym same) was;
       }
 
   -- a command of the next line to the arbiter
-  turn_stays : (machine : Machine) (c : Course) (line : Line) (rest : List Line) (cmd : ArbCmd) → lines_left config board c ≡ line ∷ rest
+  turn_stays : (machine : Machine) (c : ScriptState) (line : Line) (rest : List Line) (cmd : ArbCmd) → lines_left config board c ≡ line ∷ rest
       → IsOrderly machine.bus.object → All IsGranted c.ended
       → StandsAsTold machine.bus.object (slot_at config board) (line_told config board line c.replies)
-      → line_next config board line c.replies ≡ Makes (OnBus cmd)
+      → line_next config board line c.replies ≡ Invokes (OnBus cmd)
       → Stays config board machine.bus.object (call_made config board line machine c (OnBus cmd))
   turn_stays machine c line rest cmd left orderly granted stands made =
       let bus = machine.bus.object in
@@ -81,19 +81,19 @@ module _ (config : Configuration) (lawful : IsLawful config) (board : ℕ) (ther
         others = λ slot last apart was. other-turn bus slot last cmd (λ same. apart (sym called.own ∙ same)) was;
       }
 
-  call_stays : (machine : Machine) (c : Course) (line : Line) (rest : List Line) (call : Call) → lines_left config board c ≡ line ∷ rest
+  call_stays : (machine : Machine) (c : ScriptState) (line : Line) (rest : List Line) (call : Call) → lines_left config board c ≡ line ∷ rest
       → IsOrderly machine.bus.object → All IsGranted c.ended
       → StandsAsTold machine.bus.object (slot_at config board) (line_told config board line c.replies)
-      → line_next config board line c.replies ≡ Makes call → Stays config board machine.bus.object (call_made config board line machine c call)
+      → line_next config board line c.replies ≡ Invokes call → Stays config board machine.bus.object (call_made config board line machine c call)
   call_stays machine c line rest (OnBoard x command) left orderly granted stands made =
       data_stay machine c line rest x command left orderly granted stands made
   call_stays machine c line rest (OnBus cmd) left orderly granted stands made =
       turn_stays machine c line rest cmd left orderly granted stands made
 
   -- a line that has ended was refused, and leaves the slot as it was
-  refused_stands : (bus : Arbitration) (c : Course) (line : Line) (rest : List Line) (answer : LineReply)
-      → lines_left config board c ≡ line ∷ rest → CourseStands config bus board c → line_next config board line c.replies ≡ Ends answer
-      → CourseStands config bus board (course (c.ended ++ answer ∷ []) [])
+  refused_stands : (bus : Arbitration) (c : ScriptState) (line : Line) (rest : List Line) (answer : LineReply)
+      → lines_left config board c ≡ line ∷ rest → ScriptStands config bus board c → line_next config board line c.replies ≡ Returns answer
+      → ScriptStands config bus board (script_state (c.ended ++ answer ∷ []) [])
   refused_stands bus c line rest answer left stands ends =
       let opens : IsOpen config board (line ∷ rest) c.replies = subst (λ (ls : List Line). IsOpen config board ls c.replies) left stands.opens in
       let none = ended_begins config board line rest c.replies answer opens ends in
@@ -105,41 +105,41 @@ module _ (config : Configuration) (lawful : IsLawful config) (board : ℕ) (ther
       (line_first config board line answer (ap (line_next config board line) (sym none) ∙ ends)))
 
   -- a turn with these lines left
-  by_next : (machine : Machine) (c : Course) (line : Line) (rest : List Line) (next : LineNext) (after : Course → Machine × Course)
-      → lines_left config board c ≡ line ∷ rest → IsOrderly machine.bus.object → CourseStands config machine.bus.object board c
+  by_next : (machine : Machine) (c : ScriptState) (line : Line) (rest : List Line) (next : LineNext) (after : ScriptState → Machine × ScriptState)
+      → lines_left config board c ≡ line ∷ rest → IsOrderly machine.bus.object → ScriptStands config machine.bus.object board c
       → line_next config board line c.replies ≡ next
-      → ((now : Course) → lines_left config board now ≡ rest → CourseStands config machine.bus.object board now
+      → ((now : ScriptState) → lines_left config board now ≡ rest → ScriptStands config machine.bus.object board now
       → Stays config board machine.bus.object (after now))
       → Stays config board machine.bus.object (turn_by config board line machine c next after)
-  by_next machine c line rest (Makes call) after left orderly stands is then =
+  by_next machine c line rest (Invokes call) after left orderly stands is then =
       call_stays machine c line rest call left orderly stands.granted
       (subst (λ (ls : List Line). StandsAsTold machine.bus.object (slot_at config board) (told_left config board ls c.replies)) left stands.stands) is
-  by_next machine c line rest (Ends answer) after left orderly stands is then =
-      then (course (c.ended ++ answer ∷ []) []) (left_after config board c.ended answer line rest left)
+  by_next machine c line rest (Returns answer) after left orderly stands is then =
+      then (script_state (c.ended ++ answer ∷ []) []) (left_after config board c.ended answer line rest left)
       (refused_stands machine.bus.object c line rest answer left stands is)
-  by_next machine c line rest Rests after left orderly stands is then =
+  by_next machine c line rest NotStarted after left orderly stands is then =
       record { orderly = orderly; own = stands; others = λ slot last apart was. was }
 
-  pub course_stays : (lines : List Line) (machine : Machine) (c : Course) → lines_left config board c ≡ lines → IsOrderly machine.bus.object
-      → CourseStands config machine.bus.object board c → Stays config board machine.bus.object (course_turn config board lines machine c)
-  course_stays [] machine c left orderly stands = record { orderly = orderly; own = stands; others = λ slot last apart was. was }
-  course_stays (line ∷ rest) machine c left orderly stands =
-      by_next machine c line rest (line_next config board line c.replies) (λ now. course_turn config board rest machine now) left orderly stands refl
-      (λ now left_now stands_now. course_stays rest machine now left_now orderly stands_now)
+  pub script_state_stays : (lines : List Line) (machine : Machine) (c : ScriptState) → lines_left config board c ≡ lines → IsOrderly machine.bus.object
+      → ScriptStands config machine.bus.object board c → Stays config board machine.bus.object (script_state_turn config board lines machine c)
+  script_state_stays [] machine c left orderly stands = record { orderly = orderly; own = stands; others = λ slot last apart was. was }
+  script_state_stays (line ∷ rest) machine c left orderly stands =
+      by_next machine c line rest (line_next config board line c.replies) (λ now. script_state_turn config board rest machine now) left orderly stands refl
+      (λ now left_now stands_now. script_state_stays rest machine now left_now orderly stands_now)
 
   -- what holds of the call of a line whose slot stands as the line was told holds of the next call
   by_first : (Q : Call → Type 0) (bus : Arbitration) (line : Line) (rest : List Line) (replies : List EventReply) (call : Call) (next : LineNext)
       → StandsAsTold bus (slot_at config board) (line_told config board line replies) → IsOpen config board (line ∷ rest) replies
       → line_next config board line replies ≡ next → call_or next (first_call config board rest []) ≡ Some call
-      → ((made : Call) → line_next config board line replies ≡ Makes made → Q made)
+      → ((made : Call) → line_next config board line replies ≡ Invokes made → Q made)
       → (first_call config board rest [] ≡ Some call → StandsAsTold bus (slot_at config board) None → Q call) → Q call
-  by_first Q bus line rest replies call (Makes made) stands opens is first now later =
+  by_first Q bus line rest replies call (Invokes made) stands opens is first now later =
       let same : made ≡ call = cc in
       subst Q same (now made is)
-  by_first Q bus line rest replies call (Ends answer) stands opens is first now later =
+  by_first Q bus line rest replies call (Returns answer) stands opens is first now later =
       let none = ended_begins config board line rest replies answer opens is in
       later first (subst (StandsAsTold bus (slot_at config board)) (ap (line_told config board line) none ∙ told_begins config board (line ∷ rest)) stands)
-  by_first Q bus line rest replies call Rests stands opens is first now later = absurd cc
+  by_first Q bus line rest replies call NotStarted stands opens is first now later = absurd cc
 
   begins_open : (lines : List Line) → IsOpen config board lines []
   begins_open [] = tt
@@ -147,7 +147,7 @@ module _ (config : Configuration) (lawful : IsLawful config) (board : ℕ) (ther
 
   pub first_is : (Q : Call → Type 0) (bus : Arbitration)
       → ((line : Line) (replies : List EventReply) (made : Call) → IsOwnLine line
-      → StandsAsTold bus (slot_at config board) (line_told config board line replies) → line_next config board line replies ≡ Makes made → Q made)
+      → StandsAsTold bus (slot_at config board) (line_told config board line replies) → line_next config board line replies ≡ Invokes made → Q made)
       → (lines : List Line) (replies : List EventReply) (call : Call) → AllOwn lines
       → StandsAsTold bus (slot_at config board) (told_left config board lines replies) → IsOpen config board lines replies
       → first_call config board lines replies ≡ Some call → Q call
@@ -164,7 +164,7 @@ module _ (config : Configuration) (lawful : IsLawful config) (board : ℕ) (ther
   HoldsFor bus (OnBus cmd) = Unit {0}
 
   pub call_holds : (bus : Arbitration) (line : Line) (replies : List EventReply) (call : Call) → IsOwnLine line
-      → StandsAsTold bus (slot_at config board) (line_told config board line replies) → line_next config board line replies ≡ Makes call
+      → StandsAsTold bus (slot_at config board) (line_told config board line replies) → line_next config board line replies ≡ Invokes call
       → HoldsFor bus call
   call_holds bus line replies (OnBus cmd) own stands made = tt
   call_holds bus line replies (OnBoard x command) own stands made =
@@ -177,11 +177,11 @@ module _ (config : Configuration) (lawful : IsLawful config) (board : ℕ) (ther
   -- and its reply is no denial
   pub replied_granted : (machine : Machine) → IsOrderly machine.bus.object → (line : Line) (replies : List EventReply) (call : Call)
       → IsOwnLine line → StandsAsTold machine.bus.object (slot_at config board) (line_told config board line replies)
-      → line_next config board line replies ≡ Makes call → (machine_step machine board call).1 ≢ told.Bus turned.Denied
+      → line_next config board line replies ≡ Invokes call → (machine_step machine board call).1 ≢ told.Bus turned.Denied
   replied_granted machine orderly line replies call own stands made =
       call_granted machine board (slot_at config board) (line_told config board line replies) call orderly
       (lawful_slot config board lawful there) stands
-      (λ cmd same. line_turns config board line replies cmd (lawful_level config board lawful there) (made ∙ ap Makes same))
+      (λ cmd same. line_turns config board line replies cmd (lawful_level config board lawful there) (made ∙ ap Invokes same))
 
 -- what a call does to the machine, if there is one
 abbrev pub machine_called : Machine → Option (ℕ × Call) → Machine
@@ -189,20 +189,20 @@ machine_called machine None = machine
 machine_called machine (Some one) = (machine_step machine one.0 one.1).0
 
 -- a turn does to the machine what its call does
-by_made : (config : Configuration) (board : ℕ) (line : Line) (rest : List Line) (machine : Machine) (c : Course) (next : LineNext)
-    (after : Course → Machine × Course)
-    → ((now : Course) → now.replies ≡ [] → (after now).0 ≡ machine_called machine (option_map (λ call. (board, call)) (first_call config board rest [])))
+by_made : (config : Configuration) (board : ℕ) (line : Line) (rest : List Line) (machine : Machine) (c : ScriptState) (next : LineNext)
+    (after : ScriptState → Machine × ScriptState)
+    → ((now : ScriptState) → now.replies ≡ [] → (after now).0 ≡ machine_called machine (option_map (λ call. (board, call)) (first_call config board rest [])))
     → (turn_by config board line machine c next after).0
     ≡ machine_called machine (option_map (λ call. (board, call)) (call_or next (first_call config board rest [])))
-by_made config board line rest machine c (Makes call) after then = refl
-by_made config board line rest machine c (Ends answer) after then = then (course (c.ended ++ answer ∷ []) []) refl
-by_made config board line rest machine c Rests after then = refl
+by_made config board line rest machine c (Invokes call) after then = refl
+by_made config board line rest machine c (Returns answer) after then = then (script_state (c.ended ++ answer ∷ []) []) refl
+by_made config board line rest machine c NotStarted after then = refl
 
-pub course_made : (config : Configuration) (board : ℕ) (lines : List Line) (machine : Machine) (c : Course)
-    → (course_turn config board lines machine c).0
+pub script_state_made : (config : Configuration) (board : ℕ) (lines : List Line) (machine : Machine) (c : ScriptState)
+    → (script_state_turn config board lines machine c).0
     ≡ machine_called machine (option_map (λ call. (board, call)) (first_call config board lines c.replies))
-course_made config board [] machine c = refl
-course_made config board (line ∷ rest) machine c =
-    by_made config board line rest machine c (line_next config board line c.replies) (λ now. course_turn config board rest machine now)
-    (λ now none. course_made config board rest machine now
+script_state_made config board [] machine c = refl
+script_state_made config board (line ∷ rest) machine c =
+    by_made config board line rest machine c (line_next config board line c.replies) (λ now. script_state_turn config board rest machine now)
+    (λ now none. script_state_made config board rest machine now
     ∙ ap (λ rs. machine_called machine (option_map (λ call. (board, call)) (first_call config board rest rs))) none)

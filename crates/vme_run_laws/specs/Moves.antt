@@ -6,38 +6,38 @@ use Rattle.vme_object.specs.Each.{AllAt}
 use Rattle.vme_memory.specs.Locals.{board_step}
 use Rattle.vme_arbiter.specs.Arbitration.{opening_bus, turn_step}
 use Rattle.vme_core.specs.Tallies.{Tells}
-use Rattle.vme_core.specs.Runs.{Move, board_part, bus_part}
+use Rattle.vme_core.specs.Runs.{Transition, board_part, bus_part}
 use Rattle.vme_core.specs.Calls.{Call, call_of}
 use Rattle.vme_script.specs.Configurations.{Configuration, opening_memory}
-use Rattle.vme_line_task.specs.Courses.{Course, Follows}
-use Rattle.vme_stepper.specs.Turns.{World, turn, opening_world, world_after}
+use Rattle.vme_line_task.specs.Traces.{ScriptState, IsTracePrefix}
+use Rattle.vme_stepper.specs.Turns.{SystemState, turn, initial_state, state_after}
 use Rattle.vme_run_laws.specs.TurnCalls.{turn_call}
 
 -- the calls that turns of slots make, one after another, each with the place of the board whose processor makes it
 -- (this project's own)
-abbrev pub calls_from : Configuration → World → List ℕ → List (ℕ × Call)
-calls_from config world [] = []
-calls_from config world (slot ∷ slots) =
-    option_to_list (turn_call config world slot) ++ calls_from config (turn config world slot) slots
+abbrev pub calls_from : Configuration → SystemState → List ℕ → List (ℕ × Call)
+calls_from config system [] = []
+calls_from config system (slot ∷ slots) =
+    option_to_list (turn_call config system slot) ++ calls_from config (turn config system slot) slots
 
 -- the calls of moves, each with who made it (this project's own)
-abbrev pub calls_in : List Move → List (ℕ × Call)
+abbrev pub calls_in : List Transition → List (ℕ × Call)
 calls_in run = map (λ m. (m.who, call_of m.event)) run
 
 -- the moves of one who (this project's own)
-abbrev pub moves_of : ℕ → List Move → List Move
+abbrev pub moves_of : ℕ → List Transition → List Transition
 moves_of who run = filter (λ m. m.who == who) run
 
 -- turns of these slots are this run of moves. Its calls are theirs. Each board, from a memory of zeros, and the arbiter of the
 -- configuration's kind, from a free bus, is where its own part of the run leaves it, one command after another, and has counted
 -- that part. And each processor has come so far in its script by its own moves (this project's own)
-pub record AreRun (config : Configuration) (slots : List ℕ) (run : List Move) : Type 0 where
-  pub calls : calls_in run ≡ calls_from config (opening_world config) slots
+pub record AreRun (config : Configuration) (slots : List ℕ) (run : List Transition) : Type 0 where
+  pub calls : calls_in run ≡ calls_from config (initial_state config) slots
   pub boards :
       AllAt (λ x memory board. Tells board_step memory (board_part x run) (length config.boards) board)
-      (map opening_memory config.boards) (world_after config slots).machine.boards
+      (map opening_memory config.boards) (state_after config slots).machine.boards
   pub bus :
       Tells turn_step (opening_bus config.arbiter) (bus_part run) (length config.boards)
-      (world_after config slots).machine.bus
-  pub courses :
-      (b : ℕ) (c : Course) → slice_get (world_after config slots).courses b ≡ Some c → Follows config b (moves_of b run) c
+      (state_after config slots).machine.bus
+  pub script_states :
+      (b : ℕ) (c : ScriptState) → slice_get (state_after config slots).script_states b ≡ Some c → IsTracePrefix config b (moves_of b run) c

@@ -3,24 +3,24 @@ ghost use Rattle.vme_memory.specs.Steps.{Command};
 ghost use Rattle.vme_arbiter.specs.declared.command.ArbReply.TheVariants as turned;
 ghost use Rattle.vme_arbiter.specs.Orderly.{IsOrderly};
 ghost use Rattle.vme_core.specs.declared.event.EventReply.TheVariants as told;
-ghost use Rattle.vme_core.specs.Runs.{Move};
+ghost use Rattle.vme_core.specs.Runs.{Transition};
 ghost use Rattle.vme_core.specs.Calls.{Call, OnBoard, machine_step};
 ghost use Rattle.vme_script.specs.Configurations.{Configuration};
 ghost use Rattle.vme_script.specs.Lawful.{IsLawful};
-ghost use Rattle.vme_line_task.specs.Courses.{Course};
+ghost use Rattle.vme_line_task.specs.Traces.{ScriptState};
 ghost use Rattle.vme_line_task.specs.Tenures.{IsLocal, IsGranted};
-ghost use Rattle.vme_stepper.specs.Turns.{World, turn, world_after};
+ghost use Rattle.vme_stepper.specs.Turns.{SystemState, turn, state_after};
 ghost use Rattle.vme_run_laws.specs.TurnCalls.{turn_call};
 ghost use Rattle.vme_run_laws.specs.Moves.{AreRun};
 
 /// A turn does to the boards and the arbiter what its one call does, and without a call nothing.
 pub fn a_turn_makes_its_call_alone()
-    ensures call { (config : Configuration) (world : World) (slot board : ℕ) (call : Call) →
-        turn_call config world slot ≡ Some (board, call) →
-        (turn config world slot).machine ≡ (machine_step world.machine board call).0 }
-    ensures none { (config : Configuration) (world : World) (slot : ℕ) →
-        turn_call config world slot ≡ None →
-        (turn config world slot).machine ≡ world.machine }
+    ensures call { (config : Configuration) (system : SystemState) (slot board : ℕ) (call : Call) →
+        turn_call config system slot ≡ Some (board, call) →
+        (turn config system slot).machine ≡ (machine_step system.machine board call).0 }
+    ensures none { (config : Configuration) (system : SystemState) (slot : ℕ) →
+        turn_call config system slot ≡ None →
+        (turn config system slot).machine ≡ system.machine }
 {}
 
 /// Whatever turns were taken, the arbiter's state is orderly, with one holder at most; a call on a
@@ -28,16 +28,16 @@ pub fn a_turn_makes_its_call_alone()
 /// to it nor the answer of a line is a denial.
 pub fn commands_are_the_holders()
     ensures orderly { (config : Configuration) (slots : List ℕ) → IsLawful config →
-        IsOrderly (world_after config slots).machine.bus.object }
+        IsOrderly (state_after config slots).machine.bus.object }
     ensures holder { (config : Configuration) (slots : List ℕ) (slot board place : ℕ)
         (command : Option Command) → IsLawful config →
-        turn_call config (world_after config slots) slot ≡ Some (board, OnBoard place command) →
-        IsLocal command ⊎ ((world_after config slots).machine.bus.object.holder ≡ Some slot) }
+        turn_call config (state_after config slots) slot ≡ Some (board, OnBoard place command) →
+        IsLocal command ⊎ ((state_after config slots).machine.bus.object.holder ≡ Some slot) }
     ensures granted { (config : Configuration) (slots : List ℕ) (slot board : ℕ) (call : Call) →
-        IsLawful config → turn_call config (world_after config slots) slot ≡ Some (board, call) →
-        (machine_step (world_after config slots).machine board call).1 ≢ told.Bus turned.Denied }
-    ensures answers { (config : Configuration) (slots : List ℕ) (board : ℕ) (c : Course) →
-        IsLawful config → slice_get (world_after config slots).courses board ≡ Some c →
+        IsLawful config → turn_call config (state_after config slots) slot ≡ Some (board, call) →
+        (machine_step (state_after config slots).machine board call).1 ≢ told.Bus turned.Denied }
+    ensures answers { (config : Configuration) (slots : List ℕ) (board : ℕ) (c : ScriptState) →
+        IsLawful config → slice_get (state_after config slots).script_states board ≡ Some c →
         All IsGranted c.ended }
 {}
 
@@ -46,5 +46,5 @@ pub fn commands_are_the_holders()
 /// and each processor comes through its script by its own moves.
 pub fn turns_are_a_run_of_moves()
     ensures { (config : Configuration) (slots : List ℕ) → IsLawful config →
-        (run : List Move) × AreRun config slots run }
+        (run : List Transition) × AreRun config slots run }
 {}

@@ -12,15 +12,15 @@ use Rattle.vme_shared.specs.declared.request.SharedRequest.{SharedRequest}
 use Rattle.vme_shared.specs.declared.request.SharedRequest.TheVariants.{Lock, Unlock, Put, Take}
 use Rattle.vme_shared.specs.declared.stage.Stage.{Stage}
 use Rattle.vme_shared.specs.declared.stage.Stage.TheVariants.{Locks, ReadsPutCount, ReadsTakeCount, WritesWord, RaisesPutCount, ReadsWord, RaisesTakeCount, Unlocks}
-use Rattle.vme_shared.specs.declared.stage.Step.TheVariants.{Stops}
+use Rattle.vme_shared.specs.declared.stage.Step.TheVariants.{Finish}
 use Rattle.vme_shared.specs.Mailboxes.{shared_refusal}
 use Rattle.vme_shared.specs.Steps.{first_stage, mailbox_step, step_after}
-use Rattle.vme_shared.specs.Tables.{SharedJob, Makes, Ends, Progress, At, Over, transfer_job, stage_begun, step_begun, progress_by, progress_given, progress_of, next_at, shared_next}
+use Rattle.vme_shared.specs.Tables.{SharedJob, Invokes, Returns, Progress, At, Over, transfer_job, stage_begun, step_begun, progress_by, progress_given, progress_of, next_at, shared_next}
 use Rattle.vme_shared.proofs.lemmas.Starts.{first_lawful}
 use Rattle.vme_shared.proofs.lemmas.Tenures.{shown_makes}
 
 -- a denial stops at any stage
-mailbox_denied : (request : SharedRequest) (stage : Stage) → mailbox_step request stage outcomes.Denied ≡ Stops shared.Denied
+mailbox_denied : (request : SharedRequest) (stage : Stage) → mailbox_step request stage outcomes.Denied ≡ Finish shared.Denied
 mailbox_denied request Locks = refl
 mailbox_denied request ReadsPutCount = refl
 mailbox_denied request (ReadsTakeCount p) = refl
@@ -30,7 +30,7 @@ mailbox_denied request (ReadsWord t) = refl
 mailbox_denied request (RaisesTakeCount t word) = refl
 mailbox_denied request (Unlocks end) = refl
 
-step_denied : (request : SharedRequest) (stage : Stage) → step_after request stage outcomes.Denied ≡ Stops shared.Denied
+step_denied : (request : SharedRequest) (stage : Stage) → step_after request stage outcomes.Denied ≡ Finish shared.Denied
 step_denied (Lock am addr) stage = refl
 step_denied (Unlock am addr) stage = refl
 step_denied (Put mailbox word) stage = mailbox_denied (Put mailbox word) stage
@@ -38,31 +38,31 @@ step_denied (Take mailbox) stage = mailbox_denied (Take mailbox) stage
 
 -- so where a bus task is denied, all is
 task_denied : (s : SharedJob) (stage : Stage) (job : Job) (given : Given) (last : Option EventReply)
-    → next_of job (last ∷ given) ≡ tasks.Ends outcomes.Denied → next_at (progress_given s last (At stage job given)) ≡ Ends shared.Denied
+    → next_of job (last ∷ given) ≡ tasks.Returns outcomes.Denied → next_at (progress_given s last (At stage job given)) ≡ Returns shared.Denied
 task_denied s stage job given last ends =
     ap (λ next. next_at (progress_by s stage job (last ∷ given) next)) ends ∙ ap (λ step. next_at (step_begun s step)) (step_denied s.request stage)
 
-misfit_at : (s : SharedJob) (p : Progress) (call : Call) (reply : EventReply) → next_at p ≡ Makes call → fits call reply ≡ false
-    → next_at (progress_given s (Some reply) p) ≡ Ends shared.Denied
+misfit_at : (s : SharedJob) (p : Progress) (call : Call) (reply : EventReply) → next_at p ≡ Invokes call → fits call reply ≡ false
+    → next_at (progress_given s (Some reply) p) ≡ Returns shared.Denied
 misfit_at s (At stage job given) call reply made misfit =
-    let task : next_of job given ≡ tasks.Makes call = shown_makes (next_of job given) call made in
+    let task : next_of job given ≡ tasks.Invokes call = shown_makes (next_of job given) call made in
     task_denied s stage job given (Some reply) (rw (task, misfit) refl)
 misfit_at s (Over end) call reply made misfit = absurd cc
 
-pub misfit_denied : (s : SharedJob) (g : Given) (call : Call) (reply : EventReply) → shared_next s g ≡ Makes call → fits call reply ≡ false
-    → shared_next s (Some reply ∷ g) ≡ Ends shared.Denied
+pub misfit_denied : (s : SharedJob) (g : Given) (call : Call) (reply : EventReply) → shared_next s g ≡ Invokes call → fits call reply ≡ false
+    → shared_next s (Some reply ∷ g) ≡ Returns shared.Denied
 misfit_denied s g call reply made misfit = misfit_at s (progress_of s g) call reply made misfit
 
-absent_at : (s : SharedJob) (p : Progress) (call : Call) → next_at p ≡ Makes call → next_at (progress_given s None p) ≡ Ends shared.Denied
+absent_at : (s : SharedJob) (p : Progress) (call : Call) → next_at p ≡ Invokes call → next_at (progress_given s None p) ≡ Returns shared.Denied
 absent_at s (At stage job given) call made =
-    let task : next_of job given ≡ tasks.Makes call = shown_makes (next_of job given) call made in
+    let task : next_of job given ≡ tasks.Invokes call = shown_makes (next_of job given) call made in
     task_denied s stage job given None (rw task refl)
 absent_at s (Over end) call made = absurd cc
 
-pub absent_denied : (s : SharedJob) (g : Given) (call : Call) → shared_next s g ≡ Makes call → shared_next s (None ∷ g) ≡ Ends shared.Denied
+pub absent_denied : (s : SharedJob) (g : Given) (call : Call) → shared_next s g ≡ Invokes call → shared_next s (None ∷ g) ≡ Returns shared.Denied
 absent_denied s g call made = absent_at s (progress_of s g) call made
 
-pub early_denied : (s : SharedJob) (reply : EventReply) → shared_refusal s.request ≡ None → shared_next s (Some reply ∷ []) ≡ Ends shared.Denied
+pub early_denied : (s : SharedJob) (reply : EventReply) → shared_refusal s.request ≡ None → shared_next s (Some reply ∷ []) ≡ Returns shared.Denied
 early_denied s reply none =
     let one = first_lawful s.request none in
     ap (λ job. next_at (progress_given s (Some reply) (stage_begun (first_stage s.request) [] job))) (ap (transfer_job s) one.1)

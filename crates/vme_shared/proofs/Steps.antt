@@ -3,10 +3,10 @@ use Rattle.std.proofs.Common.{◌≡◌, ◌≢◌, ℕ, ◌-◌, ◌^◌, List,
 use Rattle.std.specs.Prelude.{◌==◌, nat_le}
 use Rattle.std.proofs.lemmas.Bool.{cases_Bool, eq-eqb}
 use Rattle.vme_cycle.specs.Functions.{number_of}
-use Rattle.vme_master.specs.declared.aim.Aim.TheVariants as aims
+use Rattle.vme_master.specs.declared.expected.ExpectedReply.TheVariants as expected_replies
 use Rattle.vme_master.specs.declared.outcome.Outcome.{Outcome}
 use Rattle.vme_master.specs.declared.outcome.Outcome.TheVariants as outcomes
-use Rattle.vme_master.specs.Jobs.{request_aim}
+use Rattle.vme_master.specs.Jobs.{request_expected}
 use Rattle.vme_shared.specs.declared.mailbox.Mailbox.{Mailbox}
 use Rattle.vme_shared.specs.declared.outcome.SharedOutcome.{SharedOutcome}
 use Rattle.vme_shared.specs.declared.outcome.SharedOutcome.TheVariants as shared
@@ -15,7 +15,7 @@ use Rattle.vme_shared.specs.declared.request.SharedRequest.TheVariants.{Lock, Un
 use Rattle.vme_shared.specs.declared.stage.Stage.{Stage}
 use Rattle.vme_shared.specs.declared.stage.Stage.TheVariants.{Locks, ReadsPutCount, ReadsTakeCount, WritesWord, RaisesPutCount, ReadsWord, RaisesTakeCount, Unlocks}
 use Rattle.vme_shared.specs.declared.stage.Step.{Step}
-use Rattle.vme_shared.specs.declared.stage.Step.TheVariants.{Goes, Stops}
+use Rattle.vme_shared.specs.declared.stage.Step.TheVariants.{Continue, Finish}
 use Rattle.vme_shared.specs.Mailboxes.{mailbox_request, stage_request}
 use Rattle.vme_shared.specs.Steps.{first_stage, has_top_bit, word_in, on_word, words_between, counted_stage, lock_step, unlock_step, mailbox_step, step_after}
 use Rattle.vme_shared.proofs.Transfers.{IsFormed}
@@ -27,13 +27,13 @@ IsSound stage = Unit {0}
 
 -- nor where a step stops
 abbrev pub IsGood : Step → Type 0
-IsGood (Goes stage) = IsSound stage
-IsGood (Stops end) = end ≢ shared.Denied
+IsGood (Continue stage) = IsSound stage
+IsGood (Finish end) = end ≢ shared.Denied
 
 -- nor where it goes on
 abbrev pub GoesSound : Step → Type 0
-GoesSound (Goes stage) = IsSound stage
-GoesSound (Stops end) = Unit {0}
+GoesSound (Continue stage) = IsSound stage
+GoesSound (Finish end) = Unit {0}
 
 pub first_sound : (request : SharedRequest) → IsSound (first_stage request)
 first_sound (Lock am addr) = tt
@@ -55,15 +55,15 @@ counted_sound (Take mailbox) p t = elim (cases_Bool (p == t)) [ inl empty ↦ rw
 counted_sound (Lock am addr) p t = elim (cases_Bool (p == t)) [ inl empty ↦ rw empty (λ same. absurd cc) | inr some ↦ rw some tt ]
 counted_sound (Unlock am addr) p t = elim (cases_Bool (p == t)) [ inl empty ↦ rw empty (λ same. absurd cc) | inr some ↦ rw some tt ]
 
-put_count_goes : (request : SharedRequest) (word : Option ℕ) → GoesSound (on_word word (λ p. Goes (ReadsTakeCount p)))
+put_count_goes : (request : SharedRequest) (word : Option ℕ) → GoesSound (on_word word (λ p. Continue (ReadsTakeCount p)))
 put_count_goes request (Some p) = tt
 put_count_goes request None = tt
 
-take_count_goes : (request : SharedRequest) (p : ℕ) (word : Option ℕ) → GoesSound (on_word word (λ t. Goes (counted_stage request p t)))
+take_count_goes : (request : SharedRequest) (p : ℕ) (word : Option ℕ) → GoesSound (on_word word (λ t. Continue (counted_stage request p t)))
 take_count_goes request p (Some t) = counted_sound request p t
 take_count_goes request p None = tt
 
-word_goes : (t : ℕ) (word : Option ℕ) → GoesSound (on_word word (λ w. Goes (RaisesTakeCount t w)))
+word_goes : (t : ℕ) (word : Option ℕ) → GoesSound (on_word word (λ w. Continue (RaisesTakeCount t w)))
 word_goes t (Some w) = tt
 word_goes t None = tt
 
@@ -108,7 +108,7 @@ step_goes (Take mailbox) stage outcome = mailbox_goes (Take mailbox) stage outco
 word_is : (bytes : List ℕ) → length bytes ≡ 4 → word_in bytes ≡ Some (number_of bytes)
 word_is bytes len = rw (eq-eqb (length bytes) 4 len) refl
 
-lock_good : (outcome : Outcome) → IsFormed (aims.Modify 1) outcome → outcome ≢ outcomes.Denied → IsGood (lock_step outcome)
+lock_good : (outcome : Outcome) → IsFormed (expected_replies.Modify 1) outcome → outcome ≢ outcomes.Denied → IsGood (lock_step outcome)
 lock_good (outcomes.Read bytes) formed good = absurd formed
 lock_good outcomes.Done formed good = absurd formed
 lock_good (outcomes.Old old) formed good =
@@ -116,7 +116,7 @@ lock_good (outcomes.Old old) formed good =
 lock_good (outcomes.Berr count bytes) formed good = λ same. absurd cc
 lock_good outcomes.Denied formed good = absurd (good refl)
 
-unlock_good : (end : SharedOutcome) (outcome : Outcome) → end ≢ shared.Denied → IsFormed aims.Write outcome → outcome ≢ outcomes.Denied
+unlock_good : (end : SharedOutcome) (outcome : Outcome) → end ≢ shared.Denied → IsFormed expected_replies.Write outcome → outcome ≢ outcomes.Denied
     → IsGood (unlock_step end outcome)
 unlock_good end (outcomes.Read bytes) sound formed good = absurd formed
 unlock_good end outcomes.Done sound formed good = sound
@@ -126,7 +126,7 @@ unlock_good end outcomes.Denied sound formed good = absurd (good refl)
 
 -- a step of a put or a take, where the outcome has the form of the stage's transfer and is no denial
 mailbox_good : (m : Mailbox) (request : SharedRequest) (stage : Stage) (outcome : Outcome) → IsSound stage
-    → IsFormed (request_aim (mailbox_request m stage)) outcome → outcome ≢ outcomes.Denied → IsGood (mailbox_step request stage outcome)
+    → IsFormed (request_expected (mailbox_request m stage)) outcome → outcome ≢ outcomes.Denied → IsGood (mailbox_step request stage outcome)
 mailbox_good m request Locks (outcomes.Old old) sound formed good =
     elim (cases_Bool (has_top_bit old.items)) [ inl busy ↦ rw busy (λ same. absurd cc) | inr free ↦ rw free tt ]
 mailbox_good m request ReadsPutCount (outcomes.Read bytes) sound formed good = rw (word_is bytes.items formed) tt
@@ -143,7 +143,7 @@ mailbox_good m request stage outcomes.Denied sound formed good = absurd (good re
 mailbox_good m request stage outcome sound formed good = absurd formed
 
 pub step_good : (request : SharedRequest) (stage : Stage) (outcome : Outcome) → IsSound stage
-    → IsFormed (request_aim (stage_request request stage)) outcome → outcome ≢ outcomes.Denied → IsGood (step_after request stage outcome)
+    → IsFormed (request_expected (stage_request request stage)) outcome → outcome ≢ outcomes.Denied → IsGood (step_after request stage outcome)
 step_good (Lock am addr) stage outcome sound formed good = lock_good outcome formed good
 step_good (Unlock am addr) stage outcome sound formed good = unlock_good shared.Unlocked outcome (λ same. absurd cc) formed good
 step_good (Put mailbox word) stage outcome sound formed good = mailbox_good mailbox (Put mailbox word) stage outcome sound formed good

@@ -15,37 +15,37 @@ use Rattle.vme_arbiter.specs.declared.command.ArbReply.TheVariants as turned
 use Rattle.vme_core.specs.declared.event.EventReply.{EventReply}
 use Rattle.vme_core.specs.declared.event.EventReply.TheVariants as told
 use Rattle.vme_core.specs.Calls.{Call, OnBoard, OnBus}
-use Rattle.vme_master.specs.declared.aim.Aim.{Aim}
-use Rattle.vme_master.specs.declared.aim.Aim.TheVariants as aims
+use Rattle.vme_master.specs.declared.expected.ExpectedReply.{ExpectedReply}
+use Rattle.vme_master.specs.declared.expected.ExpectedReply.TheVariants as expected_replies
 use Rattle.vme_master.specs.declared.job.BusJob.{BusJob}
 use Rattle.vme_master.specs.declared.job.Job.TheVariants.{Bus}
 use Rattle.vme_master.specs.declared.outcome.Outcome.{Outcome}
 use Rattle.vme_master.specs.declared.outcome.Outcome.TheVariants as outcomes
-use Rattle.vme_master.specs.Jobs.{datum_call, fits, request_aim, aim_outcome}
-use Rattle.vme_master.specs.Tables.{Given, Next, Rests, Makes, Ends, data_in, bytes_in, datum_or_done, outcome_by, bus_row, next_after, next_of}
-use Rattle.vme_master.specs.Machine.{aim_len}
-use Rattle.vme_master.proofs.lemmas.Aims.{datum_len_wanted}
+use Rattle.vme_master.specs.Jobs.{datum_call, fits, request_expected, expected_outcome}
+use Rattle.vme_master.specs.Tables.{Given, Next, NotStarted, Invokes, Returns, data_in, bytes_in, datum_or_done, outcome_by, bus_row, next_after, next_of}
+use Rattle.vme_master.specs.Machine.{expected_len}
+use Rattle.vme_master.proofs.lemmas.Expected.{datum_len_wanted}
 
 -- what comes of bytes is no denial
-aim_granted : (aim : Aim) (bytes : List ℕ) → aim_outcome aim bytes ≢ outcomes.Denied
-aim_granted (aims.Read n) bytes = λ same. absurd cc
-aim_granted (aims.Modify n) bytes = λ same. absurd cc
-aim_granted aims.Write bytes = λ same. absurd cc
+expected_granted : (expected : ExpectedReply) (bytes : List ℕ) → expected_outcome expected bytes ≢ outcomes.Denied
+expected_granted (expected_replies.Read n) bytes = λ same. absurd cc
+expected_granted (expected_replies.Modify n) bytes = λ same. absurd cc
+expected_granted expected_replies.Write bytes = λ same. absurd cc
 
 outcome_granted : (j : BusJob) (place : Option (ℕ × ℕ)) (g : Given) → outcome_by j place g ≢ outcomes.Denied
 outcome_granted j None g = λ same. absurd cc
-outcome_granted j (Some place) [] = aim_granted _ _
-outcome_granted j (Some place) (None ∷ before) = aim_granted _ _
-outcome_granted j (Some place) (Some (told.Bus reply) ∷ before) = aim_granted _ _
-outcome_granted j (Some place) (Some (told.Board (Bytes datum)) ∷ before) = aim_granted _ _
-outcome_granted j (Some place) (Some (told.Board Done) ∷ before) = aim_granted _ _
+outcome_granted j (Some place) [] = expected_granted _ _
+outcome_granted j (Some place) (None ∷ before) = expected_granted _ _
+outcome_granted j (Some place) (Some (told.Bus reply) ∷ before) = expected_granted _ _
+outcome_granted j (Some place) (Some (told.Board (Bytes datum)) ∷ before) = expected_granted _ _
+outcome_granted j (Some place) (Some (told.Board Done) ∷ before) = expected_granted _ _
 outcome_granted j (Some place) (Some (told.Board Berr) ∷ before) = λ same. absurd cc
 
-same_end : (a b : Outcome) → Ends a ≡ Ends b → a ≡ b
+same_end : (a b : Outcome) → Returns a ≡ Returns b → a ≡ b
 same_end a b same = cc
 
 row_granted : (j : BusJob) (g : Given) (reply : EventReply) (outcome : Outcome) → reply ≢ told.Bus turned.Denied
-    → bus_row j reply g ≡ Ends outcome → outcome ≢ outcomes.Denied
+    → bus_row j reply g ≡ Returns outcome → outcome ≢ outcomes.Denied
 row_granted j g (told.Bus turned.Waiting) outcome good row = λ denied. absurd cc
 row_granted j g (told.Bus turned.Granted) outcome good row = λ denied. absurd cc
 row_granted j g (told.Bus turned.Freed) outcome good row = λ denied.
@@ -56,28 +56,28 @@ row_granted j g (told.Board Done) outcome good row = λ denied. absurd cc
 row_granted j g (told.Board Berr) outcome good row = λ denied. absurd cc
 
 -- after a reply that fits and is no denial, an end is none
-pub good_end : (j : BusJob) (g : Given) (call : Call) (reply : EventReply) (outcome : Outcome) → next_of (Bus j) g ≡ Makes call
-    → fits call reply ≡ true → reply ≢ told.Bus turned.Denied → next_of (Bus j) (Some reply ∷ g) ≡ Ends outcome → outcome ≢ outcomes.Denied
+pub good_end : (j : BusJob) (g : Given) (call : Call) (reply : EventReply) (outcome : Outcome) → next_of (Bus j) g ≡ Invokes call
+    → fits call reply ≡ true → reply ≢ told.Bus turned.Denied → next_of (Bus j) (Some reply ∷ g) ≡ Returns outcome → outcome ≢ outcomes.Denied
 good_end j g call reply outcome made fit good ends = row_granted j g reply outcome good (let after = rw (made, fit) at ends in after)
 
 -- an outcome has as many bytes as are wanted
-abbrev pub IsFormed : Aim → Outcome → Type 0
-IsFormed (aims.Read n) (outcomes.Read bytes) = length bytes.items ≡ n
-IsFormed (aims.Modify n) (outcomes.Old bytes) = length bytes.items ≡ n
-IsFormed aims.Write outcomes.Done = Unit {0}
-IsFormed aim (outcomes.Berr count bytes) = Unit {0}
-IsFormed aim outcomes.Denied = Unit {0}
-IsFormed aim outcome = ⊥
+abbrev pub IsFormed : ExpectedReply → Outcome → Type 0
+IsFormed (expected_replies.Read n) (outcomes.Read bytes) = length bytes.items ≡ n
+IsFormed (expected_replies.Modify n) (outcomes.Old bytes) = length bytes.items ≡ n
+IsFormed expected_replies.Write outcomes.Done = Unit {0}
+IsFormed expected (outcomes.Berr count bytes) = Unit {0}
+IsFormed expected outcomes.Denied = Unit {0}
+IsFormed expected outcome = ⊥
 
-berr_formed : (aim : Aim) (count : ℕ) (bytes : List ℕ) → IsFormed aim (outcomes.Berr count (record { items = bytes }))
-berr_formed (aims.Read n) count bytes = tt
-berr_formed (aims.Modify n) count bytes = tt
-berr_formed aims.Write count bytes = tt
+berr_formed : (expected : ExpectedReply) (count : ℕ) (bytes : List ℕ) → IsFormed expected (outcomes.Berr count (record { items = bytes }))
+berr_formed (expected_replies.Read n) count bytes = tt
+berr_formed (expected_replies.Modify n) count bytes = tt
+berr_formed expected_replies.Write count bytes = tt
 
-denied_formed : (aim : Aim) → IsFormed aim outcomes.Denied
-denied_formed (aims.Read n) = tt
-denied_formed (aims.Modify n) = tt
-denied_formed aims.Write = tt
+denied_formed : (expected : ExpectedReply) → IsFormed expected outcomes.Denied
+denied_formed (expected_replies.Read n) = tt
+denied_formed (expected_replies.Modify n) = tt
+denied_formed expected_replies.Write = tt
 
 -- nothing was answered yet
 abbrev IsBare : Given → Type 0
@@ -85,104 +85,104 @@ IsBare g = (data_in g ≡ 0) × (bytes_in g ≡ [])
 
 -- what a transfer does next has its form
 abbrev Formed : BusJob → Given → Next → Type 0
-Formed j g Rests = g ≡ []
-Formed j g (Makes (OnBus (turns.Ask slot level))) = IsBare g
-Formed j g (Makes (OnBus (turns.Look slot))) = IsBare g
-Formed j g (Makes (OnBus (turns.Done slot))) = IsFormed (request_aim j.transfer.request) (outcome_by j j.place g)
-Formed j g (Makes (OnBoard board command)) =
-    IsBare g × (is_some j.place ≡ true) × (option_and_then reply_len command ≡ aim_len (request_aim j.transfer.request))
-Formed j g (Ends outcome) = IsFormed (request_aim j.transfer.request) outcome
+Formed j g NotStarted = g ≡ []
+Formed j g (Invokes (OnBus (turns.Ask slot level))) = IsBare g
+Formed j g (Invokes (OnBus (turns.Look slot))) = IsBare g
+Formed j g (Invokes (OnBus (turns.Done slot))) = IsFormed (request_expected j.transfer.request) (outcome_by j j.place g)
+Formed j g (Invokes (OnBoard board command)) =
+    IsBare g × (is_some j.place ≡ true) × (option_and_then reply_len command ≡ expected_len (request_expected j.transfer.request))
+Formed j g (Returns outcome) = IsFormed (request_expected j.transfer.request) outcome
 
 -- the one datum comes first
-datum_formed : (j : BusJob) (place : Option (ℕ × ℕ)) (g : Given) → j.place ≡ place → IsBare g → Formed j g (Makes (datum_call j place 0))
-datum_formed j None g placed bare = rw placed (berr_formed (request_aim j.transfer.request) 0 [])
+datum_formed : (j : BusJob) (place : Option (ℕ × ℕ)) (g : Given) → j.place ≡ place → IsBare g → Formed j g (Invokes (datum_call j place 0))
+datum_formed j None g placed bare = rw placed (berr_formed (request_expected j.transfer.request) 0 [])
 datum_formed j (Some p) g placed bare = (bare, rw placed refl, datum_len_wanted j.transfer.request 0 _)
 
-first_formed : (j : BusJob) (g : Given) → count_of j.transfer.request ≡ 1 → IsBare g → Formed j g (Makes (datum_or_done j 0))
+first_formed : (j : BusJob) (g : Given) → count_of j.transfer.request ≡ 1 → IsBare g → Formed j g (Invokes (datum_or_done j 0))
 first_formed j g single bare = rw single (datum_formed j j.place g refl bare)
 
 -- and then the bus is given back
 last_formed : (j : BusJob) (g : Given) (count : ℕ) → count_of j.transfer.request ≡ 1 → count ≡ 0
-    → IsFormed (request_aim j.transfer.request) (outcome_by j j.place g) → Formed j g (Makes (datum_or_done j (count + 1)))
+    → IsFormed (request_expected j.transfer.request) (outcome_by j j.place g) → Formed j g (Invokes (datum_or_done j (count + 1)))
 last_formed j g count single none formed = rw (single, none) formed
 
 -- an outcome of a reply that fits
-aim_formed : (aim : Aim) (bytes : List ℕ) (wanted : Option ℕ) → wanted ≡ aim_len aim
-    → (n : ℕ) → wanted ≡ Some n → length bytes ≡ n → IsFormed aim (aim_outcome aim bytes)
-aim_formed (aims.Read m) bytes wanted same n is len = let one : Some m ≡ Some n = sym same ∙ is in cc
-aim_formed (aims.Modify m) bytes wanted same n is len = let one : Some m ≡ Some n = sym same ∙ is in cc
-aim_formed aims.Write bytes wanted same n is len = let one : None ≡ Some n = sym same ∙ is in absurd cc
+expected_formed : (expected : ExpectedReply) (bytes : List ℕ) (wanted : Option ℕ) → wanted ≡ expected_len expected
+    → (n : ℕ) → wanted ≡ Some n → length bytes ≡ n → IsFormed expected (expected_outcome expected bytes)
+expected_formed (expected_replies.Read m) bytes wanted same n is len = let one : Some m ≡ Some n = sym same ∙ is in cc
+expected_formed (expected_replies.Modify m) bytes wanted same n is len = let one : Some m ≡ Some n = sym same ∙ is in cc
+expected_formed expected_replies.Write bytes wanted same n is len = let one : None ≡ Some n = sym same ∙ is in absurd cc
 
-bytes_formed : (aim : Aim) (wanted : Option ℕ) (datum : ArrayVec ℕ) → wanted ≡ aim_len aim → has_form wanted (Bytes datum) ≡ true
-    → IsFormed aim (aim_outcome aim datum.items)
-bytes_formed aim None datum same form = absurd cc
-bytes_formed aim (Some n) datum same form = aim_formed aim datum.items (Some n) same n refl (eqb-true (length datum.items) n form)
+bytes_formed : (expected : ExpectedReply) (wanted : Option ℕ) (datum : ArrayVec ℕ) → wanted ≡ expected_len expected → has_form wanted (Bytes datum) ≡ true
+    → IsFormed expected (expected_outcome expected datum.items)
+bytes_formed expected None datum same form = absurd cc
+bytes_formed expected (Some n) datum same form = expected_formed expected datum.items (Some n) same n refl (eqb-true (length datum.items) n form)
 
-done_formed : (aim : Aim) (wanted : Option ℕ) → wanted ≡ aim_len aim → has_form wanted Done ≡ true → IsFormed aim (aim_outcome aim [])
-done_formed (aims.Read n) None same form = absurd cc
-done_formed (aims.Modify n) None same form = absurd cc
-done_formed aims.Write None same form = tt
-done_formed aim (Some n) same form = absurd cc
+done_formed : (expected : ExpectedReply) (wanted : Option ℕ) → wanted ≡ expected_len expected → has_form wanted Done ≡ true → IsFormed expected (expected_outcome expected [])
+done_formed (expected_replies.Read n) None same form = absurd cc
+done_formed (expected_replies.Modify n) None same form = absurd cc
+done_formed expected_replies.Write None same form = tt
+done_formed expected (Some n) same form = absurd cc
 
 -- a board's reply
 board_formed : (j : BusJob) (g : Given) (board : ℕ) (command : Option Command) (reply : Reply) → count_of j.transfer.request ≡ 1
-    → Formed j g (Makes (OnBoard board command)) → has_form (option_and_then reply_len command) reply ≡ true
+    → Formed j g (Invokes (OnBoard board command)) → has_form (option_and_then reply_len command) reply ≡ true
     → Formed j (Some (told.Board reply) ∷ g) (bus_row j (told.Board reply) g)
 board_formed j g board command (Bytes datum) single ((none, empty), some, wanted) form =
     last_formed j (Some (told.Board (Bytes datum)) ∷ g) (data_in g) single none (by_place j.place some)
   where
     by_place : (place : Option (ℕ × ℕ)) → is_some place ≡ true
-        → IsFormed (request_aim j.transfer.request) (outcome_by j place (Some (told.Board (Bytes datum)) ∷ g))
+        → IsFormed (request_expected j.transfer.request) (outcome_by j place (Some (told.Board (Bytes datum)) ∷ g))
     by_place None some = absurd cc
-    by_place (Some p) some = rw empty (bytes_formed (request_aim j.transfer.request) (option_and_then reply_len command) datum wanted form)
+    by_place (Some p) some = rw empty (bytes_formed (request_expected j.transfer.request) (option_and_then reply_len command) datum wanted form)
 board_formed j g board command Done single ((none, empty), some, wanted) form =
     last_formed j (Some (told.Board Done) ∷ g) (data_in g) single none (by_place j.place some)
   where
     by_place : (place : Option (ℕ × ℕ)) → is_some place ≡ true
-        → IsFormed (request_aim j.transfer.request) (outcome_by j place (Some (told.Board Done) ∷ g))
+        → IsFormed (request_expected j.transfer.request) (outcome_by j place (Some (told.Board Done) ∷ g))
     by_place None some = absurd cc
-    by_place (Some p) some = rw empty (done_formed (request_aim j.transfer.request) (option_and_then reply_len command) wanted form)
+    by_place (Some p) some = rw empty (done_formed (request_expected j.transfer.request) (option_and_then reply_len command) wanted form)
 board_formed j g board command Berr single ((none, empty), some, wanted) form = by_place j.place some
   where
     by_place : (place : Option (ℕ × ℕ)) → is_some place ≡ true
-        → IsFormed (request_aim j.transfer.request) (outcome_by j place (Some (told.Board Berr) ∷ g))
+        → IsFormed (request_expected j.transfer.request) (outcome_by j place (Some (told.Board Berr) ∷ g))
     by_place None some = absurd cc
-    by_place (Some p) some = berr_formed (request_aim j.transfer.request) (data_in g) (bytes_in g)
+    by_place (Some p) some = berr_formed (request_expected j.transfer.request) (data_in g) (bytes_in g)
 
 -- one call more
 step_formed : (j : BusJob) (g : Given) (next : Next) (last : Option EventReply) → count_of j.transfer.request ≡ 1 → Formed j g next
     → Formed j (last ∷ g) (next_after (Bus j) next last g)
-step_formed j g Rests None single formed = (ap data_in formed, ap bytes_in formed)
-step_formed j g Rests (Some reply) single formed = denied_formed (request_aim j.transfer.request)
-step_formed j g (Makes call) None single formed = denied_formed (request_aim j.transfer.request)
-step_formed j g (Makes (OnBus (turns.Ask slot level))) (Some (told.Bus turned.Granted)) single formed =
+step_formed j g NotStarted None single formed = (ap data_in formed, ap bytes_in formed)
+step_formed j g NotStarted (Some reply) single formed = denied_formed (request_expected j.transfer.request)
+step_formed j g (Invokes call) None single formed = denied_formed (request_expected j.transfer.request)
+step_formed j g (Invokes (OnBus (turns.Ask slot level))) (Some (told.Bus turned.Granted)) single formed =
     first_formed j (Some (told.Bus turned.Granted) ∷ g) single formed
-step_formed j g (Makes (OnBus (turns.Ask slot level))) (Some (told.Bus turned.Waiting)) single formed = formed
-step_formed j g (Makes (OnBus (turns.Ask slot level))) (Some (told.Bus turned.Freed)) single formed = denied_formed (request_aim j.transfer.request)
-step_formed j g (Makes (OnBus (turns.Ask slot level))) (Some (told.Bus turned.Denied)) single formed = denied_formed (request_aim j.transfer.request)
-step_formed j g (Makes (OnBus (turns.Look slot))) (Some (told.Bus turned.Granted)) single formed =
+step_formed j g (Invokes (OnBus (turns.Ask slot level))) (Some (told.Bus turned.Waiting)) single formed = formed
+step_formed j g (Invokes (OnBus (turns.Ask slot level))) (Some (told.Bus turned.Freed)) single formed = denied_formed (request_expected j.transfer.request)
+step_formed j g (Invokes (OnBus (turns.Ask slot level))) (Some (told.Bus turned.Denied)) single formed = denied_formed (request_expected j.transfer.request)
+step_formed j g (Invokes (OnBus (turns.Look slot))) (Some (told.Bus turned.Granted)) single formed =
     first_formed j (Some (told.Bus turned.Granted) ∷ g) single formed
-step_formed j g (Makes (OnBus (turns.Look slot))) (Some (told.Bus turned.Waiting)) single formed = formed
-step_formed j g (Makes (OnBus (turns.Look slot))) (Some (told.Bus turned.Freed)) single formed = denied_formed (request_aim j.transfer.request)
-step_formed j g (Makes (OnBus (turns.Look slot))) (Some (told.Bus turned.Denied)) single formed = denied_formed (request_aim j.transfer.request)
-step_formed j g (Makes (OnBus (turns.Done slot))) (Some (told.Bus turned.Freed)) single formed = formed
-step_formed j g (Makes (OnBus (turns.Done slot))) (Some (told.Bus turned.Granted)) single formed = denied_formed (request_aim j.transfer.request)
-step_formed j g (Makes (OnBus (turns.Done slot))) (Some (told.Bus turned.Waiting)) single formed = denied_formed (request_aim j.transfer.request)
-step_formed j g (Makes (OnBus (turns.Done slot))) (Some (told.Bus turned.Denied)) single formed = denied_formed (request_aim j.transfer.request)
-step_formed j g (Makes (OnBus cmd)) (Some (told.Board reply)) single formed = denied_formed (request_aim j.transfer.request)
-step_formed j g (Makes (OnBoard board command)) (Some (told.Bus reply)) single formed = denied_formed (request_aim j.transfer.request)
-step_formed j g (Makes (OnBoard board command)) (Some (told.Board reply)) single formed =
+step_formed j g (Invokes (OnBus (turns.Look slot))) (Some (told.Bus turned.Waiting)) single formed = formed
+step_formed j g (Invokes (OnBus (turns.Look slot))) (Some (told.Bus turned.Freed)) single formed = denied_formed (request_expected j.transfer.request)
+step_formed j g (Invokes (OnBus (turns.Look slot))) (Some (told.Bus turned.Denied)) single formed = denied_formed (request_expected j.transfer.request)
+step_formed j g (Invokes (OnBus (turns.Done slot))) (Some (told.Bus turned.Freed)) single formed = formed
+step_formed j g (Invokes (OnBus (turns.Done slot))) (Some (told.Bus turned.Granted)) single formed = denied_formed (request_expected j.transfer.request)
+step_formed j g (Invokes (OnBus (turns.Done slot))) (Some (told.Bus turned.Waiting)) single formed = denied_formed (request_expected j.transfer.request)
+step_formed j g (Invokes (OnBus (turns.Done slot))) (Some (told.Bus turned.Denied)) single formed = denied_formed (request_expected j.transfer.request)
+step_formed j g (Invokes (OnBus cmd)) (Some (told.Board reply)) single formed = denied_formed (request_expected j.transfer.request)
+step_formed j g (Invokes (OnBoard board command)) (Some (told.Bus reply)) single formed = denied_formed (request_expected j.transfer.request)
+step_formed j g (Invokes (OnBoard board command)) (Some (told.Board reply)) single formed =
     elim (cases_Bool (fits (OnBoard board command) (told.Board reply))) [
       | inl fit ↦ rw fit (board_formed j g board command reply single formed fit)
-      | inr misfit ↦ rw misfit (denied_formed (request_aim j.transfer.request))
+      | inr misfit ↦ rw misfit (denied_formed (request_expected j.transfer.request))
     ]
-step_formed j g (Ends outcome) last single formed = formed
+step_formed j g (Returns outcome) last single formed = formed
 
 next_formed : (j : BusJob) (g : Given) → count_of j.transfer.request ≡ 1 → Formed j g (next_of (Bus j) g)
 next_formed j [] single = refl
 next_formed j (last ∷ g) single = step_formed j g (next_of (Bus j) g) last single (next_formed j g single)
 
 -- the outcome of a transfer of one datum has its form
-pub ends_formed : (j : BusJob) (g : Given) (outcome : Outcome) → count_of j.transfer.request ≡ 1 → next_of (Bus j) g ≡ Ends outcome
-    → IsFormed (request_aim j.transfer.request) outcome
+pub ends_formed : (j : BusJob) (g : Given) (outcome : Outcome) → count_of j.transfer.request ≡ 1 → next_of (Bus j) g ≡ Returns outcome
+    → IsFormed (request_expected j.transfer.request) outcome
 ends_formed j g outcome single ends = subst (Formed j g) ends (next_formed j g single)

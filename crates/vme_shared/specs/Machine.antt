@@ -10,12 +10,12 @@ use Rattle.vme_master.specs.Machine.{TaskView, fresh_task, advance, to_do}
 use Rattle.vme_shared.specs.declared.outcome.SharedOutcome.TheVariants as shared
 use Rattle.vme_shared.specs.declared.stage.Stage.{Stage}
 use Rattle.vme_shared.specs.declared.stage.Step.{Step}
-use Rattle.vme_shared.specs.declared.stage.Step.TheVariants.{Goes, Stops}
+use Rattle.vme_shared.specs.declared.stage.Step.TheVariants.{Continue, Finish}
 use Rattle.vme_shared.specs.declared.work.Work.{Work}
-use Rattle.vme_shared.specs.declared.work.Work.TheVariants.{Moves, Over}
+use Rattle.vme_shared.specs.declared.work.Work.TheVariants.{Running, Finished}
 use Rattle.vme_shared.specs.Mailboxes.{shared_refusal}
 use Rattle.vme_shared.specs.Steps.{first_stage, step_after}
-use Rattle.vme_shared.specs.Tables.{SharedJob, SharedNext, Ends, stage_job, task_shown}
+use Rattle.vme_shared.specs.Tables.{SharedJob, SharedNext, Returns, stage_job, task_shown}
 
 -- a lock, a put or a take: what is asked, and the transfer at work (this project's own)
 pub record SharedView : Type 0 where
@@ -29,23 +29,23 @@ stage_task (Err fault) = Err fault
 
 -- the bus task of a stage before its first call (this project's own)
 abbrev pub stage_fresh : Stage → Result Job CycleFault → Work
-stage_fresh stage (Ok job) = Moves stage (fresh_task job)
-stage_fresh stage (Err fault) = Over shared.Berr
+stage_fresh stage (Ok job) = Running stage (fresh_task job)
+stage_fresh stage (Err fault) = Finished shared.Berr
 
 -- the same after it (this project's own)
 abbrev pub stage_called : Stage → Result Job CycleFault → Work
-stage_called stage (Ok job) = Moves stage (advance (fresh_task job) None)
-stage_called stage (Err fault) = Over shared.Berr
+stage_called stage (Ok job) = Running stage (advance (fresh_task job) None)
+stage_called stage (Err fault) = Finished shared.Berr
 
 -- where a step leads (this project's own)
 abbrev pub work_stepped : SharedJob → Step → Work
-work_stepped s (Goes stage) = stage_called stage (stage_job s stage)
-work_stepped s (Stops end) = Over end
+work_stepped s (Continue stage) = stage_called stage (stage_job s stage)
+work_stepped s (Finish end) = Finished end
 
 -- a stage by what its bus task does next (this project's own)
 abbrev pub work_by : SharedJob → Stage → TaskView → Next → Work
-work_by s stage task (tasks.Ends outcome) = work_stepped s (step_after s.request stage outcome)
-work_by s stage task next = Moves stage task
+work_by s stage task (tasks.Returns outcome) = work_stepped s (step_after s.request stage outcome)
+work_by s stage task next = Running stage task
 
 -- the transfer at work, or where a step leads, if one is taken (this project's own)
 abbrev pub work_or : SharedJob → Work → Option Step → Work
@@ -54,8 +54,8 @@ work_or s work (Some step) = work_stepped s step
 
 -- the transfer at work, after a call (this project's own)
 abbrev pub work_after : SharedJob → Work → Option EventReply → Work
-work_after s (Moves stage task) given = work_by s stage (advance task given) (to_do (advance task given))
-work_after s (Over end) given = Over end
+work_after s (Running stage task) given = work_by s stage (advance task given) (to_do (advance task given))
+work_after s (Finished end) given = Finished end
 
 -- the transfer that comes first, before its first call (this project's own)
 abbrev pub first_work : SharedJob → Work
@@ -85,8 +85,8 @@ shared_given s (last ∷ before) = shared_advance (shared_given s before) last
 
 -- what the transfer at work does next (this project's own)
 abbrev pub work_to_do : Work → SharedNext
-work_to_do (Moves stage task) = task_shown (to_do task)
-work_to_do (Over end) = Ends end
+work_to_do (Running stage task) = task_shown (to_do task)
+work_to_do (Finished end) = Returns end
 
 -- what is done next (this project's own)
 abbrev pub shared_to_do : SharedView → SharedNext
@@ -94,5 +94,5 @@ shared_to_do v = work_to_do v.work
 
 -- the transfer at work has not ended (this project's own)
 abbrev pub IsGoing : Work → Type 0
-IsGoing (Moves stage task) = (outcome : Outcome) → to_do task ≢ tasks.Ends outcome
-IsGoing (Over end) = Unit {0}
+IsGoing (Running stage task) = (outcome : Outcome) → to_do task ≢ tasks.Returns outcome
+IsGoing (Finished end) = Unit {0}

@@ -10,7 +10,7 @@ use Rattle.vme_shared.specs.declared.request.SharedRequest.TheVariants.{Lock, Un
 use Rattle.vme_shared.specs.declared.stage.Stage.{Stage}
 use Rattle.vme_shared.specs.declared.stage.Stage.TheVariants.{Locks, ReadsPutCount, ReadsTakeCount, WritesWord, RaisesPutCount, ReadsWord, RaisesTakeCount, Unlocks}
 use Rattle.vme_shared.specs.declared.stage.Step.{Step}
-use Rattle.vme_shared.specs.declared.stage.Step.TheVariants.{Goes, Stops}
+use Rattle.vme_shared.specs.declared.stage.Step.TheVariants.{Continue, Finish}
 
 -- a put and a take begin with the lock, as does what takes it; what gives it back has this transfer alone (this project's own)
 abbrev pub first_stage : SharedRequest → Stage
@@ -31,7 +31,7 @@ word_in bytes = if length bytes == 4 then Some (number_of bytes) else None
 -- where four bytes were read, their number leads on; other bytes do not fit (this project's own)
 abbrev pub on_word : Option ℕ → (ℕ → Step) → Step
 on_word (Some word) lead = lead word
-on_word None lead = Stops shared.Denied
+on_word None lead = Finish shared.Denied
 
 -- how many words a mailbox has by its counts, modulo 2 ^ 32 (this project's own)
 abbrev pub words_between : ℕ → ℕ → ℕ
@@ -48,31 +48,31 @@ counted_stage request p t = if p == t then Unlocks shared.Empty else ReadsWord t
 
 -- the table of a lock that is to be taken (this project's own)
 abbrev pub lock_step : Outcome → Step
-lock_step (outcomes.Old old) = Stops (if has_top_bit old.items then shared.Busy else shared.Taken)
-lock_step (outcomes.Berr count bytes) = Stops shared.Berr
-lock_step outcome = Stops shared.Denied
+lock_step (outcomes.Old old) = Finish (if has_top_bit old.items then shared.Busy else shared.Taken)
+lock_step (outcomes.Berr count bytes) = Finish shared.Berr
+lock_step outcome = Finish shared.Denied
 
 -- the table of a lock that is given back, with what is told then (this project's own)
 abbrev pub unlock_step : SharedOutcome → Outcome → Step
-unlock_step end outcomes.Done = Stops end
-unlock_step end (outcomes.Berr count bytes) = Stops shared.Berr
-unlock_step end outcome = Stops shared.Denied
+unlock_step end outcomes.Done = Finish end
+unlock_step end (outcomes.Berr count bytes) = Finish shared.Berr
+unlock_step end outcome = Finish shared.Denied
 
 -- the table of a put and of a take, by the stage and the outcome of its transfer. A bus error after the lock was taken is
 -- followed by the unlock (this project's own)
 abbrev pub mailbox_step : SharedRequest → Stage → Outcome → Step
-mailbox_step request Locks (outcomes.Old old) = if has_top_bit old.items then Stops shared.Busy else Goes ReadsPutCount
-mailbox_step request ReadsPutCount (outcomes.Read bytes) = on_word (word_in bytes.items) (λ p. Goes (ReadsTakeCount p))
+mailbox_step request Locks (outcomes.Old old) = if has_top_bit old.items then Finish shared.Busy else Continue ReadsPutCount
+mailbox_step request ReadsPutCount (outcomes.Read bytes) = on_word (word_in bytes.items) (λ p. Continue (ReadsTakeCount p))
 mailbox_step request (ReadsTakeCount p) (outcomes.Read bytes) =
-    on_word (word_in bytes.items) (λ t. Goes (counted_stage request p t))
-mailbox_step request (WritesWord p word) outcomes.Done = Goes (RaisesPutCount p)
-mailbox_step request (RaisesPutCount p) outcomes.Done = Goes (Unlocks shared.Put)
-mailbox_step request (ReadsWord t) (outcomes.Read bytes) = on_word (word_in bytes.items) (λ word. Goes (RaisesTakeCount t word))
-mailbox_step request (RaisesTakeCount t word) outcomes.Done = Goes (Unlocks (shared.Took word))
+    on_word (word_in bytes.items) (λ t. Continue (counted_stage request p t))
+mailbox_step request (WritesWord p word) outcomes.Done = Continue (RaisesPutCount p)
+mailbox_step request (RaisesPutCount p) outcomes.Done = Continue (Unlocks shared.Put)
+mailbox_step request (ReadsWord t) (outcomes.Read bytes) = on_word (word_in bytes.items) (λ word. Continue (RaisesTakeCount t word))
+mailbox_step request (RaisesTakeCount t word) outcomes.Done = Continue (Unlocks (shared.Took word))
 mailbox_step request (Unlocks end) outcome = unlock_step end outcome
-mailbox_step request Locks (outcomes.Berr count bytes) = Stops shared.Berr
-mailbox_step request stage (outcomes.Berr count bytes) = Goes (Unlocks shared.Berr)
-mailbox_step request stage outcome = Stops shared.Denied
+mailbox_step request Locks (outcomes.Berr count bytes) = Finish shared.Berr
+mailbox_step request stage (outcomes.Berr count bytes) = Continue (Unlocks shared.Berr)
+mailbox_step request stage outcome = Finish shared.Denied
 
 -- the table: where the outcome of a stage's transfer leads (this project's own)
 abbrev pub step_after : SharedRequest → Stage → Outcome → Step

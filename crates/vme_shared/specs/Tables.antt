@@ -16,7 +16,7 @@ use Rattle.vme_shared.specs.declared.outcome.SharedOutcome.TheVariants as shared
 use Rattle.vme_shared.specs.declared.request.SharedRequest.{SharedRequest}
 use Rattle.vme_shared.specs.declared.stage.Stage.{Stage}
 use Rattle.vme_shared.specs.declared.stage.Step.{Step}
-use Rattle.vme_shared.specs.declared.stage.Step.TheVariants.{Goes, Stops}
+use Rattle.vme_shared.specs.declared.stage.Step.TheVariants.{Continue, Finish}
 use Rattle.vme_shared.specs.Mailboxes.{stage_request}
 use Rattle.vme_shared.specs.Steps.{first_stage, step_after}
 
@@ -29,9 +29,9 @@ pub record SharedJob : Type 0 where
 
 -- what it does next: it rests until its first call; it makes a call, and wants the reply; or it has ended (this project's own)
 pub data SharedNext : Type 0 where
-  Rests : SharedNext
-  Makes : Call → SharedNext
-  Ends : SharedOutcome → SharedNext
+  NotStarted : SharedNext
+  Invokes : Call → SharedNext
+  Returns : SharedOutcome → SharedNext
 
 -- the bus task of a transfer, or the refusal of the transfer (this project's own)
 abbrev pub transfer_job : SharedJob → Result Transfer CycleFault → Result Job CycleFault
@@ -56,12 +56,12 @@ stage_begun stage given (Err fault) = Over shared.Berr
 
 -- where a step leads: the next transfer begins at once (this project's own)
 abbrev pub step_begun : SharedJob → Step → Progress
-step_begun s (Goes stage) = stage_begun stage (None ∷ []) (stage_job s stage)
-step_begun s (Stops end) = Over end
+step_begun s (Continue stage) = stage_begun stage (None ∷ []) (stage_job s stage)
+step_begun s (Finish end) = Over end
 
 -- a stage by what its bus task does next: where that has ended, its outcome leads on (this project's own)
 abbrev pub progress_by : SharedJob → Stage → Job → Given → Next → Progress
-progress_by s stage job given (tasks.Ends outcome) = step_begun s (step_after s.request stage outcome)
+progress_by s stage job given (tasks.Returns outcome) = step_begun s (step_after s.request stage outcome)
 progress_by s stage job given next = At stage job given
 
 -- how far it has come, where it was given one thing more (this project's own)
@@ -77,14 +77,14 @@ progress_of s (last ∷ before) = progress_given s last (progress_of s before)
 
 -- what it does next while a bus task is at work, which has not ended (this project's own)
 abbrev pub task_shown : Next → SharedNext
-task_shown tasks.Rests = Rests
-task_shown (tasks.Makes call) = Makes call
-task_shown (tasks.Ends outcome) = Ends shared.Denied
+task_shown tasks.NotStarted = NotStarted
+task_shown (tasks.Invokes call) = Invokes call
+task_shown (tasks.Returns outcome) = Returns shared.Denied
 
 -- what it does next, by how far it has come (this project's own)
 abbrev pub next_at : Progress → SharedNext
 next_at (At stage job given) = task_shown (next_of job given)
-next_at (Over end) = Ends end
+next_at (Over end) = Returns end
 
 -- what it does next, by what it was given so far (this project's own)
 abbrev pub shared_next : SharedJob → Given → SharedNext

@@ -1,5 +1,5 @@
 ghost use Rattle.std.specs.Prelude.{◌≡◌, ◌≢◌};
-ghost use Rattle.vme_shared.specs.Tables.{Rests, stage_job};
+ghost use Rattle.vme_shared.specs.Tables.{NotStarted, stage_job};
 ghost use Rattle.vme_shared.specs.Machine.{stage_task, stage_called, work_stepped, first_work, work_to_do, IsGoing};
 
 use crate::outcome::SharedOutcome;
@@ -65,8 +65,8 @@ impl<'a> Asked<'a> {
     {
         let stage = self.request.first_stage();
         match self.task(stage) {
-            Ok(task) => Work::Moves { stage, task },
-            Err(_) => Work::Over(SharedOutcome::Berr),
+            Ok(task) => Work::Running { stage, task },
+            Err(_) => Work::Finished(SharedOutcome::Berr),
         }
     }
 
@@ -74,11 +74,11 @@ impl<'a> Asked<'a> {
     pub(crate) fn stepped(&self, step: Step) -> Work<'a>
         ensures work { result ≡ work_stepped self.now step }
         ensures going { IsGoing result }
-        ensures begun { work_to_do result ≢ Rests }
+        ensures begun { work_to_do result ≢ NotStarted }
     {
         match step {
-            Step::Goes(stage) => self.called(stage),
-            Step::Stops(end) => Work::Over(end),
+            Step::Continue(stage) => self.called(stage),
+            Step::Finish(end) => Work::Finished(end),
         }
     }
 
@@ -86,14 +86,14 @@ impl<'a> Asked<'a> {
     fn called(&self, stage: Stage) -> Work<'a>
         ensures work { result ≡ stage_called stage (stage_job self.now stage) }
         ensures going { IsGoing result }
-        ensures begun { work_to_do result ≢ Rests }
+        ensures begun { work_to_do result ≢ NotStarted }
     {
         match self.task(stage) {
             Ok(mut task) => {
                 task.give(None);
-                Work::Moves { stage, task }
+                Work::Running { stage, task }
             }
-            Err(_) => Work::Over(SharedOutcome::Berr),
+            Err(_) => Work::Finished(SharedOutcome::Berr),
         }
     }
 

@@ -18,7 +18,7 @@ ghost use Rattle.vme_shared.specs.declared.outcome.SharedOutcome.{SharedOutcome}
 ghost use Rattle.vme_shared.specs.declared.outcome.SharedOutcome.TheVariants.{Denied};
 ghost use Rattle.vme_shared.specs.declared.stage.Stage.{Stage};
 ghost use Rattle.vme_shared.specs.Mailboxes.{IsAsked, shared_refusal};
-ghost use Rattle.vme_shared.specs.Tables.{SharedJob, Rests, Makes, Ends, stage_job, shared_next, shared_told};
+ghost use Rattle.vme_shared.specs.Tables.{SharedJob, NotStarted, Invokes, Returns, stage_job, shared_next, shared_told};
 ghost use Rattle.vme_shared.specs.Machine.{shared_given, shared_to_do};
 
 /// What is asked of a lock or a mailbox goes by the table: after calls with any replies, fitting or
@@ -28,23 +28,23 @@ pub fn shared_tasks_go_by_the_table()
     ensures table { (s : SharedJob) (given : Given) →
         shared_to_do (shared_given s given) ≡ shared_next s given }
     ensures misfit { (s : SharedJob) (given : Given) (call : Call) (reply : EventReply) →
-        shared_next s given ≡ Makes call → fits call reply ≡ false →
-        shared_next s (Some reply ∷ given) ≡ Ends Denied }
+        shared_next s given ≡ Invokes call → fits call reply ≡ false →
+        shared_next s (Some reply ∷ given) ≡ Returns Denied }
     ensures absent { (s : SharedJob) (given : Given) (call : Call) →
-        shared_next s given ≡ Makes call → shared_next s (None ∷ given) ≡ Ends Denied }
+        shared_next s given ≡ Invokes call → shared_next s (None ∷ given) ≡ Returns Denied }
     ensures early { (s : SharedJob) (reply : EventReply) → shared_refusal s.request ≡ None →
-        shared_next s (Some reply ∷ []) ≡ Ends Denied }
+        shared_next s (Some reply ∷ []) ≡ Returns Denied }
     ensures end { (s : SharedJob) (given : Given) (end : SharedOutcome)
-        (last : Option EventReply) → shared_next s given ≡ Ends end →
-        shared_next s (last ∷ given) ≡ Ends end }
+        (last : Option EventReply) → shared_next s given ≡ Returns end →
+        shared_next s (last ∷ given) ≡ Returns end }
 {}
 
 /// What was not refused at the start rests until its first call, which asks for the bus; and none of
 /// its transfers is refused later.
 pub fn shared_tasks_are_refused_at_the_start()
-    ensures rests { (s : SharedJob) → shared_refusal s.request ≡ None → shared_next s [] ≡ Rests }
+    ensures rests { (s : SharedJob) → shared_refusal s.request ≡ None → shared_next s [] ≡ NotStarted }
     ensures asks { (s : SharedJob) → shared_refusal s.request ≡ None →
-        shared_next s (None ∷ []) ≡ Makes (OnBus (Ask s.slot s.level)) }
+        shared_next s (None ∷ []) ≡ Invokes (OnBus (Ask s.slot s.level)) }
     ensures later { (s : SharedJob) (stage : Stage) → IsAsked s.request →
         shared_refusal s.request ≡ None → (job : Job) × (stage_job s stage ≡ Ok job) }
 {}
@@ -52,7 +52,7 @@ pub fn shared_tasks_are_refused_at_the_start()
 /// Each board that is called is one of the map.
 pub fn shared_tasks_call_boards_of_the_map()
     ensures { (s : SharedJob) (given : Given) (board : ℕ) (command : Option Command) →
-        shared_next s given ≡ Makes (OnBoard board command) → board < length s.map }
+        shared_next s given ≡ Invokes (OnBoard board command) → board < length s.map }
 {}
 
 /// What is asked of a lock or a mailbox keeps its tenure of the bus, as each of its transfers does.
@@ -63,24 +63,24 @@ pub fn shared_tasks_call_boards_of_the_map()
 pub fn shared_tasks_keep_their_tenure()
     ensures begin { (s : SharedJob) → shared_told s (None ∷ []) ≡ None }
     ensures turns { (s : SharedJob) (given : Given) (cmd : ArbCmd) → IsTrue (is_level s.level) →
-        shared_next s given ≡ Makes (OnBus cmd) →
+        shared_next s given ≡ Invokes (OnBus cmd) →
         IsTrue (may_give s.slot (shared_told s given) cmd) }
     ensures holds { (s : SharedJob) (given : Given) (board : ℕ) (command : Option Command) →
-        shared_next s given ≡ Makes (OnBoard board command) →
+        shared_next s given ≡ Invokes (OnBoard board command) →
         shared_told s given ≡ Some turned.Granted }
     ensures turn { (s : SharedJob) (given : Given) (cmd : ArbCmd) (reply : ArbReply)
-        (bus : Arbitration) (slot : ℕ) → shared_next s given ≡ Makes (OnBus cmd) →
+        (bus : Arbitration) (slot : ℕ) → shared_next s given ≡ Invokes (OnBus cmd) →
         IsTrue (fits (OnBus cmd) (told.Bus reply)) → told.Bus reply ≢ told.Bus turned.Denied →
         StandsAsTold bus slot (Some reply) →
         StandsAsTold bus slot (shared_told s (Some (told.Bus reply) ∷ given)) }
     ensures datum { (s : SharedJob) (given : Given) (call : Call) (reply : Reply) →
-        shared_next s given ≡ Makes call → IsTrue (fits call (told.Board reply)) →
+        shared_next s given ≡ Invokes call → IsTrue (fits call (told.Board reply)) →
         shared_told s (Some (told.Board reply) ∷ given) ≡ shared_told s given }
     ensures granted { (s : SharedJob) (given : Given) (call : Call) (reply : EventReply) →
-        shared_next s given ≡ Makes call → IsTrue (fits call reply) →
-        reply ≢ told.Bus turned.Denied → shared_next s (Some reply ∷ given) ≢ Ends Denied }
+        shared_next s given ≡ Invokes call → IsTrue (fits call reply) →
+        reply ≢ told.Bus turned.Denied → shared_next s (Some reply ∷ given) ≢ Returns Denied }
     ensures freed { (s : SharedJob) (given : Given) (call : Call) (reply : EventReply)
-        (end : SharedOutcome) → shared_next s given ≡ Makes call → IsTrue (fits call reply) →
-        reply ≢ told.Bus turned.Denied → shared_next s (Some reply ∷ given) ≡ Ends end →
+        (end : SharedOutcome) → shared_next s given ≡ Invokes call → IsTrue (fits call reply) →
+        reply ≢ told.Bus turned.Denied → shared_next s (Some reply ∷ given) ≡ Returns end →
         (reply ≡ told.Bus turned.Freed) × (shared_told s (Some reply ∷ given) ≡ None) }
 {}

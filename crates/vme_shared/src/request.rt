@@ -83,22 +83,22 @@ impl SharedRequest {
         match (stage, outcome) {
             (Stage::Locks, Outcome::Old(old)) => {
                 if has_top_bit(old.as_slice()) {
-                    Step::Stops(SharedOutcome::Busy)
+                    Step::Finish(SharedOutcome::Busy)
                 } else {
-                    Step::Goes(Stage::ReadsPutCount)
+                    Step::Continue(Stage::ReadsPutCount)
                 }
             }
-            (Stage::Locks, Outcome::Berr { .. }) => Step::Stops(SharedOutcome::Berr),
+            (Stage::Locks, Outcome::Berr { .. }) => Step::Finish(SharedOutcome::Berr),
             (Stage::Unlocks { end }, outcome) => unlock_step(end, outcome),
-            (_, Outcome::Berr { .. }) => Step::Goes(Stage::Unlocks {
+            (_, Outcome::Berr { .. }) => Step::Continue(Stage::Unlocks {
                 end: SharedOutcome::Berr,
             }),
             (stage, Outcome::Read(bytes)) => match word_in(bytes.as_slice()) {
                 Some(word) => self.read_step(stage, word),
-                None => Step::Stops(SharedOutcome::Denied),
+                None => Step::Finish(SharedOutcome::Denied),
             },
             (stage, Outcome::Done) => write_step(stage),
-            _ => Step::Stops(SharedOutcome::Denied),
+            _ => Step::Finish(SharedOutcome::Denied),
         }
     }
 
@@ -108,12 +108,12 @@ impl SharedRequest {
             result ≡ mailbox_step self stage (Outcome.Read (record { items = bytes })) }
     {
         match stage {
-            Stage::ReadsPutCount => Step::Goes(Stage::ReadsTakeCount { put_count: word }),
-            Stage::ReadsTakeCount { put_count } => Step::Goes(self.counted_stage(put_count, word)),
+            Stage::ReadsPutCount => Step::Continue(Stage::ReadsTakeCount { put_count: word }),
+            Stage::ReadsTakeCount { put_count } => Step::Continue(self.counted_stage(put_count, word)),
             Stage::ReadsWord { take_count } => {
-                Step::Goes(Stage::RaisesTakeCount { take_count, word })
+                Step::Continue(Stage::RaisesTakeCount { take_count, word })
             }
-            _ => Step::Stops(SharedOutcome::Denied),
+            _ => Step::Finish(SharedOutcome::Denied),
         }
     }
 
@@ -148,15 +148,15 @@ fn write_step(stage: Stage) -> Step
     ensures { (request : AnyRequest) → result ≡ mailbox_step request stage Outcome.Done }
 {
     match stage {
-        Stage::WritesWord { put_count, .. } => Step::Goes(Stage::RaisesPutCount { put_count }),
-        Stage::RaisesPutCount { .. } => Step::Goes(Stage::Unlocks {
+        Stage::WritesWord { put_count, .. } => Step::Continue(Stage::RaisesPutCount { put_count }),
+        Stage::RaisesPutCount { .. } => Step::Continue(Stage::Unlocks {
             end: SharedOutcome::Put,
         }),
-        Stage::RaisesTakeCount { word, .. } => Step::Goes(Stage::Unlocks {
+        Stage::RaisesTakeCount { word, .. } => Step::Continue(Stage::Unlocks {
             end: SharedOutcome::Took(word),
         }),
-        Stage::Unlocks { end } => Step::Stops(end),
-        _ => Step::Stops(SharedOutcome::Denied),
+        Stage::Unlocks { end } => Step::Finish(end),
+        _ => Step::Finish(SharedOutcome::Denied),
     }
 }
 
@@ -164,7 +164,7 @@ fn write_step(stage: Stage) -> Step
 fn lock_step(outcome: &Outcome) -> Step
     ensures { result ≡ lock_step outcome.now }
 {
-    Step::Stops(match outcome {
+    Step::Finish(match outcome {
         Outcome::Old(old) if has_top_bit(old.as_slice()) => SharedOutcome::Busy,
         Outcome::Old(_) => SharedOutcome::Taken,
         Outcome::Berr { .. } => SharedOutcome::Berr,
@@ -176,7 +176,7 @@ fn lock_step(outcome: &Outcome) -> Step
 fn unlock_step(end: SharedOutcome, outcome: &Outcome) -> Step
     ensures { result ≡ unlock_step end outcome.now }
 {
-    Step::Stops(match outcome {
+    Step::Finish(match outcome {
         Outcome::Done => end,
         Outcome::Berr { .. } => SharedOutcome::Berr,
         _ => SharedOutcome::Denied,

@@ -25,7 +25,7 @@ pub enum Stage {
 #[derive(Clone, Copy, Debug, PartialEq, Eq)]
 pub enum Step {
     /// The transfer of this stage.
-    Goes(Stage),
+    Continue(Stage),
     /// The end.
-    Stops(SharedOutcome),
+    Finish(SharedOutcome),
 }

@@ -4,7 +4,7 @@ ghost use Rattle.vme_core.specs.Calls.{call_of};
 ghost use Rattle.vme_core.specs.Deeds.{call_asked};
 ghost use Rattle.vme_master.specs.Tables.{Given};
 ghost use Rattle.vme_shared.specs.Mailboxes.{IsAsked};
-ghost use Rattle.vme_shared.specs.Tables.{SharedJob, Rests, shared_next};
+ghost use Rattle.vme_shared.specs.Tables.{SharedJob, NotStarted, shared_next};
 ghost use Rattle.vme_shared.specs.Machine.{shared_fresh, shared_task, shared_advance, shared_given, shared_to_do};
 ghost use Rattle.vme_shared.specs.Events.{next_in, call_in, outcome_in};
 
@@ -72,7 +72,7 @@ impl<'a> SharedTask<'a> {
     #[inline(never)]
     pub fn give(&mut self, reply: Option<&EventReply>)
         ensures task { self.new ≡ shared_advance self.old (option_copied reply.entry) }
-        ensures begun { shared_to_do self.new ≢ Rests }
+        ensures begun { shared_to_do self.new ≢ NotStarted }
     {
         if let Some(step) = self.work.give(self.asked.request(), reply) {
             self.work = self.asked.stepped(step);
@@ -84,8 +84,8 @@ impl<'a> SharedTask<'a> {
         ensures { option_map call_of result ≡ call_in (shared_to_do self.now) }
     {
         match &self.work {
-            Work::Moves { task, .. } => task.event(),
-            Work::Over(_) => None,
+            Work::Running { task, .. } => task.event(),
+            Work::Finished(_) => None,
         }
     }
 
@@ -95,8 +95,8 @@ impl<'a> SharedTask<'a> {
         ensures { option_map call_asked result ≡ call_in (shared_to_do self.now) }
     {
         match &self.work {
-            Work::Moves { task, .. } => task.deed(),
-            Work::Over(_) => None,
+            Work::Running { task, .. } => task.deed(),
+            Work::Finished(_) => None,
         }
     }
 
@@ -105,8 +105,8 @@ impl<'a> SharedTask<'a> {
         ensures { result ≡ outcome_in (shared_to_do self.now) }
     {
         match &self.work {
-            Work::Moves { .. } => None,
-            Work::Over(end) => Some(*end),
+            Work::Running { .. } => None,
+            Work::Finished(end) => Some(*end),
         }
     }
 
@@ -118,7 +118,7 @@ impl<'a> SharedTask<'a> {
     }
 
     fn todo(&self) -> SharedTodo
-        requires { shared_to_do self.now ≢ Rests }
+        requires { shared_to_do self.now ≢ NotStarted }
         ensures { next_in result ≡ shared_to_do self.now }
     {
         match self.event() {

@@ -1,5 +1,5 @@
 ghost use Rattle.std.specs.Prelude.{◌≡◌, ◌≢◌, None, option_copied};
-ghost use Rattle.vme_shared.specs.Tables.{SharedJob, Rests};
+ghost use Rattle.vme_shared.specs.Tables.{SharedJob, NotStarted};
 ghost use Rattle.vme_shared.specs.Machine.{work_after, work_or, work_to_do, IsGoing};
 
 use crate::outcome::SharedOutcome;
@@ -12,9 +12,9 @@ use vme_master::Task;
 #[derive(Debug, Drop)]
 pub enum Work<'a> {
     /// The bus task of this stage.
-    Moves { stage: Stage, task: Task<'a> },
+    Running { stage: Stage, task: Task<'a> },
     /// It has ended so.
-    Over(SharedOutcome),
+    Finished(SharedOutcome),
 }
 
 impl Work<'_> {
@@ -29,13 +29,13 @@ impl Work<'_> {
         ensures work { (s : SharedJob) → s.request ≡ request →
             work_after s self.old (option_copied reply.entry) ≡ work_or s self.new result }
         ensures going { result ≡ None → IsGoing self.old → IsGoing self.new }
-        ensures begun { result ≡ None → work_to_do self.new ≢ Rests }
+        ensures begun { result ≡ None → work_to_do self.new ≢ NotStarted }
     {
-        let Work::Moves { stage, .. } = self else {
+        let Work::Running { stage, .. } = self else {
             return None;
         };
         let stage = *stage;
-        let Work::Moves { task, .. } = self else {
+        let Work::Running { task, .. } = self else {
             return None;
         };
         task.give(reply);

@@ -7,17 +7,17 @@ use Rattle.vme_core.specs.Runs.{Machine}
 use Rattle.vme_core.specs.Calls.{Call, OnBoard, OnBus}
 use Rattle.vme_core.specs.Deeds.{target_of_call, CanCount}
 use Rattle.vme_line_task.specs.declared.task.LineTask.{LineTask}
-use Rattle.vme_line_task.specs.Tables.{LineNext, Rests, Makes, Ends}
+use Rattle.vme_line_task.specs.Tables.{LineNext, NotStarted, Invokes, Returns}
 use Rattle.vme_shared.specs.declared.reply.LineReply.{LineReply}
 use Rattle.vme_line_task.specs.Events.{call_in, answer_in}
 use Rattle.vme_line_task.specs.Machine.{line_to_do, IsLineBelow}
 use Rattle.vme_line_task.proofs.lemmas.Below.{calls_below}
-use Rattle.vme_stepper.specs.Drivers.{StepsWithin}
+use Rattle.vme_stepper.specs.Steppers.{StepsWithin}
 use Rattle.vme_stepper.proofs.Steps.{none_spent}
 
 -- what a line calls is there, and is not spent
 can_call : (machine : Machine) (task : LineTask) (call : Call) → IsLineBelow (length machine.boards) task → StepsWithin (2 ^ 64 - 2) machine
-    → line_to_do task ≡ Makes call → CanCount machine (target_of_call call)
+    → line_to_do task ≡ Invokes call → CanCount machine (target_of_call call)
 can_call machine task (OnBoard board command) below steps makes = record {
   there = calls_below (length machine.boards) task _ below makes;
   unspent = λ spent. none_spent machine (at.Board board) steps spent;
@@ -29,9 +29,9 @@ can_call machine task (OnBus cmd) below steps makes = record {
 
 can_next : (machine : Machine) (task : LineTask) (next : LineNext) → line_to_do task ≡ next → IsLineBelow (length machine.boards) task
     → StepsWithin (2 ^ 64 - 2) machine → IfSome (call_in next) (λ call. CanCount machine (target_of_call call))
-can_next machine task Rests is below steps = tt
-can_next machine task (Makes call) is below steps = can_call machine task call below steps is
-can_next machine task (Ends answer) is below steps = tt
+can_next machine task NotStarted is below steps = tt
+can_next machine task (Invokes call) is below steps = can_call machine task call below steps is
+can_next machine task (Returns answer) is below steps = tt
 
 -- so it can make its call, if it makes one
 pub can_make : (machine : Machine) (task : LineTask) → IsLineBelow (length machine.boards) task → StepsWithin (2 ^ 64 - 2) machine
@@ -39,11 +39,11 @@ pub can_make : (machine : Machine) (task : LineTask) → IsLineBelow (length mac
 can_make machine task below steps = can_next machine task (line_to_do task) refl below steps
 
 -- a line that is over has its answer
-pub its_answer : (next : LineNext) → is_some (answer_in next) ≡ true → (answer : LineReply) × (Ends answer ≡ next)
-its_answer Rests over = absurd cc
-its_answer (Makes call) over = absurd cc
-its_answer (Ends answer) over = (answer, refl)
+pub its_answer : (next : LineNext) → is_some (answer_in next) ≡ true → (answer : LineReply) × (Returns answer ≡ next)
+its_answer NotStarted over = absurd cc
+its_answer (Invokes call) over = absurd cc
+its_answer (Returns answer) over = (answer, refl)
 
 -- and no other
-pub its_own : (next : LineNext) (answer other : LineReply) → Some answer ≡ answer_in next → next ≡ Ends other → answer ≡ other
+pub its_own : (next : LineNext) (answer other : LineReply) → Some answer ≡ answer_in next → next ≡ Returns other → answer ≡ other
 its_own next answer other has ends = same_Some _ _ (has ∙ ap answer_in ends)

@@ -1,4 +1,4 @@
--- The room of the next line of a lane.
+-- The room of the next line of a processor.
 use Rattle.std.proofs.Common.{◌≡◌, ℕ, ◌<◌, List, ◌∷◌, length, drop, arith}
 use Rattle.std.proofs.lemmas.List.{length-map}
 use Rattle.vme_cycle.specs.BlockBuffers.{BufferView}

@@ -1,8 +1,8 @@
 pub mod Told
-pub mod Lanes
+pub mod Processors
 pub mod Turning
 pub mod Drawing
-pub mod Worlds
+pub mod SystemStates
 pub mod Steps
 pub mod Calls
 pub mod Places

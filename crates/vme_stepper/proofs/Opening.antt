@@ -1,4 +1,4 @@
--- The driver before the first turn.
+-- The stepper before the first turn.
 use Rattle.std.proofs.Common.{◌≡◌, ℕ, suc, ◌+◌, List, [], ◌∷◌, ◌++◌, length, map, take, Option, Some, None, refl, sym, ap, subst, ◌∙◌, arith}
 use Rattle.std.specs.Prelude.{slice_get, option_map}
 use Rattle.std.proofs.lemmas.List.{length-map, length-replicate, length-take-le}
@@ -12,72 +12,72 @@ use Rattle.vme_script.specs.declared.script.ScriptLine.{ScriptLine}
 use Rattle.vme_script.specs.Configurations.{Configuration, opening_memory}
 use Rattle.vme_script.specs.Lawful.{IsLawful}
 use Rattle.vme_line_task.specs.Scripts.{script_at}
-use Rattle.vme_line_task.specs.Courses.{Course}
+use Rattle.vme_line_task.specs.Traces.{ScriptState}
 use Rattle.vme_stepper.specs.Reports.{told_lines}
-use Rattle.vme_stepper.specs.Turns.{course, opening_world}
-use Rattle.vme_stepper.specs.Drivers.{LaneView, lane_of, lanes_from, driver_of, IsLaneOf, IsDriverOf}
+use Rattle.vme_stepper.specs.Turns.{script_state, initial_state}
+use Rattle.vme_stepper.specs.Steppers.{ProcessorView, processor_of, processors_from, stepper_of, IsProcessorOf, IsStepperOf}
 use Rattle.vme_stepper.proofs.Told.{told_length, told_none, unfinished, get_map, map_next}
-use Rattle.vme_stepper.proofs.Worlds.{lanes_get}
+use Rattle.vme_stepper.proofs.SystemStates.{processors_get}
 
 -- no line of a script has an answer
-abbrev pub fresh_course : List ScriptLine → Course
-fresh_course script = course [] []
+abbrev pub fresh_script_state : List ScriptLine → ScriptState
+fresh_script_state script = script_state [] []
 
 module _ (config : Configuration) where
-  -- a lane more
-  lanes_push : (from place : ℕ) (courses : List Course) (c : Course) → place ≡ from + length courses
-      → lanes_from config from (courses ++ c ∷ []) ≡ lanes_from config from courses ++ lane_of config place c ∷ []
-  lanes_push from place [] c at = let same : from ≡ place = omega arith in ap (λ p. lane_of config p c ∷ []) same
-  lanes_push from place (first ∷ courses) c at = ap (λ lanes. lane_of config from first ∷ lanes) (lanes_push (from + 1) place courses c (omega arith))
+  -- a processor more
+  processors_push : (from place : ℕ) (script_states : List ScriptState) (c : ScriptState) → place ≡ from + length script_states
+      → processors_from config from (script_states ++ c ∷ []) ≡ processors_from config from script_states ++ processor_of config place c ∷ []
+  processors_push from place [] c at = let same : from ≡ place = omega arith in ap (λ p. processor_of config p c ∷ []) same
+  processors_push from place (first ∷ script_states) c at = ap (λ processors. processor_of config from first ∷ processors) (processors_push (from + 1) place script_states c (omega arith))
 
-  lanes_length : (from : ℕ) (courses : List Course) → length (lanes_from config from courses) ≡ length courses
-  lanes_length from [] = refl
-  lanes_length from (c ∷ courses) = ap suc (lanes_length (from + 1) courses)
+  processors_length : (from : ℕ) (script_states : List ScriptState) → length (processors_from config from script_states) ≡ length script_states
+  processors_length from [] = refl
+  processors_length from (c ∷ script_states) = ap suc (processors_length (from + 1) script_states)
 
-  -- the lane of a script of which no line has ended
-  fresh_lane : (board : ℕ) (script : List ScriptLine) → slice_get config.scripts board ≡ Some script
-      → record { script = script; lines = map unfinished script; ended = 0; at = None } ≡ lane_of config board (course [] [])
-  fresh_lane board script found =
-      let lane : List ScriptLine → LaneView = λ s. record { script = s; lines = told_lines s []; ended = 0; at = None } in
-      let untold : LaneView = record { script = script; lines = map unfinished script; ended = 0; at = None } in
-      let at_none : untold ≡ lane script = rw (told_none script) refl in
-      at_none ∙ ap lane (sym (get_or_from_slice_get config.scripts board script [] found))
+  -- the processor of a script of which no line has ended
+  fresh_processor : (board : ℕ) (script : List ScriptLine) → slice_get config.scripts board ≡ Some script
+      → record { script = script; lines = map unfinished script; ended = 0; at = None } ≡ processor_of config board (script_state [] [])
+  fresh_processor board script found =
+      let processor : List ScriptLine → ProcessorView = λ s. record { script = s; lines = told_lines s []; ended = 0; at = None } in
+      let untold : ProcessorView = record { script = script; lines = map unfinished script; ended = 0; at = None } in
+      let at_none : untold ≡ processor script = rw (told_none script) refl in
+      at_none ∙ ap processor (sym (get_or_from_slice_get config.scripts board script [] found))
 
-  pub lanes_next : (board : ℕ) (script : List ScriptLine) → slice_get config.scripts board ≡ Some script
-      → lanes_from config 0 (map fresh_course (take board config.scripts)) ++ record { script = script; lines = map unfinished script; ended = 0; at = None } ∷ []
-      ≡ lanes_from config 0 (map fresh_course (take (board + 1) config.scripts))
-  lanes_next board script found =
+  pub processors_next : (board : ℕ) (script : List ScriptLine) → slice_get config.scripts board ≡ Some script
+      → processors_from config 0 (map fresh_script_state (take board config.scripts)) ++ record { script = script; lines = map unfinished script; ended = 0; at = None } ∷ []
+      ≡ processors_from config 0 (map fresh_script_state (take (board + 1) config.scripts))
+  processors_next board script found =
       let within = slice_get_within config.scripts board script found in
-      let courses : List Course = map fresh_course (take board config.scripts) in
-      ap (λ lane. lanes_from config 0 courses ++ lane ∷ []) (fresh_lane board script found)
-      ∙ sym (lanes_push 0 board courses (course [] []) (omega (arith, length-map (take board config.scripts) fresh_course, length-take-le board config.scripts (omega arith))))
-      ∙ ap (lanes_from config 0)
-      (sym (map_next fresh_course config.scripts board (course [] []) (get_map fresh_course config.scripts board ∙ ap (option_map fresh_course) found)))
+      let script_states : List ScriptState = map fresh_script_state (take board config.scripts) in
+      ap (λ processor. processors_from config 0 script_states ++ processor ∷ []) (fresh_processor board script found)
+      ∙ sym (processors_push 0 board script_states (script_state [] []) (omega (arith, length-map (take board config.scripts) fresh_script_state, length-take-le board config.scripts (omega arith))))
+      ∙ ap (processors_from config 0)
+      (sym (map_next fresh_script_state config.scripts board (script_state [] []) (get_map fresh_script_state config.scripts board ∙ ap (option_map fresh_script_state) found)))
 
-  -- the driver of the opening world, by its parts
-  pub opens : (machine : Machine) (lanes : List LaneView) (memories : List Board) (bus : Arbitration) (k : ℕ) → machine ≡ opening memories bus k
-      → memories ≡ map opening_memory config.boards → bus ≡ opening_bus config.arbiter → k ≡ length config.boards → lanes ≡ lanes_from config 0 (opening_world config).courses
-      → record { machine = machine; lanes = lanes } ≡ driver_of config (opening_world config)
-  opens machine lanes memories bus k is zeros kind whos own = rw (is, zeros, kind, whos, own) refl
+  -- the stepper of the opening system, by its parts
+  pub opens : (machine : Machine) (processors : List ProcessorView) (memories : List Board) (bus : Arbitration) (k : ℕ) → machine ≡ opening memories bus k
+      → memories ≡ map opening_memory config.boards → bus ≡ opening_bus config.arbiter → k ≡ length config.boards → processors ≡ processors_from config 0 (initial_state config).script_states
+      → record { machine = machine; processors = processors } ≡ stepper_of config (initial_state config)
+  opens machine processors memories bus k is zeros kind whos own = rw (is, zeros, kind, whos, own) refl
 
-  by_script : (b : ℕ) (lane : LaneView) (found : Option (List ScriptLine)) → slice_get config.scripts b ≡ found
-      → option_map (lane_of config b) (option_map fresh_course found) ≡ Some lane → IsLaneOf config b lane
-  by_script b lane None is at = absurd (cc at)
-  by_script b lane (Some script) is at =
-      subst (IsLaneOf config b) (same_Some _ _ at)
+  by_script : (b : ℕ) (processor : ProcessorView) (found : Option (List ScriptLine)) → slice_get config.scripts b ≡ found
+      → option_map (processor_of config b) (option_map fresh_script_state found) ≡ Some processor → IsProcessorOf config b processor
+  by_script b processor None is at = absurd (cc at)
+  by_script b processor (Some script) is at =
+      subst (IsProcessorOf config b) (same_Some _ _ at)
       (record {
         script = refl;
         lines = told_length (script_at config b) [] ∙ sym (length-map (script_at config b) (λ (one : ScriptLine). one.line));
         below = tt;
       })
 
-  pub opens_soundly : IsLawful config → IsDriverOf config (driver_of config (opening_world config))
+  pub opens_soundly : IsLawful config → IsStepperOf config (stepper_of config (initial_state config))
   opens_soundly lawful = record {
     boards = length-map (map opening_memory config.boards) (fresh_tally (length config.boards)) ∙ length-map config.boards opening_memory;
     whos = length-replicate (length config.boards) 0;
-    count = lanes_length 0 (map fresh_course config.scripts) ∙ length-map config.scripts fresh_course ∙ lawful.scripts;
-    each = λ b lane found.
-        by_script b lane (slice_get config.scripts b) refl
-        (ap (option_map (lane_of config b)) (sym (get_map fresh_course config.scripts b))
-        ∙ sym (lanes_get config 0 b b (map fresh_course config.scripts) (omega arith)) ∙ found);
+    count = processors_length 0 (map fresh_script_state config.scripts) ∙ length-map config.scripts fresh_script_state ∙ lawful.scripts;
+    each = λ b processor found.
+        by_script b processor (slice_get config.scripts b) refl
+        (ap (option_map (processor_of config b)) (sym (get_map fresh_script_state config.scripts b))
+        ∙ sym (processors_get config 0 b b (map fresh_script_state config.scripts) (omega arith)) ∙ found);
   }

@@ -6,30 +6,30 @@ use Rattle.std.proofs.lemmas.List.Sums.{sum_by-cons, sum_by_push, sum_by-take-le
 use Rattle.vme_script.specs.Configurations.{Configuration}
 use Rattle.vme_script.specs.Schedules.{turns_of}
 use Rattle.vme_script.specs.Lawful.{IsLawful}
-use Rattle.vme_stepper.specs.Turns.{place_of, world_after}
+use Rattle.vme_stepper.specs.Turns.{place_of, state_after}
 use Rattle.vme_stepper.specs.Schedules.{schedule_turns, round_turns}
-use Rattle.vme_stepper.specs.Drivers.{DriverView, driver_turn_at, driver_of, StepsWithin}
-use Rattle.vme_stepper.proofs.Worlds.{world_more}
+use Rattle.vme_stepper.specs.Steppers.{StepperView, stepper_turn_at, stepper_of, StepsWithin}
+use Rattle.vme_stepper.proofs.SystemStates.{system_more}
 use Rattle.vme_stepper.proofs.Steps.{steps_after}
 
 -- one turn more
-pub turn_more : (config : Configuration) (driver : DriverView) (before : List ℕ) (slot : ℕ) (place : Option ℕ) → driver ≡ driver_of config (world_after config before)
-    → place ≡ place_of config slot → driver_turn_at config driver place ≡ driver_of config (world_after config (before ++ slot ∷ []))
-turn_more config driver before slot place is at = rw (is, at) (sym (world_more config before slot))
+pub turn_more : (config : Configuration) (stepper : StepperView) (before : List ℕ) (slot : ℕ) (place : Option ℕ) → stepper ≡ stepper_of config (state_after config before)
+    → place ≡ place_of config slot → stepper_turn_at config stepper place ≡ stepper_of config (state_after config (before ++ slot ∷ []))
+turn_more config stepper before slot place is at = rw (is, at) (sym (system_more config before slot))
 
 -- few turns leave room for steps
-pub few_steps : (config : Configuration) (driver : DriverView) (before : List ℕ) → driver ≡ driver_of config (world_after config before)
-    → length before ≤ 2 ^ 64 - 2 → StepsWithin (2 ^ 64 - 2) driver.machine
-few_steps config driver before is few = subst (λ (d : DriverView). StepsWithin (2 ^ 64 - 2) d.machine) (sym is) (steps_after config (2 ^ 64 - 2) before few)
+pub few_steps : (config : Configuration) (stepper : StepperView) (before : List ℕ) → stepper ≡ stepper_of config (state_after config before)
+    → length before ≤ 2 ^ 64 - 2 → StepsWithin (2 ^ 64 - 2) stepper.machine
+few_steps config stepper before is few = subst (λ (d : StepperView). StepsWithin (2 ^ 64 - 2) d.machine) (sym is) (steps_after config (2 ^ 64 - 2) before few)
 
 -- turns of a slot without a board do nothing
 pub none_more : (config : Configuration) (before : List ℕ) (slot n : ℕ) → None ≡ place_of config slot
-    → driver_of config (world_after config before) ≡ driver_of config (world_after config (before ++ replicate n slot))
-none_more config before slot zero none = ap (λ slots. driver_of config (world_after config slots)) (sym (append-nil before))
+    → stepper_of config (state_after config before) ≡ stepper_of config (state_after config (before ++ replicate n slot))
+none_more config before slot zero none = ap (λ slots. stepper_of config (state_after config slots)) (sym (append-nil before))
 none_more config before slot (suc n) none =
-    turn_more config (driver_of config (world_after config before)) before slot None refl none
+    turn_more config (stepper_of config (state_after config before)) before slot None refl none
     ∙ none_more config (before ++ slot ∷ []) slot n none
-    ∙ ap (λ slots. driver_of config (world_after config slots)) (append_assoc before (slot ∷ []) (replicate n slot))
+    ∙ ap (λ slots. stepper_of config (state_after config slots)) (append_assoc before (slot ∷ []) (replicate n slot))
 
 -- the turns of one pair more
 pub schedule_more : (schedule : List (ℕ × ℕ)) (i : ℕ) → i < length schedule

@@ -12,10 +12,10 @@ use Rattle.vme_core.specs.Machines.{steps_of}
 use Rattle.vme_memory.specs.Steps.{Command}
 use Rattle.vme_grammar.specs.declared.line.Line.{Line}
 use Rattle.vme_script.specs.Configurations.{Configuration, opening_memory}
-use Rattle.vme_line_task.specs.Tables.{LineNext, Rests, Makes, Ends, line_next}
-use Rattle.vme_line_task.specs.Courses.{Course}
-use Rattle.vme_stepper.specs.Turns.{World, course, turn_by, course_turn, lines_left, turn_in, turn_at, turn, place_of, run, opening_world, world_after}
-use Rattle.vme_stepper.specs.Drivers.{StepsWithin}
+use Rattle.vme_line_task.specs.Tables.{LineNext, NotStarted, Invokes, Returns, line_next}
+use Rattle.vme_line_task.specs.Traces.{ScriptState}
+use Rattle.vme_stepper.specs.Turns.{SystemState, script_state, turn_by, script_state_turn, lines_left, turn_in, turn_at, turn, place_of, run, initial_state, state_after}
+use Rattle.vme_stepper.specs.Steppers.{StepsWithin}
 use Rattle.vme_stepper.proofs.Told.{get_map}
 
 -- what holds of each element holds after one of them is another
@@ -54,38 +54,38 @@ machine_steps n machine who (OnBus cmd) steps = record {
 }
 
 module _ (config : Configuration) where
-  line_steps : (n board : ℕ) (line : Line) (machine : Machine) (c : Course) (next : LineNext) (after : Course → Machine × Course)
-      → ((now : Course) → StepsWithin (n + 1) (after now).0) → StepsWithin n machine
+  line_steps : (n board : ℕ) (line : Line) (machine : Machine) (c : ScriptState) (next : LineNext) (after : ScriptState → Machine × ScriptState)
+      → ((now : ScriptState) → StepsWithin (n + 1) (after now).0) → StepsWithin n machine
       → StepsWithin (n + 1) (turn_by config board line machine c next after).0
-  line_steps n board line machine c Rests after others steps = steps_weaker n (n + 1) machine (omega arith) steps
-  line_steps n board line machine c (Makes call) after others steps = machine_steps n machine board call steps
-  line_steps n board line machine c (Ends answer) after others steps = others (course (c.ended ++ answer ∷ []) [])
+  line_steps n board line machine c NotStarted after others steps = steps_weaker n (n + 1) machine (omega arith) steps
+  line_steps n board line machine c (Invokes call) after others steps = machine_steps n machine board call steps
+  line_steps n board line machine c (Returns answer) after others steps = others (script_state (c.ended ++ answer ∷ []) [])
 
-  course_steps : (n board : ℕ) (lines : List Line) (machine : Machine) (c : Course) → StepsWithin n machine
-      → StepsWithin (n + 1) (course_turn config board lines machine c).0
-  course_steps n board [] machine c steps = steps_weaker n (n + 1) machine (omega arith) steps
-  course_steps n board (line ∷ lines) machine c steps =
-      line_steps n board line machine c (line_next config board line c.replies) (λ now. course_turn config board lines machine now)
-      (λ now. course_steps n board lines machine now steps) steps
+  script_state_steps : (n board : ℕ) (lines : List Line) (machine : Machine) (c : ScriptState) → StepsWithin n machine
+      → StepsWithin (n + 1) (script_state_turn config board lines machine c).0
+  script_state_steps n board [] machine c steps = steps_weaker n (n + 1) machine (omega arith) steps
+  script_state_steps n board (line ∷ lines) machine c steps =
+      line_steps n board line machine c (line_next config board line c.replies) (λ now. script_state_turn config board lines machine now)
+      (λ now. script_state_steps n board lines machine now steps) steps
 
-  in_steps : (n : ℕ) (world : World) (board : ℕ) (found : Option Course) → StepsWithin n world.machine
-      → StepsWithin (n + 1) (turn_in config world board found).machine
-  in_steps n world board None steps = steps_weaker n (n + 1) world.machine (omega arith) steps
-  in_steps n world board (Some c) steps = course_steps n board (lines_left config board c) world.machine c steps
+  in_steps : (n : ℕ) (system : SystemState) (board : ℕ) (found : Option ScriptState) → StepsWithin n system.machine
+      → StepsWithin (n + 1) (turn_in config system board found).machine
+  in_steps n system board None steps = steps_weaker n (n + 1) system.machine (omega arith) steps
+  in_steps n system board (Some c) steps = script_state_steps n board (lines_left config board c) system.machine c steps
 
-  at_steps : (n : ℕ) (world : World) (place : Option ℕ) → StepsWithin n world.machine → StepsWithin (n + 1) (turn_at config world place).machine
-  at_steps n world None steps = steps_weaker n (n + 1) world.machine (omega arith) steps
-  at_steps n world (Some board) steps = in_steps n world board (slice_get world.courses board) steps
+  at_steps : (n : ℕ) (system : SystemState) (place : Option ℕ) → StepsWithin n system.machine → StepsWithin (n + 1) (turn_at config system place).machine
+  at_steps n system None steps = steps_weaker n (n + 1) system.machine (omega arith) steps
+  at_steps n system (Some board) steps = in_steps n system board (slice_get system.script_states board) steps
 
-  turn_steps : (n : ℕ) (world : World) (slot : ℕ) → StepsWithin n world.machine → StepsWithin (n + 1) (turn config world slot).machine
+  turn_steps : (n : ℕ) (system : SystemState) (slot : ℕ) → StepsWithin n system.machine → StepsWithin (n + 1) (turn config system slot).machine
   unfolding turn
-  turn_steps n world slot steps = at_steps n world (place_of config slot) steps
+  turn_steps n system slot steps = at_steps n system (place_of config slot) steps
 
-  run_steps : (n : ℕ) (world : World) (slots : List ℕ) → StepsWithin n world.machine → StepsWithin (length slots + n) (run config world slots).machine
-  run_steps n world [] steps = steps_weaker n (0 + n) world.machine (omega arith) steps
-  run_steps n world (slot ∷ slots) steps =
-      steps_weaker (length slots + (n + 1)) (suc (length slots) + n) (run config (turn config world slot) slots).machine (omega arith)
-      (run_steps (n + 1) (turn config world slot) slots (turn_steps n world slot steps))
+  run_steps : (n : ℕ) (system : SystemState) (slots : List ℕ) → StepsWithin n system.machine → StepsWithin (length slots + n) (run config system slots).machine
+  run_steps n system [] steps = steps_weaker n (0 + n) system.machine (omega arith) steps
+  run_steps n system (slot ∷ slots) steps =
+      steps_weaker (length slots + (n + 1)) (suc (length slots) + n) (run config (turn config system slot) slots).machine (omega arith)
+      (run_steps (n + 1) (turn config system slot) slots (turn_steps n system slot steps))
 
   -- before the first turn there is no step
   fresh_steps : (memories : List Board) (b : ℕ) (tally : Tally Board) (k : ℕ) → slice_get (map (fresh_tally k) memories) b ≡ Some tally → tally.steps ≤ 0
@@ -94,11 +94,11 @@ module _ (config : Configuration) where
   fresh_steps (memory ∷ memories) (suc b) tally k found = fresh_steps memories b tally k found
 
   -- after so many turns no object has made more steps
-  pub steps_after : (most : ℕ) (slots : List ℕ) → length slots ≤ most → StepsWithin most (world_after config slots).machine
-  unfolding world_after
+  pub steps_after : (most : ℕ) (slots : List ℕ) → length slots ≤ most → StepsWithin most (state_after config slots).machine
+  unfolding state_after
   steps_after most slots few =
-      steps_weaker (length slots + 0) most (run config (opening_world config) slots).machine (omega arith)
-      (run_steps 0 (opening_world config) slots
+      steps_weaker (length slots + 0) most (run config (initial_state config) slots).machine (omega arith)
+      (run_steps 0 (initial_state config) slots
       (record { boards = λ b tally found. fresh_steps (map opening_memory config.boards) b tally (length config.boards) found; bus = omega arith }))
 
 board_unspent : (machine : Machine) (board : ℕ) (found : Option (Tally Board)) → slice_get machine.boards board ≡ found

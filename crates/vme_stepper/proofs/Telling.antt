@@ -12,10 +12,10 @@ use Rattle.vme_script.specs.declared.script.ScriptLine.{ScriptLine}
 use Rattle.vme_script.specs.Configurations.{Configuration}
 use Rattle.vme_script.specs.Lawful.{IsLawful}
 use Rattle.vme_line_task.specs.Scripts.{script_at}
-use Rattle.vme_line_task.specs.Courses.{Course}
-use Rattle.vme_stepper.specs.Reports.{told_boards, told_world}
-use Rattle.vme_stepper.specs.Turns.{World, world_after}
-use Rattle.vme_stepper.specs.Drivers.{LaneView, DriverView, lanes_told, lanes_from, driver_of}
+use Rattle.vme_line_task.specs.Traces.{ScriptState}
+use Rattle.vme_stepper.specs.Reports.{told_boards, reported_system}
+use Rattle.vme_stepper.specs.Turns.{SystemState, state_after}
+use Rattle.vme_stepper.specs.Steppers.{ProcessorView, StepperView, processors_told, processors_from, stepper_of}
 use Rattle.vme_stepper.proofs.Told.{get_map}
 use Rattle.vme_stepper.proofs.Places.{slot_found}
 use Rattle.vme_stepper.proofs.Turning.{next_first}
@@ -26,56 +26,56 @@ tally_is : {B : Type 0} (f : Tally Board → B) (tallies : List (Tally Board)) (
 tally_is f tallies i tally y at found = same_Some _ _ (sym (rw at at (get_map f tallies i)) ∙ found)
 
 -- one board more is told
-pub board_more : (boards : List BoardConfig) (lanes : List LaneView) (tallies : List (Tally Board)) (i slot steps : ℕ) (lane : LaneView) (lines : List (ℕ × LineReply)) (object : Board)
+pub board_more : (boards : List BoardConfig) (processors : List ProcessorView) (tallies : List (Tally Board)) (i slot steps : ℕ) (processor : ProcessorView) (lines : List (ℕ × LineReply)) (object : Board)
     (made : List ℕ)
-    → slice_get (map (λ board. board.slot) boards) i ≡ Some slot → i < length lanes → lane ≡ get_or lanes i lane → lines ≡ lane.lines
+    → slice_get (map (λ board. board.slot) boards) i ≡ Some slot → i < length processors → processor ≡ get_or processors i processor → lines ≡ processor.lines
     → i < length tallies
     → slice_get (map (λ t. t.object) tallies) i ≡ Some object → slice_get (map (λ t. t.steps) tallies) i ≡ Some steps
     → slice_get (map (λ t. t.made) tallies) i ≡ Some made
-    → lanes_told (drop i boards) (drop i lanes) (drop i tallies)
+    → processors_told (drop i boards) (drop i processors) (drop i tallies)
     ≡ record { slot = slot; lines = lines; bytes = object.bytes; steps = steps; made = made }
-    ∷ lanes_told (drop (i + 1) boards) (drop (i + 1) lanes) (drop (i + 1) tallies)
-board_more boards lanes tallies i slot steps lane lines object made of_slot there read of_lane within of_object of_steps of_made =
+    ∷ processors_told (drop (i + 1) boards) (drop (i + 1) processors) (drop (i + 1) tallies)
+board_more boards processors tallies i slot steps processor lines object made of_slot there read of_processor within of_object of_steps of_made =
     let own = slot_found boards i slot of_slot in
     elim (slice_get_cases tallies i).1 [
       | inl at ↦
-          rw (next_first boards i own.0 own.1, next_first lanes i lane (slice_get_read lanes (length lanes) i lane refl there read), next_first tallies i at.0 at.2)
+          rw (next_first boards i own.0 own.1, next_first processors i processor (slice_get_read processors (length processors) i processor refl there read), next_first tallies i at.0 at.2)
           (rw (
             own.2,
             tally_is (λ t. t.steps) tallies i at.0 steps at.2 of_steps,
             tally_is (λ t. t.made) tallies i at.0 made at.2 of_made,
             tally_is (λ t. t.object) tallies i at.0 object at.2 of_object,
-            of_lane,
+            of_processor,
           ) refl)
       | inr past ↦ absurd (omega (arith, past.0))
     ]
 
 -- after the last board nothing is left to tell
-pub board_over : (boards : List BoardConfig) (lanes : List LaneView) (tallies : List (Tally Board)) (i : ℕ) (told : List BoardText) → length boards ≤ i
-    → told ++ lanes_told (drop i boards) (drop i lanes) (drop i tallies) ≡ lanes_told boards lanes tallies → told ≡ lanes_told boards lanes tallies
-board_over boards lanes tallies i told over whole = sym (append-nil told) ∙ ap (λ ts. told ++ ts) (sym (rw (drop_all i boards over) refl)) ∙ whole
+pub board_over : (boards : List BoardConfig) (processors : List ProcessorView) (tallies : List (Tally Board)) (i : ℕ) (told : List BoardText) → length boards ≤ i
+    → told ++ processors_told (drop i boards) (drop i processors) (drop i tallies) ≡ processors_told boards processors tallies → told ≡ processors_told boards processors tallies
+board_over boards processors tallies i told over whole = sym (append-nil told) ∙ ap (λ ts. told ++ ts) (sym (rw (drop_all i boards over) refl)) ∙ whole
 
--- what is told by the lanes is what is told of their courses
-courses_told : (config : Configuration) (boards : List BoardConfig) (scripts : List (List ScriptLine)) (courses : List Course) (tallies : List (Tally Board)) (from : ℕ)
+-- what is told by the processors is what is told of their script_states
+script_states_told : (config : Configuration) (boards : List BoardConfig) (scripts : List (List ScriptLine)) (script_states : List ScriptState) (tallies : List (Tally Board)) (from : ℕ)
     → drop from config.scripts ≡ scripts → length scripts ≡ length boards
-    → lanes_told boards (lanes_from config from courses) tallies ≡ told_boards boards scripts courses tallies
-courses_told config [] scripts courses tallies from are count = refl
-courses_told config (board ∷ boards) [] courses tallies from are count = absurd (omega (arith, count))
-courses_told config (board ∷ boards) (script ∷ scripts) [] tallies from are count = refl
-courses_told config (board ∷ boards) (script ∷ scripts) (c ∷ courses) [] from are count = refl
-courses_told config (board ∷ boards) (script ∷ scripts) (c ∷ courses) (tally ∷ tallies) from are count =
+    → processors_told boards (processors_from config from script_states) tallies ≡ told_boards boards scripts script_states tallies
+script_states_told config [] scripts script_states tallies from are count = refl
+script_states_told config (board ∷ boards) [] script_states tallies from are count = absurd (omega (arith, count))
+script_states_told config (board ∷ boards) (script ∷ scripts) [] tallies from are count = refl
+script_states_told config (board ∷ boards) (script ∷ scripts) (c ∷ script_states) [] from are count = refl
+script_states_told config (board ∷ boards) (script ∷ scripts) (c ∷ script_states) (tally ∷ tallies) from are count =
     let there : from + 0 ≡ from = omega arith in
     let own : script_at config from ≡ script
     = ap (λ n. get_or config.scripts n []) (sym there) ∙ sym (get_or-drop from config.scripts 0 []) ∙ ap (λ (ss : List (List ScriptLine)). get_or ss 0 []) are in
     let after : drop (from + 1) config.scripts ≡ scripts = sym (drop-drop 1 from config.scripts) ∙ ap (λ (ss : List (List ScriptLine)). drop 1 ss) are in
-    rw (own, courses_told config boards scripts courses tallies (from + 1) after (omega (arith, count))) refl
+    rw (own, script_states_told config boards scripts script_states tallies (from + 1) after (omega (arith, count))) refl
 
-pub world_told : (config : Configuration) (world : World) → length config.scripts ≡ length config.boards
-    → lanes_told config.boards (driver_of config world).lanes (driver_of config world).machine.boards ≡ told_world config world
-world_told config world count = courses_told config config.boards config.scripts world.courses world.machine.boards 0 refl count
+pub system_reported : (config : Configuration) (system : SystemState) → length config.scripts ≡ length config.boards
+    → processors_told config.boards (stepper_of config system).processors (stepper_of config system).machine.boards ≡ reported_system config system
+system_reported config system count = script_states_told config config.boards config.scripts system.script_states system.machine.boards 0 refl count
 
--- what a driver tells after turns is what is told of their world
-pub driver_told : (config : Configuration) (driver : DriverView) (slots : List ℕ) → IsLawful config → driver ≡ driver_of config (world_after config slots)
-    → lanes_told config.boards driver.lanes driver.machine.boards ≡ told_world config (world_after config slots)
-driver_told config driver slots lawful is =
-    ap (λ (d : DriverView). lanes_told config.boards d.lanes d.machine.boards) is ∙ world_told config (world_after config slots) lawful.scripts
+-- what a stepper tells after turns is what is told of their system
+pub stepper_told : (config : Configuration) (stepper : StepperView) (slots : List ℕ) → IsLawful config → stepper ≡ stepper_of config (state_after config slots)
+    → processors_told config.boards stepper.processors stepper.machine.boards ≡ reported_system config (state_after config slots)
+stepper_told config stepper slots lawful is =
+    ap (λ (d : StepperView). processors_told config.boards d.processors d.machine.boards) is ∙ system_reported config (state_after config slots) lawful.scripts

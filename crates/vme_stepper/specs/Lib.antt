@@ -1,4 +1,4 @@
 pub mod Turns
 pub mod Schedules
 pub mod Reports
-pub mod Drivers
+pub mod Steppers

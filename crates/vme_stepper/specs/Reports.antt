@@ -10,8 +10,8 @@ use Rattle.vme_report.specs.Reports.{report_text, report_status}
 use Rattle.vme_script.specs.declared.board.BoardConfig.{BoardConfig}
 use Rattle.vme_script.specs.declared.script.ScriptLine.{ScriptLine}
 use Rattle.vme_script.specs.Configurations.{Configuration}
-use Rattle.vme_line_task.specs.Courses.{Course}
-use Rattle.vme_stepper.specs.Turns.{World, world_after}
+use Rattle.vme_line_task.specs.Traces.{ScriptState}
+use Rattle.vme_stepper.specs.Turns.{SystemState, state_after}
 
 -- the numbers of a script's lines, each with its answer; a line without one is unfinished (this project's own)
 abbrev pub told_lines : List ScriptLine → List LineReply → List (ℕ × LineReply)
@@ -20,7 +20,7 @@ told_lines (line ∷ script) [] = (line.number, Unfinished) ∷ told_lines scrip
 told_lines (line ∷ script) (answer ∷ ended) = (line.number, answer) ∷ told_lines script ended
 
 -- what is told of a board (this project's own)
-abbrev pub told_board : BoardConfig → List ScriptLine → Course → Tally Board → BoardText
+abbrev pub told_board : BoardConfig → List ScriptLine → ScriptState → Tally Board → BoardText
 told_board board script c tally = record {
   slot = board.slot;
   lines = told_lines script c.ended;
@@ -30,19 +30,19 @@ told_board board script c tally = record {
 }
 
 -- what is told of boards, in order of slots (this project's own)
-abbrev pub told_boards : List BoardConfig → List (List ScriptLine) → List Course → List (Tally Board) → List BoardText
-told_boards (board ∷ boards) (script ∷ scripts) (c ∷ courses) (tally ∷ tallies) =
-    told_board board script c tally ∷ told_boards boards scripts courses tallies
-told_boards boards scripts courses tallies = []
+abbrev pub told_boards : List BoardConfig → List (List ScriptLine) → List ScriptState → List (Tally Board) → List BoardText
+told_boards (board ∷ boards) (script ∷ scripts) (c ∷ script_states) (tally ∷ tallies) =
+    told_board board script c tally ∷ told_boards boards scripts script_states tallies
+told_boards boards scripts script_states tallies = []
 
--- what is told of a world (this project's own)
-abbrev pub told_world : Configuration → World → List BoardText
-told_world config world = told_boards config.boards config.scripts world.courses world.machine.boards
+-- what is told of a system (this project's own)
+abbrev pub reported_system : Configuration → SystemState → List BoardText
+reported_system config system = told_boards config.boards config.scripts system.script_states system.machine.boards
 
 -- the text of a run of these slots' turns (this project's own)
 abbrev pub run_text : Configuration → List ℕ → List ℕ
-run_text config slots = report_text (told_world config (world_after config slots))
+run_text config slots = report_text (reported_system config (state_after config slots))
 
 -- whether each line has a good answer (this project's own)
 abbrev pub run_status : Configuration → List ℕ → Status
-run_status config slots = report_status (told_world config (world_after config slots))
+run_status config slots = report_status (reported_system config (state_after config slots))

@@ -10,82 +10,82 @@ use Rattle.vme_shared.specs.declared.reply.LineReply.{LineReply}
 use Rattle.vme_grammar.specs.declared.line.Line.{Line}
 use Rattle.vme_script.specs.Configurations.{Configuration, opening_memory}
 use Rattle.vme_line_task.specs.Scripts.{lines_at}
-use Rattle.vme_line_task.specs.Tables.{LineNext, Makes, Ends, line_next}
-use Rattle.vme_line_task.specs.Courses.{Course}
+use Rattle.vme_line_task.specs.Tables.{LineNext, Invokes, Returns, line_next}
+use Rattle.vme_line_task.specs.Traces.{ScriptState}
 
 -- the boards and the arbiter with their counts, and how far each processor has come in its script, by the board's place
 -- (this project's own)
-pub record World : Type 0 where
+pub record SystemState : Type 0 where
   pub machine : Machine
-  pub courses : List Course
+  pub script_states : List ScriptState
 
--- a course by its parts (this project's own)
-abbrev pub course : List LineReply → List EventReply → Course
-course ended replies = record { ended = ended; replies = replies }
+-- a script_state by its parts (this project's own)
+abbrev pub script_state : List LineReply → List EventReply → ScriptState
+script_state ended replies = record { ended = ended; replies = replies }
 
 -- a line that was given these replies: where it has ended, its answer is recorded, and the line after it is the next
 -- (this project's own)
-abbrev pub settled : List LineReply → List EventReply → LineNext → Course
-settled ended replies (Ends answer) = course (ended ++ answer ∷ []) []
-settled ended replies next = course ended replies
+abbrev pub settled : List LineReply → List EventReply → LineNext → ScriptState
+settled ended replies (Returns answer) = script_state (ended ++ answer ∷ []) []
+settled ended replies next = script_state ended replies
 
 -- the line at work makes its call as this who, and is given the reply (this project's own)
-abbrev pub call_made : Configuration → ℕ → Line → Machine → Course → Call → Machine × Course
+abbrev pub call_made : Configuration → ℕ → Line → Machine → ScriptState → Call → Machine × ScriptState
 call_made config board line machine c call =
     let step = machine_step machine board call in
     (step.0, settled c.ended (step.1 ∷ c.replies) (line_next config board line (step.1 ∷ c.replies)))
 
 -- a line with a call to make makes it; one that has ended without one is answered, and the lines after it have the turn; no line
 -- rests once it is called (this project's own)
-abbrev pub turn_by : Configuration → ℕ → Line → Machine → Course → LineNext → (Course → Machine × Course) → Machine × Course
-turn_by config board line machine c (Makes call) after = call_made config board line machine c call
-turn_by config board line machine c (Ends answer) after = after (course (c.ended ++ answer ∷ []) [])
+abbrev pub turn_by : Configuration → ℕ → Line → Machine → ScriptState → LineNext → (ScriptState → Machine × ScriptState) → Machine × ScriptState
+turn_by config board line machine c (Invokes call) after = call_made config board line machine c call
+turn_by config board line machine c (Returns answer) after = after (script_state (c.ended ++ answer ∷ []) [])
 turn_by config board line machine c next after = (machine, c)
 
 -- a turn of a board's processor, with these lines left: lines that need no call are answered, and the first that needs one
 -- makes it; with no line left there is nothing to do (this project's own)
-abbrev pub course_turn : Configuration → ℕ → List Line → Machine → Course → Machine × Course
-course_turn config board [] machine c = (machine, c)
-course_turn config board (line ∷ lines) machine c =
-    turn_by config board line machine c (line_next config board line c.replies) (course_turn config board lines machine)
+abbrev pub script_state_turn : Configuration → ℕ → List Line → Machine → ScriptState → Machine × ScriptState
+script_state_turn config board [] machine c = (machine, c)
+script_state_turn config board (line ∷ lines) machine c =
+    turn_by config board line machine c (line_next config board line c.replies) (script_state_turn config board lines machine)
 
 -- the lines of a processor's script that have no answer yet (this project's own)
-abbrev pub lines_left : Configuration → ℕ → Course → List Line
+abbrev pub lines_left : Configuration → ℕ → ScriptState → List Line
 lines_left config board c = drop (length c.ended) (lines_at config board)
 
--- a turn of a board's processor in the world (this project's own)
-abbrev pub turn_in : Configuration → World → ℕ → Option Course → World
-turn_in config world board None = world
-turn_in config world board (Some c) =
-    let next = course_turn config board (lines_left config board c) world.machine c in
-    record { machine = next.0; courses = slice_set world.courses board next.1 }
+-- a turn of a board's processor in the system (this project's own)
+abbrev pub turn_in : Configuration → SystemState → ℕ → Option ScriptState → SystemState
+turn_in config system board None = system
+turn_in config system board (Some c) =
+    let next = script_state_turn config board (lines_left config board c) system.machine c in
+    record { machine = next.0; script_states = slice_set system.script_states board next.1 }
 
 -- a turn at the place of a board, if there is one (this project's own)
-abbrev pub turn_at : Configuration → World → Option ℕ → World
-turn_at config world None = world
-turn_at config world (Some board) = turn_in config world board (slice_get world.courses board)
+abbrev pub turn_at : Configuration → SystemState → Option ℕ → SystemState
+turn_at config system None = system
+turn_at config system (Some board) = turn_in config system board (slice_get system.script_states board)
 
 -- the place of the board in a slot, if there is one (this project's own)
 abbrev pub place_of : Configuration → ℕ → Option ℕ
 place_of config slot = position (λ board. board.slot == slot) config.boards
 
 -- a turn of a slot; one without a board does nothing (this project's own)
-unfoldable pub turn : Configuration → World → ℕ → World
-turn config world slot = turn_at config world (place_of config slot)
+unfoldable pub turn : Configuration → SystemState → ℕ → SystemState
+turn config system slot = turn_at config system (place_of config slot)
 
 -- turns of slots, one after another (this project's own)
-abbrev pub run : Configuration → World → List ℕ → World
-run config world [] = world
-run config world (slot ∷ slots) = run config (turn config world slot) slots
+abbrev pub run : Configuration → SystemState → List ℕ → SystemState
+run config system [] = system
+run config system (slot ∷ slots) = run config (turn config system slot) slots
 
 -- before the first turn: memories of zeros, a free bus with an arbiter of its kind, nothing counted, and no line answered
 -- (this project's own)
-abbrev pub opening_world : Configuration → World
-opening_world config = record {
+abbrev pub initial_state : Configuration → SystemState
+initial_state config = record {
   machine = opening (map opening_memory config.boards) (opening_bus config.arbiter) (length config.boards);
-  courses = map (λ script. course [] []) config.scripts;
+  script_states = map (λ script. script_state [] []) config.scripts;
 }
 
--- the world after turns of these slots (this project's own)
-unfoldable pub world_after : Configuration → List ℕ → World
-world_after config slots = run config (opening_world config) slots
+-- the system after turns of these slots (this project's own)
+unfoldable pub state_after : Configuration → List ℕ → SystemState
+state_after config slots = run config (initial_state config) slots

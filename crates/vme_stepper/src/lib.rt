@@ -1,10 +1,10 @@
-//! The driver of scripts on one thread: an exact multiprocessor. Slots have turns, one after
+//! The stepper of scripts on one thread: an exact multiprocessor. Slots have turns, one after
 //! another; in its turn a processor does one event of its script, a command to a board's memory or
 //! to the arbiter of the data transfer bus (ANSI/IEEE Std 1014-1987, chapters 2 and 3).
 #![tactic(auto)]
 
-mod driver;
-mod lane;
+mod stepper;
+mod processor;
 mod run;
 
 pub use run::{run_file, run_steps};

@@ -6,7 +6,7 @@ ghost use Rattle.vme_report.specs.Ends.{is_write_end};
 ghost use Rattle.vme_stepper.specs.Schedules.{file_turns};
 ghost use Rattle.vme_stepper.specs.Reports.{run_text, run_status};
 
-use crate::driver::Driver;
+use crate::stepper::Stepper;
 use std::alloc::Global;
 use vme_io::Sink;
 use vme_report::RunFault;
@@ -32,11 +32,11 @@ pub fn run_steps<W: Sink>(
     ensures write { W.is_marked sink.new ≡ is_write_end result }
     ensures faults { IfErr result (λ fault. (fault ≢ RunFault.Thread) × (fault ≢ RunFault.Spent)) }
 {
-    let Ok(mut driver) = Driver::new(alloc, config) else {
+    let Ok(mut stepper) = Stepper::new(alloc, config) else {
         return Err(RunFault::Memory);
     };
-    driver.run(config, slots);
-    driver.report(alloc, config, sink)
+    stepper.run(config, slots);
+    stepper.report(alloc, config, sink)
 }
 
 /// Runs the scripts by the turns of the configuration's file: those of its schedule, and then its
@@ -52,9 +52,9 @@ pub fn run_file<W: Sink>(alloc: Global, config: &Config, sink: &mut W) -> Result
     ensures write { W.is_marked sink.new ≡ is_write_end result }
     ensures faults { IfErr result (λ fault. (fault ≢ RunFault.Thread) × (fault ≢ RunFault.Spent)) }
 {
-    let Ok(mut driver) = Driver::new(alloc, config) else {
+    let Ok(mut stepper) = Stepper::new(alloc, config) else {
         return Err(RunFault::Memory);
     };
-    driver.run_file(config);
-    driver.report(alloc, config, sink)
+    stepper.run_file(config);
+    stepper.report(alloc, config, sink)
 }

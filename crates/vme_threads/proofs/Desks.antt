@@ -14,7 +14,7 @@ use Rattle.vme_arbiter.specs.declared.command.ArbReply.{ArbReply}
 use Rattle.vme_core.specs.declared.event.Event.{Event}
 use Rattle.vme_core.specs.declared.event.Event.TheVariants as asked
 use Rattle.vme_core.specs.declared.event.EventReply.TheVariants as told
-use Rattle.vme_core.specs.Runs.{Move, move, IsReplyTo, board_entry, bus_entry, board_part, bus_part}
+use Rattle.vme_core.specs.Runs.{Transition, move, IsReplyTo, board_entry, bus_entry, board_part, bus_part}
 use Rattle.vme_port.specs.Passes.{PassView}
 use Rattle.vme_port.specs.declared.fault.Spent.{Spent}
 use Rattle.vme_port.specs.Calls.{Makes, entries_of}
@@ -31,33 +31,33 @@ use Rattle.vme_threads.specs.Desks.{Fits, HasMade}
 pub made_none : (d : Desk) → HasMade [] d d
 made_none d = record {
   who = refl;
-  whose = All-nil (λ (m : Move). m.who ≡ d.who);
-  fitting = All-nil (λ (m : Move). IsReplyTo m.event m.reply);
+  whose = All-nil (λ (m : Transition). m.who ≡ d.who);
+  fitting = All-nil (λ (m : Transition). IsReplyTo m.event m.reply);
   boards = AllAt-same (λ x (p q : PassView BoardCmd Reply). Makes [] p q) d.boards.items (λ x p. makes_none p);
   bus = makes_none d.bus;
 }
 
 -- one run was made, and then another
-pub made_more : (a b : List Move) (d e f : Desk) → HasMade a d e → HasMade b e f → HasMade (a ++ b) d f
+pub made_more : (a b : List Transition) (d e f : Desk) → HasMade a d e → HasMade b e f → HasMade (a ++ b) d f
 made_more a b d e f first then = record {
   who = then.who ∙ first.who;
   whose =
-      All-append (λ (m : Move). m.who ≡ d.who) a b first.whose (subst (λ w. All (λ (m : Move). m.who ≡ w) b) first.who then.whose);
-  fitting = All-append (λ (m : Move). IsReplyTo m.event m.reply) a b first.fitting then.fitting;
+      All-append (λ (m : Transition). m.who ≡ d.who) a b first.whose (subst (λ w. All (λ (m : Transition). m.who ≡ w) b) first.who then.whose);
+  fitting = All-append (λ (m : Transition). IsReplyTo m.event m.reply) a b first.fitting then.fitting;
   boards =
       AllAt-trans (λ x (p q : PassView BoardCmd Reply). Makes (board_part x a) p q) (λ x p q. Makes (board_part x b) p q)
       (λ x p q. Makes (board_part x (a ++ b)) p q) d.boards.items e.boards.items f.boards.items
       (λ x p q r one two.
-      subst (λ (es : List (Entry BoardCmd Reply)). Makes es p r) (sym (filter_map-append (λ (m : Move). board_entry x m.who m.event m.reply) a b))
+      subst (λ (es : List (Entry BoardCmd Reply)). Makes es p r) (sym (filter_map-append (λ (m : Transition). board_entry x m.who m.event m.reply) a b))
       (makes_more (board_part x a) (board_part x b) p q r one two))
       first.boards then.boards;
   bus =
-      subst (λ (es : List (Entry ArbCmd ArbReply)). Makes es d.bus f.bus) (sym (filter_map-append (λ (m : Move). bus_entry m.who m.event m.reply) a b))
+      subst (λ (es : List (Entry ArbCmd ArbReply)). Makes es d.bus f.bus) (sym (filter_map-append (λ (m : Transition). bus_entry m.who m.event m.reply) a b))
       (makes_more (bus_part a) (bus_part b) d.bus e.bus f.bus first.bus then.bus);
 }
 
 -- the passes are still those of the ports
-pub fits_after : (ports : Ports) (run : List Move) (d e : Desk) → HasMade run d e → Fits ports d → Fits ports e
+pub fits_after : (ports : Ports) (run : List Transition) (d e : Desk) → HasMade run d e → Fits ports d → Fits ports e
 fits_after ports run d e made fits = record {
   boards = record {
     count = made.boards.count ∙ fits.boards.count;
@@ -105,10 +105,10 @@ made_on_board d board cmd reply event p q e is there at whose makes who boards b
     in
     subst (λ (ev : Event). HasMade (move d.who ev (told.Board reply) ∷ []) d e) (sym is) (record {
       who = who;
-      whose = All-cons (λ (m : Move). m.who ≡ d.who) (move d.who (asked.Board board cmd) (told.Board reply)) [] refl (All-nil (λ (m : Move). m.who ≡ d.who));
+      whose = All-cons (λ (m : Transition). m.who ≡ d.who) (move d.who (asked.Board board cmd) (told.Board reply)) [] refl (All-nil (λ (m : Transition). m.who ≡ d.who));
       fitting =
-          All-cons (λ (m : Move). IsReplyTo m.event m.reply) (move d.who (asked.Board board cmd) (told.Board reply)) [] tt
-          (All-nil (λ (m : Move). IsReplyTo m.event m.reply));
+          All-cons (λ (m : Transition). IsReplyTo m.event m.reply) (move d.who (asked.Board board cmd) (told.Board reply)) [] tt
+          (All-nil (λ (m : Transition). IsReplyTo m.event m.reply));
       boards =
           subst (AllAt P d.boards.items) (sym boards)
           (AllAt-set P d.boards.items board p q there (subst (λ b. Makes (board_part board run) b q) at its)

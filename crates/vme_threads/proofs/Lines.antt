@@ -6,20 +6,20 @@ use Rattle.vme_core.specs.declared.event.EventReply.{EventReply}
 use Rattle.vme_core.specs.declared.event.Deed.{Deed}
 use Rattle.vme_core.specs.Calls.{Call}
 use Rattle.vme_core.specs.Deeds.{call_asked}
-use Rattle.vme_core.specs.Runs.{Move, move}
+use Rattle.vme_core.specs.Runs.{Transition, move}
 use Rattle.vme_shared.specs.declared.reply.LineReply.{LineReply}
 use Rattle.vme_grammar.specs.declared.line.Line.{Line}
 use Rattle.vme_script.specs.Configurations.{Configuration}
 use Rattle.vme_line_task.specs.declared.task.LineTask.{LineTask}
 use Rattle.vme_line_task.specs.Scripts.{lines_at}
-use Rattle.vme_line_task.specs.Tables.{LineNext, Rests, Makes, Ends, line_next}
+use Rattle.vme_line_task.specs.Tables.{LineNext, NotStarted, Invokes, Returns, line_next}
 use Rattle.vme_line_task.specs.Machine.{line_started, line_advance, line_to_do, line_after, IsLineBelow}
 use Rattle.vme_line_task.specs.Events.{call_in, answer_in, MakesCall, IsCallBelow}
-use Rattle.vme_line_task.specs.Courses.{Goes}
+use Rattle.vme_line_task.specs.Traces.{Continues}
 use Rattle.vme_line_task.proofs.lemmas.Lines.{by_the_replies}
 use Rattle.vme_line_task.proofs.lemmas.Calls.{makes_event, ends_so}
 use Rattle.vme_line_task.proofs.lemmas.Below.{calls_below}
-use Rattle.vme_line_task.proofs.lemmas.Courses.{goes-snoc}
+use Rattle.vme_line_task.proofs.lemmas.Traces.{goes-snoc}
 use Rattle.vme_threads.specs.declared.desk.Desk.{Desk}
 use Rattle.vme_threads.specs.Desks.{HasMade, HasCalled}
 use Rattle.vme_threads.specs.Rans.{HasAnswered}
@@ -29,12 +29,12 @@ use Rattle.vme_threads.proofs.Desks.{made_none, made_more}
 pub record IsAtWork (config : Configuration) (place : ℕ) (before now : Desk) (task : LineTask) : Type 0 where
   pub line : Line
   pub there : slice_get (lines_at config before.who) place ≡ Some line
-  pub run : List Move
+  pub run : List Transition
   pub made : HasMade run before now
   pub replies : List EventReply
-  pub goes : Goes config before.who line [] run replies
+  pub goes : Continues config before.who line [] run replies
   pub is : task ≡ line_after config before.who line replies
-  pub begun : line_to_do task ≢ Rests
+  pub begun : line_to_do task ≢ NotStarted
   pub below : IsLineBelow (length config.boards) task
 
 -- there is a line at each place of a script
@@ -47,7 +47,7 @@ line_there (x ∷ xs) (suc k) k< = line_there xs k (omega arith)
 pub at_start :
     (config : Configuration) (place : ℕ) (d : Desk) (fresh task : LineTask) → place < length (lines_at config d.who)
     → ((line : Line) → slice_get (lines_at config d.who) place ≡ Some line → fresh ≡ line_started config d.who line)
-    → task ≡ line_advance fresh None → line_to_do task ≢ Rests → IsLineBelow (length config.boards) task → IsAtWork config place d d task
+    → task ≡ line_advance fresh None → line_to_do task ≢ NotStarted → IsLineBelow (length config.boards) task → IsAtWork config place d d task
 at_start config place d fresh task place< started advanced begun below =
     let found = line_there (lines_at config d.who) place place< in
     record {
@@ -71,7 +71,7 @@ next_is config place d e task at = ap line_to_do at.is ∙ by_the_replies config
 pub at_more :
     (config : Configuration) (place : ℕ) (d e f : Desk) (call : Call) (reply : EventReply) (task new : LineTask)
     → IsAtWork config place d e task → Some call ≡ call_in (line_to_do task) → HasCalled call reply e f
-    → new ≡ line_advance task (Some reply) → line_to_do new ≢ Rests → IsLineBelow (length config.boards) new → IsAtWork config place d f new
+    → new ≡ line_advance task (Some reply) → line_to_do new ≢ NotStarted → IsLineBelow (length config.boards) new → IsAtWork config place d f new
 at_more config place d e f call reply task new at asks next advanced begun below =
     let event = next.event in
     record {
@@ -98,7 +98,7 @@ at_end config place d e task answer at is = record {
   is = record {
     run = at.run;
     made = at.made;
-    course = record {
+    trace = record {
       replies = at.replies;
       goes = at.goes;
       ends = sym (next_is config place d e task at) ∙ sym (ends_so (line_to_do task) answer is);
@@ -108,16 +108,16 @@ at_end config place d e task answer at is = record {
 
 -- a line that makes a call has a deed of it
 pub has_deed : (next : LineNext) (deed : Option Deed) → MakesCall next → option_map call_asked deed ≡ call_in next → IsSome deed
-has_deed Rests deed makes is = absurd makes
-has_deed (Makes call) None makes is = absurd cc
-has_deed (Makes call) (Some deed) makes is = refl
-has_deed (Ends answer) deed makes is = absurd makes
+has_deed NotStarted deed makes is = absurd makes
+has_deed (Invokes call) None makes is = absurd cc
+has_deed (Invokes call) (Some deed) makes is = refl
+has_deed (Returns answer) deed makes is = absurd makes
 
 -- a board that is called is there
-in_makes : (next : LineNext) (call : Call) → Some call ≡ call_in next → next ≡ Makes call
-in_makes Rests call is = absurd cc
-in_makes (Makes other) call is = cc
-in_makes (Ends answer) call is = absurd cc
+in_makes : (next : LineNext) (call : Call) → Some call ≡ call_in next → next ≡ Invokes call
+in_makes NotStarted call is = absurd cc
+in_makes (Invokes other) call is = cc
+in_makes (Returns answer) call is = absurd cc
 
 pub call_there : (n : ℕ) (task : LineTask) (call : Call) → IsLineBelow n task → Some call ≡ call_in (line_to_do task) → IsCallBelow n call
 call_there n task call below is = calls_below n task call below (in_makes (line_to_do task) call is)

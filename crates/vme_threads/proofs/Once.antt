@@ -11,7 +11,7 @@ use Rattle.vme_core.specs.declared.event.Event.TheVariants as asked
 use Rattle.vme_core.specs.declared.event.EventReply.{EventReply}
 use Rattle.vme_core.specs.declared.event.EventReply.TheVariants as told
 use Rattle.vme_core.specs.Calls.{Call, call_of}
-use Rattle.vme_core.specs.Runs.{Move, move}
+use Rattle.vme_core.specs.Runs.{Transition, move}
 use Rattle.vme_master.specs.declared.job.Job.{Job}
 use Rattle.vme_master.specs.declared.outcome.Outcome.{Outcome}
 use Rattle.vme_master.specs.Jobs.{bus_job, local_job}
@@ -27,12 +27,12 @@ use Rattle.vme_grammar.specs.declared.line.Line.TheVariants as lines
 use Rattle.vme_script.specs.declared.script.ScriptLine.{ScriptLine}
 use Rattle.vme_script.specs.Boards.{entries_of}
 use Rattle.vme_script.specs.Configurations.{Configuration}
-use Rattle.vme_line_task.specs.Scripts.{Moves, slot_at, level_at, lines_at, transfer_job, request_attempt, line_attempt}
-use Rattle.vme_line_task.specs.Tables.{Makes, Ends, moves_next, attempts_of, next_asks_again, next_given, line_next, given_of}
+use Rattle.vme_line_task.specs.Scripts.{Transferring, slot_at, level_at, lines_at, transfer_job, request_attempt, line_attempt}
+use Rattle.vme_line_task.specs.Tables.{Invokes, Returns, moves_next, attempts_of, next_asks_again, next_given, line_next, given_of}
 use Rattle.vme_line_task.specs.Events.{IsCallBelow}
-use Rattle.vme_line_task.specs.Courses.{Goes}
+use Rattle.vme_line_task.specs.Traces.{Continues}
 use Rattle.vme_line_task.proofs.lemmas.Below.{next_below}
-use Rattle.vme_line_task.proofs.lemmas.Courses.{goes-snoc}
+use Rattle.vme_line_task.proofs.lemmas.Traces.{goes-snoc}
 use Rattle.vme_port.specs.declared.fault.Spent.{Spent}
 use Rattle.vme_threads.specs.declared.desk.Desk.{Desk}
 use Rattle.vme_threads.specs.Desks.{HasMade, HasCalled}
@@ -42,20 +42,20 @@ use Rattle.vme_threads.proofs.Runs.{script_is}
 
 -- a transfer or a command is attempted once
 attempted_once : (next : Next) → next_asks_again (moves_next next) ≡ false
-attempted_once tasks.Rests = refl
-attempted_once (tasks.Makes call) = refl
-attempted_once (tasks.Ends outcome) = refl
+attempted_once tasks.NotStarted = refl
+attempted_once (tasks.Invokes call) = refl
+attempted_once (tasks.Returns outcome) = refl
 
 -- so the attempt at work was given all that the line was given
-all_given : (job : Job) (tries : ℕ) (given : Given) → (attempts_of (Moves job) tries given).given ≡ given
+all_given : (job : Job) (tries : ℕ) (given : Given) → (attempts_of (Transferring job) tries given).given ≡ given
 all_given job tries [] = refl
 all_given job tries (last ∷ before) =
-    rw (attempted_once (next_of job (last ∷ (attempts_of (Moves job) tries before).given)))
+    rw (attempted_once (next_of job (last ∷ (attempts_of (Transferring job) tries before).given)))
     (ap (λ (g : Given). last ∷ g) (all_given job tries before))
 
 -- and the line does next what its job does
 pub once_next : (config : Configuration) (board : ℕ) (line : Line) (job : Job) (replies : List EventReply)
-    → line_attempt config board line ≡ Ok (Moves job) → line_next config board line replies ≡ moves_next (next_of job (given_of replies))
+    → line_attempt config board line ≡ Ok (Transferring job) → line_next config board line replies ≡ moves_next (next_of job (given_of replies))
 unfolding next_given
 once_next config board line job replies is =
     rw is (ap (λ (g : Given). moves_next (next_of job g)) (all_given job config.tries (given_of replies)))
@@ -63,12 +63,12 @@ once_next config board line job replies is =
 -- a command to the local port was its line's one call
 pub local_answered :
     (cmd : BoardCmd) (reply : Reply) (outcome : Outcome) (d e : Desk) → HasMade (move d.who (asked.Board d.who cmd) (told.Board reply) ∷ []) d e
-    → ((board : ℕ) → next_of (local_job board cmd) (Some (told.Board reply) ∷ None ∷ []) ≡ tasks.Ends outcome)
+    → ((board : ℕ) → next_of (local_job board cmd) (Some (told.Board reply) ∷ None ∷ []) ≡ tasks.Returns outcome)
     → (config : Configuration) → IsAnswered config (lines.Local cmd) (Transfer outcome) d e
 local_answered cmd reply outcome d e made ends = λ config. record {
   run = move d.who (asked.Board d.who cmd) (told.Board reply) ∷ [];
   made = made;
-  course = record {
+  trace = record {
     replies = told.Board reply ∷ [];
     goes = (once_next config d.who (lines.Local cmd) (local_job d.who cmd) [] refl, refl);
     ends =
@@ -94,16 +94,16 @@ answered_there config place line d e (Ok answer) there is = record { line = line
 answered_there config place line d e (Err spent) there is = tt
 
 -- a call of a task is that of its line
-called : (next : Next) (call : Call) → Some call ≡ tasks_seen.call_in next → moves_next next ≡ Makes call
-called tasks.Rests call is = absurd cc
-called (tasks.Makes other) call is = cc
-called (tasks.Ends outcome) call is = absurd cc
+called : (next : Next) (call : Call) → Some call ≡ tasks_seen.call_in next → moves_next next ≡ Invokes call
+called tasks.NotStarted call is = absurd cc
+called (tasks.Invokes other) call is = cc
+called (tasks.Returns outcome) call is = absurd cc
 
 -- so is its end
-ended : (next : Next) (outcome : Outcome) → Some outcome ≡ tasks_seen.outcome_in next → moves_next next ≡ Ends (Transfer outcome)
-ended tasks.Rests outcome is = absurd cc
-ended (tasks.Makes call) outcome is = absurd cc
-ended (tasks.Ends other) outcome is = cc
+ended : (next : Next) (outcome : Outcome) → Some outcome ≡ tasks_seen.outcome_in next → moves_next next ≡ Returns (Transfer outcome)
+ended tasks.NotStarted outcome is = absurd cc
+ended (tasks.Invokes call) outcome is = absurd cc
+ended (tasks.Returns other) outcome is = cc
 
 -- a refused request is answered so, without a call
 refused_by : (map : List Entry) (slot level : ℕ) (t : Result LawfulRequest CycleFault) (fault : CycleFault)
@@ -118,19 +118,19 @@ unfolding next_given
 refused_answered config map slot level request fault d is = record {
   run = [];
   made = made_none d;
-  course = record { replies = []; goes = refl; ends = rw (refused_by map slot level (transfer_of request) fault is) refl };
+  trace = record { replies = []; goes = refl; ends = rw (refused_by map slot level (transfer_of request) fault is) refl };
 }
 
 -- the transfer of a line is at work: a run of its events was made, and this is its task
 pub record IsMoving (config : Configuration) (request : Request) (before now : Desk) (task : TaskView) : Type 0 where
   pub job : Job
-  pub attempted : line_attempt config before.who (lines.Bus request) ≡ Ok (Moves job)
-  pub run : List Move
+  pub attempted : line_attempt config before.who (lines.Bus request) ≡ Ok (Transferring job)
+  pub run : List Transition
   pub made : HasMade run before now
   pub replies : List EventReply
-  pub goes : Goes config before.who (lines.Bus request) [] run replies
+  pub goes : Continues config before.who (lines.Bus request) [] run replies
   pub is : task ≡ task_given job (given_of replies)
-  pub begun : to_do task ≢ tasks.Rests
+  pub begun : to_do task ≢ tasks.NotStarted
 
 -- the job of a lawful request
 record IsStarted (map : List Entry) (slot level : ℕ) (t : Result LawfulRequest CycleFault) (task : TaskView) : Type 0 where
@@ -147,15 +147,15 @@ started_by map slot level (Err fault) task is = absurd cc
 pub moving_start :
     (config : Configuration) (map : List Entry) (slot level : ℕ) (request : Request) (d : Desk) (fresh task : TaskView)
     → map ≡ entries_of config.boards → slot_at config d.who ≡ slot → level_at config d.who ≡ level
-    → Ok fresh ≡ bus_task map slot level (transfer_of request) → task ≡ advance fresh None → to_do task ≢ tasks.Rests
+    → Ok fresh ≡ bus_task map slot level (transfer_of request) → task ≡ advance fresh None → to_do task ≢ tasks.NotStarted
     → IsMoving config request d d task
 moving_start config map slot level request d fresh task maps slots levels is advanced begun =
     let started = started_by map slot level (transfer_of request) fresh is in
     record {
       job = bus_job map slot level started.one;
       attempted =
-          ap (request_attempt (λ t. Moves (transfer_job config d.who t))) started.lawful
-          ∙ ap (λ (job : Job). Ok (Moves job))
+          ap (request_attempt (λ t. Transferring (transfer_job config d.who t))) started.lawful
+          ∙ ap (λ (job : Job). Ok (Transferring job))
           (ap (λ (m : List Entry). bus_job m (slot_at config d.who) (level_at config d.who) started.one) (sym maps)
           ∙ ap (λ (s : ℕ). bus_job map s (level_at config d.who) started.one) slots
           ∙ ap (λ (l : ℕ). bus_job map slot l started.one) levels);
@@ -186,7 +186,7 @@ moving_below config request d e task n call at there same asks =
 pub moving_more :
     (config : Configuration) (request : Request) (d e f : Desk) (call : Call) (reply : EventReply) (task new : TaskView)
     → IsMoving config request d e task → Some call ≡ tasks_seen.call_in (to_do task) → HasCalled call reply e f → new ≡ advance task (Some reply)
-    → to_do new ≢ tasks.Rests → IsMoving config request d f new
+    → to_do new ≢ tasks.NotStarted → IsMoving config request d f new
 moving_more config request d e f call reply task new at asks next advanced begun =
     let one = move e.who next.event reply in
     record {
@@ -209,7 +209,7 @@ pub moving_end :
 moving_end config request d e task outcome at is = record {
   run = at.run;
   made = at.made;
-  course = record {
+  trace = record {
     replies = at.replies;
     goes = at.goes;
     ends = sym (moving_next config request d e task at) ∙ ended (to_do task) outcome is;

@@ -3,7 +3,7 @@ use Rattle.std.proofs.Common.{◌≡◌, ℕ, zero, suc, ◌+◌, ◌<◌, ◌�
 use Rattle.std.specs.List.{slice_get}
 use Rattle.std.proofs.lemmas.List.{map-append}
 use Rattle.std.proofs.lemmas.Option.{none-some, same_Some, get_or_from_slice_get}
-use Rattle.vme_core.specs.Runs.{Move, board_part, bus_part}
+use Rattle.vme_core.specs.Runs.{Transition, board_part, bus_part}
 use Rattle.vme_shared.specs.declared.reply.LineReply.{LineReply}
 use Rattle.vme_grammar.specs.declared.line.Line.{Line}
 use Rattle.vme_script.specs.declared.script.ScriptLine.{ScriptLine}
@@ -11,8 +11,8 @@ use Rattle.vme_script.specs.Configurations.{Configuration}
 use Rattle.vme_cycle.specs.BlockBuffers.{BufferView}
 use Rattle.vme_line_task.specs.Scripts.{script_at, lines_at}
 use Rattle.vme_line_task.specs.ReadBuffers.{line_read_len, buffers_of}
-use Rattle.vme_line_task.specs.Courses.{LineCourse, IsCourse}
-use Rattle.vme_line_task.proofs.lemmas.Courses.{course-snoc}
+use Rattle.vme_line_task.specs.Traces.{LineTrace, IsTrace}
+use Rattle.vme_line_task.proofs.lemmas.Traces.{trace-snoc}
 use Rattle.vme_line_task.proofs.lemmas.LineBuffers.{IsNextBuffer, buffers_left, next_buffer}
 use Rattle.vme_threads.specs.declared.desk.Desk.{Desk}
 use Rattle.vme_threads.specs.declared.worker.Worker.{Worker}
@@ -26,9 +26,9 @@ use Rattle.vme_threads.proofs.Lines.{line_there}
 
 -- the first lines of the script were answered by a run
 pub record IsUnderWay (config : Configuration) (count : ℕ) (before now : Desk) (lines : List (ℕ × LineReply)) : Type 0 where
-  pub run : List Move
+  pub run : List Transition
   pub made : HasMade run before now
-  pub course : IsCourse config before.who (take count (lines_at config before.who)) run (answers_in lines)
+  pub trace : IsTrace config before.who (take count (lines_at config before.who)) run (answers_in lines)
   pub numbers : numbers_in lines ≡ take count (map (λ (one : ScriptLine). one.number) (script_at config before.who))
 
 -- the empty list
@@ -46,7 +46,7 @@ script_is config who other script same there =
 -- no line was answered
 pub way_start : (config : Configuration) (d : Desk) (lines : List (ℕ × LineReply)) → lines ≡ [] → IsUnderWay config 0 d d lines
 way_start config d lines none =
-    subst (IsUnderWay config 0 d d) (sym none) (record { run = []; made = made_none d; course = refl; numbers = refl })
+    subst (IsUnderWay config 0 d d) (sym none) (record { run = []; made = made_none d; trace = refl; numbers = refl })
 
 -- one element more
 take_suc : {A : Type 0} (xs : List A) (k : ℕ) (x : A) → slice_get xs k ≡ Some x → take (suc k) xs ≡ take k xs ++ x ∷ []
@@ -66,16 +66,16 @@ pub way_more :
 way_more config count d e f lines number answer way answered numbered =
     let same = way.made.who in
     let there = subst (λ who. slice_get (lines_at config who) count ≡ Some answered.line) same answered.there in
-    let course = subst (λ who. LineCourse config who answered.line answered.is.run answer) same answered.is.course in
+    let trace = subst (λ who. LineTrace config who answered.line answered.is.run answer) same answered.is.trace in
     record {
       run = way.run ++ answered.is.run;
       made = made_more way.run answered.is.run d e f way.made answered.is.made;
-      course =
-          subst (λ (answers : List LineReply). IsCourse config d.who (take (count + 1) (lines_at config d.who)) (way.run ++ answered.is.run) answers)
+      trace =
+          subst (λ (answers : List LineReply). IsTrace config d.who (take (count + 1) (lines_at config d.who)) (way.run ++ answered.is.run) answers)
           (sym (map-append (λ (l : ℕ × LineReply). l.1) lines ((number, answer) ∷ [])))
-          (subst (λ (ls : List Line). IsCourse config d.who ls (way.run ++ answered.is.run) (answers_in lines ++ answer ∷ []))
+          (subst (λ (ls : List Line). IsTrace config d.who ls (way.run ++ answered.is.run) (answers_in lines ++ answer ∷ []))
           (sym (take_one (lines_at config d.who) count answered.line there))
-          (course-snoc config d.who (take count (lines_at config d.who)) way.run (answers_in lines) answered.line answered.is.run answer way.course course));
+          (trace-snoc config d.who (take count (lines_at config d.who)) way.run (answers_in lines) answered.line answered.is.run answer way.trace trace));
       numbers =
           map-append (λ (l : ℕ × LineReply). l.0) lines ((number, answer) ∷ [])
           ∙ ap (λ (ns : List ℕ). ns ++ number ∷ []) way.numbers
@@ -132,7 +132,7 @@ way_end config ports count w ran is way all =
         fits = fits_after ports way.run d ran.desk way.made (fits_first config ports d.who w is);
         whose = way.made.whose;
         fitting = way.made.fitting;
-        course = subst (λ (ls : List Line). IsCourse config d.who ls way.run (answers_in ran.lines.items)) (take_whole lines count all) way.course;
+        trace = subst (λ (ls : List Line). IsTrace config d.who ls way.run (answers_in ran.lines.items)) (take_whole lines count all) way.trace;
         numbers = way.numbers ∙ take_whole numbers count short;
         boards = λ k p k<.
             let made = way.made.boards.each k p p (omega (arith, k<, way.made.boards.count)) in

@@ -6,7 +6,7 @@ use Rattle.vme_memory.specs.declared.reply.Reply.{Reply}
 use Rattle.vme_core.specs.declared.event.Event.{Event}
 use Rattle.vme_core.specs.declared.event.EventReply.{EventReply}
 use Rattle.vme_core.specs.Calls.{Call, call_of}
-use Rattle.vme_core.specs.Runs.{Move, move, IsReplyTo, board_part, bus_part}
+use Rattle.vme_core.specs.Runs.{Transition, move, IsReplyTo, board_part, bus_part}
 use Rattle.vme_port.specs.Passes.{PassView}
 use Rattle.vme_port.specs.Ports.{port_id}
 use Rattle.vme_port.specs.Calls.{Makes}
@@ -24,7 +24,7 @@ pub record Fits (ports : Ports) (d : Desk) : Type 0 where
 
 -- the who of a desk made a run: each reply is of its event's kind, and each pass made the run's part on its object
 -- (this project's own)
-pub record HasMade (run : List Move) (before after : Desk) : Type 0 where
+pub record HasMade (run : List Transition) (before after : Desk) : Type 0 where
   pub who : after.who ≡ before.who
   pub whose : All (λ m. m.who ≡ before.who) run
   pub fitting : All (λ m. IsReplyTo m.event m.reply) run

@@ -3,7 +3,7 @@ use Rattle.std.specs.Prelude.{ℕ, ◌≡◌, List, map, All, Some, Result, Ok, 
 use Rattle.vme_object.specs.Each.{Each}
 use Rattle.vme_memory.specs.declared.command.BoardCmd.{BoardCmd}
 use Rattle.vme_memory.specs.declared.reply.Reply.{Reply}
-use Rattle.vme_core.specs.Runs.{Move, IsReplyTo, board_part, bus_part}
+use Rattle.vme_core.specs.Runs.{Transition, IsReplyTo, board_part, bus_part}
 use Rattle.vme_shared.specs.declared.reply.LineReply.{LineReply}
 use Rattle.vme_report.specs.declared.fault.RunFault.{RunFault}
 use Rattle.vme_report.specs.declared.fault.RunFault.TheVariants.{Spent}
@@ -11,7 +11,7 @@ use Rattle.vme_port.specs.Passes.{PassView}
 use Rattle.vme_grammar.specs.declared.line.Line.{Line}
 use Rattle.vme_script.specs.Configurations.{Configuration}
 use Rattle.vme_line_task.specs.Scripts.{script_at, lines_at}
-use Rattle.vme_line_task.specs.Courses.{LineCourse, IsCourse}
+use Rattle.vme_line_task.specs.Traces.{LineTrace, IsTrace}
 use Rattle.vme_threads.specs.declared.desk.Desk.{Desk}
 use Rattle.vme_threads.specs.declared.worker.Ran.{Ran}
 use Rattle.vme_threads.specs.declared.ports.Ports.{Ports}
@@ -19,9 +19,9 @@ use Rattle.vme_threads.specs.Desks.{Fits, HasMade}
 
 -- a line of the script was answered by the moves of a run (this project's own)
 pub record IsAnswered (config : Configuration) (line : Line) (answer : LineReply) (before after : Desk) : Type 0 where
-  pub run : List Move
+  pub run : List Transition
   pub made : HasMade run before after
-  pub course : LineCourse config before.who line run answer
+  pub trace : LineTrace config before.who line run answer
 
 -- so was the line at a place (this project's own)
 pub record HasAnswered (config : Configuration) (place : ℕ) (answer : LineReply) (before after : Desk) : Type 0 where
@@ -37,21 +37,21 @@ numbers_in lines = map (λ line. line.0) lines
 abbrev pub answers_in : List (ℕ × LineReply) → List LineReply
 answers_in lines = map (λ line. line.1) lines
 
--- a who went through its whole script by this run: the run is the script's course and gives these lines, and its part on each
+-- a who went through its whole script by this run: the run is the script's trace and gives these lines, and its part on each
 -- object is what the who's pass of that object made (this project's own)
-pub record IsRanOf (config : Configuration) (ports : Ports) (who : ℕ) (run : List Move) (ran : Ran) : Type 0 where
+pub record IsRanOf (config : Configuration) (ports : Ports) (who : ℕ) (run : List Transition) (ran : Ran) : Type 0 where
   pub same : ran.desk.who ≡ who
   pub fits : Fits ports ran.desk
   pub whose : All (λ m. m.who ≡ who) run
   pub fitting : All (λ m. IsReplyTo m.event m.reply) run
-  pub course : IsCourse config who (lines_at config who) run (answers_in ran.lines.items)
+  pub trace : IsTrace config who (lines_at config who) run (answers_in ran.lines.items)
   pub numbers : numbers_in ran.lines.items ≡ map (λ one. one.number) (script_at config who)
   pub boards : Each (λ x (p : PassView BoardCmd Reply). p.mine ≡ board_part x run) ran.desk.boards.items
   pub bus : ran.desk.bus.mine ≡ bus_part run
 
 -- there is such a run (this project's own)
 abbrev pub HasRun : Configuration → Ports → ℕ → Ran → Type 0
-HasRun config ports who ran = (run : List Move) × IsRanOf config ports who run ran
+HasRun config ports who ran = (run : List Transition) × IsRanOf config ports who run ran
 
 -- how a worker ends: it went through its script, or an object is spent (this project's own)
 abbrev pub IsEndOfRun : Configuration → Ports → ℕ → Result Ran RunFault → Type 0

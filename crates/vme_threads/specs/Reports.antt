@@ -5,11 +5,11 @@ use Rattle.vme_object.specs.History.{replay, IsLegal, own}
 use Rattle.vme_object.specs.Each.{Each, AllAt}
 use Rattle.vme_memory.specs.Locals.{board_step}
 use Rattle.vme_arbiter.specs.Arbitration.{Arbitration, opening_bus, turn_step}
-use Rattle.vme_core.specs.Runs.{Move, IsReplyTo, board_part, bus_part}
+use Rattle.vme_core.specs.Runs.{Transition, IsReplyTo, board_part, bus_part}
 use Rattle.vme_script.specs.declared.board.BoardConfig.{BoardConfig}
 use Rattle.vme_script.specs.Configurations.{Configuration, opening_memory}
 use Rattle.vme_line_task.specs.Scripts.{script_at, lines_at}
-use Rattle.vme_line_task.specs.Courses.{IsCourse}
+use Rattle.vme_line_task.specs.Traces.{IsTrace}
 use Rattle.vme_threads.specs.declared.worker.Ran.{Ran}
 use Rattle.vme_threads.specs.declared.ports.Ports.{Ports}
 use Rattle.vme_threads.specs.declared.report.BoardEnd.{BoardEnd}
@@ -31,20 +31,20 @@ module _ {S C R : Type 0} (step : S → C → S × R) (start : S) where
 
 -- what a board came to, where these runs were made: its own parts in them are shared out from one history of it, from zero
 -- memory (this project's own)
-pub record IsEndOf (runs : List (List Move)) (x : ℕ) (own : BoardConfig) (end : BoardEnd) : Type 0 where
+pub record IsEndOf (runs : List (List Transition)) (x : ℕ) (own : BoardConfig) (end : BoardEnd) : Type 0 where
   pub slot : end.slot ≡ own.slot
   pub history : HasHistory board_step (opening_memory own) (map (board_part x) runs) end.memory end.steps end.made.items
 
--- a run of each processor is its script's course and gives its lines, under their numbers; and each board, and the arbiter of
+-- a run of each processor is its script's trace and gives its lines, under their numbers; and each board, and the arbiter of
 -- the configuration's kind, of a bus that is free at first, has one history, which is shared out among the runs
 -- (this project's own)
 pub record IsReportOf (config : Configuration) (report : Report) : Type 0 where
-  pub runs : List (List Move)
+  pub runs : List (List Transition)
   pub workers : length runs ≡ length config.boards
   pub whose : Each (λ who run. All (λ m. m.who ≡ who) run) runs
   pub fitting : All (λ run. All (λ m. IsReplyTo m.event m.reply) run) runs
-  pub course :
-      AllAt (λ who run lines. IsCourse config who (lines_at config who) run (answers_in lines.items)) runs report.lines.items
+  pub trace :
+      AllAt (λ who run lines. IsTrace config who (lines_at config who) run (answers_in lines.items)) runs report.lines.items
   pub numbers :
       Each (λ who lines. numbers_in lines.items ≡ map (λ one. one.number) (script_at config who)) report.lines.items
   pub boards : AllAt (IsEndOf runs) config.boards report.boards.items
@@ -55,7 +55,7 @@ pub record IsReportOf (config : Configuration) (report : Report) : Type 0 where
 
 -- each of these ran is that of the worker of its number, by a run (this project's own)
 pub record HaveRun (config : Configuration) (ports : Ports) (rans : List Ran) : Type 0 where
-  pub runs : List (List Move)
+  pub runs : List (List Transition)
   pub each : AllAt (IsRanOf config ports) runs rans
 
 -- a ran of each worker of the ports that were built of a configuration (this project's own)

@@ -9,7 +9,7 @@ ghost use Rattle.vme_grammar.specs.declared.line.Line.{Line as AnyLine};
 ghost use Rattle.vme_grammar.specs.declared.line.Line.TheVariants as lines;
 ghost use Rattle.vme_master.specs.Jobs.{local_job};
 ghost use Rattle.vme_master.specs.Machine.{to_do};
-ghost use Rattle.vme_master.specs.Tables.{Ends, next_of};
+ghost use Rattle.vme_master.specs.Tables.{Returns, next_of};
 ghost use Rattle.vme_script.specs.Configurations.{Configuration};
 ghost use Rattle.vme_line_task.specs.Events.{IsCallBelow, MakesCall};
 ghost use Rattle.vme_line_task.specs.ReadBuffers.{line_read_len, request_read_len};
@@ -133,7 +133,7 @@ fn is_cycle(cmd: &BoardCmd) -> bool
 fn local_outcome(cmd: &BoardCmd, reply: Reply) -> Outcome
     requires { IsOwnLine (lines.Local cmd.now) }
     ensures { (board : ℕ) →
-        next_of (local_job board cmd.now) (Some (told.Board reply) ∷ None ∷ []) ≡ Ends result }
+        next_of (local_job board cmd.now) (Some (told.Board reply) ∷ None ∷ []) ≡ Returns result }
 {
     match (cmd, reply) {
         (_, Reply::Berr) => Outcome::Berr {

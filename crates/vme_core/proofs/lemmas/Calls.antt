@@ -17,7 +17,7 @@ use Rattle.vme_core.specs.declared.event.Event.TheVariants as asked
 use Rattle.vme_core.specs.declared.event.EventReply.TheVariants as told
 use Rattle.vme_memory.specs.declared.reply.Reply.{Reply}
 use Rattle.vme_core.specs.Tallies.{Tally, Went}
-use Rattle.vme_core.specs.Runs.{Machine, Move, Did, IsReplyTo, move, target_of, board_part}
+use Rattle.vme_core.specs.Runs.{Machine, Transition, Did, IsReplyTo, move, target_of, board_part}
 use Rattle.vme_core.specs.Calls.{call_of, counted_step, board_after, bus_after, machine_step}
 use Rattle.vme_core.specs.Machines.{IsThere}
 use Rattle.vme_core.proofs.lemmas.Tallies.{went_nil}
@@ -46,7 +46,7 @@ did_board : (m : Machine) (who x : ℕ) (cmd : BoardCmd) (b : Tally Board) → s
     (board_after m who x (command_given cmd) (Some b)).0
 unfolding answer_given
 did_board m who x cmd b there =
-    let run : List Move = move who (asked.Board x cmd) (board_after m who x (command_given cmd) (Some b)).1 ∷ [] in
+    let run : List Transition = move who (asked.Board x cmd) (board_after m who x (command_given cmd) (Some b)).1 ∷ [] in
     let within = slice_get_within m.boards x b there in
     let at : slice_index_or m.boards x b ≡ b = same_Some _ _ (sym (slice_get-get_or m.boards x b within) ∙ there) in
     let one : eqb x x ≡ true = eq-eqb x x refl in

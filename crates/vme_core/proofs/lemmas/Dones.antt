@@ -12,7 +12,7 @@ use Rattle.vme_arbiter.specs.Arbitration.{Arbitration, turn_step}
 use Rattle.vme_core.specs.declared.event.Event.{Event}
 use Rattle.vme_core.specs.declared.event.EventReply.{EventReply}
 use Rattle.vme_core.specs.Tallies.{Went, Tells, fresh_tally}
-use Rattle.vme_core.specs.Runs.{Machine, Move, target_of, Did, IsReplyTo, move, board_entry, bus_entry, board_part, bus_part, replies_in}
+use Rattle.vme_core.specs.Runs.{Machine, Transition, target_of, Did, IsReplyTo, move, board_entry, bus_entry, board_part, bus_part, replies_in}
 use Rattle.vme_core.specs.Machines.{HasDone, HasRun, steps_of, opening}
 use Rattle.vme_core.specs.declared.fault.RunStop.TheVariants as stops
 use Rattle.vme_core.proofs.lemmas.Tallies.{went_nil, went_trans, went_tells}
@@ -26,7 +26,7 @@ did_nil m = record {
 }
 
 -- one run was done, and then another
-pub did_trans : (r s : List Move) (a b c : Machine) → Did r a b → Did s b c → Did (r ++ s) a c
+pub did_trans : (r s : List Transition) (a b c : Machine) → Did r a b → Did s b c → Did (r ++ s) a c
 did_trans r s a b c first then = record {
   fitting = All-append (λ m. IsReplyTo m.event m.reply) r s first.fitting then.fitting;
   boards = AllAt-trans _ _ (λ x p q. Went board_step (board_part x (r ++ s)) p q) a.boards b.boards c.boards
@@ -80,7 +80,7 @@ run_none events m old new same = record { done = 0; has = rw same (done_nothing 
 
 -- each board's part of a run from the opening
 pub opened_boards :
-    (memories : List Board) (bus : Arbitration) (k : ℕ) (run : List Move) (after : Machine) → Did run (opening memories bus k) after
+    (memories : List Board) (bus : Arbitration) (k : ℕ) (run : List Transition) (after : Machine) → Did run (opening memories bus k) after
     → AllAt (λ x memory b. Tells board_step memory (board_part x run) k b) memories after.boards
 opened_boards memories bus k run after did = record {
   count = did.boards.count ∙ length-map memories (fresh_tally k);

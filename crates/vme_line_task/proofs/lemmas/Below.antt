@@ -27,20 +27,20 @@ use Rattle.vme_grammar.specs.declared.line.Line.TheVariants as lines
 use Rattle.vme_script.specs.Boards.{entries_of}
 use Rattle.vme_script.specs.Configurations.{Configuration}
 use Rattle.vme_line_task.specs.declared.task.LineTask.{LineTask}
-use Rattle.vme_line_task.specs.declared.task.LineTask.TheVariants.{Refused, Tries, Over}
+use Rattle.vme_line_task.specs.declared.task.LineTask.TheVariants.{Refused, Running, Finished}
 use Rattle.vme_line_task.specs.declared.todo.LineTodo.{LineTodo}
 use Rattle.vme_line_task.specs.declared.todo.LineTodo.TheVariants as todos
-use Rattle.vme_line_task.specs.Scripts.{Attempt, Moves, Waits, Shares, slot_at, level_at, mailbox_at, transfer_job, request_attempt, unless_refused, shared_job, shared_attempt, line_attempt}
-use Rattle.vme_line_task.specs.Tables.{LineNext, Rests, Makes, Ends, moves_next, waits_next, shares_next, attempts_of, lawful_next, next_given}
+use Rattle.vme_line_task.specs.Scripts.{Attempt, Transferring, Awaiting, Sharing, slot_at, level_at, mailbox_at, transfer_job, request_attempt, unless_refused, shared_job, shared_attempt, line_attempt}
+use Rattle.vme_line_task.specs.Tables.{LineNext, NotStarted, Invokes, Returns, moves_next, waits_next, shares_next, attempts_of, lawful_next, next_given}
 use Rattle.vme_line_task.specs.Machine.{line_started, line_advance, line_to_do, line_taken, attempt_to_do, attempts_taken, line_advanced, IsLineBelow}
 use Rattle.vme_line_task.specs.Events.{next_in, call_in, IsCallBelow, IsEventBelow, IsTodoBelow}
 use Rattle.vme_line_task.proofs.lemmas.Lines.{by_the_given}
 
 -- the boards of what is attempted
 abbrev IsAttemptBelow : ℕ → Result Attempt CycleFault → Type 0
-IsAttemptBelow n (Ok (Moves job)) = IsBelow n job
-IsAttemptBelow n (Ok (Waits job want)) = IsBelow n job
-IsAttemptBelow n (Ok (Shares s)) = length s.map ≡ n
+IsAttemptBelow n (Ok (Transferring job)) = IsBelow n job
+IsAttemptBelow n (Ok (Awaiting job want)) = IsBelow n job
+IsAttemptBelow n (Ok (Sharing s)) = length s.map ≡ n
 IsAttemptBelow n (Err fault) = Unit {0}
 
 transfer_below : (config : Configuration) (board : ℕ) (t : Transfer) → IsBelow (length config.boards) (transfer_job config board t)
@@ -59,17 +59,17 @@ shared_below : (config : Configuration) (board : ℕ) (request : SharedRequest)
 shared_below config board request = by_refusal (shared_refusal request)
   where
     by_refusal : (refusal : Option CycleFault)
-        → IsAttemptBelow (length config.boards) (unless_refused (Shares (shared_job config board request)) refusal)
+        → IsAttemptBelow (length config.boards) (unless_refused (Sharing (shared_job config board request)) refusal)
     by_refusal None = length-map config.boards (λ one. one.entry)
     by_refusal (Some fault) = tt
 
 attempt_below : (config : Configuration) (board : ℕ) (line : Line) → board < length config.boards
     → IsAttemptBelow (length config.boards) (line_attempt config board line)
 attempt_below config board (lines.Bus request) there =
-    request_below (length config.boards) (λ t. Moves (transfer_job config board t)) (transfer_of request) (transfer_below config board)
+    request_below (length config.boards) (λ t. Transferring (transfer_job config board t)) (transfer_of request) (transfer_below config board)
 attempt_below config board (lines.Local cmd) there = there
 attempt_below config board (lines.Await am addr bytes) there =
-    request_below (length config.boards) (λ t. Waits (transfer_job config board t) bytes.items)
+    request_below (length config.boards) (λ t. Awaiting (transfer_job config board t) bytes.items)
     (transfer_of (requests.Read am addr (length bytes.items))) (transfer_below config board)
 attempt_below config board (lines.Lock am addr) there = shared_below config board (asked_shared.Lock am addr)
 attempt_below config board (lines.Unlock am addr) there = shared_below config board (asked_shared.Unlock am addr)
@@ -77,43 +77,43 @@ attempt_below config board (lines.Put box word) there = shared_below config boar
 attempt_below config board (lines.Take box) there = shared_below config board (asked_shared.Take (mailbox_at config box))
 
 -- the calls of a line that are those of its task
-pub moves_makes : (next : Next) (call : Call) → moves_next next ≡ Makes call → next ≡ tasks.Makes call
-moves_makes tasks.Rests call made = absurd cc
-moves_makes (tasks.Makes other) call made = cc
-moves_makes (tasks.Ends outcome) call made = absurd cc
+pub moves_makes : (next : Next) (call : Call) → moves_next next ≡ Invokes call → next ≡ tasks.Invokes call
+moves_makes tasks.NotStarted call made = absurd cc
+moves_makes (tasks.Invokes other) call made = cc
+moves_makes (tasks.Returns outcome) call made = absurd cc
 
-pub waits_makes : (want : List ℕ) (next : Next) (call : Call) → waits_next want next ≡ Makes call → next ≡ tasks.Makes call
-waits_makes want tasks.Rests call made = absurd cc
-waits_makes want (tasks.Makes other) call made = cc
-waits_makes want (tasks.Ends (outcomes.Read bytes)) call made = absurd cc
-waits_makes want (tasks.Ends outcome) call made = absurd cc
+pub waits_makes : (want : List ℕ) (next : Next) (call : Call) → waits_next want next ≡ Invokes call → next ≡ tasks.Invokes call
+waits_makes want tasks.NotStarted call made = absurd cc
+waits_makes want (tasks.Invokes other) call made = cc
+waits_makes want (tasks.Returns (outcomes.Read bytes)) call made = absurd cc
+waits_makes want (tasks.Returns outcome) call made = absurd cc
 
-pub shares_makes : (next : SharedNext) (call : Call) → shares_next next ≡ Makes call → next ≡ shares.Makes call
-shares_makes shares.Rests call made = absurd cc
-shares_makes (shares.Makes other) call made = cc
-shares_makes (shares.Ends outcome) call made = absurd cc
+pub shares_makes : (next : SharedNext) (call : Call) → shares_next next ≡ Invokes call → next ≡ shares.Invokes call
+shares_makes shares.NotStarted call made = absurd cc
+shares_makes (shares.Invokes other) call made = cc
+shares_makes (shares.Returns outcome) call made = absurd cc
 
 -- each board that is called is one of them
-job_below : (n : ℕ) (job : Job) (given : Given) (call : Call) → IsBelow n job → next_of job given ≡ tasks.Makes call → IsCallBelow n call
+job_below : (n : ℕ) (job : Job) (given : Given) (call : Call) → IsBelow n job → next_of job given ≡ tasks.Invokes call → IsCallBelow n call
 job_below n job given (OnBoard board command) below made = job_calls_below n job given board command below made
 job_below n job given (OnBus cmd) below made = tt
 
 lawful_below : (n tries : ℕ) (attempt : Result Attempt CycleFault) (given : Given) (call : Call) → IsAttemptBelow n attempt
-    → lawful_next tries attempt given ≡ Makes call → IsCallBelow n call
-lawful_below n tries (Ok (Moves job)) given call below made =
-    let g = (attempts_of (Moves job) tries given).given in
+    → lawful_next tries attempt given ≡ Invokes call → IsCallBelow n call
+lawful_below n tries (Ok (Transferring job)) given call below made =
+    let g = (attempts_of (Transferring job) tries given).given in
     job_below n job g call below (moves_makes (next_of job g) call made)
-lawful_below n tries (Ok (Waits job want)) given call below made =
-    let g = (attempts_of (Waits job want) tries given).given in
+lawful_below n tries (Ok (Awaiting job want)) given call below made =
+    let g = (attempts_of (Awaiting job want) tries given).given in
     job_below n job g call below (waits_makes want (next_of job g) call made)
-lawful_below n tries (Ok (Shares s)) given (OnBoard board command) below made =
-    let g = (attempts_of (Shares s) tries given).given in
+lawful_below n tries (Ok (Sharing s)) given (OnBoard board command) below made =
+    let g = (attempts_of (Sharing s) tries given).given in
     subst (λ (m : ℕ). board < m) below (shared_calls_below s g board command (shares_makes (shared_next s g) (OnBoard board command) made))
-lawful_below n tries (Ok (Shares s)) given (OnBus cmd) below made = tt
+lawful_below n tries (Ok (Sharing s)) given (OnBus cmd) below made = tt
 lawful_below n tries (Err fault) given call below made = absurd cc
 
 pub next_below : (config : Configuration) (board : ℕ) (line : Line) (given : Given) (call : Call) → board < length config.boards
-    → next_given config board line given ≡ Makes call → IsCallBelow (length config.boards) call
+    → next_given config board line given ≡ Invokes call → IsCallBelow (length config.boards) call
 unfolding next_given
 next_below config board line given call there made =
     lawful_below (length config.boards) config.tries (line_attempt config board line) given call (attempt_below config board line there) made
@@ -137,15 +137,15 @@ advance_below n task last below = λ given call made.
     below (given ++ last ∷ []) call (sym (ap line_to_do (advanced_on task last given)) ∙ made)
 
 -- a line's call is on a board that is there
-pub calls_below : (n : ℕ) (task : LineTask) (call : Call) → IsLineBelow n task → line_to_do task ≡ Makes call → IsCallBelow n call
+pub calls_below : (n : ℕ) (task : LineTask) (call : Call) → IsLineBelow n task → line_to_do task ≡ Invokes call → IsCallBelow n call
 unfolding IsLineBelow
 calls_below n task call below next = below [] call next
 
 -- and so is its event
-in_makes : (next : LineNext) (call : Call) → Some call ≡ call_in next → next ≡ Makes call
-in_makes Rests call is = absurd cc
-in_makes (Makes other) call is = cc
-in_makes (Ends answer) call is = absurd cc
+in_makes : (next : LineNext) (call : Call) → Some call ≡ call_in next → next ≡ Invokes call
+in_makes NotStarted call is = absurd cc
+in_makes (Invokes other) call is = cc
+in_makes (Returns answer) call is = absurd cc
 
 pub event_below : (n : ℕ) (task : LineTask) (event : Option Event) → IsLineBelow n task → option_map call_of event ≡ call_in (line_to_do task)
     → IfSome event (IsEventBelow n)
@@ -161,20 +161,20 @@ todo_below n task (todos.Call (asked.Bus cmd)) below next = tt
 todo_below n task (todos.Ended answer) below next = tt
 
 -- a line whose answer was taken calls none
-over_given : (given : Given) → line_advanced Over given ≡ Over
+over_given : (given : Given) → line_advanced Finished given ≡ Finished
 over_given [] = refl
 over_given (last ∷ before) = ap (λ (t : LineTask). line_advance t last) (over_given before)
 
-over_below : (n : ℕ) → IsLineBelow n Over
+over_below : (n : ℕ) → IsLineBelow n Finished
 unfolding IsLineBelow
 over_below n = λ given call made. absurd (cc (sym (ap line_to_do (over_given given)) ∙ made))
 
 pub taken_below : (n : ℕ) (task : LineTask) → IsLineBelow n task → IsLineBelow n (line_taken task)
 taken_below n (Refused fault) below = below
-taken_below n (Tries a) below = by_next (attempt_to_do a.attempt)
+taken_below n (Running a) below = by_next (attempt_to_do a.attempt)
   where
     by_next : (next : LineNext) → IsLineBelow n (attempts_taken a next)
-    by_next Rests = below
-    by_next (Makes call) = below
-    by_next (Ends answer) = over_below n
-taken_below n Over below = below
+    by_next NotStarted = below
+    by_next (Invokes call) = below
+    by_next (Returns answer) = over_below n
+taken_below n Finished below = below

@@ -32,8 +32,8 @@ use Rattle.vme_grammar.specs.declared.line.Line.{Line}
 use Rattle.vme_grammar.specs.declared.line.Line.TheVariants as lines
 use Rattle.vme_grammar.specs.Grammar.{IsOwnLine}
 use Rattle.vme_script.specs.Configurations.{Configuration}
-use Rattle.vme_line_task.specs.Scripts.{Attempt, Moves, Waits, Shares, slot_at, level_at, mailbox_at, transfer_job, request_attempt, unless_refused, shared_job, shared_attempt, line_attempt}
-use Rattle.vme_line_task.specs.Tables.{LineNext, Rests, Makes, Ends, attempt_next, asks_again, Attempts, next_attempt, attempts_of, lawful_next, next_given, line_next, given_of}
+use Rattle.vme_line_task.specs.Scripts.{Attempt, Transferring, Awaiting, Sharing, slot_at, level_at, mailbox_at, transfer_job, request_attempt, unless_refused, shared_job, shared_attempt, line_attempt}
+use Rattle.vme_line_task.specs.Tables.{LineNext, NotStarted, Invokes, Returns, attempt_next, asks_again, Attempts, next_attempt, attempts_of, lawful_next, next_given, line_next, given_of}
 use Rattle.vme_line_task.specs.Tenures.{attempt_told, lawful_told, line_told, IsLocal, IsGood, IsGranted}
 use Rattle.vme_line_task.proofs.lemmas.Below.{moves_makes}
 use Rattle.vme_line_task.proofs.Ends.{just_begun}
@@ -45,13 +45,13 @@ now_made made last = record { given = last ∷ made.given; left = made.left }
 
 record IsFollowed (made : Attempts) (next : LineNext) : Type 0 where
   answer : LineReply
-  ended : next ≡ Ends answer
+  ended : next ≡ Returns answer
   begun : next_attempt made next ≡ record { given = None ∷ []; left = made.left - 1 }
 
 either : (made : Attempts) (next : LineNext) → (next_attempt made next ≡ made) ⊎ IsFollowed made next
-either made Rests = inl refl
-either made (Makes call) = inl refl
-either made (Ends answer) =
+either made NotStarted = inl refl
+either made (Invokes call) = inl refl
+either made (Returns answer) =
     elim (cases_Bool (asks_again answer && nat_lt 1 made.left)) [
       | inl more ↦ inr (record { answer = answer; ended = refl; begun = rw more refl })
       | inr last ↦ inl (rw last refl)
@@ -67,7 +67,7 @@ shared_own : (config : Configuration) (board : ℕ) (request : SharedRequest)
 shared_own config board request = by_refusal (shared_refusal request)
   where
     by_refusal : (refusal : Option CycleFault)
-        → IsOwn (slot_at config board) (level_at config board) (unless_refused (Shares (shared_job config board request)) refusal)
+        → IsOwn (slot_at config board) (level_at config board) (unless_refused (Sharing (shared_job config board request)) refusal)
     by_refusal None = (refl, refl)
     by_refusal (Some fault) = tt
 
@@ -76,14 +76,14 @@ line_own : (config : Configuration) (board : ℕ) (line : Line)
 line_own config board (lines.Bus request) = request_own (transfer_of request)
   where
     request_own : (transfer : Result Transfer CycleFault)
-        → IsOwn (slot_at config board) (level_at config board) (request_attempt (λ t. Moves (transfer_job config board t)) transfer)
+        → IsOwn (slot_at config board) (level_at config board) (request_attempt (λ t. Transferring (transfer_job config board t)) transfer)
     request_own (Ok t) = (refl, refl)
     request_own (Err fault) = tt
 line_own config board (lines.Local cmd) = tt
 line_own config board (lines.Await am addr bytes) = request_own (transfer_of (requests.Read am addr (length bytes.items)))
   where
     request_own : (transfer : Result Transfer CycleFault)
-        → IsOwn (slot_at config board) (level_at config board) (request_attempt (λ t. Waits (transfer_job config board t) bytes.items) transfer)
+        → IsOwn (slot_at config board) (level_at config board) (request_attempt (λ t. Awaiting (transfer_job config board t) bytes.items) transfer)
     request_own (Ok t) = (refl, refl)
     request_own (Err fault) = tt
 line_own config board (lines.Lock am addr) = shared_own config board (asked_shared.Lock am addr)
@@ -109,7 +109,7 @@ unfolding line_told
 line_begins config board line = lawful_begins config.tries (line_attempt config board line)
 
 -- a line that ends with its first call is no denial
-lawful_first : (tries : ℕ) (attempt : Result Attempt CycleFault) (answer : LineReply) → lawful_next tries attempt (None ∷ []) ≡ Ends answer
+lawful_first : (tries : ℕ) (attempt : Result Attempt CycleFault) (answer : LineReply) → lawful_next tries attempt (None ∷ []) ≡ Returns answer
     → IsGranted answer
 lawful_first tries (Err fault) answer ends = subst IsGranted (is cc) (λ denied. absurd cc, λ denied. absurd cc)
   where
@@ -117,20 +117,20 @@ lawful_first tries (Err fault) answer ends = subst IsGranted (is cc) (λ denied.
     is same = same
 lawful_first tries (Ok a) answer ends = (just_begun a answer (sym (ap (attempt_next a) (first_given tries a)) ∙ ends)).granted
 
-pub line_first : (config : Configuration) (board : ℕ) (line : Line) (answer : LineReply) → line_next config board line [] ≡ Ends answer
+pub line_first : (config : Configuration) (board : ℕ) (line : Line) (answer : LineReply) → line_next config board line [] ≡ Returns answer
     → IsGranted answer
 unfolding next_given
 line_first config board line answer ends = lawful_first config.tries (line_attempt config board line) answer ends
 
 -- commands to the arbiter
 lawful_turns : (slot level tries : ℕ) (attempt : Result Attempt CycleFault) (given : Given) (cmd : ArbCmd) → IsOwn slot level attempt
-    → is_level level ≡ true → lawful_next tries attempt given ≡ Makes (OnBus cmd) → may_give slot (lawful_told tries attempt given) cmd ≡ true
+    → is_level level ≡ true → lawful_next tries attempt given ≡ Invokes (OnBus cmd) → may_give slot (lawful_told tries attempt given) cmd ≡ true
 lawful_turns slot level tries (Ok a) given cmd own lawful made =
     attempt_turns slot level a (attempts_of a tries given).given cmd own lawful made
 lawful_turns slot level tries (Err fault) given cmd own lawful made = absurd cc
 
 pub line_turns : (config : Configuration) (board : ℕ) (line : Line) (replies : List EventReply) (cmd : ArbCmd)
-    → is_level (level_at config board) ≡ true → line_next config board line replies ≡ Makes (OnBus cmd)
+    → is_level (level_at config board) ≡ true → line_next config board line replies ≡ Invokes (OnBus cmd)
     → may_give (slot_at config board) (line_told config board line replies) cmd ≡ true
 unfolding next_given line_told
 line_turns config board line replies cmd lawful made =
@@ -139,29 +139,29 @@ line_turns config board line replies cmd lawful made =
 
 -- data of a transfer
 lawful_holds : (tries : ℕ) (a : Attempt) (given : Given) (b : ℕ) (command : Option Command) → IsTransfer a
-    → lawful_next tries (Ok a) given ≡ Makes (OnBoard b command) → lawful_told tries (Ok a) given ≡ Some turned.Granted
+    → lawful_next tries (Ok a) given ≡ Invokes (OnBoard b command) → lawful_told tries (Ok a) given ≡ Some turned.Granted
 lawful_holds tries a given b command transfer made = attempt_holds a (attempts_of a tries given).given b command transfer made
 
 request_holds : (tries : ℕ) (attempt : Transfer → Attempt) (transfer : Result Transfer CycleFault) (given : Given) (b : ℕ) (command : Option Command)
-    → ((t : Transfer) → IsTransfer (attempt t)) → lawful_next tries (request_attempt attempt transfer) given ≡ Makes (OnBoard b command)
+    → ((t : Transfer) → IsTransfer (attempt t)) → lawful_next tries (request_attempt attempt transfer) given ≡ Invokes (OnBoard b command)
     → lawful_told tries (request_attempt attempt transfer) given ≡ Some turned.Granted
 request_holds tries attempt (Ok t) given b command each made = lawful_holds tries (attempt t) given b command (each t) made
 request_holds tries attempt (Err fault) given b command each made = absurd cc
 
 shared_holds : (config : Configuration) (board : ℕ) (request : SharedRequest) (given : Given) (b : ℕ) (command : Option Command)
-    → lawful_next config.tries (shared_attempt config board request) given ≡ Makes (OnBoard b command)
+    → lawful_next config.tries (shared_attempt config board request) given ≡ Invokes (OnBoard b command)
     → lawful_told config.tries (shared_attempt config board request) given ≡ Some turned.Granted
 shared_holds config board request given b command made = by_refusal (shared_refusal request) made
   where
     by_refusal : (refusal : Option CycleFault)
-        → lawful_next config.tries (unless_refused (Shares (shared_job config board request)) refusal) given ≡ Makes (OnBoard b command)
-        → lawful_told config.tries (unless_refused (Shares (shared_job config board request)) refusal) given ≡ Some turned.Granted
-    by_refusal None made = lawful_holds config.tries (Shares (shared_job config board request)) given b command tt made
+        → lawful_next config.tries (unless_refused (Sharing (shared_job config board request)) refusal) given ≡ Invokes (OnBoard b command)
+        → lawful_told config.tries (unless_refused (Sharing (shared_job config board request)) refusal) given ≡ Some turned.Granted
+    by_refusal None made = lawful_holds config.tries (Sharing (shared_job config board request)) given b command tt made
     by_refusal (Some fault) made = absurd cc
 
 -- those of a local port are its own
 own_local : (board b : ℕ) (cmd : BoardCmd) (g : Given) (command : Option Command) → IsOwnLine (lines.Local cmd)
-    → next_of (local_job board cmd) g ≡ tasks.Makes (OnBoard b command) → IsLocal command
+    → next_of (local_job board cmd) g ≡ tasks.Invokes (OnBoard b command) → IsLocal command
 own_local board b cmd g command own made =
     let one : OnBoard b command ≡ OnBoard board (command_given cmd) = local_calls (record { board = board; cmd = cmd }) g (OnBoard b command) made in
     let same : command_given cmd ≡ command = cc in
@@ -174,15 +174,15 @@ own_local board b cmd g command own made =
     by_command (given_cmd.Cycle signals at f) own = absurd own
 
 line_holds_by : (config : Configuration) (board : ℕ) (line : Line) (given : Given) (b : ℕ) (command : Option Command) → IsOwnLine line
-    → lawful_next config.tries (line_attempt config board line) given ≡ Makes (OnBoard b command)
+    → lawful_next config.tries (line_attempt config board line) given ≡ Invokes (OnBoard b command)
     → IsLocal command ⊎ (lawful_told config.tries (line_attempt config board line) given ≡ Some turned.Granted)
 line_holds_by config board (lines.Bus request) given b command own made =
-    inr (request_holds config.tries (λ t. Moves (transfer_job config board t)) (transfer_of request) given b command (λ t. tt) made)
+    inr (request_holds config.tries (λ t. Transferring (transfer_job config board t)) (transfer_of request) given b command (λ t. tt) made)
 line_holds_by config board (lines.Local cmd) given b command own made =
-    let g = (attempts_of (Moves (local_job board cmd)) config.tries given).given in
+    let g = (attempts_of (Transferring (local_job board cmd)) config.tries given).given in
     inl (own_local board b cmd g command own (moves_makes (next_of (local_job board cmd) g) (OnBoard b command) made))
 line_holds_by config board (lines.Await am addr bytes) given b command own made =
-    inr (request_holds config.tries (λ t. Waits (transfer_job config board t) bytes.items)
+    inr (request_holds config.tries (λ t. Awaiting (transfer_job config board t) bytes.items)
     (transfer_of (requests.Read am addr (length bytes.items))) given b command (λ t. tt) made)
 line_holds_by config board (lines.Lock am addr) given b command own made =
     inr (shared_holds config board (asked_shared.Lock am addr) given b command made)
@@ -194,14 +194,14 @@ line_holds_by config board (lines.Take box) given b command own made =
     inr (shared_holds config board (asked_shared.Take (mailbox_at config box)) given b command made)
 
 pub line_holds : (config : Configuration) (board : ℕ) (line : Line) (replies : List EventReply) (b : ℕ) (command : Option Command)
-    → IsOwnLine line → line_next config board line replies ≡ Makes (OnBoard b command)
+    → IsOwnLine line → line_next config board line replies ≡ Invokes (OnBoard b command)
     → IsLocal command ⊎ (line_told config board line replies ≡ Some turned.Granted)
 unfolding next_given line_told
 line_holds config board line replies b command own made = line_holds_by config board line (given_of replies) b command own made
 
 -- a good reply of the arbiter
 lawful_turn : (tries : ℕ) (attempt : Result Attempt CycleFault) (given : Given) (cmd : ArbCmd) (reply : ArbReply) (bus : Arbitration)
-    (slot : ℕ) → lawful_next tries attempt given ≡ Makes (OnBus cmd) → IsGood (OnBus cmd) (told.Bus reply) → StandsAsTold bus slot (Some reply)
+    (slot : ℕ) → lawful_next tries attempt given ≡ Invokes (OnBus cmd) → IsGood (OnBus cmd) (told.Bus reply) → StandsAsTold bus slot (Some reply)
     → StandsAsTold bus slot (lawful_told tries attempt (Some (told.Bus reply) ∷ given))
 lawful_turn tries (Err fault) given cmd reply bus slot made good stands = absurd cc
 lawful_turn tries (Ok a) given cmd reply bus slot made good stands =
@@ -217,7 +217,7 @@ lawful_turn tries (Ok a) given cmd reply bus slot made good stands =
     ]
 
 pub line_turn : (config : Configuration) (board : ℕ) (line : Line) (replies : List EventReply) (cmd : ArbCmd) (reply : ArbReply)
-    (bus : Arbitration) (slot : ℕ) → line_next config board line replies ≡ Makes (OnBus cmd) → IsGood (OnBus cmd) (told.Bus reply)
+    (bus : Arbitration) (slot : ℕ) → line_next config board line replies ≡ Invokes (OnBus cmd) → IsGood (OnBus cmd) (told.Bus reply)
     → StandsAsTold bus slot (Some reply) → StandsAsTold bus slot (line_told config board line (told.Bus reply ∷ replies))
 unfolding next_given line_told
 line_turn config board line replies cmd reply bus slot made good stands =
@@ -225,7 +225,7 @@ line_turn config board line replies cmd reply bus slot made good stands =
 
 -- a good reply of a board
 lawful_datum : (tries : ℕ) (attempt : Result Attempt CycleFault) (given : Given) (call : Call) (reply : Reply)
-    → lawful_next tries attempt given ≡ Makes call → IsGood call (told.Board reply)
+    → lawful_next tries attempt given ≡ Invokes call → IsGood call (told.Board reply)
     → lawful_told tries attempt (Some (told.Board reply) ∷ given) ≡ lawful_told tries attempt given
 lawful_datum tries (Err fault) given call reply made good = absurd cc
 lawful_datum tries (Ok a) given call reply made good =
@@ -239,7 +239,7 @@ lawful_datum tries (Ok a) given call reply made good =
     ]
 
 pub line_datum : (config : Configuration) (board : ℕ) (line : Line) (replies : List EventReply) (call : Call) (reply : Reply)
-    → line_next config board line replies ≡ Makes call → IsGood call (told.Board reply)
+    → line_next config board line replies ≡ Invokes call → IsGood call (told.Board reply)
     → line_told config board line (told.Board reply ∷ replies) ≡ line_told config board line replies
 unfolding next_given line_told
 line_datum config board line replies call reply made good =
@@ -251,7 +251,7 @@ pub record IsWellEnded (answer : LineReply) (last : Option ArbReply) : Type 0 wh
   pub free : (bus : Arbitration) (slot : ℕ) → StandsAsTold bus slot last → StandsAsTold bus slot None
 
 lawful_ends : (tries : ℕ) (attempt : Result Attempt CycleFault) (given : Given) (call : Call) (reply : EventReply) (answer : LineReply)
-    → lawful_next tries attempt given ≡ Makes call → IsGood call reply → lawful_next tries attempt (Some reply ∷ given) ≡ Ends answer
+    → lawful_next tries attempt given ≡ Invokes call → IsGood call reply → lawful_next tries attempt (Some reply ∷ given) ≡ Returns answer
     → IsWellEnded answer (lawful_told tries attempt (Some reply ∷ given))
 lawful_ends tries (Err fault) given call reply answer made good ends = absurd cc
 lawful_ends tries (Ok a) given call reply answer made good ends =
@@ -259,7 +259,7 @@ lawful_ends tries (Ok a) given call reply answer made good ends =
     let now = now_made was (Some reply) in
     elim (either now (attempt_next a now.given)) [
       | inl same ↦
-          let last : attempt_next a now.given ≡ Ends answer = sym (ap (λ (m : Attempts). attempt_next a m.given) same) ∙ ends in
+          let last : attempt_next a now.given ≡ Returns answer = sym (ap (λ (m : Attempts). attempt_next a m.given) same) ∙ ends in
           let well = attempt_ends a was.given call reply answer made good last in
           subst (λ (m : Attempts). IsWellEnded answer (attempt_told a m.given)) (sym same) (record { granted = well.granted; free = well.free })
       | inr next ↦
@@ -270,8 +270,8 @@ lawful_ends tries (Ok a) given call reply answer made good ends =
     ]
 
 pub line_ends : (config : Configuration) (board : ℕ) (line : Line) (replies : List EventReply) (call : Call) (reply : EventReply)
-    (answer : LineReply) → line_next config board line replies ≡ Makes call → IsGood call reply
-    → line_next config board line (reply ∷ replies) ≡ Ends answer → IsWellEnded answer (line_told config board line (reply ∷ replies))
+    (answer : LineReply) → line_next config board line replies ≡ Invokes call → IsGood call reply
+    → line_next config board line (reply ∷ replies) ≡ Returns answer → IsWellEnded answer (line_told config board line (reply ∷ replies))
 unfolding next_given line_told
 line_ends config board line replies call reply answer made good ends =
     lawful_ends config.tries (line_attempt config board line) (given_of replies) call reply answer made good ends

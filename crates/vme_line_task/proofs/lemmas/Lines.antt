@@ -14,43 +14,43 @@ use Rattle.vme_shared.proofs.lemmas.Stands.{by_the_given as by_the_steps, given_
 use Rattle.vme_grammar.specs.declared.line.Line.{Line}
 use Rattle.vme_script.specs.Configurations.{Configuration}
 use Rattle.vme_line_task.specs.declared.task.LineTask.{LineTask}
-use Rattle.vme_line_task.specs.declared.task.LineTask.TheVariants.{Refused, Tries}
+use Rattle.vme_line_task.specs.declared.task.LineTask.TheVariants.{Refused, Running}
 use Rattle.vme_line_task.specs.declared.attempt.Attempts.{Attempts}
 use Rattle.vme_line_task.specs.declared.attempt.AttemptTask.{AttemptTask}
 use Rattle.vme_line_task.specs.declared.attempt.AttemptTask.TheVariants as tries
-use Rattle.vme_line_task.specs.Scripts.{Attempt, Moves, Waits, Shares, line_attempt}
+use Rattle.vme_line_task.specs.Scripts.{Attempt, Transferring, Awaiting, Sharing, line_attempt}
 use Rattle.vme_line_task.specs.Tables as table
 use Rattle.vme_line_task.specs.Tables.{LineNext, moves_next, waits_next, shares_next, attempt_next, next_asks_again, next_attempt, attempts_of, lawful_next, next_given, line_next, given_of}
 use Rattle.vme_line_task.specs.Machine.{attempt_fresh, attempt_anew, attempt_advance, attempt_to_do, attempts_again, attempts_advance, line_fresh, line_started, line_advance, line_to_do, line_advanced, line_given, line_after}
 
 -- the task of an attempt after calls with what it was given
 abbrev attempt_task : Attempt → Given → AttemptTask
-attempt_task (Moves job) given = tries.Moves (task_given job given)
-attempt_task (Waits job want) given = tries.Waits (record { task = task_given job given; want = record { items = want } })
-attempt_task (Shares s) given = tries.Shares (shared_given s given)
+attempt_task (Transferring job) given = tries.Transfer (task_given job given)
+attempt_task (Awaiting job want) given = tries.Await (record { task = task_given job given; want = record { items = want } })
+attempt_task (Sharing s) given = tries.Shared (shared_given s given)
 
 task_fresh : (a : Attempt) → attempt_fresh a ≡ attempt_task a []
-task_fresh (Moves job) = refl
-task_fresh (Waits job want) = refl
-task_fresh (Shares s) = refl
+task_fresh (Transferring job) = refl
+task_fresh (Awaiting job want) = refl
+task_fresh (Sharing s) = refl
 
 task_advance : (a : Attempt) (given : Given) (last : Option EventReply)
     → attempt_advance (attempt_task a given) last ≡ attempt_task a (last ∷ given)
-task_advance (Moves job) given last = refl
-task_advance (Waits job want) given last = refl
-task_advance (Shares s) given last = refl
+task_advance (Transferring job) given last = refl
+task_advance (Awaiting job want) given last = refl
+task_advance (Sharing s) given last = refl
 
 task_anew : (a : Attempt) (given : Given) → attempt_anew (attempt_task a given) ≡ attempt_task a []
-task_anew (Moves job) given = ap (λ (one : Job). tries.Moves (fresh_task one)) (given_job job given)
-task_anew (Waits job want) given =
-    ap (λ (one : Job). tries.Waits (record { task = fresh_task one; want = record { items = want } })) (given_job job given)
-task_anew (Shares s) given = ap (λ (one : SharedJob). tries.Shares (shared_fresh one)) (shared_given_job s given)
+task_anew (Transferring job) given = ap (λ (one : Job). tries.Transfer (fresh_task one)) (given_job job given)
+task_anew (Awaiting job want) given =
+    ap (λ (one : Job). tries.Await (record { task = fresh_task one; want = record { items = want } })) (given_job job given)
+task_anew (Sharing s) given = ap (λ (one : SharedJob). tries.Shared (shared_fresh one)) (shared_given_job s given)
 
 -- an attempt does what its table says
 task_next : (a : Attempt) (given : Given) → attempt_to_do (attempt_task a given) ≡ attempt_next a given
-task_next (Moves job) given = ap moves_next (by_the_table job given)
-task_next (Waits job want) given = ap (waits_next want) (by_the_table job given)
-task_next (Shares s) given = ap shares_next (by_the_steps s given)
+task_next (Transferring job) given = ap moves_next (by_the_table job given)
+task_next (Awaiting job want) given = ap (waits_next want) (by_the_table job given)
+task_next (Sharing s) given = ap shares_next (by_the_steps s given)
 
 -- the attempts of the machine, by those of the table
 abbrev tasks_of : Attempt → table.Attempts → Attempts
@@ -77,10 +77,10 @@ same_attempts a tries given last =
 
 -- by what is attempted for the line
 attempts_given : (a : Attempt) (tries : ℕ) (given : Given)
-    → line_advanced (line_fresh tries (Ok a)) given ≡ Tries (tasks_of a (attempts_of a tries given))
-attempts_given a tries [] = ap (λ (t : AttemptTask). Tries (record { attempt = t; left = tries })) (task_fresh a)
+    → line_advanced (line_fresh tries (Ok a)) given ≡ Running (tasks_of a (attempts_of a tries given))
+attempts_given a tries [] = ap (λ (t : AttemptTask). Running (record { attempt = t; left = tries })) (task_fresh a)
 attempts_given a tries (last ∷ before) =
-    ap (λ (t : LineTask). line_advance t last) (attempts_given a tries before) ∙ ap Tries (same_attempts a tries before last)
+    ap (λ (t : LineTask). line_advance t last) (attempts_given a tries before) ∙ ap Running (same_attempts a tries before last)
 
 refused_given : (tries : ℕ) (fault : CycleFault) (given : Given) → line_advanced (line_fresh tries (Err fault)) given ≡ Refused fault
 refused_given tries fault [] = refl

@@ -11,7 +11,7 @@ use Rattle.vme_memory.specs.declared.command.BoardCmd.{BoardCmd}
 use Rattle.vme_memory.specs.declared.reply.Reply.{Reply}
 use Rattle.vme_memory.specs.Boards.{Board}
 use Rattle.vme_memory.specs.Locals.{board_step}
-use Rattle.vme_core.specs.Runs.{Move}
+use Rattle.vme_core.specs.Runs.{Transition}
 use Rattle.vme_shared.specs.MailboxSteps.{BoardMailbox, IsNewMailbox}
 use Rattle.vme_shared.specs.Phases.{Idle, IsProper}
 use Rattle.vme_shared.specs.Words.{put_by, taken_by, all_idle, words_along}
@@ -43,7 +43,7 @@ none_taken : (box : ℕ) (ls : List Line) → lines_taken box ls [] ≡ []
 none_taken box [] = refl
 none_taken box (line ∷ ls) = refl
 
-module _ (config : Configuration) (box board : ℕ) (m : BoardMailbox) (memory : Board) (h : List (Entry BoardCmd Reply)) (runs : List (List Move))
+module _ (config : Configuration) (box board : ℕ) (m : BoardMailbox) (memory : Board) (h : List (Entry BoardCmd Reply)) (runs : List (List Transition))
     (answers : List (List LineReply)) (is : IsMailboxOf config box board m) (new : IsNewMailbox memory m) (legal : IsLegal board_step memory h)
     (share : ShareHistory config board h runs answers) where
   -- what is wanted of each
@@ -58,9 +58,9 @@ module _ (config : Configuration) (box board : ℕ) (m : BoardMailbox) (memory :
         | inl below ↦
             subst (λ es. Through m (Some Idle) es (Told who)) (sym (share.owns who [] below))
             (script config who box board m is (lines_at config who) (slice_index_or runs who []) (slice_index_or answers who []) (Told who) (is.others who)
-            (share.course.each who [] [] below) (share.turned who [] below) (refl, refl))
+            (share.trace.each who [] [] below) (share.turned who [] below) (refl, refl))
         | inr past ↦
-            let no_answers : slice_index_or answers who [] ≡ [] = get_or_past answers who [] (let count = share.course.count in omega arith) in
+            let no_answers : slice_index_or answers who [] ≡ [] = get_or_past answers who [] (let count = share.trace.count in omega arith) in
             rw (none_own (length runs) who h past share.known) (rw no_answers (sym (none_put box (lines_at config who)), sym (none_taken box (lines_at config who))))
       ]
 

@@ -20,16 +20,16 @@ use Rattle.vme_master.specs.declared.job.LocalJob.{LocalJob}
 use Rattle.vme_master.specs.declared.job.Job.{Job}
 use Rattle.vme_master.specs.declared.job.Job.TheVariants.{Bus, Local}
 use Rattle.vme_master.specs.Jobs.{bus_job, local_call, answers_turn, fits}
-use Rattle.vme_master.specs.Tables.{Given, Next, Rests, Makes, Ends, next_after, next_of}
+use Rattle.vme_master.specs.Tables.{Given, Next, NotStarted, Invokes, Returns, next_after, next_of}
 use Rattle.vme_master.specs.Laws.{IsBelow}
 use Rattle.vme_master.proofs.lemmas.Tenures.{data_go_on}
 
 -- a local command makes no other call than its own
 abbrev MakesOwn : LocalJob → Next → Type 0
-MakesOwn j (Makes call) = call ≡ local_call j
+MakesOwn j (Invokes call) = call ≡ local_call j
 MakesOwn j next = Unit {0}
 
-own_row : (j : LocalJob) (call : Call) (reply : EventReply) (g : Given) → MakesOwn j (next_after (Local j) (Makes call) (Some reply) g)
+own_row : (j : LocalJob) (call : Call) (reply : EventReply) (g : Given) → MakesOwn j (next_after (Local j) (Invokes call) (Some reply) g)
 own_row j call (told.Board (Bytes datum)) g =
     elim (cases_Bool (fits call (told.Board (Bytes datum)))) [ inl fit ↦ rw fit tt | inr misfit ↦ rw misfit tt ]
 own_row j call (told.Board Done) g = elim (cases_Bool (fits call (told.Board Done))) [ inl fit ↦ rw fit tt | inr misfit ↦ rw misfit tt ]
@@ -37,22 +37,22 @@ own_row j call (told.Board Berr) g = elim (cases_Bool (fits call (told.Board Ber
 own_row j call (told.Bus reply) g = elim (cases_Bool (fits call (told.Bus reply))) [ inl fit ↦ rw fit tt | inr misfit ↦ rw misfit tt ]
 
 own_step : (j : LocalJob) (next : Next) (last : Option EventReply) (g : Given) → MakesOwn j (next_after (Local j) next last g)
-own_step j Rests None g = refl
-own_step j Rests (Some reply) g = tt
-own_step j (Makes call) None g = tt
-own_step j (Makes call) (Some reply) g = own_row j call reply g
-own_step j (Ends outcome) last g = tt
+own_step j NotStarted None g = refl
+own_step j NotStarted (Some reply) g = tt
+own_step j (Invokes call) None g = tt
+own_step j (Invokes call) (Some reply) g = own_row j call reply g
+own_step j (Returns outcome) last g = tt
 
 own_calls : (j : LocalJob) (g : Given) → MakesOwn j (next_of (Local j) g)
 own_calls j [] = tt
 own_calls j (last ∷ g) = own_step j (next_of (Local j) g) last g
 
-pub local_calls : (j : LocalJob) (g : Given) (call : Call) → next_of (Local j) g ≡ Makes call → call ≡ local_call j
+pub local_calls : (j : LocalJob) (g : Given) (call : Call) → next_of (Local j) g ≡ Invokes call → call ≡ local_call j
 local_calls j g call next = subst (MakesOwn j) next (own_calls j g)
 
 -- each board that is called is among those of the job
 pub calls_below : (n : ℕ) (job : Job) (g : Given) (board : ℕ) (command : Option Command) → IsBelow n job
-    → next_of job g ≡ Makes (OnBoard board command) → board < n
+    → next_of job g ≡ Invokes (OnBoard board command) → board < n
 calls_below n (Bus j) g board command below next =
     let one = data_go_on j g board command next in below board one.offset one.placed
 calls_below n (Local j) g board command below next =

@@ -20,9 +20,9 @@ use Rattle.vme_core.specs.Calls.{OnBoard}
 use Rattle.vme_master.specs.declared.job.BusJob.{BusJob}
 use Rattle.vme_master.specs.declared.job.Job.{Job}
 use Rattle.vme_master.specs.declared.job.Job.TheVariants.{Bus, Local}
-use Rattle.vme_master.specs.declared.phase.Phase.TheVariants.{Moves}
-use Rattle.vme_master.specs.Jobs.{datum_call, request_aim}
-use Rattle.vme_master.specs.Machine.{job_aim, aim_len, bytes_of, phase_at, datum_phase, phase_broken, phase_replied, IsPlaced, HasRead, IsEnough, IsSound, call_count, most_bytes, job_read_len}
+use Rattle.vme_master.specs.declared.phase.Phase.TheVariants.{Transferring}
+use Rattle.vme_master.specs.Jobs.{datum_call, request_expected}
+use Rattle.vme_master.specs.Machine.{job_expected, expected_len, bytes_of, phase_at, datum_phase, phase_broken, phase_replied, IsPlaced, HasRead, IsEnough, IsSound, call_count, most_bytes, job_read_len}
 
 -- one datum more of at most r bytes
 pub one_more : (r i n : ℕ) → i < n → r * i + r ≤ r * n
@@ -58,7 +58,7 @@ datum_is job place i at signals f placed here shown function lawful less same =
 pub all_bytes : (job : Job) → most_bytes job * call_count job ≡ job_read_len job
 all_bytes (Bus job) = bus_bytes job.transfer.request
   where
-    bus_bytes : (request : Request) → unwrap_or (aim_len (request_aim request)) 0 * count_of request ≡ read_len request
+    bus_bytes : (request : Request) → unwrap_or (expected_len (request_expected request)) 0 * count_of request ≡ read_len request
     bus_bytes (requests.Read am addr n) = grind arith
     bus_bytes (requests.BlockRead am addr n count) = refl
     bus_bytes (requests.Modify am addr n f) = grind arith
@@ -78,8 +78,8 @@ reads_within (requests.BlockFill am addr n count bytes) = omega arith
 
 -- a reply that is wanted has no more bytes than a datum
 form_within :
-    (request : Request) (reply : Reply) → has_form (aim_len (request_aim request)) reply ≡ true
-    → length (bytes_of reply) ≤ unwrap_or (aim_len (request_aim request)) 0
+    (request : Request) (reply : Reply) → has_form (expected_len (request_expected request)) reply ≡ true
+    → length (bytes_of reply) ≤ unwrap_or (expected_len (request_expected request)) 0
 form_within (requests.Read am addr n) (Bytes datum) form = let same = eqb-true (length datum.items) n form in omega arith
 form_within (requests.BlockRead am addr n count) (Bytes datum) form = let same = eqb-true (length datum.items) n form in omega arith
 form_within (requests.Modify am addr n f) (Bytes datum) form = let same = eqb-true (length datum.items) n form in omega arith
@@ -89,14 +89,14 @@ form_within (requests.BlockFill am addr n count bytes) (Bytes datum) form = absu
 form_within request Done form = omega arith
 form_within request Berr form = omega arith
 
-pub replied_within : (job : Job) (reply : Reply) → has_form (aim_len (job_aim job)) reply ≡ true → length (bytes_of reply) ≤ 8
+pub replied_within : (job : Job) (reply : Reply) → has_form (expected_len (job_expected job)) reply ≡ true → length (bytes_of reply) ≤ 8
     → length (bytes_of reply) ≤ most_bytes job
 replied_within (Bus job) reply form short = form_within job.transfer.request reply form
 replied_within (Local job) reply form short = short
 
 -- a datum more has room
-pub buffer_before : (job : Job) (i capacity : ℕ) (read : List ℕ) (reply : Reply) → HasRead job (Moves i) read
-    → has_form (aim_len (job_aim job)) reply ≡ true → length (bytes_of reply) ≤ 8 → job_read_len job ≤ capacity
+pub buffer_before : (job : Job) (i capacity : ℕ) (read : List ℕ) (reply : Reply) → HasRead job (Transferring i) read
+    → has_form (expected_len (job_expected job)) reply ≡ true → length (bytes_of reply) ≤ 8 → job_read_len job ≤ capacity
     → length read + length (bytes_of reply) ≤ capacity
 buffer_before job i capacity read reply had form small all =
     let next = one_more (most_bytes job) i (call_count job) had.0 in
@@ -157,8 +157,8 @@ enough_after (Bus job) i capacity Berr enough = enough
 enough_after (Local job) i capacity Berr enough = tt
 
 -- and a task is as sound after it
-pub sound_after : (job : Job) (i capacity : ℕ) (read : List ℕ) (reply : Reply) → IsPlaced job → HasRead job (Moves i) read
-    → has_form (aim_len (job_aim job)) reply ≡ true → length (bytes_of reply) ≤ 8 → job_read_len job ≤ capacity
+pub sound_after : (job : Job) (i capacity : ℕ) (read : List ℕ) (reply : Reply) → IsPlaced job → HasRead job (Transferring i) read
+    → has_form (expected_len (job_expected job)) reply ≡ true → length (bytes_of reply) ≤ 8 → job_read_len job ≤ capacity
     → IsSound (record { job = job; phase = phase_replied job i reply; read = read ++ bytes_of reply }) capacity
 sound_after job i capacity read reply placed had form small enough = record {
   placed = placed;

@@ -16,12 +16,12 @@ use Rattle.vme_master.specs.declared.job.LocalJob.{LocalJob}
 use Rattle.vme_master.specs.declared.job.Job.{Job}
 use Rattle.vme_master.specs.declared.job.Job.TheVariants.{Bus, Local}
 use Rattle.vme_master.specs.declared.phase.Phase.{Phase}
-use Rattle.vme_master.specs.declared.phase.Phase.TheVariants.{Fresh, Asks, Looks, Moves, Frees, Ended, Denied}
+use Rattle.vme_master.specs.declared.phase.Phase.TheVariants.{New, Requesting, Polling, Transferring, Releasing, Finished, Denied}
 use Rattle.vme_master.specs.declared.outcome.Outcome.TheVariants as outcomes
-use Rattle.vme_master.specs.Jobs.{ask_call, look_call, done_call, datum_call, local_call, fits, request_aim, aim_outcome, error_outcome}
-use Rattle.vme_master.specs.Tables.{Given, Makes, Ends, data_in, bytes_in, datum_or_done, outcome_by, next_of}
-use Rattle.vme_master.specs.Machine.{TaskView, job_aim, aim_len, end_outcome, datum_phase, phase_told, phase_replied, bytes_of, task_after, task_given, job_next, to_do}
-use Rattle.vme_master.proofs.lemmas.Aims.{datum_len_wanted, local_len_wanted}
+use Rattle.vme_master.specs.Jobs.{ask_call, look_call, done_call, datum_call, local_call, fits, request_expected, expected_outcome, error_outcome}
+use Rattle.vme_master.specs.Tables.{Given, Invokes, Returns, data_in, bytes_in, datum_or_done, outcome_by, next_of}
+use Rattle.vme_master.specs.Machine.{TaskView, job_expected, expected_len, end_outcome, datum_phase, phase_told, phase_replied, bytes_of, task_after, task_given, job_next, to_do}
+use Rattle.vme_master.proofs.lemmas.Expected.{datum_len_wanted, local_len_wanted}
 
 -- nothing was moved yet
 record Idle (read : List ℕ) (given : Given) : Type 0 where
@@ -31,22 +31,22 @@ record Idle (read : List ℕ) (given : Given) : Type 0 where
 
 -- a transfer's fields fit what it was given
 abbrev BusFacts : BusJob → Phase → List ℕ → Given → Type 0
-BusFacts j Fresh read g = (g ≡ []) × (read ≡ [])
-BusFacts j Asks read g = (next_of (Bus j) g ≡ Makes (ask_call j)) × Idle read g
-BusFacts j Looks read g = (next_of (Bus j) g ≡ Makes (look_call j)) × Idle read g
-BusFacts j (Moves i) read g =
-    (next_of (Bus j) g ≡ Makes (datum_call j j.place i)) × (is_some j.place ≡ true) × (i ≡ data_in g) × (read ≡ bytes_in g)
-BusFacts j (Frees berr) read g =
-    (next_of (Bus j) g ≡ Makes (done_call j)) × (end_outcome (job_aim (Bus j)) berr read ≡ outcome_by j j.place g)
-BusFacts j (Ended berr) read g = next_of (Bus j) g ≡ Ends (end_outcome (job_aim (Bus j)) berr read)
-BusFacts j Denied read g = next_of (Bus j) g ≡ Ends outcomes.Denied
+BusFacts j New read g = (g ≡ []) × (read ≡ [])
+BusFacts j Requesting read g = (next_of (Bus j) g ≡ Invokes (ask_call j)) × Idle read g
+BusFacts j Polling read g = (next_of (Bus j) g ≡ Invokes (look_call j)) × Idle read g
+BusFacts j (Transferring i) read g =
+    (next_of (Bus j) g ≡ Invokes (datum_call j j.place i)) × (is_some j.place ≡ true) × (i ≡ data_in g) × (read ≡ bytes_in g)
+BusFacts j (Releasing berr) read g =
+    (next_of (Bus j) g ≡ Invokes (done_call j)) × (end_outcome (job_expected (Bus j)) berr read ≡ outcome_by j j.place g)
+BusFacts j (Finished berr) read g = next_of (Bus j) g ≡ Returns (end_outcome (job_expected (Bus j)) berr read)
+BusFacts j Denied read g = next_of (Bus j) g ≡ Returns outcomes.Denied
 
 -- and a local command's
 abbrev LocalFacts : LocalJob → Phase → List ℕ → Given → Type 0
-LocalFacts j Fresh read g = (g ≡ []) × (read ≡ [])
-LocalFacts j (Moves i) read g = (next_of (Local j) g ≡ Makes (local_call j)) × (i ≡ 0) × (read ≡ [])
-LocalFacts j (Ended berr) read g = next_of (Local j) g ≡ Ends (end_outcome (job_aim (Local j)) berr read)
-LocalFacts j Denied read g = next_of (Local j) g ≡ Ends outcomes.Denied
+LocalFacts j New read g = (g ≡ []) × (read ≡ [])
+LocalFacts j (Transferring i) read g = (next_of (Local j) g ≡ Invokes (local_call j)) × (i ≡ 0) × (read ≡ [])
+LocalFacts j (Finished berr) read g = next_of (Local j) g ≡ Returns (end_outcome (job_expected (Local j)) berr read)
+LocalFacts j Denied read g = next_of (Local j) g ≡ Returns outcomes.Denied
 LocalFacts j phase read g = ⊥
 
 abbrev Facts : Job → Phase → List ℕ → Given → Type 0
@@ -59,10 +59,10 @@ task job phase read = record { job = job; phase = phase; read = read }
 
 -- what is given that leads on to datum i
 record LeadsOn (j : BusJob) (i : ℕ) (read : List ℕ) (g : Given) : Type 0 where
-  next : next_of (Bus j) g ≡ Makes (datum_or_done j i)
+  next : next_of (Bus j) g ≡ Invokes (datum_or_done j i)
   count : i ≡ data_in g
   bytes : read ≡ bytes_in g
-  whole : (p : ℕ × ℕ) → outcome_by j (Some p) g ≡ aim_outcome (request_aim j.transfer.request) (bytes_in g)
+  whole : (p : ℕ × ℕ) → outcome_by j (Some p) g ≡ expected_outcome (request_expected j.transfer.request) (bytes_in g)
 
 -- on to datum i, where there is a board
 leads_there : (j : BusJob) (p : ℕ × ℕ) (i : ℕ) (read : List ℕ) (g : Given) → j.place ≡ Some p → LeadsOn j i read g
@@ -70,13 +70,13 @@ leads_there : (j : BusJob) (p : ℕ × ℕ) (i : ℕ) (read : List ℕ) (g : Giv
 leads_there j p i read g placed leads =
     elim (cases_Bool (nat_lt i (count_of j.transfer.request))) [
       | inl less ↦
-          let here : next_of (Bus j) g ≡ Makes (datum_call j j.place i) = leads.next ∙ rw less refl in
+          let here : next_of (Bus j) g ≡ Invokes (datum_call j j.place i) = leads.next ∙ rw less refl in
           let some : is_some j.place ≡ true = rw placed refl in
           rw less (here, some, leads.count, leads.bytes)
       | inr past ↦
-          let here : next_of (Bus j) g ≡ Makes (done_call j) = leads.next ∙ rw past refl in
-          let end : aim_outcome (request_aim j.transfer.request) read ≡ outcome_by j j.place g =
-          ap (aim_outcome (request_aim j.transfer.request)) leads.bytes ∙ sym (leads.whole p) ∙ ap (λ q. outcome_by j q g) (sym placed) in
+          let here : next_of (Bus j) g ≡ Invokes (done_call j) = leads.next ∙ rw past refl in
+          let end : expected_outcome (request_expected j.transfer.request) read ≡ outcome_by j j.place g =
+          ap (expected_outcome (request_expected j.transfer.request)) leads.bytes ∙ sym (leads.whole p) ∙ ap (λ q. outcome_by j q g) (sym placed) in
           rw past (here, end)
     ]
 
@@ -84,7 +84,7 @@ leads_there j p i read g placed leads =
 leads_nowhere : (j : BusJob) (i : ℕ) (read : List ℕ) (g : Given) → j.place ≡ None → read ≡ [] → LeadsOn j i read g
     → BusFacts j (datum_phase j None i) read g
 leads_nowhere j i read g placed empty leads =
-    let here : next_of (Bus j) g ≡ Makes (done_call j) =
+    let here : next_of (Bus j) g ≡ Invokes (done_call j) =
     leads.next ∙ elim (cases_Bool (nat_lt i (count_of j.transfer.request))) [ inl less ↦ rw (less, placed) refl | inr past ↦ rw past refl ] in
     (here, rw (placed, empty) refl)
 
@@ -97,7 +97,7 @@ leads_on j None i read g placed (inr empty) leads = leads_nowhere j i read g pla
 
 -- the bus is granted
 granted : (j : BusJob) (read : List ℕ) (g : Given) → Idle read g
-    → next_of (Bus j) (Some (told.Bus turned.Granted) ∷ g) ≡ Makes (datum_or_done j 0)
+    → next_of (Bus j) (Some (told.Bus turned.Granted) ∷ g) ≡ Invokes (datum_or_done j 0)
     → BusFacts j (datum_phase j j.place 0) read (Some (told.Bus turned.Granted) ∷ g)
 granted j read g idle next =
     leads_on j j.place 0 read (Some (told.Bus turned.Granted) ∷ g) refl (inr idle.empty)
@@ -105,7 +105,7 @@ granted j read g idle next =
 
 -- a reply of the arbiter to an ask or a look
 bus_told : (j : BusJob) (read : List ℕ) (g : Given) (reply : ArbReply) → Idle read g
-    → ((next_of (Bus j) g ≡ Makes (ask_call j)) ⊎ (next_of (Bus j) g ≡ Makes (look_call j)))
+    → ((next_of (Bus j) g ≡ Invokes (ask_call j)) ⊎ (next_of (Bus j) g ≡ Invokes (look_call j)))
     → BusFacts j (phase_told (Bus j) reply) read (Some (told.Bus reply) ∷ g)
 bus_told j read g turned.Granted idle (inl asks) = granted j read g idle (rw asks refl)
 bus_told j read g turned.Granted idle (inr looks) = granted j read g idle (rw looks refl)
@@ -118,7 +118,7 @@ bus_told j read g turned.Denied idle (inr looks) = rw looks refl
 
 -- a datum's call is answered by a board, by its form
 datum_fits : (j : BusJob) (place : Option (ℕ × ℕ)) (i : ℕ) (reply : Reply) → is_some place ≡ true
-    → fits (datum_call j place i) (told.Board reply) ≡ has_form (aim_len (job_aim (Bus j))) reply
+    → fits (datum_call j place i) (told.Board reply) ≡ has_form (expected_len (job_expected (Bus j))) reply
 datum_fits j None i reply some = absurd cc
 datum_fits j (Some p) i reply some = ap (λ wanted. has_form wanted reply) (datum_len_wanted j.transfer.request i _)
 
@@ -135,14 +135,14 @@ broken j None i read g some count bytes = absurd cc
 broken j (Some p) i read g some count bytes = rw (count, bytes) refl
 
 -- a reply that fits a datum
-bus_replied : (j : BusJob) (i : ℕ) (read : List ℕ) (g : Given) (reply : Reply) → BusFacts j (Moves i) read g
-    → has_form (aim_len (job_aim (Bus j))) reply ≡ true
+bus_replied : (j : BusJob) (i : ℕ) (read : List ℕ) (g : Given) (reply : Reply) → BusFacts j (Transferring i) read g
+    → has_form (expected_len (job_expected (Bus j))) reply ≡ true
     → BusFacts j (phase_replied (Bus j) i reply) (read ++ bytes_of reply) (Some (told.Board reply) ∷ g)
 bus_replied j i read g (Bytes datum) facts form =
     let fit : fits (datum_call j j.place i) (told.Board (Bytes datum)) ≡ true = datum_fits j j.place i (Bytes datum) facts.1 ∙ form in
     leads_on j j.place (i + 1) (read ++ datum.items) (Some (told.Board (Bytes datum)) ∷ g) refl (inl facts.1)
     (record {
-      next = rw (facts.0, fit) (ap (λ n. Makes (datum_or_done j (n + 1))) (sym facts.2));
+      next = rw (facts.0, fit) (ap (λ n. Invokes (datum_or_done j (n + 1))) (sym facts.2));
       count = ap (λ n. n + 1) facts.2;
       bytes = ap (λ bytes. bytes ++ datum.items) facts.3;
       whole = λ p. refl;
@@ -151,7 +151,7 @@ bus_replied j i read g Done facts form =
     let fit : fits (datum_call j j.place i) (told.Board Done) ≡ true = datum_fits j j.place i Done facts.1 ∙ form in
     leads_on j j.place (i + 1) (read ++ []) (Some (told.Board Done) ∷ g) refl (inl facts.1)
     (record {
-      next = rw (facts.0, fit) (ap (λ n. Makes (datum_or_done j (n + 1))) (sym facts.2));
+      next = rw (facts.0, fit) (ap (λ n. Invokes (datum_or_done j (n + 1))) (sym facts.2));
       count = ap (λ n. n + 1) facts.2;
       bytes = append-nil read ∙ facts.3;
       whole = λ p. refl;
@@ -161,11 +161,11 @@ bus_replied j i read g Berr facts form =
     (rw (facts.0, fit) refl, broken j j.place i (read ++ []) g facts.1 facts.2 (append-nil read ∙ facts.3))
 
 -- a transfer at a datum that a board replied to
-bus_answered : (j : BusJob) (i : ℕ) (read : List ℕ) (g : Given) (reply : Reply) → BusFacts j (Moves i) read g
-    → BusFacts j (task_after (task (Bus j) (Moves i) read) (Moves i) (Some (told.Board reply))).phase
-    (task_after (task (Bus j) (Moves i) read) (Moves i) (Some (told.Board reply))).read (Some (told.Board reply) ∷ g)
+bus_answered : (j : BusJob) (i : ℕ) (read : List ℕ) (g : Given) (reply : Reply) → BusFacts j (Transferring i) read g
+    → BusFacts j (task_after (task (Bus j) (Transferring i) read) (Transferring i) (Some (told.Board reply))).phase
+    (task_after (task (Bus j) (Transferring i) read) (Transferring i) (Some (told.Board reply))).read (Some (told.Board reply) ∷ g)
 bus_answered j i read g reply facts =
-    elim (cases_Bool (has_form (aim_len (job_aim (Bus j))) reply)) [
+    elim (cases_Bool (has_form (expected_len (job_expected (Bus j))) reply)) [
       | inl form ↦ rw form (bus_replied j i read g reply facts form)
       | inr misfit ↦
           let unfit : fits (datum_call j j.place i) (told.Board reply) ≡ false = datum_fits j j.place i reply facts.1 ∙ misfit in
@@ -175,45 +175,45 @@ bus_answered j i read g reply facts =
 -- one call more, of a transfer
 bus_step : (j : BusJob) (phase : Phase) (read : List ℕ) (g : Given) (last : Option EventReply) → BusFacts j phase read g
     → BusFacts j (task_after (task (Bus j) phase read) phase last).phase (task_after (task (Bus j) phase read) phase last).read (last ∷ g)
-bus_step j Fresh read g None facts = (rw facts.0 refl, record { none = ap data_in facts.0; empty = facts.1; bytes = ap bytes_in facts.0 })
-bus_step j Fresh read g (Some reply) facts = rw facts.0 refl
-bus_step j Asks read g None facts = rw facts.0 refl
-bus_step j Asks read g (Some (told.Bus reply)) facts = bus_told j read g reply facts.1 (inl facts.0)
-bus_step j Asks read g (Some (told.Board reply)) facts = rw facts.0 refl
-bus_step j Looks read g None facts = rw facts.0 refl
-bus_step j Looks read g (Some (told.Bus reply)) facts = bus_told j read g reply facts.1 (inr facts.0)
-bus_step j Looks read g (Some (told.Board reply)) facts = rw facts.0 refl
-bus_step j (Moves i) read g None facts = rw facts.0 refl
-bus_step j (Moves i) read g (Some (told.Bus reply)) facts =
+bus_step j New read g None facts = (rw facts.0 refl, record { none = ap data_in facts.0; empty = facts.1; bytes = ap bytes_in facts.0 })
+bus_step j New read g (Some reply) facts = rw facts.0 refl
+bus_step j Requesting read g None facts = rw facts.0 refl
+bus_step j Requesting read g (Some (told.Bus reply)) facts = bus_told j read g reply facts.1 (inl facts.0)
+bus_step j Requesting read g (Some (told.Board reply)) facts = rw facts.0 refl
+bus_step j Polling read g None facts = rw facts.0 refl
+bus_step j Polling read g (Some (told.Bus reply)) facts = bus_told j read g reply facts.1 (inr facts.0)
+bus_step j Polling read g (Some (told.Board reply)) facts = rw facts.0 refl
+bus_step j (Transferring i) read g None facts = rw facts.0 refl
+bus_step j (Transferring i) read g (Some (told.Bus reply)) facts =
     let unfit : fits (datum_call j j.place i) (told.Bus reply) ≡ false = datum_untold j j.place i reply facts.1 in
     rw (facts.0, unfit) refl
-bus_step j (Moves i) read g (Some (told.Board reply)) facts = bus_answered j i read g reply facts
-bus_step j (Frees berr) read g None facts = rw facts.0 refl
-bus_step j (Frees berr) read g (Some (told.Bus turned.Freed)) facts = rw facts.0 (ap Ends (sym facts.1))
-bus_step j (Frees berr) read g (Some (told.Bus turned.Granted)) facts = rw facts.0 refl
-bus_step j (Frees berr) read g (Some (told.Bus turned.Waiting)) facts = rw facts.0 refl
-bus_step j (Frees berr) read g (Some (told.Bus turned.Denied)) facts = rw facts.0 refl
-bus_step j (Frees berr) read g (Some (told.Board reply)) facts = rw facts.0 refl
-bus_step j (Ended berr) read g last facts = rw facts refl
+bus_step j (Transferring i) read g (Some (told.Board reply)) facts = bus_answered j i read g reply facts
+bus_step j (Releasing berr) read g None facts = rw facts.0 refl
+bus_step j (Releasing berr) read g (Some (told.Bus turned.Freed)) facts = rw facts.0 (ap Returns (sym facts.1))
+bus_step j (Releasing berr) read g (Some (told.Bus turned.Granted)) facts = rw facts.0 refl
+bus_step j (Releasing berr) read g (Some (told.Bus turned.Waiting)) facts = rw facts.0 refl
+bus_step j (Releasing berr) read g (Some (told.Bus turned.Denied)) facts = rw facts.0 refl
+bus_step j (Releasing berr) read g (Some (told.Board reply)) facts = rw facts.0 refl
+bus_step j (Finished berr) read g last facts = rw facts refl
 bus_step j Denied read g last facts = rw facts refl
 
 -- a local command that a board replied to, as it fits
-local_replied : (j : LocalJob) (read : List ℕ) (g : Given) (reply : Reply) → LocalFacts j (Moves 0) read g
-    → has_form (aim_len (job_aim (Local j))) reply ≡ true
+local_replied : (j : LocalJob) (read : List ℕ) (g : Given) (reply : Reply) → LocalFacts j (Transferring 0) read g
+    → has_form (expected_len (job_expected (Local j))) reply ≡ true
     → LocalFacts j (phase_replied (Local j) 0 reply) (read ++ bytes_of reply) (Some (told.Board reply) ∷ g)
 local_replied j read g (Bytes datum) facts form =
     let fit : fits (local_call j) (told.Board (Bytes datum)) ≡ true = local_len_wanted j (Bytes datum) ∙ form in
-    rw (facts.0, fit) (ap (λ bytes. Ends (aim_outcome (job_aim (Local j)) (bytes ++ datum.items))) (sym facts.2))
+    rw (facts.0, fit) (ap (λ bytes. Returns (expected_outcome (job_expected (Local j)) (bytes ++ datum.items))) (sym facts.2))
 local_replied j read g Done facts form =
     let fit : fits (local_call j) (told.Board Done) ≡ true = local_len_wanted j Done ∙ form in
-    rw (facts.0, fit) (ap (λ bytes. Ends (aim_outcome (job_aim (Local j)) (bytes ++ []))) (sym facts.2))
-local_replied j read g Berr facts form = rw facts.0 (ap (λ bytes. Ends (error_outcome 0 (bytes ++ []))) (sym facts.2))
+    rw (facts.0, fit) (ap (λ bytes. Returns (expected_outcome (job_expected (Local j)) (bytes ++ []))) (sym facts.2))
+local_replied j read g Berr facts form = rw facts.0 (ap (λ bytes. Returns (error_outcome 0 (bytes ++ []))) (sym facts.2))
 
-local_answered : (j : LocalJob) (read : List ℕ) (g : Given) (reply : Reply) → LocalFacts j (Moves 0) read g
-    → LocalFacts j (task_after (task (Local j) (Moves 0) read) (Moves 0) (Some (told.Board reply))).phase
-    (task_after (task (Local j) (Moves 0) read) (Moves 0) (Some (told.Board reply))).read (Some (told.Board reply) ∷ g)
+local_answered : (j : LocalJob) (read : List ℕ) (g : Given) (reply : Reply) → LocalFacts j (Transferring 0) read g
+    → LocalFacts j (task_after (task (Local j) (Transferring 0) read) (Transferring 0) (Some (told.Board reply))).phase
+    (task_after (task (Local j) (Transferring 0) read) (Transferring 0) (Some (told.Board reply))).read (Some (told.Board reply) ∷ g)
 local_answered j read g reply facts =
-    elim (cases_Bool (has_form (aim_len (job_aim (Local j))) reply)) [
+    elim (cases_Bool (has_form (expected_len (job_expected (Local j))) reply)) [
       | inl form ↦ rw form (local_replied j read g reply facts form)
       | inr misfit ↦
           let unfit : fits (local_call j) (told.Board reply) ≡ false = local_len_wanted j reply ∙ misfit in
@@ -223,25 +223,25 @@ local_answered j read g reply facts =
 -- one call more, of a local command
 local_step : (j : LocalJob) (phase : Phase) (read : List ℕ) (g : Given) (last : Option EventReply) → LocalFacts j phase read g
     → LocalFacts j (task_after (task (Local j) phase read) phase last).phase (task_after (task (Local j) phase read) phase last).read (last ∷ g)
-local_step j Fresh read g None facts = (rw facts.0 refl, refl, facts.1)
-local_step j Fresh read g (Some reply) facts = rw facts.0 refl
-local_step j (Moves i) read g None facts = rw facts.0 refl
-local_step j (Moves i) read g (Some (told.Bus reply)) facts = rw facts.0 refl
-local_step j (Moves zero) read g (Some (told.Board reply)) facts = local_answered j read g reply facts
-local_step j (Moves (suc i)) read g (Some (told.Board reply)) facts = absurd cc
-local_step j (Ended berr) read g last facts = rw facts refl
+local_step j New read g None facts = (rw facts.0 refl, refl, facts.1)
+local_step j New read g (Some reply) facts = rw facts.0 refl
+local_step j (Transferring i) read g None facts = rw facts.0 refl
+local_step j (Transferring i) read g (Some (told.Bus reply)) facts = rw facts.0 refl
+local_step j (Transferring zero) read g (Some (told.Board reply)) facts = local_answered j read g reply facts
+local_step j (Transferring (suc i)) read g (Some (told.Board reply)) facts = absurd cc
+local_step j (Finished berr) read g last facts = rw facts refl
 local_step j Denied read g last facts = rw facts refl
 local_step j phase read g last facts = absurd facts
 
 -- a task keeps its job
 pub job_stays : (t : TaskView) (phase : Phase) (last : Option EventReply) → (task_after t phase last).job ≡ t.job
-job_stays t Fresh None = refl
-job_stays t Asks (Some (told.Bus reply)) = refl
-job_stays t Looks (Some (told.Bus reply)) = refl
-job_stays t (Moves i) (Some (told.Board reply)) =
-    elim (cases_Bool (has_form (aim_len (job_aim t.job)) reply)) [ inl form ↦ rw form refl | inr misfit ↦ rw misfit refl ]
-job_stays t (Frees berr) (Some (told.Bus turned.Freed)) = refl
-job_stays t (Ended berr) last = refl
+job_stays t New None = refl
+job_stays t Requesting (Some (told.Bus reply)) = refl
+job_stays t Polling (Some (told.Bus reply)) = refl
+job_stays t (Transferring i) (Some (told.Board reply)) =
+    elim (cases_Bool (has_form (expected_len (job_expected t.job)) reply)) [ inl form ↦ rw form refl | inr misfit ↦ rw misfit refl ]
+job_stays t (Releasing berr) (Some (told.Bus turned.Freed)) = refl
+job_stays t (Finished berr) last = refl
 job_stays t phase last = refl
 
 pub given_job : (job : Job) (g : Given) → (task_given job g).job ≡ job
@@ -255,7 +255,7 @@ step_facts (Bus j) phase read g last facts = bus_step j phase read g last facts
 step_facts (Local j) phase read g last facts = local_step j phase read g last facts
 
 -- no call yet
-fresh_facts : (job : Job) → Facts job Fresh [] []
+fresh_facts : (job : Job) → Facts job New [] []
 fresh_facts (Bus j) = (refl, refl)
 fresh_facts (Local j) = (refl, refl)
 
@@ -270,16 +270,16 @@ given_facts job (last ∷ g) =
 
 -- so what it does next is what the table says
 facts_next : (job : Job) (phase : Phase) (read : List ℕ) (g : Given) → Facts job phase read g → job_next job phase read ≡ next_of job g
-facts_next (Bus j) Fresh read g facts = rw facts.0 refl
-facts_next (Bus j) Asks read g facts = sym facts.0
-facts_next (Bus j) Looks read g facts = sym facts.0
-facts_next (Bus j) (Moves i) read g facts = sym facts.0
-facts_next (Bus j) (Frees berr) read g facts = sym facts.0
-facts_next (Bus j) (Ended berr) read g facts = sym facts
+facts_next (Bus j) New read g facts = rw facts.0 refl
+facts_next (Bus j) Requesting read g facts = sym facts.0
+facts_next (Bus j) Polling read g facts = sym facts.0
+facts_next (Bus j) (Transferring i) read g facts = sym facts.0
+facts_next (Bus j) (Releasing berr) read g facts = sym facts.0
+facts_next (Bus j) (Finished berr) read g facts = sym facts
 facts_next (Bus j) Denied read g facts = sym facts
-facts_next (Local j) Fresh read g facts = rw facts.0 refl
-facts_next (Local j) (Moves i) read g facts = sym facts.0
-facts_next (Local j) (Ended berr) read g facts = sym facts
+facts_next (Local j) New read g facts = rw facts.0 refl
+facts_next (Local j) (Transferring i) read g facts = sym facts.0
+facts_next (Local j) (Finished berr) read g facts = sym facts
 facts_next (Local j) Denied read g facts = sym facts
 facts_next (Local j) phase read g facts = absurd facts
 

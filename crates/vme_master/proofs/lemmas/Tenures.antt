@@ -19,7 +19,7 @@ use Rattle.vme_master.specs.declared.job.Job.TheVariants.{Bus}
 use Rattle.vme_master.specs.declared.outcome.Outcome.{Outcome}
 use Rattle.vme_master.specs.declared.outcome.Outcome.TheVariants as outcomes
 use Rattle.vme_master.specs.Jobs.{datum_call, fits, error_outcome}
-use Rattle.vme_master.specs.Tables.{Given, Next, Rests, Makes, Ends, data_in, datum_or_done, outcome_by, bus_row, next_after, next_of}
+use Rattle.vme_master.specs.Tables.{Given, Next, NotStarted, Invokes, Returns, data_in, datum_or_done, outcome_by, bus_row, next_after, next_of}
 use Rattle.vme_master.specs.Laws.{last_turn, IsNextDatum}
 
 -- a command to the arbiter is the slot's own, and goes by the last reply
@@ -30,23 +30,23 @@ TurnStands j g (turns.Done slot) = (slot ≡ j.slot) × (last_turn g ≡ Some tu
 
 -- what a transfer does next stands by what it was given
 abbrev Stands : BusJob → Given → Next → Type 0
-Stands j g Rests = g ≡ []
-Stands j g (Makes (OnBus cmd)) = TurnStands j g cmd
-Stands j g (Makes (OnBoard board command)) = IsNextDatum j g board command × (last_turn g ≡ Some turned.Granted)
-Stands j g (Ends outcome) = (outcome ≡ outcomes.Denied) ⊎ (j.place ≡ None → outcome ≡ error_outcome 0 [])
+Stands j g NotStarted = g ≡ []
+Stands j g (Invokes (OnBus cmd)) = TurnStands j g cmd
+Stands j g (Invokes (OnBoard board command)) = IsNextDatum j g board command × (last_turn g ≡ Some turned.Granted)
+Stands j g (Returns outcome) = (outcome ≡ outcomes.Denied) ⊎ (j.place ≡ None → outcome ≡ error_outcome 0 [])
 
 -- the data that come next
 datum_stands : (j : BusJob) (place : Option (ℕ × ℕ)) (g : Given) → j.place ≡ place → data_in g < count_of j.transfer.request
-    → last_turn g ≡ Some turned.Granted → Stands j g (Makes (datum_call j place (data_in g)))
+    → last_turn g ≡ Some turned.Granted → Stands j g (Invokes (datum_call j place (data_in g)))
 datum_stands j None g placed more held = (refl, held)
 datum_stands j (Some p) g placed more held = (record { offset = p.1; placed = placed; more = more; own = refl }, held)
 
-on_stands : (j : BusJob) (g : Given) (i : ℕ) → i ≡ data_in g → last_turn g ≡ Some turned.Granted → Stands j g (Makes (datum_or_done j i))
+on_stands : (j : BusJob) (g : Given) (i : ℕ) → i ≡ data_in g → last_turn g ≡ Some turned.Granted → Stands j g (Invokes (datum_or_done j i))
 on_stands j g i same held =
     elim (cases_Bool (nat_lt i (count_of j.transfer.request))) [
       | inl less ↦
           let more : data_in g < count_of j.transfer.request = rw same at (ltb-true i (count_of j.transfer.request) less) in
-          rw less (subst (λ (n : ℕ). Stands j g (Makes (datum_call j j.place n))) (sym same) (datum_stands j j.place g refl more held))
+          rw less (subst (λ (n : ℕ). Stands j g (Invokes (datum_call j j.place n))) (sym same) (datum_stands j j.place g refl more held))
       | inr past ↦ rw past (refl, held)
     ]
 
@@ -65,31 +65,31 @@ board_stands j g board command Berr stands = (refl, stands.1)
 -- one call more
 step_stands : (j : BusJob) (g : Given) (next : Next) (last : Option EventReply) → Stands j g next
     → Stands j (last ∷ g) (next_after (Bus j) next last g)
-step_stands j g Rests None stands = (refl, refl, ap last_turn stands, ap data_in stands)
-step_stands j g Rests (Some reply) stands = inl refl
-step_stands j g (Makes call) None stands = inl refl
-step_stands j g (Makes (OnBus (turns.Ask slot level))) (Some (told.Bus turned.Granted)) stands =
+step_stands j g NotStarted None stands = (refl, refl, ap last_turn stands, ap data_in stands)
+step_stands j g NotStarted (Some reply) stands = inl refl
+step_stands j g (Invokes call) None stands = inl refl
+step_stands j g (Invokes (OnBus (turns.Ask slot level))) (Some (told.Bus turned.Granted)) stands =
     on_stands j (Some (told.Bus turned.Granted) ∷ g) 0 (sym stands.3) refl
-step_stands j g (Makes (OnBus (turns.Ask slot level))) (Some (told.Bus turned.Waiting)) stands = (refl, refl, stands.3)
-step_stands j g (Makes (OnBus (turns.Ask slot level))) (Some (told.Bus turned.Freed)) stands = inl refl
-step_stands j g (Makes (OnBus (turns.Ask slot level))) (Some (told.Bus turned.Denied)) stands = inl refl
-step_stands j g (Makes (OnBus (turns.Look slot))) (Some (told.Bus turned.Granted)) stands =
+step_stands j g (Invokes (OnBus (turns.Ask slot level))) (Some (told.Bus turned.Waiting)) stands = (refl, refl, stands.3)
+step_stands j g (Invokes (OnBus (turns.Ask slot level))) (Some (told.Bus turned.Freed)) stands = inl refl
+step_stands j g (Invokes (OnBus (turns.Ask slot level))) (Some (told.Bus turned.Denied)) stands = inl refl
+step_stands j g (Invokes (OnBus (turns.Look slot))) (Some (told.Bus turned.Granted)) stands =
     on_stands j (Some (told.Bus turned.Granted) ∷ g) 0 (sym stands.2) refl
-step_stands j g (Makes (OnBus (turns.Look slot))) (Some (told.Bus turned.Waiting)) stands = (refl, refl, stands.2)
-step_stands j g (Makes (OnBus (turns.Look slot))) (Some (told.Bus turned.Freed)) stands = inl refl
-step_stands j g (Makes (OnBus (turns.Look slot))) (Some (told.Bus turned.Denied)) stands = inl refl
-step_stands j g (Makes (OnBus (turns.Done slot))) (Some (told.Bus turned.Freed)) stands = inr (timer j g)
-step_stands j g (Makes (OnBus (turns.Done slot))) (Some (told.Bus turned.Granted)) stands = inl refl
-step_stands j g (Makes (OnBus (turns.Done slot))) (Some (told.Bus turned.Waiting)) stands = inl refl
-step_stands j g (Makes (OnBus (turns.Done slot))) (Some (told.Bus turned.Denied)) stands = inl refl
-step_stands j g (Makes (OnBus cmd)) (Some (told.Board reply)) stands = inl refl
-step_stands j g (Makes (OnBoard board command)) (Some (told.Bus reply)) stands = inl refl
-step_stands j g (Makes (OnBoard board command)) (Some (told.Board reply)) stands =
+step_stands j g (Invokes (OnBus (turns.Look slot))) (Some (told.Bus turned.Waiting)) stands = (refl, refl, stands.2)
+step_stands j g (Invokes (OnBus (turns.Look slot))) (Some (told.Bus turned.Freed)) stands = inl refl
+step_stands j g (Invokes (OnBus (turns.Look slot))) (Some (told.Bus turned.Denied)) stands = inl refl
+step_stands j g (Invokes (OnBus (turns.Done slot))) (Some (told.Bus turned.Freed)) stands = inr (timer j g)
+step_stands j g (Invokes (OnBus (turns.Done slot))) (Some (told.Bus turned.Granted)) stands = inl refl
+step_stands j g (Invokes (OnBus (turns.Done slot))) (Some (told.Bus turned.Waiting)) stands = inl refl
+step_stands j g (Invokes (OnBus (turns.Done slot))) (Some (told.Bus turned.Denied)) stands = inl refl
+step_stands j g (Invokes (OnBus cmd)) (Some (told.Board reply)) stands = inl refl
+step_stands j g (Invokes (OnBoard board command)) (Some (told.Bus reply)) stands = inl refl
+step_stands j g (Invokes (OnBoard board command)) (Some (told.Board reply)) stands =
     elim (cases_Bool (fits (OnBoard board command) (told.Board reply))) [
       | inl fit ↦ rw fit (board_stands j g board command reply stands)
       | inr misfit ↦ rw misfit (inl refl)
     ]
-step_stands j g (Ends outcome) last stands = stands
+step_stands j g (Returns outcome) last stands = stands
 
 -- through all calls
 pub next_stands : (j : BusJob) (g : Given) → Stands j g (next_of (Bus j) g)
@@ -97,11 +97,11 @@ next_stands j [] = refl
 next_stands j (last ∷ g) = step_stands j g (next_of (Bus j) g) last (next_stands j g)
 
 -- the parts of it
-pub data_go_on : (j : BusJob) (g : Given) (board : ℕ) (command : Option Command) → next_of (Bus j) g ≡ Makes (OnBoard board command)
+pub data_go_on : (j : BusJob) (g : Given) (board : ℕ) (command : Option Command) → next_of (Bus j) g ≡ Invokes (OnBoard board command)
     → IsNextDatum j g board command
 data_go_on j g board command next = (subst (Stands j g) next (next_stands j g)).0
 
-pub holds_for_data : (j : BusJob) (g : Given) (board : ℕ) (command : Option Command) → next_of (Bus j) g ≡ Makes (OnBoard board command)
+pub holds_for_data : (j : BusJob) (g : Given) (board : ℕ) (command : Option Command) → next_of (Bus j) g ≡ Invokes (OnBoard board command)
     → last_turn g ≡ Some turned.Granted
 holds_for_data j g board command next = (subst (Stands j g) next (next_stands j g)).1
 
@@ -111,7 +111,7 @@ may_turn j g (turns.Ask slot level) lawful stands =
 may_turn j g (turns.Look slot) lawful stands = rw (stands.1, stands.0) (eq-eqb j.slot j.slot refl)
 may_turn j g (turns.Done slot) lawful stands = rw (stands.1, stands.0) (eq-eqb j.slot j.slot refl)
 
-pub turns_go_by : (j : BusJob) (g : Given) (cmd : ArbCmd) → is_level j.level ≡ true → next_of (Bus j) g ≡ Makes (OnBus cmd)
+pub turns_go_by : (j : BusJob) (g : Given) (cmd : ArbCmd) → is_level j.level ≡ true → next_of (Bus j) g ≡ Invokes (OnBus cmd)
     → may_give j.slot (last_turn g) cmd ≡ true
 turns_go_by j g cmd lawful next = may_turn j g cmd lawful (subst (Stands j g) next (next_stands j g))
 
@@ -121,21 +121,21 @@ own_turn j g (turns.Ask slot level) stands = inl (rw (stands.0, stands.1) refl)
 own_turn j g (turns.Look slot) stands = inr (inl (rw stands.0 refl))
 own_turn j g (turns.Done slot) stands = inr (inr (rw stands.0 refl))
 
-pub turns_are_own : (j : BusJob) (g : Given) (cmd : ArbCmd) → next_of (Bus j) g ≡ Makes (OnBus cmd)
+pub turns_are_own : (j : BusJob) (g : Given) (cmd : ArbCmd) → next_of (Bus j) g ≡ Invokes (OnBus cmd)
     → (cmd ≡ turns.Ask j.slot j.level) ⊎ ((cmd ≡ turns.Look j.slot) ⊎ (cmd ≡ turns.Done j.slot))
 turns_are_own j g cmd next = own_turn j g cmd (subst (Stands j g) next (next_stands j g))
 
-pub nowhere_ends : (j : BusJob) (g : Given) (outcome : Outcome) → j.place ≡ None → next_of (Bus j) g ≡ Ends outcome
+pub nowhere_ends : (j : BusJob) (g : Given) (outcome : Outcome) → j.place ≡ None → next_of (Bus j) g ≡ Returns outcome
     → (outcome ≡ outcomes.Denied) ⊎ (outcome ≡ error_outcome 0 [])
 nowhere_ends j g outcome placed next =
     elim (subst (Stands j g) next (next_stands j g)) [ inl denied ↦ inl denied | inr berr ↦ inr (berr placed) ]
 
 -- two ends that are the same
-same_end : (a b : Outcome) → Ends a ≡ Ends b → a ≡ b
+same_end : (a b : Outcome) → Returns a ≡ Returns b → a ≡ b
 same_end a b same = cc
 
 -- an end that is no denial comes when the arbiter replies that the bus is free again
-row_ends : (j : BusJob) (g : Given) (reply : EventReply) (outcome : Outcome) → bus_row j reply g ≡ Ends outcome
+row_ends : (j : BusJob) (g : Given) (reply : EventReply) (outcome : Outcome) → bus_row j reply g ≡ Returns outcome
     → outcome ≢ outcomes.Denied → reply ≡ told.Bus turned.Freed
 row_ends j g (told.Bus turned.Freed) outcome row good = refl
 row_ends j g (told.Bus turned.Denied) outcome row good = absurd (good (sym (same_end outcomes.Denied outcome row)))
@@ -145,8 +145,8 @@ row_ends j g (told.Board (Bytes datum)) outcome row good = absurd cc
 row_ends j g (told.Board Done) outcome row good = absurd cc
 row_ends j g (told.Board Berr) outcome row good = absurd cc
 
-pub ends_freed : (j : BusJob) (g : Given) (call : Call) (reply : EventReply) (outcome : Outcome) → next_of (Bus j) g ≡ Makes call
-    → next_of (Bus j) (Some reply ∷ g) ≡ Ends outcome → outcome ≢ outcomes.Denied → reply ≡ told.Bus turned.Freed
+pub ends_freed : (j : BusJob) (g : Given) (call : Call) (reply : EventReply) (outcome : Outcome) → next_of (Bus j) g ≡ Invokes call
+    → next_of (Bus j) (Some reply ∷ g) ≡ Returns outcome → outcome ≢ outcomes.Denied → reply ≡ told.Bus turned.Freed
 ends_freed j g call reply outcome made next good =
     let after = rw made at next in
     elim (cases_Bool (fits call reply)) [

@@ -11,7 +11,7 @@ use Rattle.vme_master.specs.Events.{outcome_in}
 use Rattle.vme_master.proofs.lemmas.Stands.{by_the_table}
 use Rattle.vme_shared.specs.declared.stage.Stage.{Stage}
 use Rattle.vme_shared.specs.declared.stage.Step.{Step}
-use Rattle.vme_shared.specs.declared.stage.Step.TheVariants.{Goes, Stops}
+use Rattle.vme_shared.specs.declared.stage.Step.TheVariants.{Continue, Finish}
 use Rattle.vme_shared.specs.declared.work.Work.{Work}
 use Rattle.vme_shared.specs.declared.work.Work.TheVariants as works
 use Rattle.vme_shared.specs.Steps.{first_stage, step_after}
@@ -20,15 +20,15 @@ use Rattle.vme_shared.specs.Machine.{SharedView, stage_fresh, stage_called, work
 
 -- a transfer that is given something goes on, or its outcome leads on
 pub by_outcome : (s : SharedJob) (stage : Stage) (task : TaskView) (next : Next)
-    → work_by s stage task next ≡ work_or s (works.Moves stage task) (option_map (step_after s.request stage) (outcome_in next))
-by_outcome s stage task tasks.Rests = refl
-by_outcome s stage task (tasks.Makes call) = refl
-by_outcome s stage task (tasks.Ends outcome) = refl
+    → work_by s stage task next ≡ work_or s (works.Running stage task) (option_map (step_after s.request stage) (outcome_in next))
+by_outcome s stage task tasks.NotStarted = refl
+by_outcome s stage task (tasks.Invokes call) = refl
+by_outcome s stage task (tasks.Returns outcome) = refl
 
 -- the transfer at work, by how far it has come
 abbrev work_of : Progress → Work
-work_of (At stage job given) = works.Moves stage (task_given job given)
-work_of (Over end) = works.Over end
+work_of (At stage job given) = works.Running stage (task_given job given)
+work_of (Over end) = works.Finished end
 
 fresh_is : (stage : Stage) (job : Result Job CycleFault) → stage_fresh stage job ≡ work_of (stage_begun stage [] job)
 fresh_is stage (Ok job) = refl
@@ -39,14 +39,14 @@ called_is stage (Ok job) = refl
 called_is stage (Err fault) = refl
 
 stepped_is : (s : SharedJob) (step : Step) → work_stepped s step ≡ work_of (step_begun s step)
-stepped_is s (Goes stage) = called_is stage (stage_job s stage)
-stepped_is s (Stops end) = refl
+stepped_is s (Continue stage) = called_is stage (stage_job s stage)
+stepped_is s (Finish end) = refl
 
 by_is : (s : SharedJob) (stage : Stage) (job : Job) (given : Given) (next : Next)
     → work_by s stage (task_given job given) next ≡ work_of (progress_by s stage job given next)
-by_is s stage job given tasks.Rests = refl
-by_is s stage job given (tasks.Makes call) = refl
-by_is s stage job given (tasks.Ends outcome) = stepped_is s (step_after s.request stage outcome)
+by_is s stage job given tasks.NotStarted = refl
+by_is s stage job given (tasks.Invokes call) = refl
+by_is s stage job given (tasks.Returns outcome) = stepped_is s (step_after s.request stage outcome)
 
 after_is : (s : SharedJob) (p : Progress) (last : Option EventReply) → work_after s (work_of p) last ≡ work_of (progress_given s last p)
 after_is s (At stage job given) last =

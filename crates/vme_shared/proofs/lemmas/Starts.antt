@@ -26,7 +26,7 @@ use Rattle.vme_shared.specs.declared.stage.Stage.{Stage}
 use Rattle.vme_shared.specs.declared.stage.Stage.TheVariants as stages
 use Rattle.vme_shared.specs.Mailboxes.{put_count_at, take_count_at, word_at, raised, IsMailbox, IsAsked, set_lock, clear_lock, read_word, write_word, mailbox_request, stage_request, refusal_in, mailbox_refusal, shared_refusal}
 use Rattle.vme_shared.specs.Steps.{first_stage}
-use Rattle.vme_shared.specs.Tables.{SharedJob, Rests, Makes, transfer_job, stage_job, stage_begun, next_at, progress_given, shared_next}
+use Rattle.vme_shared.specs.Tables.{SharedJob, NotStarted, Invokes, transfer_job, stage_job, stage_begun, next_at, progress_given, shared_next}
 
 -- a transfer that is not refused
 abbrev pub IsLawfulRequest : Request → Type 0
@@ -143,12 +143,12 @@ first_lawful (Put mailbox word) none = (looked mailbox none).lock
 first_lawful (Take mailbox) none = (looked mailbox none).lock
 
 -- so it rests, and then asks for the bus
-pub rests : (s : SharedJob) → shared_refusal s.request ≡ None → shared_next s [] ≡ Rests
+pub rests : (s : SharedJob) → shared_refusal s.request ≡ None → shared_next s [] ≡ NotStarted
 rests s none =
     let one = first_lawful s.request none in
     ap (λ job. next_at (stage_begun (first_stage s.request) [] job)) (ap (transfer_job s) one.1)
 
-pub asks : (s : SharedJob) → shared_refusal s.request ≡ None → shared_next s (None ∷ []) ≡ Makes (OnBus (Ask s.slot s.level))
+pub asks : (s : SharedJob) → shared_refusal s.request ≡ None → shared_next s (None ∷ []) ≡ Invokes (OnBus (Ask s.slot s.level))
 asks s none =
     let one = first_lawful s.request none in
     ap (λ job. next_at (progress_given s None (stage_begun (first_stage s.request) [] job))) (ap (transfer_job s) one.1)

@@ -22,7 +22,7 @@ use Rattle.vme_master.specs.declared.job.Job.{Job}
 use Rattle.vme_master.specs.declared.job.Job.TheVariants.{Bus}
 use Rattle.vme_master.specs.declared.outcome.Outcome.{Outcome}
 use Rattle.vme_master.specs.declared.outcome.Outcome.TheVariants as outcomes
-use Rattle.vme_master.specs.Jobs.{bus_job, fits, request_aim}
+use Rattle.vme_master.specs.Jobs.{bus_job, fits, request_expected}
 use Rattle.vme_master.specs.Tables as tasks
 use Rattle.vme_master.specs.Tables.{Next, Given, next_of}
 use Rattle.vme_master.specs.Laws.{last_turn, IsBelow}
@@ -36,10 +36,10 @@ use Rattle.vme_shared.specs.declared.request.SharedRequest.TheVariants.{Lock, Un
 use Rattle.vme_shared.specs.declared.stage.Stage.{Stage}
 use Rattle.vme_shared.specs.declared.stage.Stage.TheVariants as stages
 use Rattle.vme_shared.specs.declared.stage.Step.{Step}
-use Rattle.vme_shared.specs.declared.stage.Step.TheVariants.{Goes, Stops}
+use Rattle.vme_shared.specs.declared.stage.Step.TheVariants.{Continue, Finish}
 use Rattle.vme_shared.specs.Mailboxes.{mailbox_request, stage_request}
 use Rattle.vme_shared.specs.Steps.{first_stage, step_after}
-use Rattle.vme_shared.specs.Tables.{SharedJob, Makes, Ends, Progress, At, Over, transfer_job, stage_job, stage_begun, step_begun, progress_by, progress_given, progress_of, task_shown, next_at, shared_next, told_at, shared_told}
+use Rattle.vme_shared.specs.Tables.{SharedJob, Invokes, Returns, Progress, At, Over, transfer_job, stage_job, stage_begun, step_begun, progress_by, progress_given, progress_of, task_shown, next_at, shared_next, told_at, shared_told}
 use Rattle.vme_shared.proofs.Transfers.{IsFormed, good_end, ends_formed}
 use Rattle.vme_shared.proofs.Steps.{IsSound, IsGood, GoesSound, first_sound, step_goes, step_good}
 
@@ -47,7 +47,7 @@ use Rattle.vme_shared.proofs.Steps.{IsSound, IsGood, GoesSound, first_sound, ste
 record AtWork (s : SharedJob) (stage : Stage) (job : Job) (given : Given) : Type 0 where
   own : stage_job s stage ≡ Ok job
   sound : IsSound stage
-  going : (outcome : Outcome) → next_of job given ≢ tasks.Ends outcome
+  going : (outcome : Outcome) → next_of job given ≢ tasks.Returns outcome
 
 abbrev Standing : SharedJob → Progress → Type 0
 Standing s (At stage job given) = AtWork s stage job given
@@ -64,19 +64,19 @@ called_standing s stage (Ok job) own sound = record { own = own; sound = sound; 
 called_standing s stage (Err fault) own sound = tt
 
 step_standing : (s : SharedJob) (step : Step) → GoesSound step → Standing s (step_begun s step)
-step_standing s (Goes stage) sound = called_standing s stage (stage_job s stage) refl sound
-step_standing s (Stops end) sound = tt
+step_standing s (Continue stage) sound = called_standing s stage (stage_job s stage) refl sound
+step_standing s (Finish end) sound = tt
 
 by_standing : (s : SharedJob) (stage : Stage) (job : Job) (given : Given) (next : Next) → next_of job given ≡ next
     → stage_job s stage ≡ Ok job → IsSound stage → Standing s (progress_by s stage job given next)
-by_standing s stage job given tasks.Rests is own sound =
-    record { own = own; sound = sound; going = λ outcome ends. let same : tasks.Rests ≡ tasks.Ends outcome = sym is ∙ ends in absurd cc }
-by_standing s stage job given (tasks.Makes call) is own sound = record {
+by_standing s stage job given tasks.NotStarted is own sound =
+    record { own = own; sound = sound; going = λ outcome ends. let same : tasks.NotStarted ≡ tasks.Returns outcome = sym is ∙ ends in absurd cc }
+by_standing s stage job given (tasks.Invokes call) is own sound = record {
   own = own;
   sound = sound;
-  going = λ outcome ends. let same : tasks.Makes call ≡ tasks.Ends outcome = sym is ∙ ends in absurd cc;
+  going = λ outcome ends. let same : tasks.Invokes call ≡ tasks.Returns outcome = sym is ∙ ends in absurd cc;
 }
-by_standing s stage job given (tasks.Ends outcome) is own sound =
+by_standing s stage job given (tasks.Returns outcome) is own sound =
     step_standing s (step_after s.request stage outcome) (step_goes s.request stage outcome)
 
 given_standing : (s : SharedJob) (p : Progress) (last : Option EventReply) → Standing s p → Standing s (progress_given s last p)
@@ -133,52 +133,52 @@ single (Put mailbox word) stage = mailbox_single mailbox stage
 single (Take mailbox) stage = mailbox_single mailbox stage
 
 -- a call is that of the bus task at work
-pub shown_makes : (next : Next) (call : Call) → task_shown next ≡ Makes call → next ≡ tasks.Makes call
-shown_makes tasks.Rests call made = absurd cc
-shown_makes (tasks.Makes other) call made = cc
-shown_makes (tasks.Ends outcome) call made = absurd cc
+pub shown_makes : (next : Next) (call : Call) → task_shown next ≡ Invokes call → next ≡ tasks.Invokes call
+shown_makes tasks.NotStarted call made = absurd cc
+shown_makes (tasks.Invokes other) call made = cc
+shown_makes (tasks.Returns outcome) call made = absurd cc
 
 -- the commands to the arbiter go by what the slot was told
-turns_at : (s : SharedJob) (p : Progress) (cmd : ArbCmd) → Standing s p → is_level s.level ≡ true → next_at p ≡ Makes (OnBus cmd)
+turns_at : (s : SharedJob) (p : Progress) (cmd : ArbCmd) → Standing s p → is_level s.level ≡ true → next_at p ≡ Invokes (OnBus cmd)
     → may_give s.slot (told_at p) cmd ≡ true
 turns_at s (At stage job given) cmd at lawful made =
     let own = own_task s stage job at.own in
-    let task : next_of (Bus own.bus) given ≡ tasks.Makes (OnBus cmd) =
-    subst (λ (one : Job). next_of one given ≡ tasks.Makes (OnBus cmd)) own.is (shown_makes (next_of job given) (OnBus cmd) made) in
+    let task : next_of (Bus own.bus) given ≡ tasks.Invokes (OnBus cmd) =
+    subst (λ (one : Job). next_of one given ≡ tasks.Invokes (OnBus cmd)) own.is (shown_makes (next_of job given) (OnBus cmd) made) in
     subst (λ (slot : ℕ). may_give slot (last_turn given) cmd ≡ true) own.slot
     (transfers.turns_go_by own.bus given cmd (ap is_level own.level ∙ lawful) task)
 turns_at s (Over end) cmd at lawful made = absurd cc
 
-pub turns_go_by : (s : SharedJob) (g : Given) (cmd : ArbCmd) → is_level s.level ≡ true → shared_next s g ≡ Makes (OnBus cmd)
+pub turns_go_by : (s : SharedJob) (g : Given) (cmd : ArbCmd) → is_level s.level ≡ true → shared_next s g ≡ Invokes (OnBus cmd)
     → may_give s.slot (shared_told s g) cmd ≡ true
 turns_go_by s g cmd lawful made = turns_at s (progress_of s g) cmd (standing s g) lawful made
 
 -- data go to a board while the slot is told that it holds the bus
 holds_at : (s : SharedJob) (p : Progress) (board : ℕ) (command : Option Command) → Standing s p
-    → next_at p ≡ Makes (OnBoard board command) → told_at p ≡ Some turned.Granted
+    → next_at p ≡ Invokes (OnBoard board command) → told_at p ≡ Some turned.Granted
 holds_at s (At stage job given) board command at made =
     let own = own_task s stage job at.own in
     transfers.holds_for_data own.bus given board command
-    (subst (λ (one : Job). next_of one given ≡ tasks.Makes (OnBoard board command)) own.is
+    (subst (λ (one : Job). next_of one given ≡ tasks.Invokes (OnBoard board command)) own.is
     (shown_makes (next_of job given) (OnBoard board command) made))
 holds_at s (Over end) board command at made = absurd cc
 
 pub holds_for_data : (s : SharedJob) (g : Given) (board : ℕ) (command : Option Command)
-    → shared_next s g ≡ Makes (OnBoard board command) → shared_told s g ≡ Some turned.Granted
+    → shared_next s g ≡ Invokes (OnBoard board command) → shared_told s g ≡ Some turned.Granted
 holds_for_data s g board command made = holds_at s (progress_of s g) board command (standing s g) made
 
 -- and to a board of the map
 below_at : (s : SharedJob) (p : Progress) (board : ℕ) (command : Option Command) → Standing s p
-    → next_at p ≡ Makes (OnBoard board command) → board < length s.map
+    → next_at p ≡ Invokes (OnBoard board command) → board < length s.map
 below_at s (At stage job given) board command at made =
     let own = own_task s stage job at.own in
     locals.calls_below (length s.map) (Bus own.bus) given board command own.below
-    (subst (λ (one : Job). next_of one given ≡ tasks.Makes (OnBoard board command)) own.is
+    (subst (λ (one : Job). next_of one given ≡ tasks.Invokes (OnBoard board command)) own.is
     (shown_makes (next_of job given) (OnBoard board command) made))
 below_at s (Over end) board command at made = absurd cc
 
 pub calls_below : (s : SharedJob) (g : Given) (board : ℕ) (command : Option Command)
-    → shared_next s g ≡ Makes (OnBoard board command) → board < length s.map
+    → shared_next s g ≡ Invokes (OnBoard board command) → board < length s.map
 calls_below s g board command made = below_at s (progress_of s g) board command (standing s g) made
 
 -- before the first reply nothing was told
@@ -196,8 +196,8 @@ called_told stage (Ok job) = refl
 called_told stage (Err fault) = refl
 
 step_told : (s : SharedJob) (step : Step) → told_at (step_begun s step) ≡ None
-step_told s (Goes stage) = called_told stage (stage_job s stage)
-step_told s (Stops end) = refl
+step_told s (Continue stage) = called_told stage (stage_job s stage)
+step_told s (Finish end) = refl
 
 -- what comes of a good reply to a transfer that has ended by it: the bus is free, and the step is good
 record EndsWell (s : SharedJob) (stage : Stage) (reply : EventReply) (outcome : Outcome) : Type 0 where
@@ -205,36 +205,36 @@ record EndsWell (s : SharedJob) (stage : Stage) (reply : EventReply) (outcome : 
   good : IsGood (step_after s.request stage outcome)
 
 task_ends : (s : SharedJob) (stage : Stage) (job : Job) (given : Given) (call : Call) (reply : EventReply) (outcome : Outcome)
-    → AtWork s stage job given → next_of job given ≡ tasks.Makes call → fits call reply ≡ true → reply ≢ told.Bus turned.Denied
-    → next_of job (Some reply ∷ given) ≡ tasks.Ends outcome → EndsWell s stage reply outcome
+    → AtWork s stage job given → next_of job given ≡ tasks.Invokes call → fits call reply ≡ true → reply ≢ told.Bus turned.Denied
+    → next_of job (Some reply ∷ given) ≡ tasks.Returns outcome → EndsWell s stage reply outcome
 task_ends s stage job given call reply outcome at made fit good ends =
     let own = own_task s stage job at.own in
-    let task : next_of (Bus own.bus) given ≡ tasks.Makes call =
-    subst (λ (one : Job). next_of one given ≡ tasks.Makes call) own.is made in
-    let over : next_of (Bus own.bus) (Some reply ∷ given) ≡ tasks.Ends outcome =
-    subst (λ (one : Job). next_of one (Some reply ∷ given) ≡ tasks.Ends outcome) own.is ends in
+    let task : next_of (Bus own.bus) given ≡ tasks.Invokes call =
+    subst (λ (one : Job). next_of one given ≡ tasks.Invokes call) own.is made in
+    let over : next_of (Bus own.bus) (Some reply ∷ given) ≡ tasks.Returns outcome =
+    subst (λ (one : Job). next_of one (Some reply ∷ given) ≡ tasks.Returns outcome) own.is ends in
     let granted : outcome ≢ outcomes.Denied = good_end own.bus given call reply outcome task fit good over in
     let one : count_of own.bus.transfer.request ≡ 1 = ap count_of own.request ∙ single s.request stage in
     record {
       freed = transfers.ends_freed own.bus given call reply outcome task over granted;
       good = step_good s.request stage outcome at.sound
-          (subst (λ (r : Request). IsFormed (request_aim r) outcome) own.request (ends_formed own.bus (Some reply ∷ given) outcome one over))
+          (subst (λ (r : Request). IsFormed (request_expected r) outcome) own.request (ends_formed own.bus (Some reply ∷ given) outcome one over))
           granted;
     }
 
 -- a good reply of the arbiter is what was told last, or it has freed the slot
 turn_by : (s : SharedJob) (stage : Stage) (job : Job) (given : Given) (reply : ArbReply) (bus : Arbitration) (slot : ℕ) (next : Next)
-    → ((outcome : Outcome) → next ≡ tasks.Ends outcome → told.Bus reply ≡ told.Bus turned.Freed) → StandsAsTold bus slot (Some reply)
+    → ((outcome : Outcome) → next ≡ tasks.Returns outcome → told.Bus reply ≡ told.Bus turned.Freed) → StandsAsTold bus slot (Some reply)
     → StandsAsTold bus slot (told_at (progress_by s stage job (Some (told.Bus reply) ∷ given) next))
-turn_by s stage job given reply bus slot tasks.Rests freed stands = stands
-turn_by s stage job given reply bus slot (tasks.Makes call) freed stands = stands
-turn_by s stage job given reply bus slot (tasks.Ends outcome) freed stands =
+turn_by s stage job given reply bus slot tasks.NotStarted freed stands = stands
+turn_by s stage job given reply bus slot (tasks.Invokes call) freed stands = stands
+turn_by s stage job given reply bus slot (tasks.Returns outcome) freed stands =
     let free : reply ≡ turned.Freed = let one = freed outcome refl in cc in
     subst (StandsAsTold bus slot) (sym (step_told s (step_after s.request stage outcome)))
     (subst (λ (r : ArbReply). StandsAsTold bus slot (Some r)) free stands)
 
 turn_at : (s : SharedJob) (p : Progress) (cmd : ArbCmd) (reply : ArbReply) (bus : Arbitration) (slot : ℕ) → Standing s p
-    → next_at p ≡ Makes (OnBus cmd) → fits (OnBus cmd) (told.Bus reply) ≡ true → told.Bus reply ≢ told.Bus turned.Denied
+    → next_at p ≡ Invokes (OnBus cmd) → fits (OnBus cmd) (told.Bus reply) ≡ true → told.Bus reply ≢ told.Bus turned.Denied
     → StandsAsTold bus slot (Some reply) → StandsAsTold bus slot (told_at (progress_given s (Some (told.Bus reply)) p))
 turn_at s (At stage job given) cmd reply bus slot at made fit good stands =
     turn_by s stage job given reply bus slot (next_of job (Some (told.Bus reply) ∷ given))
@@ -245,19 +245,19 @@ turn_at s (At stage job given) cmd reply bus slot at made fit good stands =
 turn_at s (Over end) cmd reply bus slot at made fit good stands = absurd cc
 
 pub turn_told : (s : SharedJob) (g : Given) (cmd : ArbCmd) (reply : ArbReply) (bus : Arbitration) (slot : ℕ)
-    → shared_next s g ≡ Makes (OnBus cmd) → fits (OnBus cmd) (told.Bus reply) ≡ true → told.Bus reply ≢ told.Bus turned.Denied
+    → shared_next s g ≡ Invokes (OnBus cmd) → fits (OnBus cmd) (told.Bus reply) ≡ true → told.Bus reply ≢ told.Bus turned.Denied
     → StandsAsTold bus slot (Some reply) → StandsAsTold bus slot (shared_told s (Some (told.Bus reply) ∷ g))
 turn_told s g cmd reply bus slot made fit good stands = turn_at s (progress_of s g) cmd reply bus slot (standing s g) made fit good stands
 
 -- a good reply of a board changes nothing of it
 datum_by : (s : SharedJob) (stage : Stage) (job : Job) (given : Given) (reply : Reply) (next : Next)
-    → ((outcome : Outcome) → next ≡ tasks.Ends outcome → told.Board reply ≡ told.Bus turned.Freed)
+    → ((outcome : Outcome) → next ≡ tasks.Returns outcome → told.Board reply ≡ told.Bus turned.Freed)
     → told_at (progress_by s stage job (Some (told.Board reply) ∷ given) next) ≡ last_turn given
-datum_by s stage job given reply tasks.Rests freed = refl
-datum_by s stage job given reply (tasks.Makes call) freed = refl
-datum_by s stage job given reply (tasks.Ends outcome) freed = let one = freed outcome refl in absurd cc
+datum_by s stage job given reply tasks.NotStarted freed = refl
+datum_by s stage job given reply (tasks.Invokes call) freed = refl
+datum_by s stage job given reply (tasks.Returns outcome) freed = let one = freed outcome refl in absurd cc
 
-datum_at : (s : SharedJob) (p : Progress) (call : Call) (reply : Reply) → Standing s p → next_at p ≡ Makes call
+datum_at : (s : SharedJob) (p : Progress) (call : Call) (reply : Reply) → Standing s p → next_at p ≡ Invokes call
     → fits call (told.Board reply) ≡ true → told_at (progress_given s (Some (told.Board reply)) p) ≡ told_at p
 datum_at s (At stage job given) call reply at made fit =
     datum_by s stage job given reply (next_of job (Some (told.Board reply) ∷ given))
@@ -266,7 +266,7 @@ datum_at s (At stage job given) call reply at made fit =
     well.freed)
 datum_at s (Over end) call reply at made fit = absurd cc
 
-pub datum_told : (s : SharedJob) (g : Given) (call : Call) (reply : Reply) → shared_next s g ≡ Makes call
+pub datum_told : (s : SharedJob) (g : Given) (call : Call) (reply : Reply) → shared_next s g ≡ Invokes call
     → fits call (told.Board reply) ≡ true → shared_told s (Some (told.Board reply) ∷ g) ≡ shared_told s g
 datum_told s g call reply made fit = datum_at s (progress_of s g) call reply (standing s g) made fit
 
@@ -276,25 +276,25 @@ pub record GoodEnd (reply : EventReply) (end : SharedOutcome) (last : Option Arb
   pub freed : reply ≡ told.Bus turned.Freed
   pub nothing : last ≡ None
 
-called_ends : (stage : Stage) (job : Result Job CycleFault) (end : SharedOutcome) → next_at (stage_begun stage (None ∷ []) job) ≡ Ends end
+called_ends : (stage : Stage) (job : Result Job CycleFault) (end : SharedOutcome) → next_at (stage_begun stage (None ∷ []) job) ≡ Returns end
     → end ≡ shared.Berr
 called_ends stage (Ok job) end ends = absurd cc
 called_ends stage (Err fault) end ends = cc
 
-step_ends : (s : SharedJob) (step : Step) (end : SharedOutcome) → IsGood step → next_at (step_begun s step) ≡ Ends end
+step_ends : (s : SharedJob) (step : Step) (end : SharedOutcome) → IsGood step → next_at (step_begun s step) ≡ Returns end
     → end ≢ shared.Denied
-step_ends s (Goes stage) end good ends = λ denied. let berr = called_ends stage (stage_job s stage) end ends in absurd cc
-step_ends s (Stops stop) end good ends = λ denied. let same : stop ≡ end = cc in good (same ∙ denied)
+step_ends s (Continue stage) end good ends = λ denied. let berr = called_ends stage (stage_job s stage) end ends in absurd cc
+step_ends s (Finish stop) end good ends = λ denied. let same : stop ≡ end = cc in good (same ∙ denied)
 
 ends_by : (s : SharedJob) (stage : Stage) (job : Job) (given : Given) (reply : EventReply) (end : SharedOutcome) (next : Next)
-    → next_of job (Some reply ∷ given) ≡ next → ((outcome : Outcome) → next ≡ tasks.Ends outcome → EndsWell s stage reply outcome)
-    → next_at (progress_by s stage job (Some reply ∷ given) next) ≡ Ends end
+    → next_of job (Some reply ∷ given) ≡ next → ((outcome : Outcome) → next ≡ tasks.Returns outcome → EndsWell s stage reply outcome)
+    → next_at (progress_by s stage job (Some reply ∷ given) next) ≡ Returns end
     → GoodEnd reply end (told_at (progress_by s stage job (Some reply ∷ given) next))
-ends_by s stage job given reply end tasks.Rests is well ends =
-    let same : task_shown tasks.Rests ≡ Ends end = ap task_shown (sym is) ∙ ends in absurd cc
-ends_by s stage job given reply end (tasks.Makes call) is well ends =
-    let same : task_shown (tasks.Makes call) ≡ Ends end = ap task_shown (sym is) ∙ ends in absurd cc
-ends_by s stage job given reply end (tasks.Ends outcome) is well ends =
+ends_by s stage job given reply end tasks.NotStarted is well ends =
+    let same : task_shown tasks.NotStarted ≡ Returns end = ap task_shown (sym is) ∙ ends in absurd cc
+ends_by s stage job given reply end (tasks.Invokes call) is well ends =
+    let same : task_shown (tasks.Invokes call) ≡ Returns end = ap task_shown (sym is) ∙ ends in absurd cc
+ends_by s stage job given reply end (tasks.Returns outcome) is well ends =
     let one = well outcome refl in
     record {
       granted = step_ends s (step_after s.request stage outcome) end one.good ends;
@@ -302,30 +302,30 @@ ends_by s stage job given reply end (tasks.Ends outcome) is well ends =
       nothing = step_told s (step_after s.request stage outcome);
     }
 
-ends_at : (s : SharedJob) (p : Progress) (call : Call) (reply : EventReply) (end : SharedOutcome) → Standing s p → next_at p ≡ Makes call
-    → fits call reply ≡ true → reply ≢ told.Bus turned.Denied → next_at (progress_given s (Some reply) p) ≡ Ends end
+ends_at : (s : SharedJob) (p : Progress) (call : Call) (reply : EventReply) (end : SharedOutcome) → Standing s p → next_at p ≡ Invokes call
+    → fits call reply ≡ true → reply ≢ told.Bus turned.Denied → next_at (progress_given s (Some reply) p) ≡ Returns end
     → GoodEnd reply end (told_at (progress_given s (Some reply) p))
 ends_at s (At stage job given) call reply end at made fit good ends =
     ends_by s stage job given reply end (next_of job (Some reply ∷ given)) refl
     (λ outcome over. task_ends s stage job given call reply outcome at (shown_makes (next_of job given) call made) fit good over) ends
 ends_at s (Over stop) call reply end at made fit good ends = absurd cc
 
-pub ends_well : (s : SharedJob) (g : Given) (call : Call) (reply : EventReply) (end : SharedOutcome) → shared_next s g ≡ Makes call
-    → fits call reply ≡ true → reply ≢ told.Bus turned.Denied → shared_next s (Some reply ∷ g) ≡ Ends end
+pub ends_well : (s : SharedJob) (g : Given) (call : Call) (reply : EventReply) (end : SharedOutcome) → shared_next s g ≡ Invokes call
+    → fits call reply ≡ true → reply ≢ told.Bus turned.Denied → shared_next s (Some reply ∷ g) ≡ Returns end
     → GoodEnd reply end (shared_told s (Some reply ∷ g))
 ends_well s g call reply end made fit good ends = ends_at s (progress_of s g) call reply end (standing s g) made fit good ends
 
 -- an end is for good
-stays_at : (s : SharedJob) (p : Progress) (end : SharedOutcome) (last : Option EventReply) → Standing s p → next_at p ≡ Ends end
-    → next_at (progress_given s last p) ≡ Ends end
+stays_at : (s : SharedJob) (p : Progress) (end : SharedOutcome) (last : Option EventReply) → Standing s p → next_at p ≡ Returns end
+    → next_at (progress_given s last p) ≡ Returns end
 stays_at s (At stage job given) end last at ends = absurd (never (next_of job given) refl)
   where
     never : (next : Next) → next_of job given ≡ next → ⊥
-    never tasks.Rests is = let same : task_shown tasks.Rests ≡ Ends end = ap task_shown (sym is) ∙ ends in absurd cc
-    never (tasks.Makes call) is = let same : task_shown (tasks.Makes call) ≡ Ends end = ap task_shown (sym is) ∙ ends in absurd cc
-    never (tasks.Ends outcome) is = at.going outcome is
+    never tasks.NotStarted is = let same : task_shown tasks.NotStarted ≡ Returns end = ap task_shown (sym is) ∙ ends in absurd cc
+    never (tasks.Invokes call) is = let same : task_shown (tasks.Invokes call) ≡ Returns end = ap task_shown (sym is) ∙ ends in absurd cc
+    never (tasks.Returns outcome) is = at.going outcome is
 stays_at s (Over stop) end last at ends = ends
 
-pub end_stays : (s : SharedJob) (g : Given) (end : SharedOutcome) (last : Option EventReply) → shared_next s g ≡ Ends end
-    → shared_next s (last ∷ g) ≡ Ends end
+pub end_stays : (s : SharedJob) (g : Given) (end : SharedOutcome) (last : Option EventReply) → shared_next s g ≡ Returns end
+    → shared_next s (last ∷ g) ≡ Returns end
 end_stays s g end last ends = stays_at s (progress_of s g) end last (standing s g) ends

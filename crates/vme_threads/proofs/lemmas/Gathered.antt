@@ -12,7 +12,7 @@ use Rattle.vme_memory.specs.Locals.{board_step}
 use Rattle.vme_arbiter.specs.declared.command.ArbCmd.{ArbCmd}
 use Rattle.vme_arbiter.specs.declared.command.ArbReply.{ArbReply}
 use Rattle.vme_arbiter.specs.Arbitration.{Arbitration, opening_bus, turn_step}
-use Rattle.vme_core.specs.Runs.{Move, IsReplyTo, board_part, bus_part}
+use Rattle.vme_core.specs.Runs.{Transition, IsReplyTo, board_part, bus_part}
 use Rattle.vme_shared.specs.declared.reply.LineReply.{LineReply}
 use Rattle.vme_port.specs.Passes.{PassView}
 use Rattle.vme_port.specs.Ports.{port_id, opening, passes_of}
@@ -21,7 +21,7 @@ use Rattle.vme_script.specs.declared.board.BoardConfig.{BoardConfig}
 use Rattle.vme_script.specs.declared.script.ScriptLine.{ScriptLine}
 use Rattle.vme_script.specs.Configurations.{Configuration, opening_memory}
 use Rattle.vme_line_task.specs.Scripts.{script_at, lines_at}
-use Rattle.vme_line_task.specs.Courses.{IsCourse}
+use Rattle.vme_line_task.specs.Traces.{IsTrace}
 use Rattle.vme_threads.specs.declared.worker.Ran.{Ran}
 use Rattle.vme_threads.specs.declared.ports.BoardPort.{BoardPort}
 use Rattle.vme_threads.specs.declared.ports.Ports.{Ports}
@@ -207,13 +207,13 @@ module _ (config : Configuration) (ports : Ports) (rans : List Ran) (can : CanGa
       record {
         runs = runs;
         workers = sym can.runs.each.count ∙ can.count;
-        whose = each_left (IsRanOf config ports) (λ who run. All (λ (m : Move). m.who ≡ who) run) runs rans (λ who run ran is. is.whose) can.runs.each;
+        whose = each_left (IsRanOf config ports) (λ who run. All (λ (m : Transition). m.who ≡ who) run) runs rans (λ who run ran is. is.whose) can.runs.each;
         fitting = λ k run k<.
-            each_left (IsRanOf config ports) (λ who run. All (λ (m : Move). IsReplyTo m.event m.reply) run) runs rans (λ who run ran is. is.fitting)
+            each_left (IsRanOf config ports) (λ who run. All (λ (m : Transition). IsReplyTo m.event m.reply) run) runs rans (λ who run ran is. is.fitting)
             can.runs.each k run k<;
-        course =
-            subst (AllAt (λ who run (ls : Vec (ℕ × LineReply)). IsCourse config who (lines_at config who) run (answers_in ls.items)) runs) (sym lines)
-            (courses can.runs.each);
+        trace =
+            subst (AllAt (λ who run (ls : Vec (ℕ × LineReply)). IsTrace config who (lines_at config who) run (answers_in ls.items)) runs) (sym lines)
+            (traces can.runs.each);
         numbers =
             subst (Each (λ who (ls : Vec (ℕ × LineReply)). numbers_in ls.items ≡ map (λ (one : ScriptLine). one.number) (script_at config who))) (sym lines)
             (each_right (IsRanOf config ports) (λ who (ls : Vec (ℕ × LineReply)). numbers_in ls.items ≡ map (λ (one : ScriptLine). one.number) (script_at config who))
@@ -226,16 +226,16 @@ module _ (config : Configuration) (ports : Ports) (rans : List Ran) (can : CanGa
         );
       }
     where
-      courses : AllAt (IsRanOf config ports) can.runs.runs rans
-          → AllAt (λ who run (ls : Vec (ℕ × LineReply)). IsCourse config who (lines_at config who) run (answers_in ls.items)) can.runs.runs (map (λ (r : Ran). r.lines) rans)
-      courses all = record {
+      traces : AllAt (IsRanOf config ports) can.runs.runs rans
+          → AllAt (λ who run (ls : Vec (ℕ × LineReply)). IsTrace config who (lines_at config who) run (answers_in ls.items)) can.runs.runs (map (λ (r : Ran). r.lines) rans)
+      traces all = record {
         count = same_count (λ (r : Ran). r.lines) rans ∙ all.count;
         each = λ who run ls who<.
             let there : who < length rans = omega (arith, who<, all.count) in
             let r = (line_there rans who there).0 in
             let is = all.each who run r who< in
-            subst (λ (l : Vec (ℕ × LineReply)). IsCourse config who (lines_at config who) (slice_index_or can.runs.runs who run) (answers_in l.items))
-            (sym (map_at (λ (r : Ran). r.lines) rans who ls r there)) is.course;
+            subst (λ (l : Vec (ℕ × LineReply)). IsTrace config who (lines_at config who) (slice_index_or can.runs.runs who run) (answers_in l.items))
+            (sym (map_at (λ (r : Ran). r.lines) rans who ls r there)) is.trace;
       }
 
 -- one ran more

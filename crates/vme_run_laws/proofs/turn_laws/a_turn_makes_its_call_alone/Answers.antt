@@ -4,7 +4,7 @@ use Rattle.vme_run_laws.proofs.Runs.{turn_made}
 use Rattle.vme_run_laws.proofs.turn_laws.a_turn_makes_its_call_alone.Goals as goal
 
 pub returns-clause-call : goal.returns-clause-call
-returns-clause-call c = λ config world slot board call is. turn_made config world slot ∙ ap (machine_called world.machine) is
+returns-clause-call c = λ config system slot board call is. turn_made config system slot ∙ ap (machine_called system.machine) is
 
 pub returns-clause-none : goal.returns-clause-none
-returns-clause-none c = λ config world slot is. turn_made config world slot ∙ ap (machine_called world.machine) is
+returns-clause-none c = λ config system slot is. turn_made config system slot ∙ ap (machine_called system.machine) is

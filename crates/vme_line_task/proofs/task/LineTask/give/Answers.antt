@@ -1,13 +1,13 @@
 use Rattle.std.specs.Prelude.{option_copied}
 use Rattle.std.proofs.Common.{ap, sym, subst, ◌∙◌}
 use Rattle.vme_line_task.specs.declared.task.LineTask.{LineTask}
-use Rattle.vme_line_task.specs.declared.task.LineTask.TheVariants.{Tries}
+use Rattle.vme_line_task.specs.declared.task.LineTask.TheVariants.{Running}
 use Rattle.vme_line_task.specs.Machine.{line_advance, IsLineBelow}
 use Rattle.vme_line_task.proofs.lemmas.Below.{advance_below}
 use Rattle.vme_line_task.proofs.task.LineTask.give.Goals as goal
 
-pub returns-in-Tries-clause-below : goal.returns-in-Tries-clause-below
-returns-in-Tries-clause-below c = λ n below.
+pub returns-in-Running-clause-below : goal.returns-in-Running-clause-below
+returns-in-Running-clause-below c = λ n below.
     let given = option_copied c.args.given in
-    subst (IsLineBelow n) (ap (λ (t : LineTask). line_advance t given) c.in-Tries.is ∙ ap Tries (sym c.give.ensures.task))
+    subst (IsLineBelow n) (ap (λ (t : LineTask). line_advance t given) c.in-Running.is ∙ ap Running (sym c.give.ensures.task))
     (advance_below n c.args.self.now given below)

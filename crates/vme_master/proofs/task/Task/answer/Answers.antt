@@ -1,39 +1,39 @@
 use Rattle.std.proofs.Common.{◌≡◌, true, ap, sym, ◌∙◌}
 use Rattle.vme_memory.specs.Data.{has_form}
-use Rattle.vme_master.specs.declared.aim.Aim.{Aim}
-use Rattle.vme_master.specs.declared.phase.Phase.TheVariants.{Moves}
-use Rattle.vme_master.specs.Machine.{TaskView, job_aim, aim_len, HasRead, IsEnough}
+use Rattle.vme_master.specs.declared.expected.ExpectedReply.{ExpectedReply}
+use Rattle.vme_master.specs.declared.phase.Phase.TheVariants.{Transferring}
+use Rattle.vme_master.specs.Machine.{TaskView, job_expected, expected_len, HasRead, IsEnough}
 use Rattle.vme_master.proofs.lemmas.ReadLengths.{buffer_before, sound_after}
 use Rattle.vme_master.proofs.task.Task.answer.Goals as goal
 use Rattle.vme_master.proofs.task.Task.answer.Goals.{After-accepts}
 
 -- the reply is as wanted
-form : (c : After-accepts) → c.accepts.result ≡ true → has_form (aim_len (job_aim c.self.inside.job)) c.args.reply.now ≡ true
+form : (c : After-accepts) → c.accepts.result ≡ true → has_form (expected_len (job_expected c.self.inside.job)) c.args.reply.now ≡ true
 form c accepted =
-    ap (λ (aim : Aim). has_form (aim_len aim) c.args.reply.now) (sym c.self.invariant.of_aim) ∙ sym c.accepts.ensures.value ∙ accepted
+    ap (λ (expected : ExpectedReply). has_form (expected_len expected) c.args.reply.now) (sym c.self.invariant.of_expected) ∙ sym c.accepts.ensures.value ∙ accepted
 
 -- it is at a board
-moves : (c : After-accepts) → c.self.inside.phase ≡ Moves c.in-Moves.i
-moves c = ap (λ (t : TaskView). t.phase) c.self.view_is ∙ c.requires ∙ c.in-Moves.is
+moves : (c : After-accepts) → c.self.inside.phase ≡ Transferring c.in-Transferring.i
+moves c = ap (λ (t : TaskView). t.phase) c.self.view_is ∙ c.requires ∙ c.in-Transferring.is
 
 -- there is room for its bytes
 pub append-requires : goal.append-requires
 append-requires c =
     let at = (goal.at.append-requires c).After-accepts in
-    let had : HasRead c.self.inside.job (Moves c.in-Moves.i) c.self.inside.read.items = rw (moves at) at c.self.invariant.sound.read in
-    let enough : IsEnough c.self.inside.job (Moves c.in-Moves.i) c.self.inside.read.capacity = rw (moves at) at c.self.invariant.sound.enough in
-    buffer_before c.self.inside.job c.in-Moves.i c.self.inside.read.capacity c.self.inside.read.items c.args.reply.now had (form at c.if-accepts.true)
+    let had : HasRead c.self.inside.job (Transferring c.in-Transferring.i) c.self.inside.read.items = rw (moves at) at c.self.invariant.sound.read in
+    let enough : IsEnough c.self.inside.job (Transferring c.in-Transferring.i) c.self.inside.read.capacity = rw (moves at) at c.self.invariant.sound.enough in
+    buffer_before c.self.inside.job c.in-Transferring.i c.self.inside.read.capacity c.self.inside.read.items c.args.reply.now had (form at c.if-accepts.true)
     c.accepts.ensures.small enough
 
 -- and the task is sound after it
 pub invariant_of-self : goal.invariant_of-self
 invariant_of-self c =
     let at = (goal.at.invariant_of-self c).After-accepts in
-    let had : HasRead c.self.inside.job (Moves c.in-Moves.i) c.self.inside.read.items = rw (moves at) at c.self.invariant.sound.read in
-    let enough : IsEnough c.self.inside.job (Moves c.in-Moves.i) c.self.inside.read.capacity = rw (moves at) at c.self.invariant.sound.enough in
+    let had : HasRead c.self.inside.job (Transferring c.in-Transferring.i) c.self.inside.read.items = rw (moves at) at c.self.invariant.sound.read in
+    let enough : IsEnough c.self.inside.job (Transferring c.in-Transferring.i) c.self.inside.read.capacity = rw (moves at) at c.self.invariant.sound.enough in
     rw (c.phase_replied-self-inside.ensures, c.append.ensures) (record {
-      sound = sound_after c.self.inside.job c.in-Moves.i c.self.inside.read.capacity c.self.inside.read.items c.args.reply.now
+      sound = sound_after c.self.inside.job c.in-Transferring.i c.self.inside.read.capacity c.self.inside.read.items c.args.reply.now
           c.self.invariant.sound.placed had (form at c.if-accepts.true) c.accepts.ensures.small enough;
-      of_aim = c.self.invariant.of_aim;
+      of_expected = c.self.invariant.of_expected;
       of_count = c.self.invariant.of_count;
     })

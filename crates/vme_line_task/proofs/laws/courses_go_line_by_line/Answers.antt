@@ -1,8 +1,0 @@
-use Rattle.vme_line_task.proofs.lemmas.Courses.{follows_call, follows_answer}
-use Rattle.vme_line_task.proofs.laws.courses_go_line_by_line.Goals as goal
-
-pub returns-clause-call : goal.returns-clause-call
-returns-clause-call c = follows_call
-
-pub returns-clause-answer : goal.returns-clause-answer
-returns-clause-answer c = follows_answer

@@ -1,0 +1,69 @@
+use Rattle.std.proofs.Common.{◌≡◌, ◌<◌, false, length, ◌∙◌, ap, sym, rules, arith, slice_set, slice_index_or}
+use Rattle.std.specs.Vec.{with_items}
+use Rattle.std.proofs.lemmas.List.{with_items_is, length-set}
+use Rattle.vme_line_task.specs.Scripts.{lines_at}
+use Rattle.vme_line_task.specs.Machine.{line_to_do}
+use Rattle.vme_line_task.proofs.lemmas.Calls.{at_work, its_call, ends_so}
+use Rattle.vme_stepper.proofs.Turning.{turn_begins, turn_passes}
+use Rattle.vme_stepper.proofs.Drawing.{draws}
+use Rattle.vme_stepper.proofs.processor.Processor.seek.Goals as goal
+
+pub start-task-requires-clause-none : goal.start-task-requires-clause-none
+start-task-requires-clause-none c =
+    let s = c.loop-self.self-inside in
+    (draws c.args.config.now c.args.board s.lines.items s.ended s.buffers c.take-buffer.new.self c.take-buffer.result
+    (omega (arith, c.loop-self-test.true, c.len.ensures, s.lines.ok.0)) c.loop-self.invariant.lines c.loop-self.invariant.buffers c.take-buffer.ensures).none
+
+pub start-task-requires-clause-capacity : goal.start-task-requires-clause-capacity
+start-task-requires-clause-capacity c =
+    let s = c.loop-self.self-inside in
+    (draws c.args.config.now c.args.board s.lines.items s.ended s.buffers c.take-buffer.new.self c.take-buffer.result
+    (omega (arith, c.loop-self-test.true, c.len.ensures, s.lines.ok.0)) c.loop-self.invariant.lines c.loop-self.invariant.buffers c.take-buffer.ensures).enough
+
+pub invariant_of-self-then-not-is_over : goal.invariant_of-self-then-not-is_over
+invariant_of-self-then-not-is_over c =
+    let s = c.loop-self.self-inside in
+    let within : s.ended < length s.lines.items = omega (arith, c.loop-self-test.true, c.len.ensures, s.lines.ok.0) in
+    let after = (draws c.args.config.now c.args.board s.lines.items s.ended s.buffers c.take-buffer.new.self c.take-buffer.result
+    within c.loop-self.invariant.lines c.loop-self.invariant.buffers c.take-buffer.ensures).after in
+    let on : c.is_over.result ≡ false = search rules in
+    record {
+      work = (within, at_work (line_to_do c.give.new.self) c.give.ensures.begun (sym c.is_over.ensures ∙ on));
+      left = rw c.loop-self.invariant.script after;
+    }
+
+pub returns-then-not-is_over-clause-turn : goal.returns-then-not-is_over-clause-turn
+returns-then-not-is_over-clause-turn c =
+    let within : c.loop-self.self-inside.ended < length (lines_at c.args.config.now c.args.board)
+    = omega (arith, c.loop-self-test.true, c.len.ensures, c.loop-self.invariant.lines, c.loop-self.self-inside.lines.ok.0) in
+    let on : c.is_over.result ≡ false = search rules in
+    let next = its_call (line_to_do c.give.new.self) (at_work (line_to_do c.give.new.self) c.give.ensures.begun (sym c.is_over.ensures ∙ on)) in
+    λ machine.
+    turn_begins c.args.config.now c.args.board machine c.loop-self.self-inside.script.now c.loop-self.self-inside.lines.items
+    c.loop-self.self-inside.ended c.start-task.result c.give.new.self next.0 within c.start-task.ensures.line c.give.ensures.task next.1
+    ∙ c.loop-self.invariant.turn machine
+
+pub loop-self-preserved : goal.loop-self-preserved
+loop-self-preserved c =
+    let s = c.loop-self.self-inside in
+    let answer = c.unwrap-answer.result in
+    let within : s.ended < length (lines_at c.args.config.now c.args.board)
+    = omega (arith, c.loop-self-test.true, c.len.ensures, c.loop-self.invariant.lines, s.lines.ok.0) in
+    let lines : (with_items s.lines c.put_answer.new.lines).items ≡ c.put_answer.new.lines
+    = with_items_is s.lines c.put_answer.new.lines (ap length c.put_answer.ensures ∙ length-set _ _ _ ∙ c.deref_mut.ensures.len) in
+    let put : c.put_answer.new.lines ≡ slice_set s.lines.items s.ended ((slice_index_or s.lines.items s.ended (0, answer)).0, answer)
+    = rw c.deref_mut.ensures.value at c.put_answer.ensures in
+    record {
+      script = c.loop-self.invariant.script;
+      idle = c.loop-self.invariant.idle;
+      lines = ap length (lines ∙ put) ∙ length-set _ _ _ ∙ c.loop-self.invariant.lines;
+      buffers =
+          (draws c.args.config.now c.args.board s.lines.items s.ended s.buffers c.take-buffer.new.self c.take-buffer.result
+          (omega (arith, c.loop-self-test.true, c.len.ensures, s.lines.ok.0)) c.loop-self.invariant.lines c.loop-self.invariant.buffers c.take-buffer.ensures).after;
+      turn = λ machine.
+          rw (lines, put)
+          (turn_passes c.args.config.now c.args.board machine s.script.now s.lines.items s.ended c.start-task.result
+          c.give.new.self answer within c.start-task.ensures.line c.give.ensures.task
+          (ends_so (line_to_do c.give.new.self) answer (rw c.unwrap-answer.ensures at c.take_answer.ensures.answer))
+          ∙ c.loop-self.invariant.turn machine);
+    }

@@ -1,0 +1,188 @@
+//! The way of one processor through its script.
+ghost use Rattle.std.specs.Prelude.{◌≡◌, ℕ, ◌<◌, ◌≤◌, ◌-◌, ◌^◌, length, map, slice_set, slice_index_or, is_some, true, Some, None, IfOk, IfSome, IsTrue};
+ghost use Rattle.vme_shared.specs.declared.reply.LineReply.TheVariants.{Unfinished};
+ghost use Rattle.vme_core.specs.Runs.{Machine};
+ghost use Rattle.vme_core.specs.Machines.{whos};
+ghost use Rattle.vme_script.specs.Configurations.{Configuration};
+ghost use Rattle.vme_line_task.specs.Tables.{Returns};
+ghost use Rattle.vme_line_task.specs.Events.{answer_in};
+ghost use Rattle.vme_line_task.specs.Machine.{line_to_do, IsLineBelow};
+ghost use Rattle.vme_stepper.specs.Steppers.{processor_turn, IsProcessorOf, StepsWithin};
+
+use std::alloc::{AllocError, Global};
+use std::marker::Model;
+use vme_core::Core;
+use vme_line_task::{LineTask, ReadBuffers};
+use vme_script::{Config, Script};
+use vme_shared::LineReply;
+
+/// The lines of a script with their answers, of which the first have ended, and the line at work
+/// if one is. All room is taken when it is made, that of the bytes of its lines too, and a task stays
+/// in its place.
+#[derive(Drop)]
+pub(crate) struct Processor<'a> {
+    script: &'a Script,
+    buffers: ReadBuffers,
+    lines: Vec<(u16, LineReply)>,
+    ended: usize,
+    task: Option<LineTask<'a>>,
+}
+
+impl<'a> Model for Processor<'a> {
+    ghost use Rattle.vme_stepper.specs.Steppers.{ProcessorView, IsSoundProcessor};
+
+    ghost Value = { ProcessorView };
+
+    ghost view = { λ l. record {
+      script = l.script.now;
+      lines = l.lines.items;
+      ended = l.ended;
+      at = l.task;
+    } };
+
+    ghost invariant = { λ l. IsSoundProcessor l.script.now l.lines.items l.ended l.task l.buffers };
+}
+
+impl<'a> Processor<'a> {
+    /// A script of which no line has ended.
+    pub(crate) fn new(alloc: Global, script: &'a Script) -> Result<Processor<'a>, AllocError>
+        ensures { IfOk result (λ processor. processor ≡ record {
+          script = script.now;
+          lines = map (λ line. (line.number, Unfinished)) script.now;
+          ended = 0;
+          at = None;
+        }) }
+    {
+        let buffers = ReadBuffers::new(alloc, script)?;
+        let mut lines = Vec::with_capacity(alloc, script.len())?;
+        for j in 0..script.len() {
+            lines.push((script.number(j), LineReply::Unfinished))?;
+        }
+        Ok(Processor {
+            script,
+            buffers,
+            lines,
+            ended: 0,
+            task: None,
+        })
+    }
+
+    /// The numbers of the lines, with their answers.
+    pub(crate) fn lines(&self) -> &[(u16, LineReply)]
+        ensures { result.now ≡ self.now.lines }
+    {
+        self.lines.as_slice()
+    }
+
+    /// A turn of the processor: it makes one event, if there is a line that needs one.
+    #[inline(always)]
+    pub(crate) fn turn(&mut self, config: &'a Config, core: &mut Core, board: usize)
+        requires board { board < length config.now.boards }
+        requires processor { IsProcessorOf config.now board self.old }
+        requires whos { whos core.old ≡ length config.now.boards }
+        requires boards { length core.old.boards ≡ length config.now.boards }
+        requires capacity { StepsWithin (2 ^ 64 - 2) core.old }
+        ensures turn { (core.new, self.new) ≡ processor_turn config.now board core.old self.old }
+        ensures processor { IsProcessorOf config.now board self.new }
+        ensures whos { whos core.new ≡ whos core.old }
+        ensures boards { length core.new.boards ≡ length core.old.boards }
+    {
+        if self.is_over() {
+            return;
+        }
+        if self.task.is_none() {
+            self.seek(config, board);
+        }
+        self.make(core, board);
+    }
+
+    /// Whether each line has ended.
+    fn is_over(&self) -> bool
+        ensures { IsTrue result → length self.now.lines ≤ self.now.ended }
+    {
+        self.ended == self.lines.len()
+    }
+
+    /// Answers lines that need no event, up to one that makes one.
+    #[inline(never)]
+    fn seek(&mut self, config: &'a Config, board: usize)
+        requires board { board < length config.now.boards }
+        requires processor { IsProcessorOf config.now board self.old }
+        requires idle { self.old.at ≡ None }
+        ensures turn { (machine : Machine) → processor_turn config.now board machine self.new
+            ≡ processor_turn config.now board machine self.old }
+        ensures processor { IsProcessorOf config.now board self.new }
+        ensures over { self.new.at ≡ None → length self.new.lines ≤ self.new.ended }
+    {
+        while self.ended < self.lines.len() {
+            let buffer = self.buffers.take();
+            let mut task = LineTask::start(config, board, self.ended, buffer);
+            task.give(None);
+            if !task.is_over() {
+                self.task = Some(task);
+                return;
+            }
+            let answer = task.take_answer().unwrap();
+            put_answer(&mut self.lines, self.ended, answer);
+            self.ended += 1;
+        }
+    }
+
+    /// The line at work makes its event, if one is.
+    #[inline(always)]
+    #[tactic(auto, using(crate::proofs::Calls::can_make))]
+    fn make(&mut self, core: &mut Core, board: usize)
+        requires who { board < whos core.old }
+        requires below { IfSome self.old.at (IsLineBelow (length core.old.boards)) }
+        requires capacity { StepsWithin (2 ^ 64 - 2) core.old }
+        ensures turn { (config : Configuration) → IsProcessorOf config board self.old →
+            (self.old.at ≡ None → length self.old.lines ≤ self.old.ended) →
+            (core.new, self.new) ≡ processor_turn config board core.old self.old }
+        ensures below { IfSome self.new.at (IsLineBelow (length core.old.boards)) }
+        ensures script { self.new.script ≡ self.old.script }
+        ensures lines { length self.new.lines ≡ length self.old.lines }
+        ensures whos { whos core.new ≡ whos core.old }
+        ensures boards { length core.new.boards ≡ length core.old.boards }
+    {
+        let Some(task) = &mut self.task else {
+            return;
+        };
+        task.make(core, board);
+        if task.is_over() {
+            put_answer_of(&mut self.lines, self.ended, task);
+            self.ended += 1;
+            let_go(&mut self.task);
+        }
+    }
+}
+
+/// Lets the task of a line go, in its place.
+#[inline(never)]
+fn let_go(task: &mut Option<LineTask<'_>>)
+    ensures { task.new ≡ None }
+{
+    *task = None;
+}
+
+/// Puts the answer of a line that is over at its place. Out of line, so that a turn has no room for it.
+#[inline(never)]
+#[tactic(auto, using(crate::proofs::Calls::its_own))]
+fn put_answer_of(lines: &mut [(u16, LineReply)], place: usize, task: &mut LineTask<'_>)
+    requires place { place < length lines.old }
+    requires over { is_some (answer_in (line_to_do task.old)) ≡ true }
+    ensures len { length lines.new ≡ length lines.old }
+    ensures put { (answer : LineReply) → line_to_do task.old ≡ Returns answer → lines.new
+        ≡ slice_set lines.old place ((slice_index_or lines.old place (0, answer)).0, answer) }
+{
+    put_answer(lines, place, task.take_answer().unwrap());
+}
+
+/// Puts the answer of the line at a place.
+#[inline(never)]
+fn put_answer(lines: &mut [(u16, LineReply)], place: usize, answer: LineReply)
+    requires { place < length lines.old }
+    ensures { lines.new
+        ≡ slice_set lines.old place ((slice_index_or lines.old place (0, answer)).0, answer) }
+{
+    lines[place].1 = answer;
+}

@@ -1,0 +1,213 @@
+//! Boards and arbiter, and the processors on them, turn by turn.
+ghost use Rattle.std.specs.Prelude.{◌≡◌, ◌≢◌, ◌<◌, ◌-◌, ◌^◌, length, map, false, IfOk, IfErr, IfSome, OnOk, OnErr};
+ghost use Rattle.std.specs.Io.KnownBytes.{Appends};
+ghost use Rattle.vme_io.specs.Fronts.{AppendsFront};
+ghost use Rattle.vme_report.specs.Reports.{report_text, report_status};
+ghost use Rattle.vme_report.specs.Ends.{is_write_end};
+ghost use Rattle.vme_script.specs.Configurations.{opening_memory};
+ghost use Rattle.vme_script.specs.Lawful.{IsLawful};
+ghost use Rattle.vme_stepper.specs.Turns.{place_of, initial_state, state_after};
+ghost use Rattle.vme_stepper.specs.Schedules.{schedule_turns, file_turns};
+ghost use Rattle.vme_stepper.specs.Steppers.{stepper_turn, stepper_of, processors_told, processors_from, IsStepperOf, StepsWithin};
+
+use crate::processor::Processor;
+use std::alloc::{AllocError, Global};
+use std::marker::Model;
+use vme_core::{Core, OutOfMemory, Target};
+use vme_io::Sink;
+use vme_memory::ByteMemory;
+use vme_report::{BoardReport, RunFault, write_report};
+use vme_script::Config;
+use vme_shared::Status;
+
+/// The boards and the arbiter of a backplane, and the way of each processor through its script.
+#[derive(Drop)]
+pub(crate) struct Stepper<'a> {
+    core: Core,
+    processors: Vec<Processor<'a>>,
+}
+
+impl<'a> Model for Stepper<'a> {
+    ghost use Rattle.vme_stepper.specs.Steppers.{StepperView};
+
+    ghost Value = { StepperView };
+
+    ghost view = { λ d. record { machine = d.core; processors = d.processors.items } };
+}
+
+impl<'a> Stepper<'a> {
+    /// The stepper before the first turn. It takes all room that turns need.
+    pub(crate) fn new(alloc: Global, config: &'a Config) -> Result<Stepper<'a>, OutOfMemory>
+        ensures stepper { IfOk result (λ stepper. stepper ≡ stepper_of config.now (initial_state config.now)) }
+        ensures sound { IfOk result (IsStepperOf config.now) }
+        ensures lawful { IsLawful config.now }
+    {
+        let boards = config.boards();
+        let memories = zero_memories(alloc, config)?;
+        let core = Core::with_arbiter(alloc, memories, config.arbiter(), boards)?;
+        let processors = match fresh_processors(alloc, config) {
+            Ok(processors) => processors,
+            Err(_) => return Err(OutOfMemory),
+        };
+        Ok(Stepper { core, processors })
+    }
+
+    /// A turn of the processor of a board.
+    #[inline(always)]
+    fn turn(&mut self, config: &'a Config, board: usize)
+        requires board { board < length config.now.boards }
+        requires stepper { IsStepperOf config.now self.old }
+        requires capacity { StepsWithin (2 ^ 64 - 2) self.old.machine }
+        ensures turn { self.new ≡ stepper_turn config.now self.old board }
+        ensures sound { IsStepperOf config.now self.new }
+    {
+        self.processors[board].turn(config, &mut self.core, board);
+    }
+
+    /// Makes turns of slots, one after another.
+    pub(crate) fn run(&mut self, config: &'a Config, slots: &[u16])
+        requires opening { self.old ≡ stepper_of config.now (initial_state config.now) }
+        requires stepper { IsStepperOf config.now self.old }
+        ensures run { self.new ≡ stepper_of config.now (state_after config.now slots.now) }
+        ensures sound { IsStepperOf config.now self.new }
+    {
+        for slot in slots {
+            if let Some(board) = place_of(config, *slot) {
+                self.turn(config, board);
+            }
+        }
+    }
+
+    /// Makes the turns of the file, which are laid out nowhere: those of its schedule, and then its
+    /// rounds.
+    pub(crate) fn run_file(&mut self, config: &'a Config)
+        requires lawful { IsLawful config.now }
+        requires opening { self.old ≡ stepper_of config.now (initial_state config.now) }
+        requires stepper { IsStepperOf config.now self.old }
+        ensures run { self.new ≡ stepper_of config.now (state_after config.now (file_turns config.now)) }
+        ensures sound { IsStepperOf config.now self.new }
+    {
+        self.run_schedule(config);
+        self.run_rounds(config);
+    }
+
+    /// Makes the turns of the schedule.
+    fn run_schedule(&mut self, config: &'a Config)
+        requires lawful { IsLawful config.now }
+        requires opening { self.old ≡ stepper_of config.now (initial_state config.now) }
+        requires stepper { IsStepperOf config.now self.old }
+        ensures run { self.new
+            ≡ stepper_of config.now (state_after config.now (schedule_turns config.now.schedule)) }
+        ensures sound { IsStepperOf config.now self.new }
+    {
+        for turns in config.schedule() {
+            if let Some(board) = place_of(config, turns.0) {
+                for _turn in 0..turns.1 {
+                    self.turn(config, board);
+                }
+            }
+        }
+    }
+
+    /// Makes the rounds over all slots, after the schedule.
+    fn run_rounds(&mut self, config: &'a Config)
+        requires lawful { IsLawful config.now }
+        requires scheduled { self.old
+            ≡ stepper_of config.now (state_after config.now (schedule_turns config.now.schedule)) }
+        requires stepper { IsStepperOf config.now self.old }
+        ensures run { self.new ≡ stepper_of config.now (state_after config.now (file_turns config.now)) }
+        ensures sound { IsStepperOf config.now self.new }
+    {
+        let boards = config.boards();
+        for _round in 0..config.rounds() {
+            for board in 0..boards {
+                self.turn(config, board);
+            }
+        }
+    }
+
+    /// Writes the report of what was done.
+    pub(crate) fn report<W: Sink>(
+        &self,
+        alloc: Global,
+        config: &Config,
+        sink: &mut W,
+    ) -> Result<Status, RunFault>
+        requires stepper { IsStepperOf config.now self.now }
+        requires unmarked { W.is_marked sink.old ≡ false }
+        ensures text { OnOk result (Appends (W.contents sink.old) (W.contents sink.new)
+            (report_text (processors_told config.now.boards self.now.processors self.now.machine.boards))) }
+        ensures front { OnErr result (AppendsFront (W.contents sink.old) (W.contents sink.new)
+            (report_text (processors_told config.now.boards self.now.processors self.now.machine.boards))) }
+        ensures status { IfOk result (λ status. status
+            ≡ report_status (processors_told config.now.boards self.now.processors self.now.machine.boards)) }
+        ensures write { W.is_marked sink.new ≡ is_write_end result }
+        ensures faults { IfErr result (λ fault. (fault ≢ RunFault.Thread) × (fault ≢ RunFault.Spent)) }
+    {
+        let boards = self.board_reports(alloc, config)?;
+        let status = write_report(alloc, &boards, sink)?;
+        Ok(status)
+    }
+
+    /// What is told of the boards.
+    fn board_reports<'b>(
+        &'b self,
+        alloc: Global,
+        config: &Config,
+    ) -> Result<Vec<BoardReport<'b>>, AllocError>
+        requires { IsStepperOf config.now self.now }
+        ensures { IfOk result (λ reports. reports.items
+            ≡ processors_told config.now.boards self.now.processors self.now.machine.boards) }
+    {
+        let mut reports = Vec::with_capacity(alloc, config.boards())?;
+        for (board, processor) in self.processors.iter().enumerate() {
+            reports.push(BoardReport {
+                slot: config.slot(board),
+                lines: processor.lines(),
+                memory: self.core.memory(board),
+                steps: self.core.steps(Target::Board(board)),
+                made: self.core.counts(Target::Board(board)),
+            })?;
+        }
+        Ok(reports)
+    }
+}
+
+/// The place of the board in a slot, if there is one.
+fn place_of(config: &Config, slot: u16) -> Option<usize>
+    ensures place { result ≡ place_of config.now slot }
+    ensures there { IfSome result (λ board. board < length config.now.boards) }
+{
+    for board in 0..config.boards() {
+        if config.slot(board) == slot {
+            return Some(board);
+        }
+    }
+    None
+}
+
+/// The memories of the boards, all zero.
+fn zero_memories(alloc: Global, config: &Config) -> Result<Vec<ByteMemory>, OutOfMemory>
+    ensures { IfOk result (λ memories. memories.items ≡ map opening_memory config.now.boards) }
+{
+    let count = config.boards();
+    let Ok(mut memories) = Vec::with_capacity(alloc, count) else {
+        return Err(OutOfMemory);
+    };
+    for board in 0..count {
+        memories.push_reserved(config.memory(alloc, board)?);
+    }
+    Ok(memories)
+}
+
+/// The ways of the processors, of which no line has ended.
+fn fresh_processors<'a>(alloc: Global, config: &'a Config) -> Result<Vec<Processor<'a>>, AllocError>
+    ensures { IfOk result (λ processors. processors.items
+        ≡ processors_from config.now 0 (initial_state config.now).script_states) }
+{
+    let mut processors = Vec::with_capacity(alloc, config.boards())?;
+    for board in 0..config.boards() {
+        processors.push(Processor::new(alloc, config.script(board))?)?;
+    }
+    Ok(processors)
+}
