@@ -26,7 +26,7 @@ fn expect_denied(rt: &impl Abort, task: &mut PutTask<'_>, given: Option<EventRep
     assert_eq!(rt; expect_end(rt, &end), SharedOutcome::Denied);
     let end = task.next(told(ArbReply::Freed));
     assert_eq!(rt; expect_end(rt, &end), SharedOutcome::Denied);
-    task.again();
+    task.restart();
 }
 
 #[test]

@@ -66,7 +66,7 @@ fn puts_a_word_where_a_slot_is_free(rt: HostRuntime) -> Result<(), Fail> {
         (&BUSY[..], SharedOutcome::Busy),
     ] {
         assert_eq!(&rt; outcome(&rt, &mut task, course), wanted, "{course:?}");
-        task.again();
+        task.restart();
     }
     Ok(())
 }
@@ -108,7 +108,7 @@ fn takes_a_word_where_there_is_one(rt: HostRuntime) -> Result<(), Fail> {
         (&BUSY[..], SharedOutcome::Busy),
     ] {
         assert_eq!(&rt; outcome(&rt, &mut task, course), wanted, "{course:?}");
-        task.again();
+        task.restart();
     }
     Ok(())
 }
@@ -127,7 +127,7 @@ fn a_lock_is_one_read_modify_write(rt: HostRuntime) -> Result<(), Fail> {
         (&SET_BERR[..], SharedOutcome::Berr),
     ] {
         assert_eq!(&rt; outcome(&rt, &mut task, course), wanted, "{course:?}");
-        task.again();
+        task.restart();
     }
     Ok(())
 }
@@ -141,7 +141,7 @@ fn an_unlock_is_one_write(rt: HostRuntime) -> Result<(), Fail> {
     let map = AddressMap::new(rt.alloc(), &BOARDS)?;
     let mut task = LockTask::unlock(&map, 2, 3, 0x0d, 0x1008)?;
     assert_eq!(&rt; outcome(&rt, &mut task, &CLEARED), SharedOutcome::Unlocked);
-    task.again();
+    task.restart();
     assert_eq!(&rt; outcome(&rt, &mut task, &CLEAR_BERR), SharedOutcome::Berr);
     Ok(())
 }
@@ -198,7 +198,7 @@ fn a_bus_error_of_a_put_unlocks_first(rt: HostRuntime) -> Result<(), Fail> {
             SharedOutcome::Berr,
             "{course:?}"
         );
-        task.again();
+        task.restart();
     }
     Ok(())
 }
@@ -230,7 +230,7 @@ fn a_bus_error_of_a_take_unlocks_first(rt: HostRuntime) -> Result<(), Fail> {
             SharedOutcome::Berr,
             "{course:?}"
         );
-        task.again();
+        task.restart();
     }
     Ok(())
 }

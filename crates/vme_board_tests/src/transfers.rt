@@ -331,13 +331,13 @@ fn a_local_command_is_one_call(rt: HostRuntime) {
 #[test]
 fn a_task_is_done_once_more_after_its_bytes_were_given_out(rt: HostRuntime) {
     let mut task = Task::local(3, BoardCmd::LocalRead { offset: 1, n: 2 });
-    task.give(None);
-    task.give(reply(Given::Bytes(&[1, 2])).as_ref());
-    assert!(&rt; task.is_over());
+    task.advance(None);
+    task.advance(reply(Given::Bytes(&[1, 2])).as_ref());
+    assert!(&rt; task.is_finished());
     assert_eq!(&rt; task.read(), Some(&[1, 2][..]));
     assert_eq!(&rt; task.take_outcome(), Some(Outcome::Read(block(&[1, 2]))));
     assert_eq!(&rt; task.read(), Some(&[][..]));
-    task.again();
+    task.restart();
     assert_eq!(&rt; task.take_outcome(), None);
     assert_eq!(&rt;
         outcome(&rt, &mut task, &LOCAL_READ),
@@ -367,7 +367,7 @@ fn a_request_of_its_own_goes_the_same_way(rt: HostRuntime) -> Result<(), Fail> {
         n: 1,
         f: Modify::Set,
     };
-    let mut task = Task::start_own(&map, 2, 3, request)?;
+    let mut task = Task::start_owned(&map, 2, 3, request)?;
     assert_eq!(&rt;
         outcome(&rt, &mut task, &MODIFIED),
         Outcome::Old(datum(&[0x7f]))

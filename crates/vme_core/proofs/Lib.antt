@@ -1,3 +1,3 @@
 pub mod lemmas
-mod Deeds
+mod EventRefs
 pub mod Openings

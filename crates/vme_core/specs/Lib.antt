@@ -3,4 +3,4 @@ pub mod Runs
 pub mod Calls
 pub mod Machines
 pub mod Data
-pub mod Deeds
+pub mod EventRefs

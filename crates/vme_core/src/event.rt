@@ -13,7 +13,7 @@ pub enum Event {
 
 /// What an event asks, apart from the lines of a cycle.
 #[derive(Debug, Drop)]
-pub enum Deed<'a> {
+pub enum EventRef<'a> {
     /// A command to one of the boards, by its place.
     Board { board: usize, cmd: &'a BoardCmd },
     /// A datum of a transfer, for one of the boards, by its place.

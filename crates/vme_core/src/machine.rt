@@ -5,12 +5,12 @@ ghost use Rattle.vme_core.specs.Tallies.{fresh_tally};
 ghost use Rattle.vme_core.specs.Runs.{Did, move, target_of};
 ghost use Rattle.vme_memory.specs.Locals.{command_given};
 ghost use Rattle.vme_core.specs.Calls.{OnBoard, OnBus, call_of, machine_step};
-ghost use Rattle.vme_core.specs.Deeds.{call_asked, target_of_deed, CanCount};
+ghost use Rattle.vme_core.specs.EventRefs.{call_asked, target_of_ref, CanCount};
 ghost use Rattle.vme_core.specs.Machines.{opening, whos, IsThere, steps_of, counts_of, made_of, HasRun};
 
 use crate::counted::Counted;
 use crate::datum::DatumCycle;
-use crate::event::{Deed, Event, EventReply, Target};
+use crate::event::{EventRef, Event, EventReply, Target};
 use crate::fault::{OutOfMemory, RunStop, Spent};
 use std::alloc::Global;
 use std::marker::Model;
@@ -80,26 +80,26 @@ impl Core {
         }
     }
 
-    /// One deed of `who` which its object can count, and the reply to it: the same as to an event that
+    /// One event_ref of `who` which its object can count, and the reply to it: the same as to an event that
     /// asks the same.
     #[inline(always)]
-    pub fn reply(&mut self, who: usize, deed: &Deed<'_>) -> EventReply
+    pub fn apply_ref(&mut self, who: usize, event_ref: &EventRef<'_>) -> EventReply
         requires who { who < whos self.old }
-        requires can { CanCount self.old (target_of_deed deed.now) }
-        ensures step { (self.new, result) ≡ machine_step self.old who (call_asked deed.now) }
+        requires can { CanCount self.old (target_of_ref event_ref.now) }
+        ensures step { (self.new, result) ≡ machine_step self.old who (call_asked event_ref.now) }
         ensures boards { length self.new.boards ≡ length self.old.boards }
         ensures whos { whos self.new ≡ whos self.old }
     {
-        match deed {
-            Deed::Board { board, cmd } => EventReply::Board(self.command(who, *board, cmd)),
-            Deed::Datum { board, cycle } => EventReply::Board(self.datum(who, *board, cycle)),
-            Deed::Bus(cmd) => EventReply::Bus(self.tell(who, *cmd)),
+        match event_ref {
+            EventRef::Board { board, cmd } => EventReply::Board(self.apply_board(who, *board, cmd)),
+            EventRef::Datum { board, cycle } => EventReply::Board(self.apply_datum(who, *board, cycle)),
+            EventRef::Bus(cmd) => EventReply::Bus(self.apply_bus(who, *cmd)),
         }
     }
 
     /// A command of `who` to the arbiter, which can count it, and the reply.
     #[inline(always)]
-    pub fn tell(&mut self, who: usize, cmd: ArbCmd) -> ArbReply
+    pub fn apply_bus(&mut self, who: usize, cmd: ArbCmd) -> ArbReply
         requires who { who < whos self.old }
         requires can { CanCount self.old Target.Bus }
         ensures step { (self.new, EventReply.Bus result) ≡ machine_step self.old who (OnBus cmd) }
@@ -111,7 +111,7 @@ impl Core {
 
     /// A command of `who` to a board which can count it, by its place, and the reply.
     #[inline(always)]
-    pub fn command(&mut self, who: usize, board: usize, cmd: &BoardCmd) -> Reply
+    pub fn apply_board(&mut self, who: usize, board: usize, cmd: &BoardCmd) -> Reply
         requires who { who < whos self.old }
         requires can { CanCount self.old (Target.Board board) }
         ensures step { (self.new, EventReply.Board result)
@@ -124,7 +124,7 @@ impl Core {
 
     /// One datum of a transfer of `who` for a board which can count it, by its place, and the reply.
     #[inline(always)]
-    pub fn datum(&mut self, who: usize, board: usize, cycle: &DatumCycle<'_>) -> Reply
+    pub fn apply_datum(&mut self, who: usize, board: usize, cycle: &DatumCycle<'_>) -> Reply
         requires who { who < whos self.old }
         requires can { CanCount self.old (Target.Board board) }
         ensures step { (self.new, EventReply.Board result)

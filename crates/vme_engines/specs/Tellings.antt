@@ -7,12 +7,12 @@ use Rattle.vme_report.specs.Boards.{BoardText}
 use Rattle.vme_report.specs.Reports.{report_text, report_status}
 use Rattle.vme_script.specs.Configurations.{Configuration}
 use Rattle.vme_engines.specs.Files.{Configures}
-use Rattle.vme_threads.specs.declared.report.BoardEnd.{BoardEnd}
+use Rattle.vme_threads.specs.declared.report.BoardReport.{BoardReport}
 use Rattle.vme_threads.specs.declared.report.Report.{Report}
 use Rattle.vme_threads.specs.Reports.{IsReportOf}
 
 -- what is told of boards, by their ends and the lines of their processors (this project's own)
-abbrev pub ends_told : List BoardEnd → List (List (ℕ × LineReply)) → List BoardText
+abbrev pub ends_told : List BoardReport → List (List (ℕ × LineReply)) → List BoardText
 ends_told (end ∷ ends) (lines ∷ more) =
     record { slot = end.slot; lines = lines; bytes = end.memory.bytes; steps = end.steps; made = end.made.items }
     ∷ ends_told ends more

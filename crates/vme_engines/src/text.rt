@@ -8,9 +8,9 @@ ghost use Rattle.vme_engines.specs.Tellings.{ends_told, told_report};
 
 use std::alloc::{AllocError, Global};
 use vme_io::Sink;
-use vme_report::{BoardReport, RunFault, write_report};
+use vme_report::{BoardReportRef, RunFault, write_report};
 use vme_shared::{LineReply, Status};
-use vme_threads::{BoardEnd, Report};
+use vme_threads::{BoardReport, Report};
 
 /// Writes the text of a report, or a front of it before a fault. `Memory` comes where a growth is
 /// refused.
@@ -37,9 +37,9 @@ pub fn report_text<W: Sink>(
 /// What is told of boards, by their ends and the lines of their processors.
 fn told_ends<'a>(
     alloc: Global,
-    ends: &'a [BoardEnd],
+    ends: &'a [BoardReport],
     lines: &'a [Vec<(u16, LineReply)>],
-) -> Result<Vec<BoardReport<'a>>, AllocError>
+) -> Result<Vec<BoardReportRef<'a>>, AllocError>
     requires { length lines.now ≡ length ends.now }
     ensures { IfOk result (λ boards. boards.items ≡ ends_told ends.now (map (λ one. one.items) lines.now)) }
 {
@@ -58,7 +58,7 @@ fn told_ends<'a>(
 }
 
 /// What is told of a board.
-fn told_end<'a>(end: &'a BoardEnd, lines: &'a [(u16, LineReply)]) -> BoardReport<'a>
+fn told_end<'a>(end: &'a BoardReport, lines: &'a [(u16, LineReply)]) -> BoardReportRef<'a>
     ensures { result ≡ record {
       slot = end.now.slot;
       lines = lines.now;
@@ -67,7 +67,7 @@ fn told_end<'a>(end: &'a BoardEnd, lines: &'a [(u16, LineReply)]) -> BoardReport
       made = end.now.made.items;
     } }
 {
-    BoardReport {
+    BoardReportRef {
         slot: end.slot,
         lines,
         memory: &end.memory,

@@ -21,7 +21,7 @@ use Rattle.vme_grammar.specs.declared.line.Line.{Line}
 use Rattle.vme_script.specs.Configurations.{Configuration}
 use Rattle.vme_line_task.specs.Scripts.{Attempt, Transferring, Awaiting, Sharing, line_attempt}
 use Rattle.vme_line_task.specs.Tenures.{IsGranted}
-use Rattle.vme_line_task.specs.Tables.{LineNext, Returns, moves_next, waits_next, shares_next, attempt_next, asks_again, next_asks_again, Attempts, next_attempt, attempts_of, lawful_next, next_given}
+use Rattle.vme_line_task.specs.Tables.{LineNext, Returns, moves_next, waits_next, shares_next, attempt_next, asks_again, next_wants_retry, Attempts, next_attempt, attempts_of, lawful_next, next_given}
 
 -- a task's end is for good
 task_stays : (job : Job) (given : Given) (last : Option EventReply) (outcome : Outcome) → next_of job given ≡ tasks.Returns outcome
@@ -89,9 +89,9 @@ IsLast a made = (answer : LineReply) → attempt_next a made.given ≡ Returns a
 
 last_attempt : (a : Attempt) (made : Attempts) → IsLast a (next_attempt made (attempt_next a made.given))
 last_attempt a made =
-    elim (cases_Bool (next_asks_again (attempt_next a made.given) && nat_lt 1 made.left)) [
+    elim (cases_Bool (next_wants_retry (attempt_next a made.given) && nat_lt 1 made.left)) [
       | inl more ↦ rw more (λ answer ends. rw (just_begun a answer ends).last refl)
-      | inr last ↦ rw last (λ answer ends. subst (λ next. (next_asks_again next && nat_lt 1 made.left) ≡ false) ends last)
+      | inr last ↦ rw last (λ answer ends. subst (λ next. (next_wants_retry next && nat_lt 1 made.left) ≡ false) ends last)
     ]
 
 all_last : (a : Attempt) (tries : ℕ) (given : Given) → IsLast a (attempts_of a tries given)

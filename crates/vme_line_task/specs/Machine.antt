@@ -16,7 +16,7 @@ use Rattle.vme_line_task.specs.declared.attempt.Attempts.{Attempts}
 use Rattle.vme_line_task.specs.declared.attempt.AttemptTask.{AttemptTask}
 use Rattle.vme_line_task.specs.declared.attempt.AttemptTask.TheVariants as tries
 use Rattle.vme_line_task.specs.Scripts.{Attempt, Transferring, Awaiting, Sharing, line_attempt}
-use Rattle.vme_line_task.specs.Tables.{LineNext, Invokes, Returns, moves_next, waits_next, shares_next, next_asks_again, given_of}
+use Rattle.vme_line_task.specs.Tables.{LineNext, Invokes, Returns, moves_next, waits_next, shares_next, next_wants_retry, given_of}
 use Rattle.vme_line_task.specs.Events.{IsCallBelow}
 
 -- the task of an attempt before its first call (this project's own)
@@ -52,7 +52,7 @@ attempt_to_do (tries.Shared v) = shares_next (shared_to_do v)
 -- (this project's own)
 abbrev pub attempts_again : Attempts → LineNext → Attempts
 attempts_again a next =
-    if next_asks_again next && nat_lt 1 a.left
+    if next_wants_retry next && nat_lt 1 a.left
     then record { attempt = attempt_advance (attempt_anew a.attempt) None; left = a.left - 1 }
     else a
 

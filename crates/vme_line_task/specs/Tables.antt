@@ -65,15 +65,15 @@ pub record Attempts : Type 0 where
   pub left : ℕ
 
 -- whether an attempt that does this next has ended with such an answer (this project's own)
-abbrev pub next_asks_again : LineNext → Bool
-next_asks_again (Returns answer) = asks_again answer
-next_asks_again next = false
+abbrev pub next_wants_retry : LineNext → Bool
+next_wants_retry (Returns answer) = asks_again answer
+next_wants_retry next = false
 
 -- an attempt with such an answer is followed by the next, which begins at once, if there may be one more; any other answer is
 -- that of the line (this project's own)
 abbrev pub next_attempt : Attempts → LineNext → Attempts
 next_attempt made next =
-    if next_asks_again next && nat_lt 1 made.left then record { given = None ∷ []; left = made.left - 1 } else made
+    if next_wants_retry next && nat_lt 1 made.left then record { given = None ∷ []; left = made.left - 1 } else made
 
 -- the attempts where the one at work was given one thing more (this project's own)
 abbrev pub attempt_given : Attempt → Option EventReply → Attempts → Attempts

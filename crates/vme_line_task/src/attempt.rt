@@ -1,14 +1,14 @@
 //! Attempts at a line, one after another.
 ghost use Rattle.std.specs.Prelude.{◌≡◌, ◌≢◌, ◌<◌, length, option_map, option_copied, is_some, true, Some, None, IfSome};
 ghost use Rattle.vme_core.specs.Calls.{Call, call_of, machine_step};
-ghost use Rattle.vme_core.specs.Deeds.{call_asked, target_of_call, CanCount};
+ghost use Rattle.vme_core.specs.EventRefs.{call_asked, target_of_call, CanCount};
 ghost use Rattle.vme_core.specs.Machines.{whos};
-ghost use Rattle.vme_line_task.specs.Tables.{NotStarted, next_asks_again};
+ghost use Rattle.vme_line_task.specs.Tables.{NotStarted, next_wants_retry};
 ghost use Rattle.vme_line_task.specs.Machine.{attempt_anew, attempt_advance, attempt_to_do, attempts_advance};
 ghost use Rattle.vme_line_task.specs.Events.{call_in, answer_in};
 
 use crate::wait::WaitTask;
-use vme_core::{Core, Deed, Event, EventReply};
+use vme_core::{Core, EventRef, Event, EventReply};
 use vme_master::Task;
 use vme_shared::{LineReply, SharedOutcome, SharedTask};
 
@@ -35,15 +35,15 @@ impl Attempts<'_> {
     /// The attempt at work is given nothing at first, and then the reply to each of its events. Where
     /// it ends with an answer that asks for another, this is begun, while there may be one more.
     #[inline(always)]
-    pub(crate) fn give(&mut self, given: Option<&EventReply>)
+    pub(crate) fn advance(&mut self, given: Option<&EventReply>)
         ensures task { self.new ≡ attempts_advance self.old (option_copied given.entry) }
         ensures begun { attempt_to_do self.new.attempt ≢ NotStarted }
     {
-        self.attempt.give(given);
-        if self.left > 1 && self.attempt.asks_again() {
+        self.attempt.advance(given);
+        if self.left > 1 && self.attempt.wants_retry() {
             self.left -= 1;
-            self.attempt.again();
-            self.attempt.give(None);
+            self.attempt.restart();
+            self.attempt.advance(None);
         }
     }
 
@@ -91,24 +91,24 @@ impl Attempts<'_> {
         ensures boards { length core.new.boards ≡ length core.old.boards }
         ensures whos { whos core.new ≡ whos core.old }
     {
-        let Some(deed) = &self.attempt.deed() else {
+        let Some(event_ref) = &self.attempt.event_ref() else {
             return;
         };
-        let reply = core.reply(who, deed);
-        self.give(Some(&reply));
+        let reply = core.apply_ref(who, event_ref);
+        self.advance(Some(&reply));
     }
 }
 
 impl AttemptTask<'_> {
     #[inline(always)]
-    fn give(&mut self, given: Option<&EventReply>)
+    fn advance(&mut self, given: Option<&EventReply>)
         ensures task { self.new ≡ attempt_advance self.old (option_copied given.entry) }
         ensures begun { attempt_to_do self.new ≢ NotStarted }
     {
         match self {
-            AttemptTask::Transfer(task) => task.give(given),
-            AttemptTask::Await(wait) => wait.give(given),
-            AttemptTask::Shared(task) => task.give(given),
+            AttemptTask::Transfer(task) => task.advance(given),
+            AttemptTask::Await(wait) => wait.advance(given),
+            AttemptTask::Shared(task) => task.advance(given),
         }
     }
 
@@ -125,47 +125,47 @@ impl AttemptTask<'_> {
 
     /// What that event asks, apart from the lines of a cycle.
     #[inline(always)]
-    pub(crate) fn deed(&self) -> Option<Deed<'_>>
+    pub(crate) fn event_ref(&self) -> Option<EventRef<'_>>
         ensures { option_map call_asked result ≡ call_in (attempt_to_do self.now) }
     {
         match self {
-            AttemptTask::Transfer(task) => task.deed(),
-            AttemptTask::Await(wait) => wait.deed(),
-            AttemptTask::Shared(task) => task.deed(),
+            AttemptTask::Transfer(task) => task.event_ref(),
+            AttemptTask::Await(wait) => wait.event_ref(),
+            AttemptTask::Shared(task) => task.event_ref(),
         }
     }
 
     /// Whether it has ended.
     #[inline(always)]
-    pub(crate) fn is_over(&self) -> bool
+    pub(crate) fn is_finished(&self) -> bool
         ensures { result ≡ is_some (answer_in (attempt_to_do self.now)) }
     {
         match self {
-            AttemptTask::Transfer(task) => task.is_over(),
-            AttemptTask::Await(wait) => wait.is_over(),
+            AttemptTask::Transfer(task) => task.is_finished(),
+            AttemptTask::Await(wait) => wait.is_finished(),
             AttemptTask::Shared(task) => task.outcome().is_some(),
         }
     }
 
     /// Its answer, where it has ended. The bytes that were read go with it.
-    pub(crate) fn take_answer(&mut self) -> Option<LineReply>
+    pub(crate) fn take_reply(&mut self) -> Option<LineReply>
         ensures { result ≡ answer_in (attempt_to_do self.old) }
     {
         match self {
             AttemptTask::Transfer(task) => Some(LineReply::Transfer(task.take_outcome()?)),
-            AttemptTask::Await(wait) => wait.take_answer(),
+            AttemptTask::Await(wait) => wait.take_reply(),
             AttemptTask::Shared(task) => Some(LineReply::Shared(task.outcome()?)),
         }
     }
 
     /// Whether it has ended with an answer that asks for another attempt.
     #[inline(always)]
-    fn asks_again(&self) -> bool
-        ensures { result ≡ next_asks_again (attempt_to_do self.now) }
+    fn wants_retry(&self) -> bool
+        ensures { result ≡ next_wants_retry (attempt_to_do self.now) }
     {
         match self {
             AttemptTask::Transfer(_) => false,
-            AttemptTask::Await(wait) => wait.asks_again(),
+            AttemptTask::Await(wait) => wait.wants_retry(),
             AttemptTask::Shared(task) => matches!(
                 task.outcome(),
                 Some(SharedOutcome::Busy | SharedOutcome::Full | SharedOutcome::Empty)
@@ -176,14 +176,14 @@ impl AttemptTask<'_> {
     /// The same before its first call, to be done once more. A transfer or a command never asks for
     /// this.
     #[inline(never)]
-    fn again(&mut self)
-        requires { next_asks_again (attempt_to_do self.old) ≡ true }
+    fn restart(&mut self)
+        requires { next_wants_retry (attempt_to_do self.old) ≡ true }
         ensures { self.new ≡ attempt_anew self.old }
     {
         match self {
             AttemptTask::Transfer(_) => {}
-            AttemptTask::Await(wait) => wait.again(),
-            AttemptTask::Shared(task) => task.again(),
+            AttemptTask::Await(wait) => wait.restart(),
+            AttemptTask::Shared(task) => task.restart(),
         }
     }
 }

@@ -122,7 +122,7 @@ fn short_transfer<'a>(
     ensures { result ≡ bus_task (entries_of config.now.boards) (slot_at config.now board)
         (level_at config.now board) (transfer_of request) }
 {
-    Task::start_own(
+    Task::start_owned(
         config.map(),
         config.slot(board),
         config.level(board),

@@ -1,6 +1,6 @@
 ghost use Rattle.std.specs.Prelude.{◌≡◌, ◌≢◌, ◌<◌, ◌≤◌, ◌∷◌, [], ℕ, length, option_map, option_copied, is_some, slice_get, Some, None, IfSome};
 ghost use Rattle.vme_core.specs.Calls.{Call, call_of, machine_step};
-ghost use Rattle.vme_core.specs.Deeds.{call_asked, target_of_call, CanCount};
+ghost use Rattle.vme_core.specs.EventRefs.{call_asked, target_of_call, CanCount};
 ghost use Rattle.vme_core.specs.Machines.{whos};
 ghost use Rattle.vme_grammar.specs.declared.line.Line.{Line as AnyLine};
 ghost use Rattle.vme_script.specs.Configurations.{Configuration};
@@ -16,7 +16,7 @@ ghost use Rattle.vme_line_task.specs.Events.{next_in, call_in, answer_in, IsEven
 use crate::attempt::{AttemptTask, Attempts};
 use crate::start::{attempt_of, transfer};
 use crate::todo::LineTodo;
-use vme_core::{Core, Deed, Event, EventReply};
+use vme_core::{Core, EventRef, Event, EventReply};
 use vme_cycle::{CycleFault, BlockBuffer};
 use vme_grammar::Line;
 use vme_master::{Outcome, Task};
@@ -65,20 +65,20 @@ impl<'a> LineTask<'a> {
         ensures below { (n : ℕ) → IsLineBelow n self.old → IsLineBelow n self.new }
         ensures there { (n : ℕ) → IsLineBelow n self.old → IsTodoBelow n result }
     {
-        self.give(given.as_ref());
+        self.advance(given.as_ref());
         self.todo()
     }
 
     /// The first half of `next`, for a driver that asks for the event or the answer apart: the line is
     /// given nothing at first, and then each time the reply to its event.
     #[inline(always)]
-    pub fn give(&mut self, given: Option<&EventReply>)
+    pub fn advance(&mut self, given: Option<&EventReply>)
         ensures task { self.new ≡ line_advance self.old (option_copied given.entry) }
         ensures begun { line_to_do self.new ≢ NotStarted }
         ensures below { (n : ℕ) → IsLineBelow n self.old → IsLineBelow n self.new }
     {
         if let LineTask::Running(attempts) = self {
-            attempts.give(given);
+            attempts.advance(given);
         }
     }
 
@@ -95,16 +95,16 @@ impl<'a> LineTask<'a> {
 
     /// What that event asks, apart from the lines of a cycle.
     #[inline(always)]
-    pub fn deed(&self) -> Option<Deed<'_>>
+    pub fn event_ref(&self) -> Option<EventRef<'_>>
         ensures { option_map call_asked result ≡ call_in (line_to_do self.now) }
     {
         let LineTask::Running(attempts) = self else {
             return None;
         };
-        attempts.attempt.deed()
+        attempts.attempt.event_ref()
     }
 
-    /// Makes its call on boards and arbiter, where it makes one, and is given the reply: as by `deed`
+    /// Makes its call on boards and arbiter, where it makes one, and is given the reply: as by `event_ref`
     /// and `give`, but faster.
     #[inline(always)]
     pub fn make(&mut self, core: &mut Core, who: usize)
@@ -128,12 +128,12 @@ impl<'a> LineTask<'a> {
 
     /// Whether it has ended. A driver that asks this first moves no answer that is none.
     #[inline(always)]
-    pub fn is_over(&self) -> bool
+    pub fn is_finished(&self) -> bool
         ensures { result ≡ is_some (answer_in (line_to_do self.now)) }
     {
         match self {
             LineTask::Refused(_) | LineTask::Finished => true,
-            LineTask::Running(attempts) => attempts.attempt.is_over(),
+            LineTask::Running(attempts) => attempts.attempt.is_finished(),
         }
     }
 
@@ -150,14 +150,14 @@ impl<'a> LineTask<'a> {
 
     /// Takes its answer, where it has ended. A line is denied any further answer, unless it is refused.
     #[inline(never)]
-    pub fn take_answer(&mut self) -> Option<LineReply>
+    pub fn take_reply(&mut self) -> Option<LineReply>
         ensures answer { result ≡ answer_in (line_to_do self.old) }
         ensures task { self.new ≡ line_taken self.old }
     {
         match self {
             LineTask::Refused(fault) => Some(LineReply::Refused(*fault)),
-            LineTask::Running(attempts) if attempts.attempt.is_over() => {
-                let answer = attempts.attempt.take_answer();
+            LineTask::Running(attempts) if attempts.attempt.is_finished() => {
+                let answer = attempts.attempt.take_reply();
                 *self = LineTask::Finished;
                 answer
             }
@@ -173,7 +173,7 @@ impl<'a> LineTask<'a> {
     {
         match self.event() {
             Some(event) => LineTodo::Call(event),
-            None => LineTodo::Ended(self.take_answer().unwrap()),
+            None => LineTodo::Ended(self.take_reply().unwrap()),
         }
     }
 

@@ -3,14 +3,14 @@ ghost use Rattle.std.specs.Prelude.{◌≡◌, ◌≢◌, ◌≤◌, if◌then�
 ghost use Rattle.std.specs.Str.{bytes_eq};
 ghost use Rattle.vme_cycle.specs.BlockBuffers.{inline_capacity};
 ghost use Rattle.vme_core.specs.Calls.{call_of};
-ghost use Rattle.vme_core.specs.Deeds.{call_asked};
+ghost use Rattle.vme_core.specs.EventRefs.{call_asked};
 ghost use Rattle.vme_master.specs.Machine.{advance, fresh_task, to_do, job_read_len};
 ghost use Rattle.vme_shared.specs.declared.reply.LineReply.TheVariants.{Met, Timeout};
-ghost use Rattle.vme_line_task.specs.Tables.{NotStarted, waits_next, next_asks_again};
+ghost use Rattle.vme_line_task.specs.Tables.{NotStarted, waits_next, next_wants_retry};
 ghost use Rattle.vme_line_task.specs.Events.{call_in, answer_in};
 
 use std::marker::Model;
-use vme_core::{Deed, Event, EventReply};
+use vme_core::{EventRef, Event, EventReply};
 use vme_lanes::Datum;
 use vme_master::{Outcome, Task};
 use vme_shared::LineReply;
@@ -48,11 +48,11 @@ impl<'a> WaitTask<'a> {
     /// It is given nothing at first, and then the reply to each of its events.
     #[inline(never)]
     #[tactic(auto, using(vme_master::proofs::Stands::job_stays))]
-    pub(crate) fn give(&mut self, given: Option<&EventReply>)
+    pub(crate) fn advance(&mut self, given: Option<&EventReply>)
         ensures task { self.new ≡ record self.old { task = advance self.old.task (option_copied given.entry) } }
         ensures begun { waits_next self.new.want.items (to_do self.new.task) ≢ NotStarted }
     {
-        self.task.give(given);
+        self.task.advance(given);
     }
 
     /// The event that it makes next, if it makes one.
@@ -64,23 +64,23 @@ impl<'a> WaitTask<'a> {
 
     /// What that event asks, apart from the lines of a cycle.
     #[inline(never)]
-    pub(crate) fn deed(&self) -> Option<Deed<'_>>
+    pub(crate) fn event_ref(&self) -> Option<EventRef<'_>>
         ensures { option_map call_asked result ≡ call_in (waits_next self.now.want.items (to_do self.now.task)) }
     {
-        self.task.deed()
+        self.task.event_ref()
     }
 
     /// Whether it has ended.
-    pub(crate) fn is_over(&self) -> bool
+    pub(crate) fn is_finished(&self) -> bool
         ensures { result ≡ is_some (answer_in (waits_next self.now.want.items (to_do self.now.task))) }
     {
-        self.task.is_over()
+        self.task.is_finished()
     }
 
     /// Whether it has ended with other bytes than it is to find.
     #[inline(never)]
-    pub(crate) fn asks_again(&self) -> bool
-        ensures { result ≡ next_asks_again (waits_next self.now.want.items (to_do self.now.task)) }
+    pub(crate) fn wants_retry(&self) -> bool
+        ensures { result ≡ next_wants_retry (waits_next self.now.want.items (to_do self.now.task)) }
     {
         match self.task.read() {
             Some(bytes) => !self.is_met(bytes),
@@ -89,7 +89,7 @@ impl<'a> WaitTask<'a> {
     }
 
     /// Its answer, where it has ended: whether the bytes are those that it is to find.
-    pub(crate) fn take_answer(&mut self) -> Option<LineReply>
+    pub(crate) fn take_reply(&mut self) -> Option<LineReply>
         ensures { result ≡ answer_in (waits_next self.old.want.items (to_do self.old.task)) }
     {
         match self.task.take_outcome()? {
@@ -99,10 +99,10 @@ impl<'a> WaitTask<'a> {
     }
 
     /// The same read before its first call, to be done once more.
-    pub(crate) fn again(&mut self)
+    pub(crate) fn restart(&mut self)
         ensures { self.new ≡ record self.old { task = fresh_task self.old.task.job } }
     {
-        self.task.again();
+        self.task.restart();
     }
 
     /// The answer of a read of these bytes.

@@ -28,7 +28,7 @@ use Rattle.vme_shared.proofs.lemmas.Starts.{rests}
 use Rattle.vme_grammar.specs.declared.line.Line.{Line}
 use Rattle.vme_script.specs.Configurations.{Configuration}
 use Rattle.vme_line_task.specs.Scripts.{Sharing, line_attempt}
-use Rattle.vme_line_task.specs.Tables.{Invokes, Returns, Attempts, shares_next, attempt_next, next_asks_again, next_attempt, attempts_of, lawful_next, next_given, given_of, line_next}
+use Rattle.vme_line_task.specs.Tables.{Invokes, Returns, Attempts, shares_next, attempt_next, next_wants_retry, next_attempt, attempts_of, lawful_next, next_given, given_of, line_next}
 use Rattle.vme_line_task.specs.Traces.{Continues}
 use Rattle.vme_mailbox_laws.specs.Along.{UsesMailbox, IsGood, IsCount, phase_given, put_told, taken_told}
 use Rattle.vme_mailbox_laws.proofs.Courses.{Stands, IsOver, opening, moves}
@@ -59,7 +59,7 @@ shares_ends (shares.Invokes call) answer is = absurd cc
 shares_ends (shares.Returns outcome) answer is = (outcome, refl, cc)
 
 -- an end after which another attempt is made has put and taken nothing
-again_ends : (n : SharedNext) → next_asks_again (shares_next n) ≡ true
+again_ends : (n : SharedNext) → next_wants_retry (shares_next n) ≡ true
     → (outcome : SharedOutcome) × (n ≡ shares.Returns outcome) × ((request : SharedRequest) → put_told outcome request ≡ []) × (taken_told outcome ≡ [])
 again_ends shares.NotStarted is = absurd cc
 again_ends (shares.Invokes call) is = absurd cc
@@ -82,7 +82,7 @@ module _ (s : SharedJob) (board : ℕ) (m : BoardMailbox) (uses : UsesMailbox s 
   settles : (made : Attempts) (at : Option Phase) (put taken : List ℕ) → IsIn s board m uses made.given at put taken
       → IsIn s board m uses (next_attempt made (attempt_next (Sharing s) made.given)).given at put taken
   settles made at put taken stands =
-      elim (cases_Bool (next_asks_again (shares_next (shared_next s made.given)) && nat_lt 1 made.left)) [
+      elim (cases_Bool (next_wants_retry (shares_next (shared_next s made.given)) && nat_lt 1 made.left)) [
         | inl again ↦
             let end = again_ends (shared_next s made.given) (and_parts _ _ again).0 in
             let over : IsOver s.request end.0 at put taken = ends_in m board s.request (progress_of s made.given) at put taken end.0 stands end.1 in

@@ -3,7 +3,7 @@ ghost use Rattle.vme_cycle.specs.BlockBuffers.{block_limit};
 ghost use Rattle.vme_cycle.specs.Requests.{count_of};
 ghost use Rattle.vme_memory.specs.Locals.{command_given};
 ghost use Rattle.vme_core.specs.Calls.{OnBoard, call_of};
-ghost use Rattle.vme_core.specs.Deeds.{call_asked};
+ghost use Rattle.vme_core.specs.EventRefs.{call_asked};
 ghost use Rattle.vme_master.specs.Jobs.{ask_call, look_call, done_call, datum_call, local_call};
 ghost use Rattle.vme_master.specs.Machine.{job_expected, datum_phase, phase_at, phase_broken, first_phase, phase_told, phase_replied, makes, bus_next, local_next, job_next, end_outcome, IsPlaced, IsShort, call_count, job_read_len};
 ghost use Rattle.vme_master.specs.declared.phase.Phase.TheVariants.{Transferring};
@@ -13,7 +13,7 @@ use crate::expected::ExpectedReply;
 use crate::outcome::Outcome;
 use crate::phase::Phase;
 use vme_arbiter::{ArbCmd, ArbReply};
-use vme_core::{DatumCycle, Deed, Event};
+use vme_core::{DatumCycle, EventRef, Event};
 use vme_cycle::{Modify, BlockBuffer, Transfer};
 use vme_lanes::Datum;
 use vme_memory::{BoardCmd, Reply};
@@ -73,7 +73,7 @@ impl BusJob<'_> {
 
     /// The same apart from the lines of its cycle.
     #[inline(always)]
-    fn moves(&self, i: u16) -> Deed<'_>
+    fn moves(&self, i: u16) -> EventRef<'_>
         requires in_count { i < count_of self.now.transfer.request }
         requires placed { IsPlaced (Job.Bus self.now) }
         ensures { call_asked result ≡ datum_call self.now self.now.place i }
@@ -81,9 +81,9 @@ impl BusJob<'_> {
         match self.place {
             Some((board, offset)) => {
                 let cycle = self.moves_to(board, offset, i);
-                Deed::Datum { board, cycle }
+                EventRef::Datum { board, cycle }
             }
-            None => Deed::Bus(ArbCmd::Done { slot: self.slot }),
+            None => EventRef::Bus(ArbCmd::Done { slot: self.slot }),
         }
     }
 
@@ -103,17 +103,17 @@ impl BusJob<'_> {
 
     /// What it asks in a phase, if anything.
     #[inline(always)]
-    fn deed(&self, phase: Phase) -> Option<Deed<'_>>
+    fn event_ref(&self, phase: Phase) -> Option<EventRef<'_>>
         requires in_count { (i : ℕ) → phase ≡ Transferring i → i < count_of self.now.transfer.request }
         requires placed { IsPlaced (Job.Bus self.now) }
         ensures { (read : List ℕ) → option_map call_asked result ≡ call_in (bus_next self.now phase read) }
     {
         let (slot, level) = (self.slot, self.level);
         match phase {
-            Phase::Requesting => Some(Deed::Bus(ArbCmd::Ask { slot, level })),
-            Phase::Polling => Some(Deed::Bus(ArbCmd::Look { slot })),
+            Phase::Requesting => Some(EventRef::Bus(ArbCmd::Ask { slot, level })),
+            Phase::Polling => Some(EventRef::Bus(ArbCmd::Look { slot })),
             Phase::Transferring { i } => Some(self.moves(i)),
-            Phase::Releasing { .. } => Some(Deed::Bus(ArbCmd::Done { slot })),
+            Phase::Releasing { .. } => Some(EventRef::Bus(ArbCmd::Done { slot })),
             Phase::New | Phase::Finished { .. } | Phase::Denied => None,
         }
     }
@@ -168,11 +168,11 @@ pub struct LocalJob {
 impl LocalJob {
     /// What it asks in a phase, if anything.
     #[inline(always)]
-    fn deed(&self, phase: Phase) -> Option<Deed<'_>>
+    fn event_ref(&self, phase: Phase) -> Option<EventRef<'_>>
         ensures { (read : List ℕ) → option_map call_asked result ≡ call_in (local_next self.now phase read) }
     {
         match phase {
-            Phase::Transferring { .. } => Some(Deed::Board {
+            Phase::Transferring { .. } => Some(EventRef::Board {
                 board: self.board,
                 cmd: &self.cmd,
             }),
@@ -216,14 +216,14 @@ impl Job<'_> {
 
     /// What it asks in a phase, if anything.
     #[inline(always)]
-    pub(crate) fn deed(&self, phase: Phase) -> Option<Deed<'_>>
+    pub(crate) fn event_ref(&self, phase: Phase) -> Option<EventRef<'_>>
         requires in_count { (i : ℕ) → phase ≡ Transferring i → i < call_count self.now }
         requires placed { IsPlaced self.now }
         ensures { (read : List ℕ) → option_map call_asked result ≡ call_in (job_next self.now phase read) }
     {
         match self {
-            Job::Bus(job) => job.deed(phase),
-            Job::Local(job) => job.deed(phase),
+            Job::Bus(job) => job.event_ref(phase),
+            Job::Local(job) => job.event_ref(phase),
         }
     }
 

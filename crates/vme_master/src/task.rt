@@ -6,7 +6,7 @@ ghost use Rattle.vme_core.specs.declared.event.EventReply.TheVariants as told;
 ghost use Rattle.vme_master.specs.declared.job.Job.{Job as AnyJob};
 ghost use Rattle.vme_master.specs.Jobs.{bus_job, local_job};
 ghost use Rattle.vme_core.specs.Calls.{Call, call_of, machine_step};
-ghost use Rattle.vme_core.specs.Deeds.{call_asked, target_of_call, CanCount};
+ghost use Rattle.vme_core.specs.EventRefs.{call_asked, target_of_call, CanCount};
 ghost use Rattle.vme_core.specs.Machines.{whos};
 ghost use Rattle.vme_master.specs.Tables.{Given, NotStarted, next_of};
 ghost use Rattle.vme_master.specs.Machine.{bytes_of, fresh_task, bus_task, advance, task_given, to_do, is_called, job_read_len, IsPlaced};
@@ -20,7 +20,7 @@ use crate::todo::Todo;
 use std::marker::Model;
 use std::mem;
 use vme_arbiter::{ArbCmd, ArbReply};
-use vme_core::{Core, Deed, Event, EventReply};
+use vme_core::{Core, EventRef, Event, EventReply};
 use vme_cycle::{CycleFault, Request, BlockBuffer, Transfer};
 use vme_decode::AddressMap;
 use vme_memory::{BoardCmd, Reply};
@@ -70,7 +70,7 @@ impl<'a> Task<'a> {
 
     /// The same of a request that is the task's own from then on, and reads no more than has room
     /// in the task itself.
-    pub fn start_own(
+    pub fn start_owned(
         map: &AddressMap,
         slot: u16,
         level: u8,
@@ -136,14 +136,14 @@ impl<'a> Task<'a> {
         ensures table { (job : AnyJob) (before : Given) → self.old ≡ task_given job before →
             next_in result ≡ next_of job (reply ∷ before) }
     {
-        self.give(reply.as_ref());
+        self.advance(reply.as_ref());
         self.todo()
     }
 
     /// The first half of `next`, for a driver that asks for the event or the outcome apart: the task
     /// is given nothing at first, and then each time the reply to its event.
     #[inline(always)]
-    pub fn give(&mut self, reply: Option<&EventReply>)
+    pub fn advance(&mut self, reply: Option<&EventReply>)
         ensures task { self.new ≡ advance self.old (option_copied reply.entry) }
         ensures begun { to_do self.new ≢ NotStarted }
     {
@@ -163,14 +163,14 @@ impl<'a> Task<'a> {
 
     /// What that event asks, apart from the lines of a cycle.
     #[inline(always)]
-    pub fn deed(&self) -> Option<Deed<'_>>
+    pub fn event_ref(&self) -> Option<EventRef<'_>>
         ensures { option_map call_asked result ≡ call_in (to_do self.now) }
     {
-        self.job.deed(self.phase)
+        self.job.event_ref(self.phase)
     }
 
-    /// Makes its call on boards and arbiter, where it makes one, and is given the reply: as by `deed`
-    /// and `give`, but faster, since neither the deed nor the reply is laid out in between.
+    /// Makes its call on boards and arbiter, where it makes one, and is given the reply: as by `event_ref`
+    /// and `give`, but faster, since neither the event_ref nor the reply is laid out in between.
     #[inline(always)]
     pub fn make(&mut self, core: &mut Core, who: usize)
         requires who { who < whos core.old }
@@ -187,27 +187,27 @@ impl<'a> Task<'a> {
         match (&self.job, self.phase) {
             (Job::Bus(job), Phase::Requesting) => {
                 let (slot, level) = (job.slot, job.level);
-                let reply = core.tell(who, ArbCmd::Ask { slot, level });
+                let reply = core.apply_bus(who, ArbCmd::Ask { slot, level });
                 self.turn(Phase::Requesting, reply);
             }
             (Job::Bus(job), Phase::Polling) => {
-                let reply = core.tell(who, ArbCmd::Look { slot: job.slot });
+                let reply = core.apply_bus(who, ArbCmd::Look { slot: job.slot });
                 self.turn(Phase::Polling, reply);
             }
             (Job::Bus(job), Phase::Releasing { berr }) => {
-                let reply = core.tell(who, ArbCmd::Done { slot: job.slot });
+                let reply = core.apply_bus(who, ArbCmd::Done { slot: job.slot });
                 self.turn(Phase::Releasing { berr }, reply);
             }
             (Job::Bus(job), Phase::Transferring { i }) => {
                 let Some((board, offset)) = job.place else {
-                    let reply = core.tell(who, ArbCmd::Done { slot: job.slot });
+                    let reply = core.apply_bus(who, ArbCmd::Done { slot: job.slot });
                     return self.turn(Phase::Transferring { i }, reply);
                 };
-                let reply = core.datum(who, board, &job.moves_to(board, offset, i));
+                let reply = core.apply_datum(who, board, &job.moves_to(board, offset, i));
                 self.answer(Phase::Transferring { i }, &reply);
             }
             (Job::Local(job), Phase::Transferring { i }) => {
-                let reply = core.command(who, job.board, &job.cmd);
+                let reply = core.apply_board(who, job.board, &job.cmd);
                 self.answer(Phase::Transferring { i }, &reply);
             }
             _ => {}
@@ -216,7 +216,7 @@ impl<'a> Task<'a> {
 
     /// Whether it has ended. A driver that asks this first moves no outcome that is none.
     #[inline(always)]
-    pub fn is_over(&self) -> bool
+    pub fn is_finished(&self) -> bool
         ensures { result ≡ is_some (outcome_in (to_do self.now)) }
     {
         match self.phase {
@@ -259,7 +259,7 @@ impl<'a> Task<'a> {
 
     /// The same task before its first call, to be done once more. Its room may have been given out,
     /// so what it reads has room in the task itself.
-    pub fn again(&mut self)
+    pub fn restart(&mut self)
         requires { job_read_len self.old.job ≤ inline_capacity }
         ensures { self.new ≡ fresh_task self.old.job }
     {

@@ -4,7 +4,7 @@ use vme_shared::LineReply;
 
 /// What a report tells of a board. It lends everything, so that nothing is copied.
 #[derive(Drop)]
-pub struct BoardReport<'a> {
+pub struct BoardReportRef<'a> {
     /// The slot of the board.
     pub slot: u16,
     /// The number of each line of its script that asks for something, with what it was answered.
@@ -17,7 +17,7 @@ pub struct BoardReport<'a> {
     pub made: &'a [u64],
 }
 
-impl<'a> Model for BoardReport<'a> {
+impl<'a> Model for BoardReportRef<'a> {
     ghost use Rattle.vme_report.specs.Boards.{BoardText};
 
     ghost Value = { BoardText };

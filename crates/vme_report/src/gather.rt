@@ -8,7 +8,7 @@ ghost use Rattle.vme_report.specs.Boards.{BoardText};
 ghost use Rattle.vme_report.specs.Texts.{line_text, counts_text, row_text, row, replies_text, memory_text};
 ghost use Rattle.vme_report.specs.Reports.{part_text};
 
-use crate::board::BoardReport;
+use crate::board::BoardReportRef;
 use crate::fault::ReportFault;
 use crate::part::Part;
 use crate::print::{print_counts, print_row, reply_line};
@@ -25,7 +25,7 @@ const ROW_SIZE: u32 = 16;
 /// Gathers one part of a report.
 pub(crate) fn gather_boards<W: Sink>(
     part: Part,
-    boards: &[BoardReport<'_>],
+    boards: &[BoardReportRef<'_>],
     text: &mut Vec<u8>,
     writer: &mut W,
 ) -> Result<(), ReportFault>
@@ -45,7 +45,7 @@ pub(crate) fn gather_boards<W: Sink>(
 /// Gathers what a part of a report tells of a board.
 fn gather_board<W: Sink>(
     part: Part,
-    board: &BoardReport<'_>,
+    board: &BoardReportRef<'_>,
     text: &mut Vec<u8>,
     writer: &mut W,
 ) -> Result<(), ReportFault>

@@ -11,7 +11,7 @@ mod print;
 mod report;
 mod status;
 
-pub use board::BoardReport;
+pub use board::BoardReportRef;
 pub use fault::{ReportFault, RunFault};
 pub use print::reply_line;
 pub use report::write_report;

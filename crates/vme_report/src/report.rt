@@ -5,7 +5,7 @@ ghost use Rattle.vme_io.specs.Fronts.{AppendsFront};
 ghost use Rattle.vme_report.specs.Ends.{is_write_failure};
 ghost use Rattle.vme_report.specs.Reports.{report_text, report_status};
 
-use crate::board::BoardReport;
+use crate::board::BoardReportRef;
 use crate::fault::ReportFault;
 use crate::gather::{WRITE_SIZE, gather_boards, write_text};
 use crate::part::Part;
@@ -21,7 +21,7 @@ use vme_shared::Status;
 /// faults are promised. `Memory` comes where a growth is refused.
 pub fn write_report<W: Sink>(
     alloc: Global,
-    boards: &[BoardReport<'_>],
+    boards: &[BoardReportRef<'_>],
     writer: &mut W,
 ) -> Result<Status, ReportFault>
     requires { W.is_marked writer.old ≡ false }

@@ -2,11 +2,11 @@
 ghost use Rattle.std.specs.Prelude.{◌≡◌};
 ghost use Rattle.vme_report.specs.Reports.{board_status, report_status};
 
-use crate::board::BoardReport;
+use crate::board::BoardReportRef;
 use vme_shared::{LineReply, Status};
 
 #[tactic(auto, using(crate::proofs::Statuses::worse_assoc, crate::proofs::Statuses::worse_clean))]
-pub(crate) fn status_of(boards: &[BoardReport<'_>]) -> Status
+pub(crate) fn status_of(boards: &[BoardReportRef<'_>]) -> Status
     ensures { result ≡ report_status boards.now }
 {
     let mut status = Status::Clean;

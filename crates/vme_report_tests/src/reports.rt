@@ -9,7 +9,7 @@ use vme_io::RoomSink;
 use vme_lanes::Datum;
 use vme_master::Outcome;
 use vme_memory::{BoardCmd, ByteMemory, Class, Width8To32};
-use vme_report::{BoardReport, ReportFault, write_report};
+use vme_report::{BoardReportRef, ReportFault, write_report};
 use vme_shared::{LineReply, Status};
 
 const CLASS: Class = Class {
@@ -51,8 +51,8 @@ fn board<'a>(
     memory: &'a ByteMemory,
     steps: u64,
     made: &'a [u64],
-) -> BoardReport<'a> {
-    BoardReport {
+) -> BoardReportRef<'a> {
+    BoardReportRef {
         slot,
         lines,
         memory,

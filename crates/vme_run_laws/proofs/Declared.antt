@@ -18,7 +18,7 @@ use Rattle.vme_mailbox_laws.specs.Names.{IsMailboxOf}
 use Rattle.vme_mailbox_laws.specs.Places.{on_board}
 use Rattle.vme_mailbox_laws.proofs.lemmas.Lawful.{lies_at, lies_in, accepted}
 use Rattle.vme_mailbox_laws.proofs.lemmas.LinesApart.{left_alone}
-use Rattle.vme_threads.specs.declared.report.BoardEnd.{BoardEnd}
+use Rattle.vme_threads.specs.declared.report.BoardReport.{BoardReport}
 use Rattle.vme_threads.specs.declared.report.Report.{Report}
 use Rattle.vme_threads.specs.Reports.{IsReportOf}
 use Rattle.vme_run_laws.specs.Declared.{IsDeclaredIn}
@@ -76,7 +76,7 @@ declared_queue config report is box m h lawful at =
 
 -- what is declared at a place of a board has that board's history
 at_place : (config : Configuration) (report : Report) (is : IsReportOf config report) (k : ℕ) (mailbox : Mailbox) (place : Place)
-    (own : BoardConfig) (end : BoardEnd) → slice_get config.mailboxes k ≡ Some mailbox
+    (own : BoardConfig) (end : BoardReport) → slice_get config.mailboxes k ≡ Some mailbox
     → place_of (entries_of config.boards) mailbox ≡ Some place → place.board < length config.boards
     → (m : BoardMailbox) × (h : List (Entry BoardCmd Reply)) × IsDeclaredIn config report is (k + 1) m h
 at_place config report is k mailbox place own end declared placed below = (

@@ -17,7 +17,7 @@ use Rattle.vme_line_task.specs.Traces.{ScriptState, IsTracePrefix}
 use Rattle.vme_line_task.proofs.lemmas.Traces.{follows_nothing}
 use Rattle.vme_stepper.specs.Turns.{SystemState, script_state_turn, lines_left, turn_in, turn_at, place_of, turn, run, initial_state, state_after}
 use Rattle.vme_run_laws.specs.TurnCalls.{first_call, script_state_call, place_call, turn_call}
-use Rattle.vme_run_laws.specs.Moves.{calls_from, calls_in, moves_of, AreRun}
+use Rattle.vme_run_laws.specs.Transitions.{calls_from, calls_in, moves_of, AreRun}
 use Rattle.vme_run_laws.proofs.Places.{set_same, set_other, place_is}
 use Rattle.vme_run_laws.proofs.Moving.{Moved, script_state_moved}
 use Rattle.vme_run_laws.proofs.Runs.{script_state_begun}

@@ -26,7 +26,7 @@ use Rattle.vme_line_task.proofs.lemmas.Below.{next_below}
 use Rattle.vme_line_task.proofs.lemmas.Traces.{follows_call, follows_answer}
 use Rattle.vme_stepper.specs.Turns.{script_state, settled, call_made, turn_by, script_state_turn, lines_left}
 use Rattle.vme_run_laws.specs.TurnCalls.{call_or, first_call}
-use Rattle.vme_run_laws.specs.Moves.{calls_in, moves_of}
+use Rattle.vme_run_laws.specs.Transitions.{calls_in, moves_of}
 use Rattle.vme_run_laws.proofs.Places.{left_after}
 use Rattle.vme_run_laws.proofs.Events.{has_event, event_there}
 

@@ -17,7 +17,7 @@ use Rattle.vme_mailbox_laws.specs.Names.{lines_put, lines_taken, IsMailboxOf}
 use Rattle.vme_mailbox_laws.specs.Groups.{own_words_put, own_words_taken}
 use Rattle.vme_mailbox_laws.proofs.lemmas.Groups.{own_words}
 use Rattle.vme_mailbox_laws.proofs.lemmas.Shared.{proper, put_told, taken_told}
-use Rattle.vme_threads.specs.declared.report.BoardEnd.{BoardEnd}
+use Rattle.vme_threads.specs.declared.report.BoardReport.{BoardReport}
 use Rattle.vme_threads.specs.declared.report.Report.{Report}
 use Rattle.vme_threads.specs.Rans.{answers_in}
 use Rattle.vme_threads.specs.Reports.{IsReportOf}
@@ -37,7 +37,7 @@ pub record IsQueue (config : Configuration) (report : Report) (box : ℕ) (m : B
       report.lines.items
 
 pub queue : (config : Configuration) (report : Report) (lawful : IsLawful config) (is : IsReportOf config report)
-    (box board : ℕ) (m : BoardMailbox) (own : BoardConfig) (end : BoardEnd) (below : board < length config.boards)
+    (box board : ℕ) (m : BoardMailbox) (own : BoardConfig) (end : BoardReport) (below : board < length config.boards)
     → IsMailboxOf config box board m → LiesIn (opening_memory (slice_index_or config.boards board own)) m
     → IsQueue config report box m (is.boards.each board own end below).history.history
 queue config report lawful is box board m own end below mailbox lies =

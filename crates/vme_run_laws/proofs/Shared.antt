@@ -31,7 +31,7 @@ use Rattle.vme_script.specs.Lawful.{IsLawful}
 use Rattle.vme_line_task.specs.Scripts.{lines_at}
 use Rattle.vme_line_task.specs.Traces.{IsTrace}
 use Rattle.vme_mailbox_laws.specs.Runs.{IsTurned, AllTurned, ShareHistory}
-use Rattle.vme_threads.specs.declared.report.BoardEnd.{BoardEnd}
+use Rattle.vme_threads.specs.declared.report.BoardReport.{BoardReport}
 use Rattle.vme_threads.specs.declared.report.Report.{Report}
 use Rattle.vme_threads.specs.Rans.{answers_in}
 use Rattle.vme_threads.specs.Reports.{IsReportOf}
@@ -99,7 +99,7 @@ module _ (config : Configuration) (report : Report) (lawful : IsLawful config) (
       all_turned (slice_index_or is.runs who d) (is.fitting who d below)
       (subst (All Fine) owned (all_own Fine who bus.history fine))
 
-  pub share : (board : ℕ) (own_board : BoardConfig) (end : BoardEnd) (below : board < length config.boards)
+  pub share : (board : ℕ) (own_board : BoardConfig) (end : BoardReport) (below : board < length config.boards)
       → ShareHistory config board (is.boards.each board own_board end below).history.history is.runs (told_in report)
   share board own_board end below =
       let has = (is.boards.each board own_board end below).history in

@@ -11,7 +11,7 @@ use Rattle.vme_script.specs.declared.board.BoardConfig.{BoardConfig}
 use Rattle.vme_script.specs.Boards.{entries_of}
 use Rattle.vme_script.specs.Configurations.{Configuration}
 use Rattle.vme_mailbox_laws.specs.Places.{on_board}
-use Rattle.vme_threads.specs.declared.report.BoardEnd.{BoardEnd}
+use Rattle.vme_threads.specs.declared.report.BoardReport.{BoardReport}
 use Rattle.vme_threads.specs.declared.report.Report.{Report}
 use Rattle.vme_threads.specs.Reports.{IsReportOf}
 
@@ -27,6 +27,6 @@ pub record IsDeclaredIn (config : Configuration) (report : Report) (is : IsRepor
   pub placed : place_of (entries_of config.boards) mailbox ≡ Some place
   pub bytes : m ≡ on_board mailbox place
   pub own : BoardConfig
-  pub end : BoardEnd
+  pub end : BoardReport
   pub below : place.board < length config.boards
   pub history : h ≡ (is.boards.each place.board own end below).history.history

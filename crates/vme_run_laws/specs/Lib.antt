@@ -2,4 +2,4 @@ pub mod Declared
 pub mod Finished
 pub mod Granted
 pub mod TurnCalls
-pub mod Moves
+pub mod Transitions

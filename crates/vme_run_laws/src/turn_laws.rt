@@ -11,7 +11,7 @@ ghost use Rattle.vme_line_task.specs.Traces.{ScriptState};
 ghost use Rattle.vme_line_task.specs.Tenures.{IsLocal, IsGranted};
 ghost use Rattle.vme_stepper.specs.Turns.{SystemState, turn, state_after};
 ghost use Rattle.vme_run_laws.specs.TurnCalls.{turn_call};
-ghost use Rattle.vme_run_laws.specs.Moves.{AreRun};
+ghost use Rattle.vme_run_laws.specs.Transitions.{AreRun};
 
 /// A turn does to the boards and the arbiter what its one call does, and without a call nothing.
 pub fn a_turn_makes_its_call_alone()

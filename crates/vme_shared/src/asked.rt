@@ -90,7 +90,7 @@ impl<'a> Asked<'a> {
     {
         match self.task(stage) {
             Ok(mut task) => {
-                task.give(None);
+                task.advance(None);
                 Work::Running { stage, task }
             }
             Err(_) => Work::Finished(SharedOutcome::Berr),
@@ -101,7 +101,7 @@ impl<'a> Asked<'a> {
     fn task(&self, stage: Stage) -> Result<Task<'a>, CycleFault>
         ensures { result ≡ stage_task (stage_job self.now stage) }
     {
-        Task::start_own(
+        Task::start_owned(
             self.map,
             self.slot,
             self.level,

@@ -70,9 +70,9 @@ impl<'a> LockTask<'a> {
     }
 
     /// The same task before its first call, to be done once more.
-    pub fn again(&mut self)
+    pub fn restart(&mut self)
         ensures { self.new ≡ shared_fresh self.old.job }
     {
-        self.task.again();
+        self.task.restart();
     }
 }

@@ -58,9 +58,9 @@ impl<'a> PutTask<'a> {
     }
 
     /// The same task before its first call, to be done once more.
-    pub fn again(&mut self)
+    pub fn restart(&mut self)
         ensures { self.new ≡ shared_fresh self.old.job }
     {
-        self.task.again();
+        self.task.restart();
     }
 }

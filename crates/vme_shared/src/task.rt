@@ -1,7 +1,7 @@
 ghost use Rattle.std.specs.Prelude.{◌≡◌, ◌≢◌, ◌∷◌};
 ghost use Rattle.std.specs.Option.{option_map, option_copied};
 ghost use Rattle.vme_core.specs.Calls.{call_of};
-ghost use Rattle.vme_core.specs.Deeds.{call_asked};
+ghost use Rattle.vme_core.specs.EventRefs.{call_asked};
 ghost use Rattle.vme_master.specs.Tables.{Given};
 ghost use Rattle.vme_shared.specs.Mailboxes.{IsAsked};
 ghost use Rattle.vme_shared.specs.Tables.{SharedJob, NotStarted, shared_next};
@@ -14,7 +14,7 @@ use crate::request::SharedRequest;
 use crate::todo::SharedTodo;
 use crate::work::Work;
 use std::marker::Model;
-use vme_core::{Deed, Event, EventReply};
+use vme_core::{EventRef, Event, EventReply};
 use vme_cycle::CycleFault;
 use vme_decode::AddressMap;
 
@@ -63,18 +63,18 @@ impl<'a> SharedTask<'a> {
         ensures table { (s : SharedJob) (before : Given) → self.old ≡ shared_given s before →
             next_in result ≡ shared_next s (reply ∷ before) }
     {
-        self.give(reply.as_ref());
+        self.advance(reply.as_ref());
         self.todo()
     }
 
     /// The first half of `next`, for a driver that asks for the event or the outcome apart: it is
     /// given nothing at first, and then each time the reply to its event.
     #[inline(never)]
-    pub fn give(&mut self, reply: Option<&EventReply>)
+    pub fn advance(&mut self, reply: Option<&EventReply>)
         ensures task { self.new ≡ shared_advance self.old (option_copied reply.entry) }
         ensures begun { shared_to_do self.new ≢ NotStarted }
     {
-        if let Some(step) = self.work.give(self.asked.request(), reply) {
+        if let Some(step) = self.work.advance(self.asked.request(), reply) {
             self.work = self.asked.stepped(step);
         }
     }
@@ -91,11 +91,11 @@ impl<'a> SharedTask<'a> {
 
     /// What that event asks, apart from the lines of a cycle.
     #[inline(never)]
-    pub fn deed(&self) -> Option<Deed<'_>>
+    pub fn event_ref(&self) -> Option<EventRef<'_>>
         ensures { option_map call_asked result ≡ call_in (shared_to_do self.now) }
     {
         match &self.work {
-            Work::Running { task, .. } => task.deed(),
+            Work::Running { task, .. } => task.event_ref(),
             Work::Finished(_) => None,
         }
     }
@@ -111,7 +111,7 @@ impl<'a> SharedTask<'a> {
     }
 
     /// The same task before its first call, to be done once more.
-    pub fn again(&mut self)
+    pub fn restart(&mut self)
         ensures { self.new ≡ shared_fresh self.old.job }
     {
         self.work = self.asked.first_work();

@@ -21,7 +21,7 @@ impl Work<'_> {
     /// The transfer at work is given the reply to its event, or nothing. Where it has ended by that,
     /// this is where its outcome leads.
     #[tactic(auto, using(crate::proofs::lemmas::Stands::by_outcome))]
-    pub(crate) fn give(
+    pub(crate) fn advance(
         &mut self,
         request: SharedRequest,
         reply: Option<&EventReply>,
@@ -38,8 +38,8 @@ impl Work<'_> {
         let Work::Running { task, .. } = self else {
             return None;
         };
-        task.give(reply);
-        if !task.is_over() {
+        task.advance(reply);
+        if !task.is_finished() {
             return None;
         }
         let outcome = task.take_outcome()?;

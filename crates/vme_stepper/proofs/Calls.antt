@@ -5,7 +5,7 @@ use Rattle.std.proofs.lemmas.Option.{same_Some}
 use Rattle.vme_core.specs.declared.event.Target.TheVariants as at
 use Rattle.vme_core.specs.Runs.{Machine}
 use Rattle.vme_core.specs.Calls.{Call, OnBoard, OnBus}
-use Rattle.vme_core.specs.Deeds.{target_of_call, CanCount}
+use Rattle.vme_core.specs.EventRefs.{target_of_call, CanCount}
 use Rattle.vme_line_task.specs.declared.task.LineTask.{LineTask}
 use Rattle.vme_line_task.specs.Tables.{LineNext, NotStarted, Invokes, Returns}
 use Rattle.vme_shared.specs.declared.reply.LineReply.{LineReply}

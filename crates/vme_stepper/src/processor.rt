@@ -87,7 +87,7 @@ impl<'a> Processor<'a> {
         ensures whos { whos core.new ≡ whos core.old }
         ensures boards { length core.new.boards ≡ length core.old.boards }
     {
-        if self.is_over() {
+        if self.is_finished() {
             return;
         }
         if self.task.is_none() {
@@ -97,7 +97,7 @@ impl<'a> Processor<'a> {
     }
 
     /// Whether each line has ended.
-    fn is_over(&self) -> bool
+    fn is_finished(&self) -> bool
         ensures { IsTrue result → length self.now.lines ≤ self.now.ended }
     {
         self.ended == self.lines.len()
@@ -117,12 +117,12 @@ impl<'a> Processor<'a> {
         while self.ended < self.lines.len() {
             let buffer = self.buffers.take();
             let mut task = LineTask::start(config, board, self.ended, buffer);
-            task.give(None);
-            if !task.is_over() {
+            task.advance(None);
+            if !task.is_finished() {
                 self.task = Some(task);
                 return;
             }
-            let answer = task.take_answer().unwrap();
+            let answer = task.take_reply().unwrap();
             put_answer(&mut self.lines, self.ended, answer);
             self.ended += 1;
         }
@@ -148,7 +148,7 @@ impl<'a> Processor<'a> {
             return;
         };
         task.make(core, board);
-        if task.is_over() {
+        if task.is_finished() {
             put_answer_of(&mut self.lines, self.ended, task);
             self.ended += 1;
             let_go(&mut self.task);
@@ -174,7 +174,7 @@ fn put_answer_of(lines: &mut [(u16, LineReply)], place: usize, task: &mut LineTa
     ensures put { (answer : LineReply) → line_to_do task.old ≡ Returns answer → lines.new
         ≡ slice_set lines.old place ((slice_index_or lines.old place (0, answer)).0, answer) }
 {
-    put_answer(lines, place, task.take_answer().unwrap());
+    put_answer(lines, place, task.take_reply().unwrap());
 }
 
 /// Puts the answer of the line at a place.

@@ -16,7 +16,7 @@ use std::marker::Model;
 use vme_core::{Core, OutOfMemory, Target};
 use vme_io::Sink;
 use vme_memory::ByteMemory;
-use vme_report::{BoardReport, RunFault, write_report};
+use vme_report::{BoardReportRef, RunFault, write_report};
 use vme_script::Config;
 use vme_shared::Status;
 
@@ -154,14 +154,14 @@ impl<'a> Stepper<'a> {
         &'b self,
         alloc: Global,
         config: &Config,
-    ) -> Result<Vec<BoardReport<'b>>, AllocError>
+    ) -> Result<Vec<BoardReportRef<'b>>, AllocError>
         requires { IsStepperOf config.now self.now }
         ensures { IfOk result (λ reports. reports.items
             ≡ processors_told config.now.boards self.now.processors self.now.machine.boards) }
     {
         let mut reports = Vec::with_capacity(alloc, config.boards())?;
         for (board, processor) in self.processors.iter().enumerate() {
-            reports.push(BoardReport {
+            reports.push(BoardReportRef {
                 slot: config.slot(board),
                 lines: processor.lines(),
                 memory: self.core.memory(board),

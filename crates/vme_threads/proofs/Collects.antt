@@ -12,7 +12,7 @@ use Rattle.vme_shared.specs.declared.reply.LineReply.{LineReply}
 use Rattle.vme_port.specs.Passes.{PassView}
 use Rattle.vme_threads.specs.declared.worker.Ran.{Ran}
 use Rattle.vme_threads.specs.declared.ports.BoardPort.{BoardPort}
-use Rattle.vme_threads.specs.declared.report.BoardEnd.{BoardEnd}
+use Rattle.vme_threads.specs.declared.report.BoardReport.{BoardReport}
 use Rattle.vme_threads.specs.Columns.{Column, AreColumns, HasOneMore}
 use Rattle.vme_threads.specs.Gathers.{AreSquare, CanClose, IsClosed, CanAllClose, AreClosed}
 use Rattle.vme_threads.proofs.Runs.{nil_of, same_count}
@@ -24,9 +24,9 @@ pub record Gathering (all left : List Ran) (columns : List Column) (bus : List (
   pub count : length columns ≡ 21
   pub dealt :
       (x : ℕ) (d : PassView BoardCmd Reply) (c : Column) → x < length all
-      → (slice_index_or columns x c).items ≡ map (λ (r : Ran). slice_index_or r.desk.boards.items x d) taken
+      → (slice_index_or columns x c).items ≡ map (λ (r : Ran). slice_index_or r.pass_set.boards.items x d) taken
   pub capacity : (x : ℕ) (c : Column) → x < length all → 21 ≤ vec_capacity (slice_index_or columns x c)
-  pub passes : bus ≡ map (λ (r : Ran). r.desk.bus) taken
+  pub passes : bus ≡ map (λ (r : Ran). r.pass_set.bus) taken
   pub answered : lines ≡ map (λ (r : Ran). r.lines) taken
 
 -- none is taken
@@ -48,10 +48,10 @@ pub taken_fewer : (all taken : List Ran) (r : Ran) (left : List Ran) → all ≡
 taken_fewer all taken r left split = let whole = ap length split ∙ length-append taken (r ∷ left) in omega arith
 
 -- the next one has as many passes as there are rans
-pub square_here : (all taken : List Ran) (r : Ran) (left : List Ran) → all ≡ taken ++ r ∷ left → AreSquare all → length r.desk.boards.items ≡ length all
+pub square_here : (all taken : List Ran) (r : Ran) (left : List Ran) → all ≡ taken ++ r ∷ left → AreSquare all → length r.pass_set.boards.items ≡ length all
 square_here all taken r left split square =
     let here : slice_index_or all (length taken) r ≡ r = ap (λ rs. slice_index_or rs (length taken) r) split ∙ get_or-append_seam taken r left r in
-    ap (λ (q : Ran). length q.desk.boards.items) (sym here) ∙ square (length taken) r (taken_fewer all taken r left split)
+    ap (λ (q : Ran). length q.pass_set.boards.items) (sym here) ∙ square (length taken) r (taken_fewer all taken r left split)
 
 -- each column has room for one more
 pub column_has_space :
@@ -59,19 +59,19 @@ pub column_has_space :
     (rest : List Ran) → Gathering all left columns bus lines → left ≡ r ∷ rest → length all ≤ 21 → (x : ℕ) (c : Column) → x < length all
     → vec_len (slice_index_or columns x c) < vec_capacity (slice_index_or columns x c)
 column_has_space all left columns bus lines r rest g is most x c x< =
-    let d : PassView BoardCmd Reply = record { port = r.desk.bus.port; who = 0; made = 0; seen = []; mine = [] } in
+    let d : PassView BoardCmd Reply = record { port = r.pass_set.bus.port; who = 0; made = 0; seen = []; mine = [] } in
     let column = slice_index_or columns x c in
     let fewer = taken_fewer all g.taken r rest (g.split ∙ ap (λ rs. g.taken ++ rs) is) in
-    let size = ap length (g.dealt x d c x<) ∙ same_count (λ (r : Ran). slice_index_or r.desk.boards.items x d) g.taken in
+    let size = ap length (g.dealt x d c x<) ∙ same_count (λ (r : Ran). slice_index_or r.pass_set.boards.items x d) g.taken in
     omega (arith, fewer, size, g.capacity x c x<, column.ok.0)
 
 -- one more is taken
 pub gathering_more :
     (all left : List Ran) (columns more : List Column) (bus bus_more : List (PassView ArbCmd ArbReply)) (lines lines_more : List (Vec (ℕ × LineReply)))
     (r : Ran) (rest : List Ran) → Gathering all left columns bus lines → left ≡ r ∷ rest → AreSquare all → length more ≡ length columns
-    → ((x : ℕ) (d : PassView BoardCmd Reply) (c e : Column) → x < length r.desk.boards.items
-    → HasOneMore (slice_index_or r.desk.boards.items x d) (slice_index_or columns x c) (slice_index_or more x e))
-    → bus_more ≡ bus ++ r.desk.bus ∷ [] → lines_more ≡ lines ++ r.lines ∷ [] → Gathering all rest more bus_more lines_more
+    → ((x : ℕ) (d : PassView BoardCmd Reply) (c e : Column) → x < length r.pass_set.boards.items
+    → HasOneMore (slice_index_or r.pass_set.boards.items x d) (slice_index_or columns x c) (slice_index_or more x e))
+    → bus_more ≡ bus ++ r.pass_set.bus ∷ [] → lines_more ≡ lines ++ r.lines ∷ [] → Gathering all rest more bus_more lines_more
 gathering_more all left columns more bus bus_more lines lines_more r rest g is square count got bus_is lines_is =
     let split = g.split ∙ ap (λ rs. g.taken ++ rs) is in
     let wide = square_here all g.taken r rest split square in
@@ -80,12 +80,12 @@ gathering_more all left columns more bus bus_more lines lines_more r rest g is s
       split = split ∙ sym (append_assoc g.taken (r ∷ []) rest);
       count = count ∙ g.count;
       dealt = λ x d c x<.
-          let f = λ (q : Ran). slice_index_or q.desk.boards.items x d in
+          let f = λ (q : Ran). slice_index_or q.pass_set.boards.items x d in
           (got x d c c (omega (arith, wide, x<))).items ∙ ap (λ ps. ps ++ f r ∷ []) (g.dealt x d c x<) ∙ sym (map-append f g.taken (r ∷ []));
       capacity = λ x c x<.
-          let p : PassView BoardCmd Reply = record { port = r.desk.bus.port; who = 0; made = 0; seen = []; mine = [] } in
+          let p : PassView BoardCmd Reply = record { port = r.pass_set.bus.port; who = 0; made = 0; seen = []; mine = [] } in
           omega (arith, (got x p c c (omega (arith, wide, x<))).capacity, g.capacity x c x<);
-      passes = bus_is ∙ ap (λ ps. ps ++ r.desk.bus ∷ []) g.passes ∙ sym (map-append (λ (q : Ran). q.desk.bus) g.taken (r ∷ []));
+      passes = bus_is ∙ ap (λ ps. ps ++ r.pass_set.bus ∷ []) g.passes ∙ sym (map-append (λ (q : Ran). q.pass_set.bus) g.taken (r ∷ []));
       answered = lines_is ∙ ap (λ ls. ls ++ r.lines ∷ []) g.answered ∙ sym (map-append (λ (q : Ran). q.lines) g.taken (r ∷ []));
     }
 
@@ -97,7 +97,7 @@ all_taken all left columns bus lines g none =
     sym (g.split ∙ ap (λ rs. g.taken ++ rs) (nil_of left none) ∙ append-nil g.taken)
 
 -- the first boards are closed, and the columns of all others are as they came
-pub record Closing (all left : List BoardPort) (old now : List Column) (ends : List BoardEnd) : Type 0 where
+pub record Closing (all left : List BoardPort) (old now : List Column) (ends : List BoardReport) : Type 0 where
   pub taken : List BoardPort
   pub split : all ≡ taken ++ left
   pub count : length now ≡ length old
@@ -105,7 +105,7 @@ pub record Closing (all left : List BoardPort) (old now : List Column) (ends : L
   pub later : (x : ℕ) (c d : Column) → length taken ≤ x → x < length old → slice_index_or now x c ≡ slice_index_or old x d
 
 -- none is closed
-pub closing_begins : (all : List BoardPort) (old : List Column) (ends : List BoardEnd) → length ends ≡ 0 → Closing all all old old ends
+pub closing_begins : (all : List BoardPort) (old : List Column) (ends : List BoardReport) → length ends ≡ 0 → Closing all all old old ends
 closing_begins all old ends none = record {
   taken = [];
   split = refl;
@@ -124,7 +124,7 @@ board_here all taken o left split =
 
 -- its column can be closed with it
 pub can_close_here :
-    (all left : List BoardPort) (old now : List Column) (ends : List BoardEnd) (o : BoardPort) (rest : List BoardPort) (column : Column) (n : ℕ)
+    (all left : List BoardPort) (old now : List Column) (ends : List BoardReport) (o : BoardPort) (rest : List BoardPort) (column : Column) (n : ℕ)
     (g : Closing all left old now ends) → left ≡ o ∷ rest → length all ≤ length old → n ≡ length g.taken
     → column ≡ slice_index_or now n column → CanAllClose all old → CanClose o column.items
 can_close_here all left old now ends o rest column n g is within at column_is can =
@@ -137,13 +137,13 @@ can_close_here all left old now ends o rest column n g is within at column_is ca
 
 -- one more is closed
 pub closing_more :
-    (all left : List BoardPort) (old now : List Column) (ends : List BoardEnd) (o : BoardPort) (rest : List BoardPort) (e : BoardEnd)
+    (all left : List BoardPort) (old now : List Column) (ends : List BoardReport) (o : BoardPort) (rest : List BoardPort) (e : BoardReport)
     (column empty : Column) (n : ℕ) (g : Closing all left old now ends) → left ≡ o ∷ rest → length all ≤ length old → n ≡ length g.taken
     → column ≡ slice_index_or now n column → IsClosed o column.items e → Closing all rest old (set now n empty) (ends ++ e ∷ [])
 closing_more all left old now ends o rest e column empty n g is within at column_is closed =
     let split = g.split ∙ ap (λ os. g.taken ++ os) is in
     let here = board_here all g.taken o rest split in
-    let P = λ (x : ℕ) (o : BoardPort) (e : BoardEnd). (c : Column) → IsClosed o (slice_index_or old x c).items e in
+    let P = λ (x : ℕ) (o : BoardPort) (e : BoardReport). (c : Column) → IsClosed o (slice_index_or old x c).items e in
     let its : (c : Column) → column ≡ slice_index_or old (length g.taken) c =
     λ c. column_is ∙ ap (λ m. slice_index_or now m column) at ∙ g.later (length g.taken) column c (omega arith) (omega (arith, here.1))
     in
@@ -159,7 +159,7 @@ closing_more all left old now ends o rest e column empty n g is within at column
 
 -- all are closed
 pub all_closed :
-    (all left : List BoardPort) (old now : List Column) (ends : List BoardEnd) → Closing all left old now ends → length left ≡ 0
+    (all left : List BoardPort) (old now : List Column) (ends : List BoardReport) → Closing all left old now ends → length left ≡ 0
     → AreClosed all old ends
 all_closed all left old now ends g none =
     let whole = g.split ∙ ap (λ os. g.taken ++ os) (nil_of left none) ∙ append-nil g.taken in

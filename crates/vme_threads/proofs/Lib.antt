@@ -1,8 +1,8 @@
 pub mod lemmas
 mod Places
 mod Dealings
-mod Hired
-pub mod Desks
+mod NewWorkers
+pub mod PassSets
 pub mod Lines
 pub mod Runs
 pub mod Once

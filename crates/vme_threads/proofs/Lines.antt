@@ -3,9 +3,9 @@ use Rattle.std.proofs.Common.{◌≡◌, ◌≢◌, ℕ, zero, suc, ◌<◌, Lis
 use Rattle.std.specs.List.{slice_get}
 use Rattle.std.specs.Option.{IsSome, option_map}
 use Rattle.vme_core.specs.declared.event.EventReply.{EventReply}
-use Rattle.vme_core.specs.declared.event.Deed.{Deed}
+use Rattle.vme_core.specs.declared.event.EventRef.{EventRef}
 use Rattle.vme_core.specs.Calls.{Call}
-use Rattle.vme_core.specs.Deeds.{call_asked}
+use Rattle.vme_core.specs.EventRefs.{call_asked}
 use Rattle.vme_core.specs.Runs.{Transition, move}
 use Rattle.vme_shared.specs.declared.reply.LineReply.{LineReply}
 use Rattle.vme_grammar.specs.declared.line.Line.{Line}
@@ -20,17 +20,17 @@ use Rattle.vme_line_task.proofs.lemmas.Lines.{by_the_replies}
 use Rattle.vme_line_task.proofs.lemmas.Calls.{makes_event, ends_so}
 use Rattle.vme_line_task.proofs.lemmas.Below.{calls_below}
 use Rattle.vme_line_task.proofs.lemmas.Traces.{goes-snoc}
-use Rattle.vme_threads.specs.declared.desk.Desk.{Desk}
-use Rattle.vme_threads.specs.Desks.{HasMade, HasCalled}
-use Rattle.vme_threads.specs.Rans.{HasAnswered}
-use Rattle.vme_threads.proofs.Desks.{made_none, made_more}
+use Rattle.vme_threads.specs.declared.pass_set.PassSet.{PassSet}
+use Rattle.vme_threads.specs.PassSets.{AddsTransitions, AddsCall}
+use Rattle.vme_threads.specs.Rans.{AddsLine}
+use Rattle.vme_threads.proofs.PassSets.{made_none, made_more}
 
 -- the line at a place of the script is at work: a run of its events was made, and this is its task
-pub record IsAtWork (config : Configuration) (place : ℕ) (before now : Desk) (task : LineTask) : Type 0 where
+pub record IsAtWork (config : Configuration) (place : ℕ) (before now : PassSet) (task : LineTask) : Type 0 where
   pub line : Line
   pub there : slice_get (lines_at config before.who) place ≡ Some line
   pub run : List Transition
-  pub made : HasMade run before now
+  pub made : AddsTransitions run before now
   pub replies : List EventReply
   pub goes : Continues config before.who line [] run replies
   pub is : task ≡ line_after config before.who line replies
@@ -45,7 +45,7 @@ line_there (x ∷ xs) (suc k) k< = line_there xs k (omega arith)
 
 -- before the first event
 pub at_start :
-    (config : Configuration) (place : ℕ) (d : Desk) (fresh task : LineTask) → place < length (lines_at config d.who)
+    (config : Configuration) (place : ℕ) (d : PassSet) (fresh task : LineTask) → place < length (lines_at config d.who)
     → ((line : Line) → slice_get (lines_at config d.who) place ≡ Some line → fresh ≡ line_started config d.who line)
     → task ≡ line_advance fresh None → line_to_do task ≢ NotStarted → IsLineBelow (length config.boards) task → IsAtWork config place d d task
 at_start config place d fresh task place< started advanced begun below =
@@ -63,14 +63,14 @@ at_start config place d fresh task place< started advanced begun below =
     }
 
 -- what it does next is what the table says
-next_is : (config : Configuration) (place : ℕ) (d e : Desk) (task : LineTask) (at : IsAtWork config place d e task)
+next_is : (config : Configuration) (place : ℕ) (d e : PassSet) (task : LineTask) (at : IsAtWork config place d e task)
     → line_to_do task ≡ line_next config d.who at.line at.replies
 next_is config place d e task at = ap line_to_do at.is ∙ by_the_replies config d.who at.line at.replies
 
 -- one event more
 pub at_more :
-    (config : Configuration) (place : ℕ) (d e f : Desk) (call : Call) (reply : EventReply) (task new : LineTask)
-    → IsAtWork config place d e task → Some call ≡ call_in (line_to_do task) → HasCalled call reply e f
+    (config : Configuration) (place : ℕ) (d e f : PassSet) (call : Call) (reply : EventReply) (task new : LineTask)
+    → IsAtWork config place d e task → Some call ≡ call_in (line_to_do task) → AddsCall call reply e f
     → new ≡ line_advance task (Some reply) → line_to_do new ≢ NotStarted → IsLineBelow (length config.boards) new → IsAtWork config place d f new
 at_more config place d e f call reply task new at asks next advanced begun below =
     let event = next.event in
@@ -90,8 +90,8 @@ at_more config place d e f call reply task new at asks next advanced begun below
 
 -- the answer
 pub at_end :
-    (config : Configuration) (place : ℕ) (d e : Desk) (task : LineTask) (answer : LineReply) → IsAtWork config place d e task
-    → Some answer ≡ answer_in (line_to_do task) → HasAnswered config place answer d e
+    (config : Configuration) (place : ℕ) (d e : PassSet) (task : LineTask) (answer : LineReply) → IsAtWork config place d e task
+    → Some answer ≡ answer_in (line_to_do task) → AddsLine config place answer d e
 at_end config place d e task answer at is = record {
   line = at.line;
   there = at.there;
@@ -106,12 +106,12 @@ at_end config place d e task answer at is = record {
   };
 }
 
--- a line that makes a call has a deed of it
-pub has_deed : (next : LineNext) (deed : Option Deed) → MakesCall next → option_map call_asked deed ≡ call_in next → IsSome deed
-has_deed NotStarted deed makes is = absurd makes
-has_deed (Invokes call) None makes is = absurd cc
-has_deed (Invokes call) (Some deed) makes is = refl
-has_deed (Returns answer) deed makes is = absurd makes
+-- a line that makes a call has a event_ref of it
+pub has_event_ref : (next : LineNext) (event_ref : Option EventRef) → MakesCall next → option_map call_asked event_ref ≡ call_in next → IsSome event_ref
+has_event_ref NotStarted event_ref makes is = absurd makes
+has_event_ref (Invokes call) None makes is = absurd cc
+has_event_ref (Invokes call) (Some event_ref) makes is = refl
+has_event_ref (Returns answer) event_ref makes is = absurd makes
 
 -- a board that is called is there
 in_makes : (next : LineNext) (call : Call) → Some call ≡ call_in next → next ≡ Invokes call

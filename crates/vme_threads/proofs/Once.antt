@@ -28,20 +28,20 @@ use Rattle.vme_script.specs.declared.script.ScriptLine.{ScriptLine}
 use Rattle.vme_script.specs.Boards.{entries_of}
 use Rattle.vme_script.specs.Configurations.{Configuration}
 use Rattle.vme_line_task.specs.Scripts.{Transferring, slot_at, level_at, lines_at, transfer_job, request_attempt, line_attempt}
-use Rattle.vme_line_task.specs.Tables.{Invokes, Returns, moves_next, attempts_of, next_asks_again, next_given, line_next, given_of}
+use Rattle.vme_line_task.specs.Tables.{Invokes, Returns, moves_next, attempts_of, next_wants_retry, next_given, line_next, given_of}
 use Rattle.vme_line_task.specs.Events.{IsCallBelow}
 use Rattle.vme_line_task.specs.Traces.{Continues}
 use Rattle.vme_line_task.proofs.lemmas.Below.{next_below}
 use Rattle.vme_line_task.proofs.lemmas.Traces.{goes-snoc}
 use Rattle.vme_port.specs.declared.fault.Spent.{Spent}
-use Rattle.vme_threads.specs.declared.desk.Desk.{Desk}
-use Rattle.vme_threads.specs.Desks.{HasMade, HasCalled}
-use Rattle.vme_threads.specs.Rans.{IsAnswered, HasAnswered}
-use Rattle.vme_threads.proofs.Desks.{made_none, made_more}
+use Rattle.vme_threads.specs.declared.pass_set.PassSet.{PassSet}
+use Rattle.vme_threads.specs.PassSets.{AddsTransitions, AddsCall}
+use Rattle.vme_threads.specs.Rans.{IsAnsweredBy, AddsLine}
+use Rattle.vme_threads.proofs.PassSets.{made_none, made_more}
 use Rattle.vme_threads.proofs.Runs.{script_is}
 
 -- a transfer or a command is attempted once
-attempted_once : (next : Next) → next_asks_again (moves_next next) ≡ false
+attempted_once : (next : Next) → next_wants_retry (moves_next next) ≡ false
 attempted_once tasks.NotStarted = refl
 attempted_once (tasks.Invokes call) = refl
 attempted_once (tasks.Returns outcome) = refl
@@ -62,9 +62,9 @@ once_next config board line job replies is =
 
 -- a command to the local port was its line's one call
 pub local_answered :
-    (cmd : BoardCmd) (reply : Reply) (outcome : Outcome) (d e : Desk) → HasMade (move d.who (asked.Board d.who cmd) (told.Board reply) ∷ []) d e
+    (cmd : BoardCmd) (reply : Reply) (outcome : Outcome) (d e : PassSet) → AddsTransitions (move d.who (asked.Board d.who cmd) (told.Board reply) ∷ []) d e
     → ((board : ℕ) → next_of (local_job board cmd) (Some (told.Board reply) ∷ None ∷ []) ≡ tasks.Returns outcome)
-    → (config : Configuration) → IsAnswered config (lines.Local cmd) (Transfer outcome) d e
+    → (config : Configuration) → IsAnsweredBy config (lines.Local cmd) (Transfer outcome) d e
 local_answered cmd reply outcome d e made ends = λ config. record {
   run = move d.who (asked.Board d.who cmd) (told.Board reply) ∷ [];
   made = made;
@@ -87,9 +87,9 @@ line_found config who place script line there at =
 
 -- where it was answered, so was the line at that place
 pub answered_there :
-    (config : Configuration) (place : ℕ) (line : Line) (d e : Desk) (result : Result LineReply Spent)
-    → slice_get (lines_at config d.who) place ≡ Some line → IfOk result (λ answer. IsAnswered config line answer d e)
-    → IfOk result (λ answer. HasAnswered config place answer d e)
+    (config : Configuration) (place : ℕ) (line : Line) (d e : PassSet) (result : Result LineReply Spent)
+    → slice_get (lines_at config d.who) place ≡ Some line → IfOk result (λ answer. IsAnsweredBy config line answer d e)
+    → IfOk result (λ answer. AddsLine config place answer d e)
 answered_there config place line d e (Ok answer) there is = record { line = line; there = there; is = is }
 answered_there config place line d e (Err spent) there is = tt
 
@@ -112,8 +112,8 @@ refused_by map slot level (Ok t) fault is = absurd cc
 refused_by map slot level (Err other) fault is = cc
 
 pub refused_answered :
-    (config : Configuration) (map : List Entry) (slot level : ℕ) (request : Request) (fault : CycleFault) (d : Desk)
-    → Err fault ≡ bus_task map slot level (transfer_of request) → IsAnswered config (lines.Bus request) (Refused fault) d d
+    (config : Configuration) (map : List Entry) (slot level : ℕ) (request : Request) (fault : CycleFault) (d : PassSet)
+    → Err fault ≡ bus_task map slot level (transfer_of request) → IsAnsweredBy config (lines.Bus request) (Refused fault) d d
 unfolding next_given
 refused_answered config map slot level request fault d is = record {
   run = [];
@@ -122,11 +122,11 @@ refused_answered config map slot level request fault d is = record {
 }
 
 -- the transfer of a line is at work: a run of its events was made, and this is its task
-pub record IsMoving (config : Configuration) (request : Request) (before now : Desk) (task : TaskView) : Type 0 where
+pub record IsMoving (config : Configuration) (request : Request) (before now : PassSet) (task : TaskView) : Type 0 where
   pub job : Job
   pub attempted : line_attempt config before.who (lines.Bus request) ≡ Ok (Transferring job)
   pub run : List Transition
-  pub made : HasMade run before now
+  pub made : AddsTransitions run before now
   pub replies : List EventReply
   pub goes : Continues config before.who (lines.Bus request) [] run replies
   pub is : task ≡ task_given job (given_of replies)
@@ -145,7 +145,7 @@ started_by map slot level (Err fault) task is = absurd cc
 
 -- before the first event
 pub moving_start :
-    (config : Configuration) (map : List Entry) (slot level : ℕ) (request : Request) (d : Desk) (fresh task : TaskView)
+    (config : Configuration) (map : List Entry) (slot level : ℕ) (request : Request) (d : PassSet) (fresh task : TaskView)
     → map ≡ entries_of config.boards → slot_at config d.who ≡ slot → level_at config d.who ≡ level
     → Ok fresh ≡ bus_task map slot level (transfer_of request) → task ≡ advance fresh None → to_do task ≢ tasks.NotStarted
     → IsMoving config request d d task
@@ -168,7 +168,7 @@ moving_start config map slot level request d fresh task maps slots levels is adv
     }
 
 -- what it does next is what the table says
-moving_next : (config : Configuration) (request : Request) (d e : Desk) (task : TaskView) (at : IsMoving config request d e task)
+moving_next : (config : Configuration) (request : Request) (d e : PassSet) (task : TaskView) (at : IsMoving config request d e task)
     → moves_next (to_do task) ≡ line_next config d.who (lines.Bus request) at.replies
 moving_next config request d e task at =
     ap (λ (t : TaskView). moves_next (to_do t)) at.is ∙ ap moves_next (by_the_table at.job (given_of at.replies))
@@ -176,7 +176,7 @@ moving_next config request d e task at =
 
 -- the boards that it calls are there
 pub moving_below :
-    (config : Configuration) (request : Request) (d e : Desk) (task : TaskView) (n : ℕ) (call : Call) → IsMoving config request d e task
+    (config : Configuration) (request : Request) (d e : PassSet) (task : TaskView) (n : ℕ) (call : Call) → IsMoving config request d e task
     → d.who < length config.boards → length config.boards ≡ n → Some call ≡ tasks_seen.call_in (to_do task) → IsCallBelow n call
 moving_below config request d e task n call at there same asks =
     subst (λ (m : ℕ). IsCallBelow m call) same
@@ -184,8 +184,8 @@ moving_below config request d e task n call at there same asks =
 
 -- one event more
 pub moving_more :
-    (config : Configuration) (request : Request) (d e f : Desk) (call : Call) (reply : EventReply) (task new : TaskView)
-    → IsMoving config request d e task → Some call ≡ tasks_seen.call_in (to_do task) → HasCalled call reply e f → new ≡ advance task (Some reply)
+    (config : Configuration) (request : Request) (d e f : PassSet) (call : Call) (reply : EventReply) (task new : TaskView)
+    → IsMoving config request d e task → Some call ≡ tasks_seen.call_in (to_do task) → AddsCall call reply e f → new ≡ advance task (Some reply)
     → to_do new ≢ tasks.NotStarted → IsMoving config request d f new
 moving_more config request d e f call reply task new at asks next advanced begun =
     let one = move e.who next.event reply in
@@ -204,8 +204,8 @@ moving_more config request d e f call reply task new at asks next advanced begun
 
 -- the answer
 pub moving_end :
-    (config : Configuration) (request : Request) (d e : Desk) (task : TaskView) (outcome : Outcome) → IsMoving config request d e task
-    → Some outcome ≡ tasks_seen.outcome_in (to_do task) → IsAnswered config (lines.Bus request) (Transfer outcome) d e
+    (config : Configuration) (request : Request) (d e : PassSet) (task : TaskView) (outcome : Outcome) → IsMoving config request d e task
+    → Some outcome ≡ tasks_seen.outcome_in (to_do task) → IsAnsweredBy config (lines.Bus request) (Transfer outcome) d e
 moving_end config request d e task outcome at is = record {
   run = at.run;
   made = at.made;

@@ -14,20 +14,20 @@ use Rattle.vme_line_task.specs.ReadBuffers.{line_read_len, buffers_of}
 use Rattle.vme_line_task.specs.Traces.{LineTrace, IsTrace}
 use Rattle.vme_line_task.proofs.lemmas.Traces.{trace-snoc}
 use Rattle.vme_line_task.proofs.lemmas.LineBuffers.{IsNextBuffer, buffers_left, next_buffer}
-use Rattle.vme_threads.specs.declared.desk.Desk.{Desk}
+use Rattle.vme_threads.specs.declared.pass_set.PassSet.{PassSet}
 use Rattle.vme_threads.specs.declared.worker.Worker.{Worker}
 use Rattle.vme_threads.specs.declared.worker.Ran.{Ran}
 use Rattle.vme_threads.specs.declared.ports.Ports.{Ports}
 use Rattle.vme_threads.specs.Ports.{IsWorkerOf}
-use Rattle.vme_threads.specs.Desks.{HasMade}
-use Rattle.vme_threads.specs.Rans.{HasAnswered, numbers_in, answers_in, HasRun}
-use Rattle.vme_threads.proofs.Desks.{made_none, made_more, fits_first, fits_after}
+use Rattle.vme_threads.specs.PassSets.{AddsTransitions}
+use Rattle.vme_threads.specs.Rans.{AddsLine, numbers_in, answers_in, HasRun}
+use Rattle.vme_threads.proofs.PassSets.{made_none, made_more, fits_first, fits_after}
 use Rattle.vme_threads.proofs.Lines.{line_there}
 
 -- the first lines of the script were answered by a run
-pub record IsUnderWay (config : Configuration) (count : ℕ) (before now : Desk) (lines : List (ℕ × LineReply)) : Type 0 where
+pub record IsUnderWay (config : Configuration) (count : ℕ) (before now : PassSet) (lines : List (ℕ × LineReply)) : Type 0 where
   pub run : List Transition
-  pub made : HasMade run before now
+  pub made : AddsTransitions run before now
   pub trace : IsTrace config before.who (take count (lines_at config before.who)) run (answers_in lines)
   pub numbers : numbers_in lines ≡ take count (map (λ (one : ScriptLine). one.number) (script_at config before.who))
 
@@ -44,7 +44,7 @@ script_is config who other script same there =
     get_or_from_slice_get config.scripts who script [] (subst (λ n. slice_get config.scripts n ≡ Some script) same there)
 
 -- no line was answered
-pub way_start : (config : Configuration) (d : Desk) (lines : List (ℕ × LineReply)) → lines ≡ [] → IsUnderWay config 0 d d lines
+pub way_start : (config : Configuration) (d : PassSet) (lines : List (ℕ × LineReply)) → lines ≡ [] → IsUnderWay config 0 d d lines
 way_start config d lines none =
     subst (IsUnderWay config 0 d d) (sym none) (record { run = []; made = made_none d; trace = refl; numbers = refl })
 
@@ -59,8 +59,8 @@ take_one xs k x at = let same : k + 1 ≡ suc k = omega arith in ap (λ n. take 
 
 -- one line more
 pub way_more :
-    (config : Configuration) (count : ℕ) (d e f : Desk) (lines : List (ℕ × LineReply)) (number : ℕ) (answer : LineReply)
-    → IsUnderWay config count d e lines → HasAnswered config count answer e f
+    (config : Configuration) (count : ℕ) (d e f : PassSet) (lines : List (ℕ × LineReply)) (number : ℕ) (answer : LineReply)
+    → IsUnderWay config count d e lines → AddsLine config count answer e f
     → slice_get (map (λ (one : ScriptLine). one.number) (script_at config d.who)) count ≡ Some number
     → IsUnderWay config (count + 1) d f (lines ++ (number, answer) ∷ [])
 way_more config count d e f lines number answer way answered numbered =
@@ -117,11 +117,11 @@ buffer_serves config who other n buffer rest next same line there =
 
 -- all lines were answered
 pub way_end :
-    (config : Configuration) (ports : Ports) (count : ℕ) (w : Worker) (ran : Ran) → IsWorkerOf config ports w.desk.who w
-    → IsUnderWay config count w.desk ran.desk ran.lines.items → length (lines_at config w.desk.who) ≤ count
-    → HasRun config ports w.desk.who ran
+    (config : Configuration) (ports : Ports) (count : ℕ) (w : Worker) (ran : Ran) → IsWorkerOf config ports w.pass_set.who w
+    → IsUnderWay config count w.pass_set ran.pass_set ran.lines.items → length (lines_at config w.pass_set.who) ≤ count
+    → HasRun config ports w.pass_set.who ran
 way_end config ports count w ran is way all =
-    let d = w.desk in
+    let d = w.pass_set in
     let script = script_at config d.who in
     let numbers = map (λ (one : ScriptLine). one.number) script in
     let lines = lines_at config d.who in
@@ -129,7 +129,7 @@ way_end config ports count w ran is way all =
       way.run,
       record {
         same = way.made.who;
-        fits = fits_after ports way.run d ran.desk way.made (fits_first config ports d.who w is);
+        fits = fits_after ports way.run d ran.pass_set way.made (fits_first config ports d.who w is);
         whose = way.made.whose;
         fitting = way.made.fitting;
         trace = subst (λ (ls : List Line). IsTrace config d.who ls way.run (answers_in ran.lines.items)) (take_whole lines count all) way.trace;

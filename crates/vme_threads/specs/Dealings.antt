@@ -7,13 +7,13 @@ use Rattle.vme_threads.specs.declared.worker.Worker.{Worker}
 
 -- a worker gets one more pass of a board's port (this project's own)
 pub record Gets (p : PassView BoardCmd Reply) (w v : Worker) : Type 0 where
-  pub who : v.desk.who ≡ w.desk.who
-  pub boards : v.desk.boards.items ≡ w.desk.boards.items ++ p ∷ []
-  pub bus : v.desk.bus ≡ w.desk.bus
-  pub capacity : vec_capacity v.desk.boards ≡ vec_capacity w.desk.boards
+  pub who : v.pass_set.who ≡ w.pass_set.who
+  pub boards : v.pass_set.boards.items ≡ w.pass_set.boards.items ++ p ∷ []
+  pub bus : v.pass_set.bus ≡ w.pass_set.bus
+  pub capacity : vec_capacity v.pass_set.boards ≡ vec_capacity w.pass_set.boards
   pub buffers : v.buffers ≡ w.buffers
   pub lines : v.lines ≡ w.lines
 
 -- each worker has room for one more pass (this project's own)
 abbrev pub HaveSpace : List Worker → Type 0
-HaveSpace workers = All (λ w. length w.desk.boards.items < vec_capacity w.desk.boards) workers
+HaveSpace workers = All (λ w. length w.pass_set.boards.items < vec_capacity w.pass_set.boards) workers

@@ -9,18 +9,18 @@ use Rattle.vme_port.specs.Ports.{port_id, opening, passes_of}
 use Rattle.vme_port.specs.Settlements.{Settles}
 use Rattle.vme_threads.specs.declared.worker.Ran.{Ran}
 use Rattle.vme_threads.specs.declared.ports.BoardPort.{BoardPort}
-use Rattle.vme_threads.specs.declared.report.BoardEnd.{BoardEnd}
+use Rattle.vme_threads.specs.declared.report.BoardReport.{BoardReport}
 use Rattle.vme_threads.specs.Columns.{Column}
 
 -- each ran has a pass for each ran (this project's own)
 abbrev pub AreSquare : List Ran → Type 0
-AreSquare rans = All (λ r. length r.desk.boards.items ≡ length rans) rans
+AreSquare rans = All (λ r. length r.pass_set.boards.items ≡ length rans) rans
 
 -- each of the first columns has the passes of one board's port, one of each ran (this project's own)
 abbrev pub AreDealt : List Ran → List Column → Type 0
 AreDealt rans columns =
     (x : ℕ) (d : PassView BoardCmd Reply) (c : Column) → x < length rans
-    → (slice_index_or columns x c).items ≡ map (λ r. slice_index_or r.desk.boards.items x d) rans
+    → (slice_index_or columns x c).items ≡ map (λ r. slice_index_or r.pass_set.boards.items x d) rans
 
 -- all passes of a board's port are there, in order, and there is room for their counts (this project's own)
 pub record CanClose (o : BoardPort) (passes : List (PassView BoardCmd Reply)) : Type 0 where
@@ -31,7 +31,7 @@ pub record CanClose (o : BoardPort) (passes : List (PassView BoardCmd Reply)) : 
 
 -- a board's port was closed with these passes: its memory, the number of its steps, and how many each pass made
 -- (this project's own)
-pub record IsClosed (o : BoardPort) (passes : List (PassView BoardCmd Reply)) (end : BoardEnd) : Type 0 where
+pub record IsClosed (o : BoardPort) (passes : List (PassView BoardCmd Reply)) (end : BoardReport) : Type 0 where
   pub slot : end.slot ≡ o.slot
   pub settled : Settles board_step (opening o.port) (passes_of o.port) passes end.memory end.steps
   pub made : end.made.items ≡ map (λ p. p.made) passes
@@ -43,6 +43,6 @@ CanAllClose boards columns =
     → CanClose (slice_index_or boards x o) (slice_index_or columns x c).items
 
 -- each board's port was closed with its column (this project's own)
-abbrev pub AreClosed : List BoardPort → List Column → List BoardEnd → Type 0
+abbrev pub AreClosed : List BoardPort → List Column → List BoardReport → Type 0
 AreClosed boards columns ends =
-    AllAt (λ x (o : BoardPort) (e : BoardEnd). (c : Column) → IsClosed o (slice_index_or columns x c).items e) boards ends
+    AllAt (λ x (o : BoardPort) (e : BoardReport). (c : Column) → IsClosed o (slice_index_or columns x c).items e) boards ends

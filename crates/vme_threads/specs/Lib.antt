@@ -2,7 +2,7 @@ pub mod Columns
 pub mod RunBuffers
 pub mod Ports
 pub mod Dealings
-pub mod Desks
+pub mod PassSets
 pub mod Rans
 pub mod Gathers
 pub mod Reports

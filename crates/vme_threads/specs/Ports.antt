@@ -30,22 +30,22 @@ pub record IsPortOf (k : ℕ) (own : BoardConfig) (o : BoardPort) : Type 0 where
 
 -- a worker has the i-th pass of each of these ports of boards and of the arbiter's, none of which has made a call; it has room
 -- for passes of all boards, for what each line of the i-th script reads, and for the replies to it (this project's own)
-pub record IsHired (config : Configuration) (opened : List BoardPort) (arbiter : Port Arbitration ArbCmd ArbReply) (i : ℕ)
+pub record IsNewWorker (config : Configuration) (opened : List BoardPort) (arbiter : Port Arbitration ArbCmd ArbReply) (i : ℕ)
     (w : Worker) : Type 0 where
-  pub who : w.desk.who ≡ i
+  pub who : w.pass_set.who ≡ i
   pub boards :
-      AllAt (λ x (o : BoardPort) (p : PassView BoardCmd Reply). IsUnused (port_id o.port) i p) opened w.desk.boards.items
-  pub bus : IsUnused (port_id arbiter) i w.desk.bus
-  pub capacity : length config.boards ≤ vec_capacity w.desk.boards
+      AllAt (λ x (o : BoardPort) (p : PassView BoardCmd Reply). IsUnused (port_id o.port) i p) opened w.pass_set.boards.items
+  pub bus : IsUnused (port_id arbiter) i w.pass_set.bus
+  pub capacity : length config.boards ≤ vec_capacity w.pass_set.boards
   pub buffers : w.buffers ≡ buffers_of (script_at config i)
   pub lines : vec_len w.lines ≡ 0
   pub lines_capacity : length (script_at config i) ≤ vec_capacity w.lines
 
 -- such a worker for each board (this project's own)
-pub record AreHired (config : Configuration) (opened : List BoardPort) (arbiter : Port Arbitration ArbCmd ArbReply)
+pub record AreNewWorkers (config : Configuration) (opened : List BoardPort) (arbiter : Port Arbitration ArbCmd ArbReply)
     (workers : List Worker) : Type 0 where
   pub count : length workers ≡ length config.boards
-  pub each : Each (IsHired config opened arbiter) workers
+  pub each : Each (IsNewWorker config opened arbiter) workers
 
 -- a port of each board, each opened with zero memory for as many passes as there are boards, and so one of the arbiter of
 -- its kind, of a free bus; and room for what is told of their run (this project's own)
@@ -58,8 +58,8 @@ pub record IsBuilt (config : Configuration) (ports : Ports) : Type 0 where
 
 -- the i-th worker of these ports, whose passes have made no call (this project's own)
 abbrev pub IsWorkerOf : Configuration → Ports → ℕ → Worker → Type 0
-IsWorkerOf config ports i worker = IsHired config ports.boards.items ports.bus i worker
+IsWorkerOf config ports i worker = IsNewWorker config ports.boards.items ports.bus i worker
 
 -- a worker for each board, in order (this project's own)
 abbrev pub AreWorkers : Configuration → Ports → List Worker → Type 0
-AreWorkers config ports workers = AreHired config ports.boards.items ports.bus workers
+AreWorkers config ports workers = AreNewWorkers config ports.boards.items ports.bus workers

@@ -12,22 +12,22 @@ use Rattle.vme_grammar.specs.declared.line.Line.{Line}
 use Rattle.vme_script.specs.Configurations.{Configuration}
 use Rattle.vme_line_task.specs.Scripts.{script_at, lines_at}
 use Rattle.vme_line_task.specs.Traces.{LineTrace, IsTrace}
-use Rattle.vme_threads.specs.declared.desk.Desk.{Desk}
+use Rattle.vme_threads.specs.declared.pass_set.PassSet.{PassSet}
 use Rattle.vme_threads.specs.declared.worker.Ran.{Ran}
 use Rattle.vme_threads.specs.declared.ports.Ports.{Ports}
-use Rattle.vme_threads.specs.Desks.{Fits, HasMade}
+use Rattle.vme_threads.specs.PassSets.{MatchesPorts, AddsTransitions}
 
 -- a line of the script was answered by the moves of a run (this project's own)
-pub record IsAnswered (config : Configuration) (line : Line) (answer : LineReply) (before after : Desk) : Type 0 where
+pub record IsAnsweredBy (config : Configuration) (line : Line) (answer : LineReply) (before after : PassSet) : Type 0 where
   pub run : List Transition
-  pub made : HasMade run before after
+  pub made : AddsTransitions run before after
   pub trace : LineTrace config before.who line run answer
 
 -- so was the line at a place (this project's own)
-pub record HasAnswered (config : Configuration) (place : ℕ) (answer : LineReply) (before after : Desk) : Type 0 where
+pub record AddsLine (config : Configuration) (place : ℕ) (answer : LineReply) (before after : PassSet) : Type 0 where
   pub line : Line
   pub there : slice_get (lines_at config before.who) place ≡ Some line
-  pub is : IsAnswered config line answer before after
+  pub is : IsAnsweredBy config line answer before after
 
 -- the numbers of lines that were answered (this project's own)
 abbrev pub numbers_in : List (ℕ × LineReply) → List ℕ
@@ -40,14 +40,14 @@ answers_in lines = map (λ line. line.1) lines
 -- a who went through its whole script by this run: the run is the script's trace and gives these lines, and its part on each
 -- object is what the who's pass of that object made (this project's own)
 pub record IsRanOf (config : Configuration) (ports : Ports) (who : ℕ) (run : List Transition) (ran : Ran) : Type 0 where
-  pub same : ran.desk.who ≡ who
-  pub fits : Fits ports ran.desk
+  pub same : ran.pass_set.who ≡ who
+  pub fits : MatchesPorts ports ran.pass_set
   pub whose : All (λ m. m.who ≡ who) run
   pub fitting : All (λ m. IsReplyTo m.event m.reply) run
   pub trace : IsTrace config who (lines_at config who) run (answers_in ran.lines.items)
   pub numbers : numbers_in ran.lines.items ≡ map (λ one. one.number) (script_at config who)
-  pub boards : Each (λ x (p : PassView BoardCmd Reply). p.mine ≡ board_part x run) ran.desk.boards.items
-  pub bus : ran.desk.bus.mine ≡ bus_part run
+  pub boards : Each (λ x (p : PassView BoardCmd Reply). p.mine ≡ board_part x run) ran.pass_set.boards.items
+  pub bus : ran.pass_set.bus.mine ≡ bus_part run
 
 -- there is such a run (this project's own)
 abbrev pub HasRun : Configuration → Ports → ℕ → Ran → Type 0

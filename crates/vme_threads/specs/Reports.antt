@@ -12,7 +12,7 @@ use Rattle.vme_line_task.specs.Scripts.{script_at, lines_at}
 use Rattle.vme_line_task.specs.Traces.{IsTrace}
 use Rattle.vme_threads.specs.declared.worker.Ran.{Ran}
 use Rattle.vme_threads.specs.declared.ports.Ports.{Ports}
-use Rattle.vme_threads.specs.declared.report.BoardEnd.{BoardEnd}
+use Rattle.vme_threads.specs.declared.report.BoardReport.{BoardReport}
 use Rattle.vme_threads.specs.declared.report.Report.{Report}
 use Rattle.vme_threads.specs.Ports.{IsBuilt}
 use Rattle.vme_threads.specs.Rans.{IsRanOf, numbers_in, answers_in}
@@ -31,7 +31,7 @@ module _ {S C R : Type 0} (step : S → C → S × R) (start : S) where
 
 -- what a board came to, where these runs were made: its own parts in them are shared out from one history of it, from zero
 -- memory (this project's own)
-pub record IsEndOf (runs : List (List Transition)) (x : ℕ) (own : BoardConfig) (end : BoardEnd) : Type 0 where
+pub record IsEndOf (runs : List (List Transition)) (x : ℕ) (own : BoardConfig) (end : BoardReport) : Type 0 where
   pub slot : end.slot ≡ own.slot
   pub history : HasHistory board_step (opening_memory own) (map (board_part x) runs) end.memory end.steps end.made.items
 

@@ -3,10 +3,10 @@
 //! all of them through passes of its own.
 #![tactic(auto)]
 
-mod desk;
+mod pass_set;
 mod gate;
-mod gathering;
-mod hire;
+mod gather_report;
+mod workers;
 mod line;
 mod open;
 mod ports;
@@ -15,10 +15,10 @@ mod run_buffers;
 mod threads;
 mod worker;
 
-pub use desk::Desk;
+pub use pass_set::PassSet;
 pub use gate::Gate;
-pub use gathering::gather;
+pub use gather_report::gather;
 pub use ports::{BoardPort, Ports};
-pub use report::{BoardEnd, Report};
+pub use report::{BoardReport, Report};
 pub use threads::run_threads;
 pub use worker::{Ran, Worker};

@@ -16,10 +16,10 @@ ghost use Rattle.vme_line_task.specs.ReadBuffers.{line_read_len, request_read_le
 ghost use Rattle.vme_line_task.specs.Scripts.{lines_at};
 ghost use Rattle.vme_line_task.specs.Tables as tables;
 ghost use Rattle.vme_line_task.specs.Tables.{moves_next};
-ghost use Rattle.vme_threads.specs.Desks.{Fits};
-ghost use Rattle.vme_threads.specs.Rans.{IsAnswered, HasAnswered};
+ghost use Rattle.vme_threads.specs.PassSets.{MatchesPorts};
+ghost use Rattle.vme_threads.specs.Rans.{IsAnsweredBy, AddsLine};
 
-use crate::desk::Desk;
+use crate::pass_set::PassSet;
 use crate::ports::Ports;
 use std::sync::Wait;
 use std::sync::atomic::Ordering;
@@ -32,14 +32,14 @@ use vme_port::Spent;
 use vme_script::Config;
 use vme_shared::LineReply;
 
-impl Desk {
+impl PassSet {
     /// Makes the events of a line of the script, by its place among those that ask for something,
     /// until it is answered; what it reads over the bus goes into the room. It waits before it looks
     /// again whether it has the bus, and snoozes before each further attempt at the line.
     ///
     /// # Errors
     /// `Spent` where an object has made as many steps as can be counted, here or for another worker.
-    pub(crate) fn line<R: Wait>(
+    pub(crate) fn run_line<R: Wait>(
         &mut self,
         rt: &R,
         config: &Config,
@@ -47,19 +47,19 @@ impl Desk {
         line: usize,
         buffer: BlockBuffer,
     ) -> Result<LineReply, Spent>
-        requires fits { Fits ports.now self.old }
+        requires fits { MatchesPorts ports.now self.old }
         requires ports { length ports.now.boards.items ≡ length config.now.boards }
         requires board { self.old.who < length config.now.boards }
         requires line { line < length (lines_at config.now self.old.who) }
         requires none { buffer.items ≡ [] }
         requires capacity { (one : AnyLine) → slice_get (lines_at config.now self.old.who) line ≡ Some one →
             line_read_len one ≤ buffer.capacity }
-        ensures { IfOk result (λ answer. HasAnswered config.now line answer self.old self.new) }
+        ensures { IfOk result (λ answer. AddsLine config.now line answer self.old self.new) }
     {
         match config.script(self.who).line(line) {
-            Line::Local(cmd) if !is_cycle(cmd) => self.local(rt, ports, cmd),
-            Line::Bus(request) => self.transfer(rt, config, ports, request, buffer),
-            _ => self.attempts(rt, config, ports, line, buffer),
+            Line::Local(cmd) if !is_cycle(cmd) => self.run_local(rt, ports, cmd),
+            Line::Bus(request) => self.run_transfer(rt, config, ports, request, buffer),
+            _ => self.run_attempts(rt, config, ports, line, buffer),
         }
     }
 
@@ -67,17 +67,17 @@ impl Desk {
     ///
     /// # Errors
     /// `Spent` as for a line.
-    fn local<R: Wait>(&mut self, rt: &R, ports: &Ports, cmd: &BoardCmd) -> Result<LineReply, Spent>
-        requires fits { Fits ports.now self.old }
+    fn run_local<R: Wait>(&mut self, rt: &R, ports: &Ports, cmd: &BoardCmd) -> Result<LineReply, Spent>
+        requires fits { MatchesPorts ports.now self.old }
         requires there { self.old.who < length self.old.boards.items }
         requires local { IsOwnLine (lines.Local cmd.now) }
         ensures { (config : Configuration) →
-            IfOk result (λ answer. IsAnswered config (lines.Local cmd.now) answer self.old self.new) }
+            IfOk result (λ answer. IsAnsweredBy config (lines.Local cmd.now) answer self.old self.new) }
     {
         if ports.stop.load(Ordering::SeqCst) {
             return Err(Spent);
         }
-        let reply = self.command(rt, ports, self.who, &CommandRef { cmd })?;
+        let reply = self.call_board(rt, ports, self.who, &CommandRef { cmd })?;
         Ok(LineReply::Transfer(local_outcome(cmd, reply)))
     }
 
@@ -85,7 +85,7 @@ impl Desk {
     ///
     /// # Errors
     /// `Spent` as for a line.
-    fn transfer<R: Wait>(
+    fn run_transfer<R: Wait>(
         &mut self,
         rt: &R,
         config: &Config,
@@ -93,12 +93,12 @@ impl Desk {
         request: &Request,
         buffer: BlockBuffer,
     ) -> Result<LineReply, Spent>
-        requires fits { Fits ports.now self.old }
+        requires fits { MatchesPorts ports.now self.old }
         requires ports { length ports.now.boards.items ≡ length config.now.boards }
         requires board { self.old.who < length config.now.boards }
         requires none { buffer.items ≡ [] }
         requires capacity { request_read_len (transfer_of request.now) ≤ buffer.capacity }
-        ensures { IfOk result (λ answer. IsAnswered config.now (lines.Bus request.now) answer self.old self.new) }
+        ensures { IfOk result (λ answer. IsAnsweredBy config.now (lines.Bus request.now) answer self.old self.new) }
     {
         let (slot, level) = (config.slot(self.who), config.level(self.who));
         let mut started = Task::start(config.map(), slot, level, request, buffer);
@@ -106,16 +106,16 @@ impl Desk {
             Ok(task) => task,
             Err(fault) => return Ok(LineReply::Refused(*fault)),
         };
-        task.give(None);
+        task.advance(None);
         for _ in rt.forever() {
-            if task.is_over() {
+            if task.is_finished() {
                 return Ok(LineReply::Transfer(task.take_outcome().unwrap()));
             }
             if ports.stop.load(Ordering::SeqCst) {
                 return Err(Spent);
             }
-            let reply = self.make(rt, ports, &task.deed().unwrap())?;
-            task.give(Some(&reply));
+            let reply = self.call_event(rt, ports, &task.event_ref().unwrap())?;
+            task.advance(Some(&reply));
         }
         unreachable!()
     }

@@ -5,9 +5,9 @@ ghost use Rattle.vme_arbiter.specs.Arbitration.{opening_bus};
 ghost use Rattle.vme_port.specs.Passes.{IsUnused};
 ghost use Rattle.vme_port.specs.Ports.{port_id, opening, passes_of};
 ghost use Rattle.vme_script.specs.declared.board.BoardConfig.{BoardConfig};
-ghost use Rattle.vme_threads.specs.Ports.{IsPortOf, AreHired};
+ghost use Rattle.vme_threads.specs.Ports.{IsPortOf, AreNewWorkers};
 
-use crate::hire::hand_out;
+use crate::workers::distribute_passes;
 use crate::ports::BoardPort;
 use crate::worker::Worker;
 use std::alloc::{AllocError, Global};
@@ -81,16 +81,16 @@ pub(crate) fn open_boards(
     bus: &Port<Arbiter>,
     workers: &mut Vec<Worker>,
 ) -> Result<Vec<BoardPort>, AllocError>
-    requires { AreHired config.now [] bus.now workers.old.items }
+    requires { AreNewWorkers config.now [] bus.now workers.old.items }
     ensures ports { IfOk result
         (λ r. AllAt (λ x own o. IsPortOf (length config.now.boards) own o) config.now.boards r.items) }
-    ensures hired { IfOk result (λ r. AreHired config.now r.items bus.now workers.new.items) }
+    ensures new_worker { IfOk result (λ r. AreNewWorkers config.now r.items bus.now workers.new.items) }
 {
     let count = config.boards();
     let mut boards = Vec::with_capacity(alloc, count)?;
     for board in 0..count {
         let (port, passes) = open_board(alloc, config, board)?;
-        hand_out(workers, passes);
+        distribute_passes(workers, passes);
         boards.push_reserved(port);
     }
     Ok(boards)

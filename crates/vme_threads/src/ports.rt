@@ -1,7 +1,7 @@
 ghost use Rattle.std.specs.Prelude.{IfOk};
 ghost use Rattle.vme_threads.specs.Ports.{IsBuilt, AreWorkers};
 
-use crate::hire::hire;
+use crate::workers::new_workers;
 use crate::open::{open_boards, open_bus};
 use crate::run_buffers::{PassBuffers, ReportBuffers};
 use crate::worker::Worker;
@@ -55,7 +55,7 @@ impl Ports {
     {
         let count = config.boards();
         let (bus, passes) = open_bus(alloc, config)?;
-        let mut workers = hire(alloc, config, &bus, passes)?;
+        let mut workers = new_workers(alloc, config, &bus, passes)?;
         let boards = open_boards(alloc, config, &bus, &mut workers)?;
         let ports = Ports {
             boards,

@@ -3,7 +3,7 @@ use vme_shared::LineReply;
 
 /// What a board came to in a run.
 #[derive(Drop)]
-pub struct BoardEnd {
+pub struct BoardReport {
     /// The slot of the board.
     pub slot: u16,
     /// Its memory after the run.
@@ -21,7 +21,7 @@ pub struct Report {
     /// something, with what it was answered.
     pub lines: Vec<Vec<(u16, LineReply)>>,
     /// The boards, in order of slots.
-    pub boards: Vec<BoardEnd>,
+    pub boards: Vec<BoardReport>,
     /// How many steps the arbiter took.
     pub arbiter_steps: u64,
     /// How many of them each processor made, in order of slots.

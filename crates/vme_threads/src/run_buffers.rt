@@ -2,7 +2,7 @@
 ghost use Rattle.std.specs.Prelude.{◌≡◌, ◌≤◌, IfOk, vec_len, vec_capacity};
 ghost use Rattle.vme_threads.specs.Columns.{AreColumns};
 
-use crate::report::BoardEnd;
+use crate::report::BoardReport;
 use std::alloc::{AllocError, Global};
 use vme_arbiter::Arbiter;
 use vme_memory::ByteMemory;
@@ -38,7 +38,7 @@ impl PassBuffers {
 #[derive(Drop)]
 pub struct ReportBuffers {
     pub(crate) lines: Vec<Vec<(u16, LineReply)>>,
-    pub(crate) boards: Vec<BoardEnd>,
+    pub(crate) boards: Vec<BoardReport>,
     pub(crate) bus_made: Vec<u64>,
 }
 

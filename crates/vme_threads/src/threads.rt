@@ -5,10 +5,10 @@ ghost use Rattle.vme_report.specs.declared.fault.RunFault.TheVariants.{Write};
 ghost use Rattle.vme_threads.specs.Ports.{IsBuilt, AreWorkers};
 ghost use Rattle.vme_threads.specs.Rans.{IsEndOfRun};
 ghost use Rattle.vme_threads.specs.Reports.{HaveRun, IsReportOf};
-ghost use Rattle.vme_threads.specs.Threads.{IsRunOf};
+ghost use Rattle.vme_threads.specs.Threads.{IsPromiseOf};
 
 use crate::gate::Gate;
-use crate::gathering::gather;
+use crate::gather_report::gather;
 use crate::ports::Ports;
 use crate::report::Report;
 use crate::worker::{Ran, Worker};
@@ -22,7 +22,7 @@ use vme_script::Config;
 
 /// What a thread promises: the run of one worker.
 #[derive(Clone, Copy)]
-pub struct RunOf<'a> {
+pub struct WorkerPromise<'a> {
     /// The configuration.
     pub config: &'a Config,
     /// The ports that it calls.
@@ -31,12 +31,12 @@ pub struct RunOf<'a> {
     pub who: usize,
 }
 
-impl<'a> Promise<Result<Ran, RunFault>> for RunOf<'a> {
+impl<'a> Promise<Result<Ran, RunFault>> for WorkerPromise<'a> {
     ghost kept_by = { λ p r. IsEndOfRun p.config.now p.ports.now p.who r };
 }
 
 /// A thread that goes through a script.
-type Child<'a> = PromisedHandle<Result<Ran, RunFault>, RunOf<'a>>;
+type Child<'a> = PromisedHandle<Result<Ran, RunFault>, WorkerPromise<'a>>;
 
 /// Goes through all scripts of a configuration, each processor on a thread of its own, and calls the
 /// gate before and after each line. All memory is taken before the first thread starts.
@@ -110,14 +110,14 @@ fn start_all<'s, E, R: Threads + Wait + Sync, G: Gate + Sync>(
     requires none { vec_len children.old ≡ 0 }
     requires capacity { vec_len workers ≤ vec_capacity children.old }
     ensures count { IfOk result (λ _. vec_len children.new ≡ vec_len workers) }
-    ensures promised { Each (λ k c. IsRunOf config.entry.now ports.entry.now k c.promise) children.new.items }
+    ensures promised { Each (λ k c. IsPromiseOf config.entry.now ports.entry.now k c.promise) children.new.items }
     ensures fault { IfErr result (λ fault. fault ≢ Write) }
 {
     for worker in workers {
-        let promise = RunOf {
+        let promise = WorkerPromise {
             config,
             ports,
-            who: worker.desk.who,
+            who: worker.pass_set.who,
         };
         let Ok(child) = scope.spawn_with(promise, move || worker.run(rt, config, ports, gate))
         else {
@@ -137,7 +137,7 @@ fn join_all<'s, R: Threads>(
     children: Vec<Child<'s>>,
     rans: &mut Vec<Ran>,
 ) -> Result<(), RunFault>
-    requires promised { Each (λ k c. IsRunOf config.now ports.now k c.promise) children.items }
+    requires promised { Each (λ k c. IsPromiseOf config.now ports.now k c.promise) children.items }
     requires none { vec_len rans.old ≡ 0 }
     requires capacity { vec_len children ≤ vec_capacity rans.old }
     ensures count { IfOk result (λ _. vec_len rans.new ≡ vec_len children.entry) }

@@ -1,7 +1,7 @@
 ghost use Rattle.std.specs.Prelude.{◌≡◌, ◌<◌, ◌≤◌, IfOk, [], length, vec_len, vec_capacity};
 ghost use Rattle.vme_line_task.specs.ReadBuffers.{buffers_of};
 
-use crate::desk::Desk;
+use crate::pass_set::PassSet;
 use crate::gate::Gate;
 use crate::ports::Ports;
 use std::alloc::{AllocError, Global};
@@ -19,7 +19,7 @@ use vme_shared::LineReply;
 /// for the replies.
 #[derive(Drop)]
 pub struct Worker {
-    pub(crate) desk: Desk,
+    pub(crate) pass_set: PassSet,
     pub(crate) buffers: ReadBuffers,
     pub(crate) lines: Vec<(u16, LineReply)>,
 }
@@ -28,7 +28,7 @@ pub struct Worker {
 /// something with what it was answered.
 #[derive(Drop)]
 pub struct Ran {
-    pub(crate) desk: Desk,
+    pub(crate) pass_set: PassSet,
     pub(crate) lines: Vec<(u16, LineReply)>,
 }
 
@@ -44,10 +44,10 @@ impl Worker {
         script: &Script,
         bus: Pass<Arbiter>,
     ) -> Result<Worker, AllocError>
-        ensures who { IfOk result (λ w. w.desk.who ≡ bus.who) }
-        ensures bus { IfOk result (λ w. w.desk.bus ≡ bus) }
-        ensures boards { IfOk result (λ w. w.desk.boards.items ≡ []) }
-        ensures capacity { IfOk result (λ w. boards ≤ vec_capacity w.desk.boards) }
+        ensures who { IfOk result (λ w. w.pass_set.who ≡ bus.who) }
+        ensures bus { IfOk result (λ w. w.pass_set.bus ≡ bus) }
+        ensures boards { IfOk result (λ w. w.pass_set.boards.items ≡ []) }
+        ensures capacity { IfOk result (λ w. boards ≤ vec_capacity w.pass_set.boards) }
         ensures lines { IfOk result (λ w. vec_len w.lines ≡ 0) }
         ensures lines_capacity { IfOk result (λ w. length script.now ≤ vec_capacity w.lines) }
         ensures buffers { IfOk result (λ w. w.buffers ≡ buffers_of script.now) }
@@ -55,13 +55,13 @@ impl Worker {
         let boards = Vec::with_capacity(alloc, boards)?;
         let lines = Vec::with_capacity(alloc, script.len())?;
         let buffers = ReadBuffers::new(alloc, script)?;
-        let desk = Desk {
+        let pass_set = PassSet {
             who: bus.who(),
             boards,
             bus,
             patience: Patience::new(),
         };
-        Ok(Worker { desk, buffers, lines })
+        Ok(Worker { pass_set, buffers, lines })
     }
 
     /// Goes through the script of the processor on the caller's own thread, line by line, and calls
@@ -78,27 +78,27 @@ impl Worker {
         gate: &G,
     ) -> Result<Ran, RunFault>
         requires built { IsBuilt config.now ports.now }
-        requires worker { IsWorkerOf config.now ports.now self.desk.who self }
-        requires board { self.desk.who < length config.now.boards }
-        ensures { IsEndOfRun config.now ports.now self.desk.who result }
+        requires worker { IsWorkerOf config.now ports.now self.pass_set.who self }
+        requires board { self.pass_set.who < length config.now.boards }
+        ensures { IsEndOfRun config.now ports.now self.pass_set.who result }
     {
         let Worker {
-            mut desk,
+            mut pass_set,
             mut buffers,
             mut lines,
         } = self;
-        let slot = config.slot(desk.who);
-        for line in 0..line_count(config, desk.who) {
-            let number = config.script(desk.who).number(line);
+        let slot = config.slot(pass_set.who);
+        for line in 0..line_count(config, pass_set.who) {
+            let number = config.script(pass_set.who).number(line);
             let buffer = buffers.take();
             gate.before(slot, number);
-            let Ok(answer) = desk.line(rt, config, ports, line, buffer) else {
+            let Ok(answer) = pass_set.run_line(rt, config, ports, line, buffer) else {
                 ports.stop.store(true, Ordering::SeqCst);
                 return Err(RunFault::Spent);
             };
             gate.after(slot, number);
             lines.push_reserved((number, answer));
         }
-        Ok(Ran { desk, lines })
+        Ok(Ran { pass_set, lines })
     }
 }

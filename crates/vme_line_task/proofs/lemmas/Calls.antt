@@ -2,11 +2,11 @@
 use Rattle.std.proofs.Common.{◌≡◌, ◌≢◌, ℕ, false, true, is_some, Option, Some, None, refl, sym}
 use Rattle.std.specs.Option.{IsSome, option_map}
 use Rattle.vme_core.specs.declared.event.Event.{Event}
-use Rattle.vme_core.specs.declared.event.Deed.{Deed}
+use Rattle.vme_core.specs.declared.event.EventRef.{EventRef}
 use Rattle.vme_core.specs.Calls.{Call, call_of}
-use Rattle.vme_core.specs.declared.event.Deed.TheVariants as deeds
+use Rattle.vme_core.specs.declared.event.EventRef.TheVariants as refs
 use Rattle.vme_core.specs.Runs.{Machine}
-use Rattle.vme_core.specs.Deeds.{call_asked, target_of_deed, target_of_call, CanCount}
+use Rattle.vme_core.specs.EventRefs.{call_asked, target_of_ref, target_of_call, CanCount}
 use Rattle.vme_core.specs.declared.event.EventReply.{EventReply}
 use Rattle.vme_master.specs.Tables as tasks
 use Rattle.vme_master.specs.Tables.{Next}
@@ -16,7 +16,7 @@ use Rattle.vme_shared.specs.declared.reply.LineReply.{LineReply}
 use Rattle.vme_line_task.specs.declared.task.LineTask.{LineTask}
 use Rattle.vme_line_task.specs.declared.task.LineTask.TheVariants.{Refused, Running, Finished}
 use Rattle.vme_line_task.specs.declared.attempt.Attempts.{Attempts}
-use Rattle.vme_line_task.specs.Tables.{LineNext, NotStarted, Invokes, Returns, moves_next, next_asks_again}
+use Rattle.vme_line_task.specs.Tables.{LineNext, NotStarted, Invokes, Returns, moves_next, next_wants_retry}
 use Rattle.vme_line_task.specs.declared.attempt.AttemptTask.TheVariants.{Transfer}
 use Rattle.vme_line_task.specs.Machine.{line_to_do, line_taken, attempt_to_do, attempts_taken, attempts_advance}
 use Rattle.vme_line_task.specs.Events.{call_in, answer_in, MakesCall}
@@ -100,7 +100,7 @@ moves_call (tasks.Invokes call) = refl
 moves_call (tasks.Returns outcome) = refl
 
 -- and it is attempted once
-moves_once : (next : Next) → next_asks_again (moves_next next) ≡ false
+moves_once : (next : Next) → next_wants_retry (moves_next next) ≡ false
 moves_once tasks.NotStarted = refl
 moves_once (tasks.Invokes call) = refl
 moves_once (tasks.Returns outcome) = refl
@@ -109,8 +109,8 @@ pub moves_on : (t : TaskView) (left : ℕ) (given : Option EventReply)
     → record { attempt = Transfer (advance t given); left = left } ≡ attempts_advance (record { attempt = Transfer t; left = left }) given
 moves_on t left given = rw (moves_once (to_do (advance t given))) refl
 
--- what a deed is given to is what its call is given to
-pub asked_of : (machine : Machine) (deed : Deed) → CanCount machine (target_of_call (call_asked deed)) → CanCount machine (target_of_deed deed)
-asked_of machine (deeds.Board board cmd) can = can
-asked_of machine (deeds.Datum board access) can = can
-asked_of machine (deeds.Bus cmd) can = can
+-- what a event_ref is given to is what its call is given to
+pub asked_of : (machine : Machine) (event_ref : EventRef) → CanCount machine (target_of_call (call_asked event_ref)) → CanCount machine (target_of_ref event_ref)
+asked_of machine (refs.Board board cmd) can = can
+asked_of machine (refs.Datum board access) can = can
+asked_of machine (refs.Bus cmd) can = can

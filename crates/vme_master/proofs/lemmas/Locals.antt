@@ -1,4 +1,4 @@
--- The one call of a local command, the boards that jobs call, and the replies that boards and the arbiter give.
+-- The one call of a local command, the boards that jobs call, and the replies that boards and the arbiter advance.
 use Rattle.std.proofs.Common.{◌≡◌, ℕ, ◌<◌, true, List, [], ◌∷◌, length, Option, Some, None, refl, sym, subst, inl, inr}
 use Rattle.std.proofs.lemmas.Bool.{cases_Bool}
 use Rattle.vme_cycle.specs.Requests.{addr_of}

@@ -25,7 +25,7 @@ use Rattle.vme_line_task.specs.Traces.{IsTrace}
 use Rattle.vme_threads.specs.declared.worker.Ran.{Ran}
 use Rattle.vme_threads.specs.declared.ports.BoardPort.{BoardPort}
 use Rattle.vme_threads.specs.declared.ports.Ports.{Ports}
-use Rattle.vme_threads.specs.declared.report.BoardEnd.{BoardEnd}
+use Rattle.vme_threads.specs.declared.report.BoardReport.{BoardReport}
 use Rattle.vme_threads.specs.declared.report.Report.{Report}
 use Rattle.vme_threads.specs.Columns.{Column}
 use Rattle.vme_threads.specs.Gathers.{AreSquare, AreDealt, CanAllClose, AreClosed}
@@ -104,7 +104,7 @@ module _ {S C R : Type 0} (step : S → C → S × R) (start : S) where
 
 -- the i-th pass of each ran, at a place
 abbrev pub column_of : ℕ → PassView BoardCmd Reply → Ran → PassView BoardCmd Reply
-column_of x d r = slice_index_or r.desk.boards.items x d
+column_of x d r = slice_index_or r.pass_set.boards.items x d
 
 module _ (config : Configuration) (ports : Ports) (rans : List Ran) (can : CanGather config ports rans) where
   -- each ran has a pass of each board's port
@@ -150,22 +150,22 @@ module _ (config : Configuration) (ports : Ports) (rans : List Ran) (can : CanGa
       }
 
   -- the arbiter's passes are those of its port
-  pub bus_fits : Each (λ i (p : PassView ArbCmd ArbReply). (p.port ≡ port_id ports.bus) × (p.who ≡ i)) (map (λ (r : Ran). r.desk.bus) rans)
+  pub bus_fits : Each (λ i (p : PassView ArbCmd ArbReply). (p.port ≡ port_id ports.bus) × (p.who ≡ i)) (map (λ (r : Ran). r.pass_set.bus) rans)
   bus_fits =
-      each_right (IsRanOf config ports) (λ i (p : PassView ArbCmd ArbReply). (p.port ≡ port_id ports.bus) × (p.who ≡ i)) (λ (r : Ran). r.desk.bus)
+      each_right (IsRanOf config ports) (λ i (p : PassView ArbCmd ArbReply). (p.port ≡ port_id ports.bus) × (p.who ≡ i)) (λ (r : Ran). r.pass_set.bus)
       can.runs.runs rans (λ who run ran is. (is.fits.bus, is.fits.bus_who ∙ is.same)) can.runs.each
 
   -- and each has its part
-  bus_tells : AllAt (λ who part (p : PassView ArbCmd ArbReply). (p.who ≡ who) × (p.mine ≡ part)) (map bus_part can.runs.runs) (map (λ (r : Ran). r.desk.bus) rans)
+  bus_tells : AllAt (λ who part (p : PassView ArbCmd ArbReply). (p.who ≡ who) × (p.mine ≡ part)) (map bus_part can.runs.runs) (map (λ (r : Ran). r.pass_set.bus) rans)
   bus_tells =
-      all_at_maps (IsRanOf config ports) (λ who part (p : PassView ArbCmd ArbReply). (p.who ≡ who) × (p.mine ≡ part)) bus_part (λ (r : Ran). r.desk.bus)
+      all_at_maps (IsRanOf config ports) (λ who part (p : PassView ArbCmd ArbReply). (p.who ≡ who) × (p.mine ≡ part)) bus_part (λ (r : Ran). r.pass_set.bus)
       can.runs.runs rans (λ who run ran is. (is.fits.bus_who ∙ is.same, is.bus)) can.runs.each
 
   -- what a board came to
   end_of_board :
-      (columns : List Column) (ends : List BoardEnd) → length config.boards ≤ length columns → AreDealt rans columns
+      (columns : List Column) (ends : List BoardReport) → length config.boards ≤ length columns → AreDealt rans columns
       → AreClosed ports.boards.items columns ends → (x : ℕ) (own : BoardConfig)
-      (e : BoardEnd) → x < length config.boards → IsEndOf can.runs.runs x (slice_index_or config.boards x own) (slice_index_or ends x e)
+      (e : BoardReport) → x < length config.boards → IsEndOf can.runs.runs x (slice_index_or config.boards x own) (slice_index_or ends x e)
   end_of_board columns ends wide dealt closed x own e within =
       let x< : x < length ports.boards.items = omega (arith, within, can.built.boards.count) in
       let o = (line_there ports.boards.items x x<).0 in
@@ -195,11 +195,11 @@ module _ (config : Configuration) (ports : Ports) (rans : List Ran) (can : CanGa
       (report : Report) (columns : List Column) (object : Arbitration) → length config.boards ≤ length columns → AreDealt rans columns
       → AreClosed ports.boards.items columns report.boards.items
       → report.lines.items ≡ map (λ (r : Ran). r.lines) rans
-      → Settles turn_step (opening ports.bus) (passes_of ports.bus) (map (λ (r : Ran). r.desk.bus) rans) object report.arbiter_steps
-      → report.arbiter_made.items ≡ map (λ (p : PassView ArbCmd ArbReply). p.made) (map (λ (r : Ran). r.desk.bus) rans) → IsReportOf config report
+      → Settles turn_step (opening ports.bus) (passes_of ports.bus) (map (λ (r : Ran). r.pass_set.bus) rans) object report.arbiter_steps
+      → report.arbiter_made.items ≡ map (λ (p : PassView ArbCmd ArbReply). p.made) (map (λ (r : Ran). r.pass_set.bus) rans) → IsReportOf config report
   report_of report columns object wide dealt closed lines settled made =
       let runs = can.runs.runs in
-      let passes = map (λ (r : Ran). r.desk.bus) rans in
+      let passes = map (λ (r : Ran). r.pass_set.bus) rans in
       let free : Settles turn_step (opening_bus config.arbiter) (length config.boards) passes object report.arbiter_steps =
       subst (λ (s : Arbitration). Settles turn_step s (length config.boards) passes object report.arbiter_steps) can.built.bus
       (subst (λ k. Settles turn_step (opening ports.bus) k passes object report.arbiter_steps) can.built.passes settled)
@@ -222,7 +222,7 @@ module _ (config : Configuration) (ports : Ports) (rans : List Ran) (can : CanGa
         bus = (
           object,
           shared_history turn_step (opening_bus config.arbiter) (length config.boards) passes (map bus_part runs) object report.arbiter_steps report.arbiter_made.items free
-              (same_count (λ (r : Ran). r.desk.bus) rans ∙ can.count) bus_tells made,
+              (same_count (λ (r : Ran). r.pass_set.bus) rans ∙ can.count) bus_tells made,
         );
       }
     where

@@ -3,8 +3,8 @@ use Rattle.vme_object.specs.Each.{Each}
 use Rattle.vme_object.proofs.lemmas.Eachs.{Each-push}
 use Rattle.vme_script.specs.declared.board.BoardConfig.{BoardConfig}
 use Rattle.vme_threads.specs.declared.ports.BoardPort.{BoardPort}
-use Rattle.vme_threads.specs.Ports.{IsPortOf, AreHired}
-use Rattle.vme_threads.proofs.Hired.{all_hired_more, all_ports}
+use Rattle.vme_threads.specs.Ports.{IsPortOf, AreNewWorkers}
+use Rattle.vme_threads.proofs.NewWorkers.{new_workers_more, all_ports}
 use Rattle.vme_threads.proofs.open.open_boards.Goals as goal
 
 -- one board more has its port, whose passes are handed out
@@ -15,7 +15,7 @@ loop-board-preserved c =
     let opened = c.loop-board.boards.items in
     let port = c.in_ok-port.port in
     let ws = c.loop-board.workers.items in
-    let vs = c.hand_out.new.workers.items in
+    let vs = c.distribute_passes.new.workers.items in
     let P = λ (x : ℕ) (o : BoardPort). (d : BoardConfig) → IsPortOf c.boards-count.result (slice_index_or config.boards x d) o in
     let at : c.loop-board.board ≡ length opened = sym was.count ∙ c.loop-board.boards.ok.0 in
     let here : P (length opened) port =
@@ -26,10 +26,10 @@ loop-board-preserved c =
       count = search rules;
       capacity = search rules;
       ports = subst (Each P) (sym c.push_reserved.ensures.items) (Each-push P opened port was.ports here);
-      hired =
-          subst (λ (os : List BoardPort). AreHired config os c.args.bus.now vs) (sym c.push_reserved.ensures.items)
-          (all_hired_more config opened port c.args.bus.now c.in_ok-port.passes.items ws vs was.hired c.in_ok-port.ensures.unused
-          (omega (arith, c.in_ok-port.ensures.count, c.in_ok-port.passes.ok.0, was.hired.count)) c.hand_out.ensures.got);
+      new_worker =
+          subst (λ (os : List BoardPort). AreNewWorkers config os c.args.bus.now vs) (sym c.push_reserved.ensures.items)
+          (new_workers_more config opened port c.args.bus.now c.in_ok-port.passes.items ws vs was.new_worker c.in_ok-port.ensures.unused
+          (omega (arith, c.in_ok-port.ensures.count, c.in_ok-port.passes.ok.0, was.new_worker.count)) c.distribute_passes.ensures.got);
     }
 
 -- each board has its port

@@ -4,10 +4,10 @@ use Rattle.vme_report.specs.declared.fault.RunFault.{RunFault}
 use Rattle.vme_script.specs.Configurations.{Configuration}
 use Rattle.vme_threads.specs.declared.worker.Ran.{Ran}
 use Rattle.vme_threads.specs.declared.ports.Ports.{Ports}
-use Rattle.vme_threads.specs.declared.threads.RunOf.{RunOf}
+use Rattle.vme_threads.specs.declared.threads.WorkerPromise.{WorkerPromise}
 use Rattle.vme_threads.specs.Rans.{HasRun}
 use Rattle.vme_threads.specs.Reports.{HaveRun}
-use Rattle.vme_threads.specs.Threads.{IsRunOf}
+use Rattle.vme_threads.specs.Threads.{IsPromiseOf}
 use Rattle.vme_threads.proofs.Places.{first_of_each, rest_of_each}
 use Rattle.vme_threads.proofs.lemmas.Gathered.{have_more}
 use Rattle.vme_threads.proofs.threads.join_all.Goals as goal
@@ -22,7 +22,7 @@ loop-child-preserved g c =
     let rans = c.loop-child.rans.items in
     let ran = c.in_ok-ran.ran in
     let step = c.in-Some.ensures.steps.0 in
-    let Q = λ (k : ℕ) (d : PromisedHandle (Result Ran RunFault) RunOf). IsRunOf config ports k d.promise in
+    let Q = λ (k : ℕ) (d : PromisedHandle (Result Ran RunFault) WorkerPromise). IsPromiseOf config ports k d.promise in
     let first = first_of_each Q n _ c.in-Some.child _ step was.rest in
     let p = c.in-Some.child.promise in
     let by_who = subst (λ w. HasRun p.config.now p.ports.now w ran) first.who c.in_ok-ran.ensures in

@@ -5,9 +5,9 @@ use Rattle.vme_object.proofs.lemmas.Eachs.{Each-push}
 use Rattle.vme_report.specs.declared.fault.RunFault.{RunFault}
 use Rattle.vme_threads.specs.declared.worker.Worker.{Worker}
 use Rattle.vme_threads.specs.declared.worker.Ran.{Ran}
-use Rattle.vme_threads.specs.declared.threads.RunOf.{RunOf}
+use Rattle.vme_threads.specs.declared.threads.WorkerPromise.{WorkerPromise}
 use Rattle.vme_threads.specs.Ports.{IsWorkerOf}
-use Rattle.vme_threads.specs.Threads.{IsRunOf}
+use Rattle.vme_threads.specs.Threads.{IsPromiseOf}
 use Rattle.vme_threads.proofs.Places.{first_of_each, rest_of_each, begin_each}
 use Rattle.vme_threads.proofs.threads.start_all.Goals as goal
 
@@ -31,13 +31,13 @@ loop-worker-preserved g c =
     let children = c.loop-worker.children.items in
     let step = c.in-Some.ensures.steps.0 in
     let P = λ (i : ℕ) (w : Worker). IsWorkerOf config ports i w in
-    let Q = λ (k : ℕ) (d : PromisedHandle (Result Ran RunFault) RunOf). IsRunOf config ports k d.promise in
+    let Q = λ (k : ℕ) (d : PromisedHandle (Result Ran RunFault) WorkerPromise). IsPromiseOf config ports k d.promise in
     let first = first_of_each P n _ c.in-Some.worker _ step was.rest in
     let promise = c.in-Ok.ensures.ok in
     let here : Q (length children) c.in-Ok.child = record {
-      config = ap (λ (p : RunOf). p.config.now) promise;
-      ports = ap (λ (p : RunOf). p.ports.now) promise;
-      who = ap (λ (p : RunOf). p.who) promise ∙ first.who ∙ c.loop-worker.children.ok.0;
+      config = ap (λ (p : WorkerPromise). p.config.now) promise;
+      ports = ap (λ (p : WorkerPromise). p.ports.now) promise;
+      who = ap (λ (p : WorkerPromise). p.who) promise ∙ first.who ∙ c.loop-worker.children.ok.0;
     } in
     record {
       count = search rules;

@@ -4,5 +4,5 @@ use Rattle.vme_cycle.specs.Requests.{read_len}
 use Rattle.vme_cycle.proofs.lemmas.Transfers.{comes_from}
 use Rattle.vme_shared.proofs.asked.Asked.task.Goals as goal
 
-pub start_own-requires : goal.start_own-requires
-start_own-requires c = λ t lawful. omega (arith, ap read_len (comes_from c.transfer.result t lawful).same, c.transfer.ensures.capacity)
+pub start_owned-requires : goal.start_owned-requires
+start_owned-requires c = λ t lawful. omega (arith, ap read_len (comes_from c.transfer.result t lawful).same, c.transfer.ensures.capacity)

@@ -18,24 +18,24 @@ abbrev processor_with : List ScriptLine → List (ℕ × LineReply) → ℕ → 
 processor_with script lines ended at = record { script = script; lines = lines; ended = ended; at = at }
 
 -- it makes another call next
-pub invariant_of-self-else-is_over : goal.invariant_of-self-else-is_over
-invariant_of-self-else-is_over c =
+pub invariant_of-self-else-is_finished : goal.invariant_of-self-else-is_finished
+invariant_of-self-else-is_finished c =
     let sound = rw c.in-Some.is at c.self.invariant.work in
     let call = its_call (line_to_do c.in-Some.task) sound.1 in
     let called = ap call_in (sym call.1) in
     record {
-      work = (sound.0, at_work (line_to_do c.make.new.self) (c.make.ensures.begun call.0 called) (sym c.is_over.ensures ∙ c.if-is_over.false));
+      work = (sound.0, at_work (line_to_do c.make.new.self) (c.make.ensures.begun call.0 called) (sym c.is_finished.ensures ∙ c.if-is_finished.false));
       left = rw c.in-Some.is at c.self.invariant.left;
     }
 
-pub returns-else-is_over-clause-below : goal.returns-else-is_over-clause-below
-returns-else-is_over-clause-below c =
+pub returns-else-is_finished-clause-below : goal.returns-else-is_finished-clause-below
+returns-else-is_finished-clause-below c =
     let sound = rw c.in-Some.is at c.self.invariant.work in
     let call = its_call (line_to_do c.in-Some.task) sound.1 in
     c.make.ensures.below call.0 (length c.args.core.now.boards) (ap call_in (sym call.1)) (rw (← c.self.view_is, c.in-Some.is) at c.requires.below)
 
-pub returns-else-is_over-clause-turn : goal.returns-else-is_over-clause-turn
-returns-else-is_over-clause-turn c =
+pub returns-else-is_finished-clause-turn : goal.returns-else-is_finished-clause-turn
+returns-else-is_finished-clause-turn c =
     let sound = rw c.in-Some.is at c.self.invariant.work in
     let is = ap (processor_with c.self.inside.script.now c.self.inside.lines.items c.self.inside.ended) (sym c.in-Some.is) ∙ c.self.view_is in
     let call = its_call (line_to_do c.in-Some.task) sound.1 in
@@ -44,14 +44,14 @@ returns-else-is_over-clause-turn c =
     let step = ap (λ machine. (machine, reply)) (c.make.ensures.machine call.0 called) in
     let given = c.make.ensures.task call.0 called in
     let next = its_call (line_to_do c.make.new.self)
-    (at_work (line_to_do c.make.new.self) (c.make.ensures.begun call.0 called) (sym c.is_over.ensures ∙ c.if-is_over.false)) in
+    (at_work (line_to_do c.make.new.self) (c.make.ensures.begun call.0 called) (sym c.is_finished.ensures ∙ c.if-is_finished.false)) in
     λ config processor over.
     turn_goes_on config c.args.board c.args.core.now c.make.new.core c.args.self.now c.self.inside.script.now c.self.inside.lines.items c.self.inside.ended c.in-Some.task
     c.make.new.self call.0 next.0 reply is processor.lines sound.0 (sym call.1) step given next.1
 
-pub returns-then-is_over-clause-turn : goal.returns-then-is_over-clause-turn
-returns-then-is_over-clause-turn c =
-    let end = its_answer (line_to_do c.make.new.self) (sym c.is_over.ensures ∙ c.if-is_over.true) in
+pub returns-then-is_finished-clause-turn : goal.returns-then-is_finished-clause-turn
+returns-then-is_finished-clause-turn c =
+    let end = its_answer (line_to_do c.make.new.self) (sym c.is_finished.ensures ∙ c.if-is_finished.true) in
     let sound = rw c.in-Some.is at c.self.invariant.work in
     let is = ap (processor_with c.self.inside.script.now c.self.inside.lines.items c.self.inside.ended) (sym c.in-Some.is) ∙ c.self.view_is in
     let call = its_call (line_to_do c.in-Some.task) sound.1 in

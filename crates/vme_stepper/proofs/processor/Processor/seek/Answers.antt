@@ -20,27 +20,27 @@ start-task-requires-clause-capacity c =
     (draws c.args.config.now c.args.board s.lines.items s.ended s.buffers c.take-buffer.new.self c.take-buffer.result
     (omega (arith, c.loop-self-test.true, c.len.ensures, s.lines.ok.0)) c.loop-self.invariant.lines c.loop-self.invariant.buffers c.take-buffer.ensures).enough
 
-pub invariant_of-self-then-not-is_over : goal.invariant_of-self-then-not-is_over
-invariant_of-self-then-not-is_over c =
+pub invariant_of-self-then-not-is_finished : goal.invariant_of-self-then-not-is_finished
+invariant_of-self-then-not-is_finished c =
     let s = c.loop-self.self-inside in
     let within : s.ended < length s.lines.items = omega (arith, c.loop-self-test.true, c.len.ensures, s.lines.ok.0) in
     let after = (draws c.args.config.now c.args.board s.lines.items s.ended s.buffers c.take-buffer.new.self c.take-buffer.result
     within c.loop-self.invariant.lines c.loop-self.invariant.buffers c.take-buffer.ensures).after in
-    let on : c.is_over.result ≡ false = search rules in
+    let on : c.is_finished.result ≡ false = search rules in
     record {
-      work = (within, at_work (line_to_do c.give.new.self) c.give.ensures.begun (sym c.is_over.ensures ∙ on));
+      work = (within, at_work (line_to_do c.advance.new.self) c.advance.ensures.begun (sym c.is_finished.ensures ∙ on));
       left = rw c.loop-self.invariant.script after;
     }
 
-pub returns-then-not-is_over-clause-turn : goal.returns-then-not-is_over-clause-turn
-returns-then-not-is_over-clause-turn c =
+pub returns-then-not-is_finished-clause-turn : goal.returns-then-not-is_finished-clause-turn
+returns-then-not-is_finished-clause-turn c =
     let within : c.loop-self.self-inside.ended < length (lines_at c.args.config.now c.args.board)
     = omega (arith, c.loop-self-test.true, c.len.ensures, c.loop-self.invariant.lines, c.loop-self.self-inside.lines.ok.0) in
-    let on : c.is_over.result ≡ false = search rules in
-    let next = its_call (line_to_do c.give.new.self) (at_work (line_to_do c.give.new.self) c.give.ensures.begun (sym c.is_over.ensures ∙ on)) in
+    let on : c.is_finished.result ≡ false = search rules in
+    let next = its_call (line_to_do c.advance.new.self) (at_work (line_to_do c.advance.new.self) c.advance.ensures.begun (sym c.is_finished.ensures ∙ on)) in
     λ machine.
     turn_begins c.args.config.now c.args.board machine c.loop-self.self-inside.script.now c.loop-self.self-inside.lines.items
-    c.loop-self.self-inside.ended c.start-task.result c.give.new.self next.0 within c.start-task.ensures.line c.give.ensures.task next.1
+    c.loop-self.self-inside.ended c.start-task.result c.advance.new.self next.0 within c.start-task.ensures.line c.advance.ensures.task next.1
     ∙ c.loop-self.invariant.turn machine
 
 pub loop-self-preserved : goal.loop-self-preserved
@@ -63,7 +63,7 @@ loop-self-preserved c =
       turn = λ machine.
           rw (lines, put)
           (turn_passes c.args.config.now c.args.board machine s.script.now s.lines.items s.ended c.start-task.result
-          c.give.new.self answer within c.start-task.ensures.line c.give.ensures.task
-          (ends_so (line_to_do c.give.new.self) answer (rw c.unwrap-answer.ensures at c.take_answer.ensures.answer))
+          c.advance.new.self answer within c.start-task.ensures.line c.advance.ensures.task
+          (ends_so (line_to_do c.advance.new.self) answer (rw c.unwrap-answer.ensures at c.take_reply.ensures.answer))
           ∙ c.loop-self.invariant.turn machine);
     }

@@ -1,6 +1,0 @@
-use Rattle.vme_threads.proofs.Once.{local_answered}
-use Rattle.vme_threads.proofs.desk.Desk.local.Goals as goal
-
-pub returns : goal.returns
-returns g c =
-    local_answered c.args.cmd.now c.in_ok-reply.reply c.local_outcome.result c.args.self.now c.command.new.self c.in_ok-reply.ensures c.local_outcome.ensures

@@ -1,0 +1,16 @@
+use Rattle.std.proofs.Common.{◌≡◌, ◌+◌, ◌≤◌, [], vec_len, vec_capacity}
+use Rattle.std.specs.Vec.Iter.{into_iter_items, into_iter_len}
+use Rattle.vme_object.specs.Each.{Each}
+use Rattle.vme_port.specs.Passes.{IsUnused}
+use Rattle.vme_port.specs.Ports.{port_id}
+use Rattle.vme_threads.specs.Ports.{IsNewWorker}
+use Rattle.vme_threads.proofs.workers.new_workers.Given as goal
+
+-- each pass that was taken has its worker, and those that are left have the next numbers
+abbrev pub invariant-loop-pass : goal.invariant-loop-pass
+invariant-loop-pass l = record {
+  count : vec_len l.workers + into_iter_len l.pass-iterator ≡ l.count;
+  capacity : l.count ≤ vec_capacity l.workers;
+  rest : Each (λ i p. IsUnused (port_id l.bus) (vec_len l.workers + i) p) (into_iter_items l.pass-iterator);
+  new_worker : Each (IsNewWorker l.config [] l.bus) l.workers.items;
+}

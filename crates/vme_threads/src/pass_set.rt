@@ -1,0 +1,156 @@
+ghost use Rattle.std.specs.Prelude.{◌≡◌, ◌<◌, ◌≤◌, ◌∷◌, [], length, slice_get, Some, IfOk};
+ghost use Rattle.vme_core.specs.declared.event.Event.TheVariants as asked;
+ghost use Rattle.vme_core.specs.declared.event.EventReply.TheVariants as told;
+ghost use Rattle.vme_core.specs.Runs.{move};
+ghost use Rattle.vme_grammar.specs.declared.line.Line.{Line};
+ghost use Rattle.vme_core.specs.EventRefs.{call_asked};
+ghost use Rattle.vme_line_task.specs.Events.{IsCallBelow};
+ghost use Rattle.vme_line_task.specs.ReadBuffers.{line_read_len};
+ghost use Rattle.vme_line_task.specs.Scripts.{lines_at};
+ghost use Rattle.vme_threads.specs.PassSets.{MatchesPorts, AddsTransitions, AddsCall};
+ghost use Rattle.vme_threads.specs.Rans.{AddsLine};
+
+use crate::ports::Ports;
+use crossbeam_utils::Backoff;
+use std::sync::Wait;
+use std::sync::atomic::Ordering;
+use vme_arbiter::{ArbCmd, ArbReply, Arbiter};
+use vme_bus_wait::Patience;
+use vme_core::{EventRef, EventReply};
+use vme_cycle::BlockBuffer;
+use vme_line_task::LineTask;
+use vme_memory::{ByteMemory, Reply};
+use vme_object::{Operation, CommandRef};
+use vme_port::{Pass, Spent};
+use vme_script::Config;
+use vme_shared::LineReply;
+
+/// The passes of one processor: one of the port of each board, by its place, and one of the
+/// arbiter's; and how long it has waited for the bus.
+#[derive(Drop)]
+pub struct PassSet {
+    pub(crate) who: usize,
+    pub(crate) boards: Vec<Pass<ByteMemory>>,
+    pub(crate) bus: Pass<Arbiter>,
+    pub(crate) patience: Patience,
+}
+
+impl PassSet {
+    /// Gives a command to the arbiter. Who is told to wait does so for a round, and who gives the bus
+    /// back tells those who wait.
+    ///
+    /// # Errors
+    /// `Spent` where the arbiter has made as many steps as can be counted.
+    #[inline(always)]
+    pub(crate) fn call_bus<R: Wait>(
+        &mut self,
+        rt: &R,
+        ports: &Ports,
+        cmd: &ArbCmd,
+    ) -> Result<ArbReply, Spent>
+        requires { MatchesPorts ports.now self.old }
+        ensures { IfOk result (λ reply.
+            AddsTransitions (move self.old.who (asked.Bus cmd.now) (told.Bus reply) ∷ []) self.old self.new) }
+    {
+        let releases = ports.waits.releases();
+        let reply = ports.bus.call(rt, &mut self.bus, cmd)?;
+        match reply {
+            ArbReply::Waiting => ports.waits.wait(rt, self.who, releases, &mut self.patience),
+            ArbReply::Granted => ports.waits.leave(&mut self.patience),
+            ArbReply::Freed => ports.waits.release(&mut self.patience),
+            ArbReply::Denied => {}
+        }
+        Ok(reply)
+    }
+
+    /// Gives a board, by its place, what asks for the step of a command.
+    ///
+    /// # Errors
+    /// `Spent` where the board has made as many steps as can be counted.
+    #[inline(always)]
+    pub(crate) fn call_board<R: Wait, A: Operation<ByteMemory>>(
+        &mut self,
+        rt: &R,
+        ports: &Ports,
+        board: usize,
+        cmd: &A,
+    ) -> Result<Reply, Spent>
+        requires fits { MatchesPorts ports.now self.old }
+        requires there { board < length self.old.boards.items }
+        ensures { IfOk result (λ reply.
+            AddsTransitions (move self.old.who (asked.Board board (A.command cmd.now)) (told.Board reply) ∷ []) self.old self.new) }
+    {
+        let port = &ports.boards[board].port;
+        let pass = &mut self.boards[board];
+        port.call_operation(rt, pass, cmd)
+    }
+
+    /// Makes what a event_ref asks, by a call of the port that it is for. A command is given where it lies,
+    /// and a datum of a transfer without its lines.
+    ///
+    /// # Errors
+    /// `Spent` where its object has made as many steps as can be counted.
+    #[inline(always)]
+    pub(crate) fn call_event<R: Wait>(
+        &mut self,
+        rt: &R,
+        ports: &Ports,
+        event_ref: &EventRef<'_>,
+    ) -> Result<EventReply, Spent>
+        requires fits { MatchesPorts ports.now self.old }
+        requires there { IsCallBelow (length self.old.boards.items) (call_asked event_ref.now) }
+        ensures { IfOk result (λ reply. AddsCall (call_asked event_ref.now) reply self.old self.new) }
+    {
+        match event_ref {
+            EventRef::Bus(cmd) => Ok(EventReply::Bus(self.call_bus(rt, ports, cmd)?)),
+            EventRef::Board { board, cmd } => {
+                Ok(EventReply::Board(self.call_board(rt, ports, *board, &CommandRef { cmd: *cmd })?))
+            }
+            EventRef::Datum { board, cycle } => {
+                Ok(EventReply::Board(self.call_board(rt, ports, *board, cycle)?))
+            }
+        }
+    }
+
+    /// Makes the events of a line of the script, by its place among those that ask for something,
+    /// attempt by attempt, until it is answered.
+    ///
+    /// # Errors
+    /// `Spent` where an object has made as many steps as can be counted, here or for another worker.
+    pub(crate) fn run_attempts<R: Wait>(
+        &mut self,
+        rt: &R,
+        config: &Config,
+        ports: &Ports,
+        line: usize,
+        buffer: BlockBuffer,
+    ) -> Result<LineReply, Spent>
+        requires fits { MatchesPorts ports.now self.old }
+        requires ports { length ports.now.boards.items ≡ length config.now.boards }
+        requires board { self.old.who < length config.now.boards }
+        requires line { line < length (lines_at config.now self.old.who) }
+        requires none { buffer.items ≡ [] }
+        requires capacity { (one : Line) → slice_get (lines_at config.now self.old.who) line ≡ Some one →
+            line_read_len one ≤ buffer.capacity }
+        ensures { IfOk result (λ answer. AddsLine config.now line answer self.old self.new) }
+    {
+        let backoff = Backoff::new();
+        let mut task = LineTask::start(config, self.who, line, buffer);
+        task.advance(None);
+        for _ in rt.forever() {
+            if task.is_finished() {
+                return Ok(task.take_reply().unwrap());
+            }
+            if ports.stop.load(Ordering::SeqCst) {
+                return Err(Spent);
+            }
+            let reply = self.call_event(rt, ports, &task.event_ref().unwrap())?;
+            let attempts = task.attempts_left();
+            task.advance(Some(&reply));
+            if task.attempts_left() < attempts {
+                backoff.snooze();
+            }
+        }
+        unreachable!()
+    }
+}
