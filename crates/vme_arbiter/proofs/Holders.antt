@@ -13,11 +13,11 @@ use Rattle.vme_arbiter.specs.Arbitration.{Arbitration, turn_step}
 use Rattle.vme_arbiter.specs.Turns.{slot_of, Frees, HasTheBus}
 
 -- what is told a slot
-pub told-granted : (bus : Arbitration) (cmd : ArbCmd) → (turn_step bus cmd).1 ≡ Granted → (turn_step bus cmd).0.holder ≡ Some (slot_of cmd)
-told-granted bus cmd told = search rules
+pub reported-granted : (bus : Arbitration) (cmd : ArbCmd) → (turn_step bus cmd).1 ≡ Granted → (turn_step bus cmd).0.holder ≡ Some (slot_of cmd)
+reported-granted bus cmd reported = search rules
 
-pub told-freed : (bus : Arbitration) (cmd : ArbCmd) → (turn_step bus cmd).1 ≡ Freed → bus.holder ≡ Some (slot_of cmd)
-told-freed bus cmd told = search rules
+pub reported-freed : (bus : Arbitration) (cmd : ArbCmd) → (turn_step bus cmd).1 ≡ Freed → bus.holder ≡ Some (slot_of cmd)
+reported-freed bus cmd reported = search rules
 
 pub holder-stays : (bus : Arbitration) (cmd : ArbCmd) (slot : ℕ) → bus.holder ≡ Some slot → (turn_step bus cmd).1 ≢ Freed
     → (turn_step bus cmd).0.holder ≡ Some slot
@@ -30,7 +30,7 @@ holder-kept bus slot [] held legal keeps = held
 holder-kept bus slot (e ∷ between) held legal keeps =
     let kept : (turn_step bus e.cmd).1 ≢ Freed =
     λ freed. All-head (λ e. Frees slot e → ⊥) e between keeps
-    (same_Some _ _ (sym (told-freed bus e.cmd freed) ∙ held), legal.0 ∙ freed) in
+    (same_Some _ _ (sym (reported-freed bus e.cmd freed) ∙ held), legal.0 ∙ freed) in
     holder-kept (turn_step bus e.cmd).0 slot between (holder-stays bus e.cmd slot held kept) legal.1
     (All-tail (λ e. Frees slot e → ⊥) e between keeps)
 
@@ -40,12 +40,12 @@ pub has_bus-holder : (bus : Arbitration) (h : List (Entry ArbCmd ArbReply)) (slo
 has_bus-holder bus h slot legal has =
     let then = replay turn_step bus has.before in
     let from =
-    legal-rest turn_step bus has.before (has.told ∷ has.since)
+    legal-rest turn_step bus has.before (has.reported ∷ has.since)
     (subst (λ (g : List (Entry ArbCmd ArbReply)). IsLegal turn_step bus g) has.whole legal) in
-    let held = told-granted then has.told.cmd (sym from.0 ∙ has.granted) ∙ ap (λ (s : ℕ). Some s) has.names in
+    let held = reported-granted then has.reported.cmd (sym from.0 ∙ has.granted) ∙ ap (λ (s : ℕ). Some s) has.names in
     ap (λ (g : List (Entry ArbCmd ArbReply)). (replay turn_step bus g).holder) has.whole
-    ∙ ap (λ (b : Arbitration). b.holder) (replay-append turn_step bus has.before (has.told ∷ has.since))
-    ∙ holder-kept (turn_step then has.told.cmd).0 slot has.since held from.1 has.kept
+    ∙ ap (λ (b : Arbitration). b.holder) (replay-append turn_step bus has.before (has.reported ∷ has.since))
+    ∙ holder-kept (turn_step then has.reported.cmd).0 slot has.since held from.1 has.kept
 
 -- so there is one such slot at most
 pub has_bus-alone : (bus : Arbitration) (h : List (Entry ArbCmd ArbReply)) (a b : ℕ) → IsLegal turn_step bus h → HasTheBus a h
@@ -59,14 +59,14 @@ pub has_bus-granted : (bus : Arbitration) (h : List (Entry ArbCmd ArbReply)) (ne
 has_bus-granted bus h next slot legal has granted =
     let last = replay turn_step bus h in
     let held = has_bus-holder bus h slot (legal-begins turn_step bus h (next ∷ []) legal) has in
-    let told = sym (legal-rest turn_step bus h (next ∷ []) legal).0 ∙ granted in
-    let stays = holder-stays last next.cmd slot held (λ freed. let both = sym told ∙ freed in cc) in
-    same_Some _ _ (sym (told-granted last next.cmd told) ∙ stays)
+    let reported = sym (legal-rest turn_step bus h (next ∷ []) legal).0 ∙ granted in
+    let stays = holder-stays last next.cmd slot held (λ freed. let both = sym reported ∙ freed in cc) in
+    same_Some _ _ (sym (reported-granted last next.cmd reported) ∙ stays)
 
 -- or that it held it
 pub has_bus-freed : (bus : Arbitration) (h : List (Entry ArbCmd ArbReply)) (next : Entry ArbCmd ArbReply) (slot : ℕ)
     → IsLegal turn_step bus (h ++ next ∷ []) → HasTheBus slot h → next.reply ≡ Freed → slot_of next.cmd ≡ slot
 has_bus-freed bus h next slot legal has freed =
     let held = has_bus-holder bus h slot (legal-begins turn_step bus h (next ∷ []) legal) has in
-    let told = sym (legal-rest turn_step bus h (next ∷ []) legal).0 ∙ freed in
-    same_Some _ _ (sym (told-freed (replay turn_step bus h) next.cmd told) ∙ held)
+    let reported = sym (legal-rest turn_step bus h (next ∷ []) legal).0 ∙ freed in
+    same_Some _ _ (sym (reported-freed (replay turn_step bus h) next.cmd reported) ∙ held)

@@ -22,25 +22,25 @@ Frees slot e = (slot_of e.cmd ≡ slot) × (e.reply ≡ Freed)
 -- by the replies a slot has the bus at the end of a history: it was told so, and was not freed since (this project's own)
 pub record HasTheBus (slot : ℕ) (h : List (Entry ArbCmd ArbReply)) : Type 0 where
   pub before : List (Entry ArbCmd ArbReply)
-  pub told : Entry ArbCmd ArbReply
+  pub reported : Entry ArbCmd ArbReply
   pub since : List (Entry ArbCmd ArbReply)
-  pub whole : h ≡ before ++ told ∷ since
-  pub names : slot_of told.cmd ≡ slot
-  pub granted : told.reply ≡ Granted
+  pub whole : h ≡ before ++ reported ∷ since
+  pub names : slot_of reported.cmd ≡ slot
+  pub granted : reported.reply ≡ Granted
   pub kept : All (λ e. Frees slot e → ⊥) since
 
 -- whether a slot holds and whether it pends, by the last reply to it: told Granted it holds; told Waiting it holds or pends;
 -- told Freed, or nothing yet, it does neither; and it was not told Denied (this project's own)
-abbrev pub IsAsTold : Bool → Bool → Option ArbReply → Type 0
-IsAsTold held pending (Some Granted) = held ≡ true
-IsAsTold held pending (Some Waiting) = (held ≡ true) ⊎ (pending ≡ true)
-IsAsTold held pending (Some Freed) = (held ≡ false) × (pending ≡ false)
-IsAsTold held pending None = (held ≡ false) × (pending ≡ false)
-IsAsTold held pending (Some Denied) = ⊥
+abbrev pub IsAsReplied : Bool → Bool → Option ArbReply → Type 0
+IsAsReplied held pending (Some Granted) = held ≡ true
+IsAsReplied held pending (Some Waiting) = (held ≡ true) ⊎ (pending ≡ true)
+IsAsReplied held pending (Some Freed) = (held ≡ false) × (pending ≡ false)
+IsAsReplied held pending None = (held ≡ false) × (pending ≡ false)
+IsAsReplied held pending (Some Denied) = ⊥
 
 -- a slot stands to the bus as it was told last (this project's own)
-abbrev pub StandsAsTold : Arbitration → ℕ → Option ArbReply → Type 0
-StandsAsTold bus slot last = IsAsTold (holds bus slot) (pends bus slot) last
+abbrev pub StandsAsReplied : Arbitration → ℕ → Option ArbReply → Type 0
+StandsAsReplied bus slot last = IsAsReplied (holds bus slot) (pends bus slot) last
 
 -- whether the master of a slot may give a command after this last reply to it: it asks on a level in range after none and
 -- after Freed, looks after Waiting, and is done after Granted (this project's own)

@@ -13,7 +13,7 @@ ghost use Rattle.vme_arbiter.specs.Grants.{IsNext};
 ghost use Rattle.vme_arbiter.specs.Arbitration.{Arbitration, opening_bus, turn_step};
 ghost use Rattle.vme_arbiter.specs.Orderly.{IsBySlot, IsOrderly};
 ghost use Rattle.vme_arbiter.specs.Shares.{grant_of, grants_in, Waits};
-ghost use Rattle.vme_arbiter.specs.Turns.{slot_of, HasTheBus, may_give, StandsAsTold, TakeTurns};
+ghost use Rattle.vme_arbiter.specs.Turns.{slot_of, HasTheBus, may_give, StandsAsReplied, TakeTurns};
 
 /// The bus is granted to the request on the level that stands first, in the order that begins at the
 /// first level, and among these to that of the lowest slot: there is one such request in every set
@@ -53,7 +53,7 @@ pub fn states_are_orderly()
 
 /// A reply tells who holds the bus: `Granted` is told to the holder alone, a look by the holder is
 /// told so, `Freed` is told to the slot that held it, and without that the holder stays.
-pub fn replies_tell_the_holder()
+pub fn replies_show_the_holder()
     ensures granted { (bus : Arbitration) (cmd : ArbCmd) →
         (turn_step bus cmd).1 ≡ Granted → (turn_step bus cmd).0.holder ≡ Some (slot_of cmd) }
     ensures looks { (bus : Arbitration) (slot : ℕ) →
@@ -84,17 +84,17 @@ pub fn one_slot_has_the_bus()
 /// A slot stands to the bus as it was told last, and each turn keeps that: one of its own, which it
 /// may give after that reply, and one of any other slot. So by the last reply a master knows whether
 /// its slot holds the bus, and what it may say next is never denied.
-pub fn a_turn_leaves_each_where_it_was_told()
-    ensures opening { (kind : ArbiterKind) (slot : ℕ) → StandsAsTold (opening_bus kind) slot None }
+pub fn a_turn_leaves_each_where_it_was()
+    ensures opening { (kind : ArbiterKind) (slot : ℕ) → StandsAsReplied (opening_bus kind) slot None }
     ensures own { (bus : Arbitration) (slot : ℕ) (last : Option ArbReply) (cmd : ArbCmd) →
-        IsOrderly bus → IsTrue (is_slot slot) → StandsAsTold bus slot last →
+        IsOrderly bus → IsTrue (is_slot slot) → StandsAsReplied bus slot last →
         IsTrue (may_give slot last cmd) →
-        StandsAsTold (turn_step bus cmd).0 slot (Some (turn_step bus cmd).1) }
+        StandsAsReplied (turn_step bus cmd).0 slot (Some (turn_step bus cmd).1) }
     ensures other { (bus : Arbitration) (slot : ℕ) (last : Option ArbReply) (cmd : ArbCmd) →
-        slot_of cmd ≢ slot → StandsAsTold bus slot last →
-        StandsAsTold (turn_step bus cmd).0 slot last }
+        slot_of cmd ≢ slot → StandsAsReplied bus slot last →
+        StandsAsReplied (turn_step bus cmd).0 slot last }
     ensures holder { (bus : Arbitration) (slot : ℕ) →
-        StandsAsTold bus slot (Some Granted) → bus.holder ≡ Some slot }
+        StandsAsReplied bus slot (Some Granted) → bus.holder ≡ Some slot }
 {}
 
 /// Where each master has a slot of its own and goes by the replies, no reply is `Denied`.

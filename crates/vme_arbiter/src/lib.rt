@@ -14,7 +14,7 @@ pub use arbiter::Arbiter;
 pub use command::{ArbCmd, ArbReply};
 pub use kind::ArbiterKind;
 pub use laws::{
-    a_turn_leaves_each_where_it_was_told, at_most_three_go_before, first_level_then_lowest_slot,
-    no_turn_is_denied, one_slot_has_the_bus, pending_requests_are_a_set, replies_tell_the_holder,
+    a_turn_leaves_each_where_it_was, at_most_three_go_before, first_level_then_lowest_slot,
+    no_turn_is_denied, one_slot_has_the_bus, pending_requests_are_a_set, replies_show_the_holder,
     states_are_orderly,
 };

@@ -1,6 +1,6 @@
 //! Rooms and blocks of a few bytes and of many, each once.
 use std::test::Fail;
-use vme_cycle::{BLOCK_LIMIT, Block, BlockFault, BlockBuffer};
+use vme_cycle::{BLOCK_LIMIT, Block, BlockBuffer, BlockFault};
 
 #[test]
 fn a_buffer_keeps_what_is_pushed(rt: HostRuntime) -> Result<(), Fail> {

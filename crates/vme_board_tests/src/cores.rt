@@ -1,7 +1,7 @@
 //! What a core shows after a few events, and what it leaves where memory is refused.
 ghost use Rattle.std.specs.Prelude.{◌≡◌, ◌<◌, length, All, IfOk};
 ghost use Rattle.vme_core.specs.Runs.{Machine, target_of};
-ghost use Rattle.vme_core.specs.Machines.{whos, IsThere};
+ghost use Rattle.vme_core.specs.Machines.{process_count, IsThere};
 
 use std::process::Abort;
 use std::test::Fail;
@@ -30,10 +30,10 @@ fn memories(rt: &HostRuntime) -> Result<Vec<ByteMemory>, OutOfMemory>
     Ok(memories)
 }
 
-/// A core of one board, for two whos.
+/// A core of one board, for two process_count.
 fn one_board(rt: &HostRuntime) -> Result<Core, OutOfMemory>
     ensures boards { IfOk result (λ core. length core.boards ≡ 1) }
-    ensures whos { IfOk result (λ core. whos core ≡ 2) }
+    ensures process_count { IfOk result (λ core. process_count core ≡ 2) }
 {
     Core::new(rt.alloc(), memories(rt)?, 2)
 }
@@ -41,14 +41,14 @@ fn one_board(rt: &HostRuntime) -> Result<Core, OutOfMemory>
 /// The same with a rotating arbiter.
 fn rotating(rt: &HostRuntime) -> Result<Core, OutOfMemory>
     ensures boards { IfOk result (λ core. length core.boards ≡ 1) }
-    ensures whos { IfOk result (λ core. whos core ≡ 2) }
+    ensures process_count { IfOk result (λ core. process_count core ≡ 2) }
 {
     Core::with_arbiter(rt.alloc(), memories(rt)?, Arbiter::rotating(), 2)
 }
 
 /// A write of one byte by who 0, a read of it by who 1, and slot 2's request for the bus.
 fn events() -> [(usize, Event); 3]
-    ensures whos { All (λ e. e.0 < 2) result }
+    ensures process_count { All (λ e. e.0 < 2) result }
     ensures there { (m : Machine) → length m.boards ≡ 1 → All (λ e. IsThere m (target_of e.1)) result }
 {
     let bytes = Datum::try_from(&[0x7f][..]).unwrap_or_default();

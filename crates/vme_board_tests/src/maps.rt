@@ -116,7 +116,7 @@ static PLACES: [(u8, u32, Option<(usize, u32)>); 5] = [
 ];
 
 #[test]
-fn tells_places_in_the_order_given(rt: HostRuntime) -> Result<(), Fail> {
+fn reports_places_in_the_order_given(rt: HostRuntime) -> Result<(), Fail> {
     let map = AddressMap::new(rt.alloc(), &UNSORTED)?;
     for (am, addr, place) in &PLACES {
         assert_eq!(rt;

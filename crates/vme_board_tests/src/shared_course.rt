@@ -117,7 +117,7 @@ pub fn replied(given: Given) -> Option<EventReply> {
     Some(EventReply::Board(reply))
 }
 
-pub fn told(reply: ArbReply) -> Option<EventReply> {
+pub fn reported(reply: ArbReply) -> Option<EventReply> {
     Some(EventReply::Bus(reply))
 }
 
@@ -174,16 +174,16 @@ pub fn outcome(rt: &impl Abort, task: &mut impl SharedMachine, course: Course) -
     let mut todo = task.call(None);
     for (cycle, given) in course {
         expect_turn(rt, &todo, ArbCmd::Ask { slot: 2, level: 3 });
-        todo = task.call(told(ArbReply::Waiting));
+        todo = task.call(reported(ArbReply::Waiting));
         expect_turn(rt, &todo, ArbCmd::Look { slot: 2 });
-        todo = task.call(told(ArbReply::Granted));
+        todo = task.call(reported(ArbReply::Granted));
         expect_cycle(rt, &todo, *cycle);
         todo = task.call(replied(*given));
         expect_turn(rt, &todo, ArbCmd::Done { slot: 2 });
-        todo = task.call(told(ArbReply::Freed));
+        todo = task.call(reported(ArbReply::Freed));
     }
     let first = expect_end(rt, &todo);
-    let again = expect_end(rt, &task.call(told(ArbReply::Granted)));
+    let again = expect_end(rt, &task.call(reported(ArbReply::Granted)));
     assert_eq!(rt; first, again);
     first
 }

@@ -6,7 +6,7 @@ use std::test::Fail;
 use vme_am::Space;
 use vme_arbiter::{ArbCmd, ArbReply};
 use vme_core::{Event, EventReply};
-use vme_cycle::{Block, CycleFault, Modify, Plan, Request, BlockBuffer};
+use vme_cycle::{Block, BlockBuffer, CycleFault, Modify, Plan, Request};
 use vme_decode::{AddressMap, Entry};
 use vme_lanes::Datum;
 use vme_master::{Outcome, Task, Todo};

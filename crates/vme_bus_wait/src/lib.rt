@@ -3,11 +3,11 @@
 //! nobody from asking, so nothing that is proved of the bus rests on it.
 #![tactic(auto)]
 
-mod patience;
 mod sleeper;
 #[cfg(test)]
 mod tests;
-mod waits;
+mod wait_state;
+mod waiters;
 
-pub use patience::Patience;
-pub use waits::Waits;
+pub use wait_state::WaitState;
+pub use waiters::BusWaiters;

@@ -5,8 +5,8 @@ use Rattle.toml.specs.declared.value.Value.{Value}
 use Rattle.vme_config_toml.specs.Values.{pair_in}
 
 -- some values, and then those that were read
-abbrev pub with_front : {A : Type 0} → List A → Option (List A) → Option (List A)
-with_front front read = option_map (λ xs. front ++ xs) read
+abbrev pub with_prefix : {A : Type 0} → List A → Option (List A) → Option (List A)
+with_prefix prefix read = option_map (λ xs. prefix ++ xs) read
 
 -- another number of values than two is no pair
 pub pair_in_others : (vs : List Value) → (length vs ≡ 2 → ⊥) → pair_in (items_view vs) ≡ None

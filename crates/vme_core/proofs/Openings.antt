@@ -3,11 +3,11 @@ use Rattle.std.proofs.Common.{◌≡◌, ℕ, List, length, map, All, refl}
 use Rattle.std.proofs.lemmas.List.Elements.{All-map}
 use Rattle.vme_memory.specs.Boards.{Board}
 use Rattle.vme_arbiter.specs.Arbitration.{Arbitration}
-use Rattle.vme_core.specs.Tallies.{Tally, fresh_tally}
+use Rattle.vme_core.specs.CountedStates.{CountedState, fresh_count}
 
--- each counts for as many whos as the arbiter
+-- each counts for as many process_count as the arbiter
 pub fresh_made :
-    (k : ℕ) (boards : List (Tally Board)) (memories : List Board) (bus : Tally Arbitration) (free : Arbitration)
-    → boards ≡ map (fresh_tally k) memories → bus ≡ fresh_tally k free → All (λ b. length b.made ≡ length bus.made) boards
+    (k : ℕ) (boards : List (CountedState Board)) (memories : List Board) (bus : CountedState Arbitration) (free : Arbitration)
+    → boards ≡ map (fresh_count k) memories → bus ≡ fresh_count k free → All (λ b. length b.made ≡ length bus.made) boards
 fresh_made k boards memories bus free made is =
-    rw made (All-map (λ b. length b.made ≡ length bus.made) (fresh_tally k) memories (λ i d i<. rw is refl))
+    rw made (All-map (λ b. length b.made ≡ length bus.made) (fresh_count k) memories (λ i d i<. rw is refl))

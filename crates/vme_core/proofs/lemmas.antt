@@ -1,3 +1,3 @@
 pub mod Calls
 pub mod Dones
-pub mod Tallies
+pub mod CountedStates

@@ -10,8 +10,8 @@ use Rattle.vme_arbiter.specs.Arbitration.{turn_step}
 use Rattle.vme_core.specs.declared.event.Event.{Event}
 use Rattle.vme_core.specs.declared.event.Event.TheVariants as asked
 use Rattle.vme_core.specs.declared.event.EventReply.{EventReply}
-use Rattle.vme_core.specs.declared.event.EventReply.TheVariants as told
-use Rattle.vme_core.specs.Tallies.{Tally}
+use Rattle.vme_core.specs.declared.event.EventReply.TheVariants as replies
+use Rattle.vme_core.specs.CountedStates.{CountedState}
 use Rattle.vme_core.specs.Runs.{Machine}
 
 -- a command to the memory of a board, by the board's place, or none where what the board is given stands for no command; or a
@@ -30,7 +30,7 @@ abbrev pub command_step : Board → Option Command → Board × Reply
 command_step board command = ((answer board command).1, (answer board command).0)
 
 -- an object takes a command of a who, and it is counted, once in all and once for the who (this project's own)
-abbrev pub counted_step : {S C R : Type 0} → (S → C → S × R) → Tally S → ℕ → C → Tally S × R
+abbrev pub counted_step : {S C R : Type 0} → (S → C → S × R) → CountedState S → ℕ → C → CountedState S × R
 counted_step step t who cmd = (
   record {
     object = (step t.object cmd).0;
@@ -41,18 +41,18 @@ counted_step step t who cmd = (
 )
 
 -- a board's part in the machine after a command to it; one that is not there is answered by a bus error (this project's own)
-abbrev pub board_after : Machine → ℕ → ℕ → Option Command → Option (Tally Board) → Machine × EventReply
-board_after machine who x command None = (machine, told.Board Berr)
+abbrev pub board_after : Machine → ℕ → ℕ → Option Command → Option (CountedState Board) → Machine × EventReply
+board_after machine who x command None = (machine, replies.Board Berr)
 board_after machine who x command (Some board) = (
   record machine { boards = slice_set machine.boards x (counted_step command_step board who command).0 },
-  told.Board (counted_step command_step board who command).1,
+  replies.Board (counted_step command_step board who command).1,
 )
 
 -- the arbiter's part in the machine after a command to it (this project's own)
 abbrev pub bus_after : Machine → ℕ → ArbCmd → Machine × EventReply
 bus_after machine who cmd = (
   record machine { bus = (counted_step turn_step machine.bus who cmd).0 },
-  told.Bus (counted_step turn_step machine.bus who cmd).1,
+  replies.Bus (counted_step turn_step machine.bus who cmd).1,
 )
 
 -- the machine after a call of a who, and the reply (this project's own)

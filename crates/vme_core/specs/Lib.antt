@@ -1,4 +1,4 @@
-pub mod Tallies
+pub mod CountedStates
 pub mod Runs
 pub mod Calls
 pub mod Machines

@@ -9,16 +9,16 @@ use Rattle.vme_core.specs.declared.event.Target.{Target}
 use Rattle.vme_core.specs.declared.event.Target.TheVariants as at
 use Rattle.vme_core.specs.declared.fault.RunStop.{RunStop}
 use Rattle.vme_core.specs.declared.fault.RunStop.TheVariants as stops
-use Rattle.vme_core.specs.Tallies.{fresh_tally}
-use Rattle.vme_core.specs.Runs.{Machine, Transition, Did, target_of, events_in, replies_in}
+use Rattle.vme_core.specs.CountedStates.{fresh_count}
+use Rattle.vme_core.specs.Runs.{Machine, Transition, IsRun, target_of, events_in, replies_in}
 
 -- boards with these memories and the arbiter of this bus, before the first step (this project's own)
 abbrev pub opening : List Board → Arbitration → ℕ → Machine
-opening memories bus k = record { boards = map (fresh_tally k) memories; bus = fresh_tally k bus }
+opening memories bus k = record { boards = map (fresh_count k) memories; bus = fresh_count k bus }
 
--- how many whos there are (this project's own)
-abbrev pub whos : Machine → ℕ
-whos machine = length machine.bus.made
+-- how many process_count there are (this project's own)
+abbrev pub process_count : Machine → ℕ
+process_count machine = length machine.bus.made
 
 -- whether there is such a board; the arbiter is always there (this project's own)
 abbrev pub IsThere : Machine → Target → Type 0
@@ -40,11 +40,11 @@ abbrev pub made_of : Machine → ℕ → Target → Option ℕ
 made_of machine who target = option_and_then (λ made. slice_get made who) (counts_of machine target)
 
 -- events were done as a run, and its replies were appended (this project's own)
-pub record HasDone (events : List (ℕ × Event)) (before after : Machine) (old new : List EventReply) : Type 0 where
+pub record HasApplied (events : List (ℕ × Event)) (before after : Machine) (old new : List EventReply) : Type 0 where
   pub run : List Transition
   pub asked : events_in run ≡ events
-  pub told : new ≡ old ++ replies_in run
-  pub did : Did run before after
+  pub reported : new ≡ old ++ replies_in run
+  pub did : IsRun run before after
 
 -- how the result of a run goes with the number of events that were done: all of them; none; or those before one whose
 -- object can count no further step (this project's own)
@@ -58,5 +58,5 @@ Ends (Err stops.Spent) after done events =
 pub record HasRun (events : List (ℕ × Event)) (before after : Machine) (old new : List EventReply)
     (result : Result (Unit {0}) RunStop) : Type 0 where
   pub done : ℕ
-  pub has : HasDone (take done events) before after old new
+  pub has : HasApplied (take done events) before after old new
   pub ends : Ends result after done events

@@ -13,15 +13,15 @@ use Rattle.vme_arbiter.specs.Arbitration.{Arbitration, turn_step}
 use Rattle.vme_core.specs.declared.event.Event.{Event}
 use Rattle.vme_core.specs.declared.event.Event.TheVariants as asked
 use Rattle.vme_core.specs.declared.event.EventReply.{EventReply}
-use Rattle.vme_core.specs.declared.event.EventReply.TheVariants as told
+use Rattle.vme_core.specs.declared.event.EventReply.TheVariants as replies
 use Rattle.vme_core.specs.declared.event.Target.{Target}
 use Rattle.vme_core.specs.declared.event.Target.TheVariants as at
-use Rattle.vme_core.specs.Tallies.{Tally, Went}
+use Rattle.vme_core.specs.CountedStates.{CountedState, IsObjectRun}
 
 -- the boards and the arbiter, each with its counts (this project's own)
 pub record Machine : Type 0 where
-  pub boards : List (Tally Board)
-  pub bus : Tally Arbitration
+  pub boards : List (CountedState Board)
+  pub bus : CountedState Arbitration
 
 -- an event of a run: who gave it, to what, and the reply (this project's own)
 pub record Transition : Type 0 where
@@ -40,22 +40,22 @@ target_of (asked.Bus cmd) = at.Bus
 
 -- a reply is of the kind of its event: a board's, or the arbiter's (this project's own)
 abbrev pub IsReplyTo : Event → EventReply → Type 0
-IsReplyTo (asked.Board board cmd) (told.Board reply) = Unit {0}
-IsReplyTo (asked.Board board cmd) (told.Bus reply) = ⊥
-IsReplyTo (asked.Bus cmd) (told.Board reply) = ⊥
-IsReplyTo (asked.Bus cmd) (told.Bus reply) = Unit {0}
+IsReplyTo (asked.Board board cmd) (replies.Board reply) = Unit {0}
+IsReplyTo (asked.Board board cmd) (replies.Bus reply) = ⊥
+IsReplyTo (asked.Bus cmd) (replies.Board reply) = ⊥
+IsReplyTo (asked.Bus cmd) (replies.Bus reply) = Unit {0}
 
 -- what a move adds to the history of a board, if anything (this project's own)
 abbrev pub board_entry : ℕ → ℕ → Event → EventReply → Option (Entry BoardCmd Reply)
-board_entry x who (asked.Board board cmd) (told.Board reply) = if board == x then Some (entry who cmd reply) else None
-board_entry x who (asked.Board board cmd) (told.Bus reply) = None
+board_entry x who (asked.Board board cmd) (replies.Board reply) = if board == x then Some (entry who cmd reply) else None
+board_entry x who (asked.Board board cmd) (replies.Bus reply) = None
 board_entry x who (asked.Bus cmd) reply = None
 
 -- what a move adds to the history of the arbiter, if anything (this project's own)
 abbrev pub bus_entry : ℕ → Event → EventReply → Option (Entry ArbCmd ArbReply)
 bus_entry who (asked.Board board cmd) reply = None
-bus_entry who (asked.Bus cmd) (told.Board reply) = None
-bus_entry who (asked.Bus cmd) (told.Bus reply) = Some (entry who cmd reply)
+bus_entry who (asked.Bus cmd) (replies.Board reply) = None
+bus_entry who (asked.Bus cmd) (replies.Bus reply) = Some (entry who cmd reply)
 
 -- the history of a board in a run (this project's own)
 abbrev pub board_part : ℕ → List Transition → List (Entry BoardCmd Reply)
@@ -75,7 +75,7 @@ replies_in run = map (λ m. m.reply) run
 
 -- the machine made a run: each reply is of its event's kind, and each board and the arbiter went through its own part
 -- (this project's own)
-pub record Did (run : List Transition) (before after : Machine) : Type 0 where
+pub record IsRun (run : List Transition) (before after : Machine) : Type 0 where
   pub fitting : All (λ m. IsReplyTo m.event m.reply) run
-  pub boards : AllAt (λ x b a. Went board_step (board_part x run) b a) before.boards after.boards
-  pub bus : Went turn_step (bus_part run) before.bus after.bus
+  pub boards : AllAt (λ x b a. IsObjectRun board_step (board_part x run) b a) before.boards after.boards
+  pub bus : IsObjectRun turn_step (bus_part run) before.bus after.bus

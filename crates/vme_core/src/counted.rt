@@ -1,6 +1,6 @@
 ghost use Rattle.std.specs.Prelude.{◌≡◌, ◌≢◌, ◌+◌, ◌<◌, ◌-◌, ◌^◌, ◌↔◌, ◌∷◌, [], length, slice_set, slice_index_or, IsErr, IfOk, IfErr};
 ghost use Rattle.vme_object.specs.History.{entry};
-ghost use Rattle.vme_core.specs.Tallies.{Went, fresh_tally};
+ghost use Rattle.vme_core.specs.CountedStates.{IsObjectRun, fresh_count};
 ghost use Rattle.vme_memory.specs.Locals.{command_given};
 ghost use Rattle.vme_core.specs.Calls.{command_step, counted_step};
 
@@ -21,9 +21,9 @@ pub(crate) struct Counted<O> {
 
 impl<O> Model for Counted<O> {
     ghost use Rattle.std.specs.Prelude.{◌≤◌, All};
-    ghost use Rattle.vme_core.specs.Tallies.{Tally};
+    ghost use Rattle.vme_core.specs.CountedStates.{CountedState};
 
-    ghost Value = { Tally O };
+    ghost Value = { CountedState O };
 
     ghost view = { λ c. record { object = c.object; steps = c.steps; made = c.made.items } };
 
@@ -31,11 +31,11 @@ impl<O> Model for Counted<O> {
 }
 
 impl<O: Object> Counted<O> {
-    /// An object before its first step, with the counts of the whos below `k`.
+    /// An object before its first step, with the counts of the process_count below `k`.
     pub(crate) fn new(alloc: Global, object: O, k: usize) -> Result<Counted<O>, OutOfMemory>
     where
         O: Drop,
-        ensures { IfOk result (λ c. c ≡ fresh_tally k object) }
+        ensures { IfOk result (λ c. c ≡ fresh_count k object) }
     {
         match vec![in alloc; 0; k] {
             Ok(made) => Ok(Counted {
@@ -52,7 +52,7 @@ impl<O: Object> Counted<O> {
     pub(crate) fn apply(&mut self, who: usize, cmd: &O::Cmd) -> Result<O::Reply, Spent>
         requires who { who < length self.old.made }
         ensures step { IfOk result (λ reply. (self.new, reply) ≡ counted_step O.step self.old who cmd.now) }
-        ensures went { IfOk result (λ reply. Went O.step (entry who cmd.now reply ∷ []) self.old self.new) }
+        ensures went { IfOk result (λ reply. IsObjectRun O.step (entry who cmd.now reply ∷ []) self.old self.new) }
         ensures spent { IsErr result ↔ (self.old.steps ≡ 2 ^ 64 - 1) }
         ensures unchanged { IfErr result (λ _. self.new ≡ self.old) }
     {
@@ -68,7 +68,7 @@ impl<O: Object> Counted<O> {
         requires who { who < length self.old.made }
         requires unspent { self.old.steps ≢ 2 ^ 64 - 1 }
         ensures step { (self.new, result) ≡ counted_step O.step self.old who cmd.now }
-        ensures went { Went O.step (entry who cmd.now result ∷ []) self.old self.new }
+        ensures went { IsObjectRun O.step (entry who cmd.now result ∷ []) self.old self.new }
     {
         let reply = self.object.apply(cmd);
         self.count(who);

@@ -3,34 +3,34 @@ ghost use Rattle.vme_object.specs.Each.{AllAt};
 ghost use Rattle.vme_memory.specs.Boards.{Board};
 ghost use Rattle.vme_memory.specs.Locals.{board_step};
 ghost use Rattle.vme_arbiter.specs.Arbitration.{Arbitration, turn_step};
-ghost use Rattle.vme_core.specs.Tallies.{Tells};
-ghost use Rattle.vme_core.specs.Runs.{Machine, Transition, Did, move, target_of, board_part, bus_part};
+ghost use Rattle.vme_core.specs.CountedStates.{IsCountedReplay};
+ghost use Rattle.vme_core.specs.Runs.{Machine, Transition, IsRun, move, target_of, board_part, bus_part};
 ghost use Rattle.vme_core.specs.Calls.{call_of, machine_step};
 ghost use Rattle.vme_core.specs.Machines.{opening, IsThere};
 ghost use Rattle.vme_core.specs.declared.event.Event.{Event};
 
 /// Runs compose: a second one goes on from where the first ends.
 pub fn runs_compose()
-    ensures nothing { (m : Machine) → Did [] m m }
+    ensures nothing { (m : Machine) → IsRun [] m m }
     ensures goes_on { (first then : List Transition) (a b c : Machine) →
-        Did first a b → Did then b c → Did (first ++ then) a c }
+        IsRun first a b → IsRun then b c → IsRun (first ++ then) a c }
 {}
 
 /// After a run from an opening each board's memory, and the arbiter, is the replay of its own part
 /// of the run; its steps are that part's entries, and what each who made are the who's own.
-#[tactic(auto, using(crate::proofs::lemmas::Tallies::went_tells))]
+#[tactic(auto, using(crate::proofs::lemmas::CountedStates::run_replays))]
 pub fn opening_is_replayed()
     ensures boards { (memories : List Board) (bus : Arbitration) (k : ℕ) (run : List Transition) (after : Machine) →
-        Did run (opening memories bus k) after →
-        AllAt (λ x memory b. Tells board_step memory (board_part x run) k b) memories after.boards }
+        IsRun run (opening memories bus k) after →
+        AllAt (λ x memory b. IsCountedReplay board_step memory (board_part x run) k b) memories after.boards }
     ensures bus { (memories : List Board) (bus : Arbitration) (k : ℕ) (run : List Transition) (after : Machine) →
-        Did run (opening memories bus k) after → Tells turn_step bus (bus_part run) k after.bus }
+        IsRun run (opening memories bus k) after → IsCountedReplay turn_step bus (bus_part run) k after.bus }
 {}
 
 /// The call that an event makes is a run of one move, with the reply of that call.
 #[tactic(auto, using(crate::proofs::lemmas::Calls::did_call))]
 pub fn a_call_is_a_run_of_one()
     ensures { (m : Machine) (who : ℕ) (event : Event) → IsThere m (target_of event) →
-        Did (move who event (machine_step m who (call_of event)).1 ∷ []) m
+        IsRun (move who event (machine_step m who (call_of event)).1 ∷ []) m
         (machine_step m who (call_of event)).0 }
 {}

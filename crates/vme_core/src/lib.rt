@@ -10,7 +10,7 @@ mod laws;
 mod machine;
 
 pub use datum::DatumCycle;
-pub use event::{EventRef, Event, EventReply, Target};
+pub use event::{Event, EventRef, EventReply, Target};
 pub use fault::{OutOfMemory, RunStop, Spent};
 pub use laws::{a_call_is_a_run_of_one, opening_is_replayed, runs_compose};
 pub use machine::Core;

@@ -1,16 +1,16 @@
 ghost use Rattle.std.specs.Prelude.{◌≡◌, ◌<◌, ◌-◌, ◌^◌, ◌↔◌, ◌∷◌, [], length, map, slice_get, Some, All, IsErr, IfOk, IfErr};
 ghost use Rattle.vme_arbiter.specs.declared.kind.ArbiterKind.TheVariants.{Priority};
 ghost use Rattle.vme_arbiter.specs.Arbitration.{opening_bus};
-ghost use Rattle.vme_core.specs.Tallies.{fresh_tally};
-ghost use Rattle.vme_core.specs.Runs.{Did, move, target_of};
+ghost use Rattle.vme_core.specs.CountedStates.{fresh_count};
+ghost use Rattle.vme_core.specs.Runs.{IsRun, move, target_of};
 ghost use Rattle.vme_memory.specs.Locals.{command_given};
 ghost use Rattle.vme_core.specs.Calls.{OnBoard, OnBus, call_of, machine_step};
 ghost use Rattle.vme_core.specs.EventRefs.{call_asked, target_of_ref, CanCount};
-ghost use Rattle.vme_core.specs.Machines.{opening, whos, IsThere, steps_of, counts_of, made_of, HasRun};
+ghost use Rattle.vme_core.specs.Machines.{opening, process_count, IsThere, steps_of, counts_of, made_of, HasRun};
 
 use crate::counted::Counted;
 use crate::datum::DatumCycle;
-use crate::event::{EventRef, Event, EventReply, Target};
+use crate::event::{Event, EventRef, EventReply, Target};
 use crate::fault::{OutOfMemory, RunStop, Spent};
 use std::alloc::Global;
 use std::marker::Model;
@@ -37,7 +37,7 @@ impl Model for Core {
 }
 
 impl Core {
-    /// Boards with these memories and a priority arbiter of a free bus, for the whos below `k`,
+    /// Boards with these memories and a priority arbiter of a free bus, for the process_count below `k`,
     /// before any step. Where memory is refused the boards' memories are dropped.
     pub fn new(alloc: Global, memories: Vec<ByteMemory>, k: usize) -> Result<Core, OutOfMemory>
         ensures { IfOk result (λ core. core ≡ opening memories.items (opening_bus Priority) k) }
@@ -45,7 +45,7 @@ impl Core {
         Core::with_arbiter(alloc, memories, Arbiter::new(), k)
     }
 
-    /// Boards with these memories and this arbiter of their bus, for the whos below `k`, before any
+    /// Boards with these memories and this arbiter of their bus, for the process_count below `k`, before any
     /// step. Where memory is refused the boards' memories are dropped.
     pub fn with_arbiter(
         alloc: Global,
@@ -63,14 +63,14 @@ impl Core {
     /// One event of `who`, and the reply to it. Where the object can count no further step, nothing
     /// is done.
     pub fn apply(&mut self, who: usize, event: &Event) -> Result<EventReply, Spent>
-        requires who { who < whos self.old }
+        requires who { who < process_count self.old }
         requires there { IsThere self.old (target_of event.now) }
         ensures step { IfOk result (λ reply. (self.new, reply) ≡ machine_step self.old who (call_of event.now)) }
-        ensures did { IfOk result (λ reply. Did (move who event.now reply ∷ []) self.old self.new) }
+        ensures did { IfOk result (λ reply. IsRun (move who event.now reply ∷ []) self.old self.new) }
         ensures spent { IsErr result ↔ (steps_of self.old (target_of event.now) ≡ Some (2 ^ 64 - 1)) }
         ensures unchanged { IfErr result (λ _. self.new ≡ self.old) }
         ensures boards { length self.new.boards ≡ length self.old.boards }
-        ensures whos { whos self.new ≡ whos self.old }
+        ensures process_count { process_count self.new ≡ process_count self.old }
     {
         match event {
             Event::Board { board, cmd } => {
@@ -84,15 +84,17 @@ impl Core {
     /// asks the same.
     #[inline(always)]
     pub fn apply_ref(&mut self, who: usize, event_ref: &EventRef<'_>) -> EventReply
-        requires who { who < whos self.old }
+        requires who { who < process_count self.old }
         requires can { CanCount self.old (target_of_ref event_ref.now) }
         ensures step { (self.new, result) ≡ machine_step self.old who (call_asked event_ref.now) }
         ensures boards { length self.new.boards ≡ length self.old.boards }
-        ensures whos { whos self.new ≡ whos self.old }
+        ensures process_count { process_count self.new ≡ process_count self.old }
     {
         match event_ref {
             EventRef::Board { board, cmd } => EventReply::Board(self.apply_board(who, *board, cmd)),
-            EventRef::Datum { board, cycle } => EventReply::Board(self.apply_datum(who, *board, cycle)),
+            EventRef::Datum { board, cycle } => EventReply::Board(self.apply_datum(
+                who, *board, cycle,
+            )),
             EventRef::Bus(cmd) => EventReply::Bus(self.apply_bus(who, *cmd)),
         }
     }
@@ -100,11 +102,11 @@ impl Core {
     /// A command of `who` to the arbiter, which can count it, and the reply.
     #[inline(always)]
     pub fn apply_bus(&mut self, who: usize, cmd: ArbCmd) -> ArbReply
-        requires who { who < whos self.old }
+        requires who { who < process_count self.old }
         requires can { CanCount self.old Target.Bus }
         ensures step { (self.new, EventReply.Bus result) ≡ machine_step self.old who (OnBus cmd) }
         ensures boards { length self.new.boards ≡ length self.old.boards }
-        ensures whos { whos self.new ≡ whos self.old }
+        ensures process_count { process_count self.new ≡ process_count self.old }
     {
         self.bus.reply(who, &cmd)
     }
@@ -112,12 +114,12 @@ impl Core {
     /// A command of `who` to a board which can count it, by its place, and the reply.
     #[inline(always)]
     pub fn apply_board(&mut self, who: usize, board: usize, cmd: &BoardCmd) -> Reply
-        requires who { who < whos self.old }
+        requires who { who < process_count self.old }
         requires can { CanCount self.old (Target.Board board) }
         ensures step { (self.new, EventReply.Board result)
             ≡ machine_step self.old who (OnBoard board (command_given cmd.now)) }
         ensures boards { length self.new.boards ≡ length self.old.boards }
-        ensures whos { whos self.new ≡ whos self.old }
+        ensures process_count { process_count self.new ≡ process_count self.old }
     {
         self.boards[board].reply(who, cmd)
     }
@@ -125,12 +127,12 @@ impl Core {
     /// One datum of a transfer of `who` for a board which can count it, by its place, and the reply.
     #[inline(always)]
     pub fn apply_datum(&mut self, who: usize, board: usize, cycle: &DatumCycle<'_>) -> Reply
-        requires who { who < whos self.old }
+        requires who { who < process_count self.old }
         requires can { CanCount self.old (Target.Board board) }
         ensures step { (self.new, EventReply.Board result)
             ≡ machine_step self.old who (OnBoard board (command_given cycle.now)) }
         ensures boards { length self.new.boards ≡ length self.old.boards }
-        ensures whos { whos self.new ≡ whos self.old }
+        ensures process_count { process_count self.new ≡ process_count self.old }
     {
         self.boards[board].datum(who, cycle)
     }
@@ -143,12 +145,12 @@ impl Core {
         events: &[(usize, Event)],
         replies: &mut Vec<EventReply>,
     ) -> Result<(), RunStop>
-        requires { All (λ e. (e.0 < whos self.old) × IsThere self.old (target_of e.1)) events.now }
+        requires { All (λ e. (e.0 < process_count self.old) × IsThere self.old (target_of e.1)) events.now }
         ensures ran { HasRun events.now self.old self.new replies.old.items replies.new.items result }
         ensures out_of_memory { result ≡ Err RunStop.OutOfMemory
             → (self.new ≡ self.old) × (replies.new.items ≡ replies.old.items) }
         ensures boards { length self.new.boards ≡ length self.old.boards }
-        ensures whos { whos self.new ≡ whos self.old }
+        ensures process_count { process_count self.new ≡ process_count self.old }
     {
         if replies.reserve(events.len()).is_err() {
             return Err(RunStop::OutOfMemory);
@@ -175,7 +177,7 @@ impl Core {
 
     /// How many of the steps of an object `who` made.
     pub fn made(&self, who: usize, target: Target) -> u64
-        requires who { who < whos self.now }
+        requires who { who < process_count self.now }
         requires there { IsThere self.now target }
         ensures { made_of self.now who target ≡ Some result }
     {
@@ -189,7 +191,7 @@ impl Core {
     pub fn counts(&self, target: Target) -> &[u64]
         requires { IsThere self.now target }
         ensures value { counts_of self.now target ≡ Some result.now }
-        ensures whos { length result.now ≡ whos self.now }
+        ensures process_count { length result.now ≡ process_count self.now }
     {
         match target {
             Target::Board(board) => self.boards[board].counts(),
@@ -206,13 +208,13 @@ impl Core {
     }
 }
 
-/// Boards with these memories before any step, with the counts of the whos below `k`.
+/// Boards with these memories before any step, with the counts of the process_count below `k`.
 fn fresh_boards(
     alloc: Global,
     memories: Vec<ByteMemory>,
     k: usize,
 ) -> Result<Vec<Counted<ByteMemory>>, OutOfMemory>
-    ensures { IfOk result (λ boards. boards.items ≡ map (fresh_tally k) memories.items) }
+    ensures { IfOk result (λ boards. boards.items ≡ map (fresh_count k) memories.items) }
 {
     let Ok(mut boards) = Vec::with_capacity(alloc, memories.len()) else {
         return Err(OutOfMemory);

@@ -2,7 +2,7 @@ ghost use Rattle.std.specs.Prelude.{◌≡◌, ◌+◌, ◌≤◌, [], ◌++◌,
 ghost use Rattle.vme_cycle.specs.BlockBuffers.{inline_capacity, block_limit};
 
 use crate::block::Block;
-use crate::repr::{Repr, INLINE_LEN};
+use crate::repr::{INLINE_LEN, Repr};
 use arrayvec::ArrayVec;
 use std::alloc::{AllocError, Global};
 use std::marker::Model;

@@ -13,10 +13,10 @@ use Rattle.vme_decode.specs.Lawful.{entry_refusals, some_overlap, first_refusal}
 use Rattle.vme_decode.proofs.Ranges.{shared_overlap}
 
 -- where nothing is refused, the last refusals are none too
-pub last_of_none : (front more : List (Option MapFault)) → first_of (front ++ more) ≡ None → first_of more ≡ None
+pub last_of_none : (prefix more : List (Option MapFault)) → first_of (prefix ++ more) ≡ None → first_of more ≡ None
 last_of_none [] more none = none
-last_of_none (None ∷ front) more none = last_of_none front more none
-last_of_none (Some fault ∷ front) more none = cc
+last_of_none (None ∷ prefix) more none = last_of_none prefix more none
+last_of_none (Some fault ∷ prefix) more none = cc
 
 not_where_true : (test : Bool) (fault : MapFault) → first_of (where_true test fault ∷ []) ≡ None → test ≡ false
 not_where_true true fault none = cc

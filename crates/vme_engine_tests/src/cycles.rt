@@ -45,7 +45,7 @@ static FAULTS: [(ProgramFault, &str); 4] = [
 ];
 
 #[test]
-fn tells_faults(rt: HostRuntime) -> Result<(), Fail> {
+fn reports_faults(rt: HostRuntime) -> Result<(), Fail> {
     for (fault, text) in &FAULTS {
         assert_eq!(rt; fault.to_string(rt.alloc())?.as_str(), *text);
         assert_eq!(rt; exit_status(&Err(*fault)), 3);

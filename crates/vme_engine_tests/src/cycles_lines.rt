@@ -157,7 +157,7 @@ static REFUSED_LINES: [(&str, LineFault); 30] = [
 fn refuses_lines_of_scripts(rt: HostRuntime) {
     for (line, fault) in &REFUSED_LINES {
         match parse_line(line.as_bytes()) {
-            Err(told) => assert_eq!(rt; told, *fault, "{line}"),
+            Err(reported) => assert_eq!(rt; reported, *fault, "{line}"),
             Ok(_) => assert!(rt; false, "{line}"),
         }
     }
@@ -170,7 +170,7 @@ static BUS_ERRORS: [(u16, &[u8], &str); 3] = [
 ];
 
 #[test]
-fn tells_what_was_read_before_a_bus_error(rt: HostRuntime) -> Result<(), Fail> {
+fn reports_what_was_read_before_a_bus_error(rt: HostRuntime) -> Result<(), Fail> {
     for (count, bytes, line) in &BUS_ERRORS {
         let mut text = Vec::new(rt.alloc());
         print_berr(&mut text, *count, bytes)?;
@@ -191,7 +191,7 @@ static LINE_FAULTS: [(LineFault, &str); 8] = [
 ];
 
 #[test]
-fn tells_line_faults(rt: HostRuntime) -> Result<(), Fail> {
+fn reports_line_faults(rt: HostRuntime) -> Result<(), Fail> {
     for (fault, text) in &LINE_FAULTS {
         assert_eq!(rt; fault.to_string(rt.alloc())?.as_str(), *text);
     }

@@ -46,7 +46,7 @@ fn end_of(row: &Row, buffer: usize) -> Result<Status, ProgramFault> {
 
 /// Writes the text of a row, a byte a call, of which so many are taken before the writer fails: just
 /// these were written. The input is read a byte a call.
-fn expect_front<R: Threads + Wait + Abort + Sync>(
+fn expect_prefix<R: Threads + Wait + Abort + Sync>(
     rt: &R,
     alloc: Global,
     row: &Row,
@@ -64,7 +64,7 @@ fn expect_front<R: Threads + Wait + Abort + Sync>(
 fn a_writer_fails_after_any_byte(rt: HostRuntime) -> Result<(), Fail> {
     for row in ROWS {
         for buffer in 0..=row.text.len() {
-            expect_front(&rt, rt.alloc(), row, buffer)?;
+            expect_prefix(&rt, rt.alloc(), row, buffer)?;
         }
     }
     Ok(())

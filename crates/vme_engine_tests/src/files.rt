@@ -18,7 +18,7 @@ fn expect_report_or_refusal(rt: &impl Abort, alloc: Global, file: &[u8]) -> Resu
 }
 
 #[test]
-fn each_front_is_run_or_refused(rt: HostRuntime) -> Result<(), Fail> {
+fn each_prefix_is_run_or_refused(rt: HostRuntime) -> Result<(), Fail> {
     let file = TORN_BLOCK.input.as_bytes();
     for end in 0..=file.len() {
         expect_report_or_refusal(&rt, rt.alloc(), &file[..end])?;
@@ -45,17 +45,17 @@ fn expect_refusal(
     rt: &impl Abort,
     alloc: Global,
     file: &[u8],
-    told: &str,
+    reported: &str,
 ) -> Result<(), AllocError> {
     let mut source = SliceSource::new(file, usize::MAX, usize::MAX);
     let mut sink = RoomSink::new(alloc, usize::MAX, 16)?;
     let end = step_engine(alloc, &mut source, &mut sink);
-    assert_eq!(rt; exit_status(&end), 2, "{told}");
+    assert_eq!(rt; exit_status(&end), 2, "{reported}");
     assert!(rt; sink.bytes().is_empty());
     let Err(fault) = end else {
-        panic!(rt; "{told} is run")
+        panic!(rt; "{reported} is run")
     };
-    assert_eq!(rt; fault.to_string(alloc)?.as_str(), told);
+    assert_eq!(rt; fault.to_string(alloc)?.as_str(), reported);
     Ok(())
 }
 
@@ -116,8 +116,8 @@ static REFUSED: [(&str, &str); 18] = [
 
 #[test]
 fn refuses_what_is_no_configuration(rt: HostRuntime) -> Result<(), Fail> {
-    for (file, told) in &REFUSED {
-        expect_refusal(&rt, rt.alloc(), file.as_bytes(), told)?;
+    for (file, reported) in &REFUSED {
+        expect_refusal(&rt, rt.alloc(), file.as_bytes(), reported)?;
     }
     expect_refusal(&rt, rt.alloc(), b"# \xff\n", "C6")?;
     Ok(())

@@ -31,7 +31,7 @@ static FAULTS: [(ProgramFault, &str); 2] = [
 ];
 
 #[test]
-fn tells_the_faults_of_threads(rt: HostRuntime) -> Result<(), Fail> {
+fn reports_the_faults_of_threads(rt: HostRuntime) -> Result<(), Fail> {
     for (fault, text) in &FAULTS {
         assert_eq!(rt; fault.to_string(rt.alloc())?.as_str(), *text);
         assert_eq!(rt; exit_status(&Err(*fault)), 3);

@@ -1,4 +1,4 @@
 pub mod Runs
 pub mod Texts
 pub mod Data
-pub mod Told
+pub mod InputFaults

@@ -20,7 +20,7 @@ use Rattle.vme_shared.specs.declared.status.Status.{Status}
 use Rattle.vme_shared.specs.declared.status.Status.TheVariants.{Clean, Marked}
 use Rattle.vme_engines.specs.Lines.{request_of}
 use Rattle.vme_grammar.specs.Texts as outcomes
-use Rattle.vme_grammar.specs.Texts.{signals_text, Outcome, outcome_text, cycle_fault_text, line_fault_text, output_line}
+use Rattle.vme_grammar.specs.Texts.{signals_text, OutcomeText, outcome_text, cycle_fault_text, line_fault_text, output_line}
 
 -- what a line is answered (this project's own)
 pub record Answer : Type 0 where
@@ -29,7 +29,7 @@ pub record Answer : Type 0 where
   pub status : Status
 
 -- whether an outcome is a good one (this project's own)
-abbrev pub status_of : Outcome → Status
+abbrev pub status_of : OutcomeText → Status
 status_of (outcomes.Read bytes) = Clean
 status_of outcomes.Done = Clean
 status_of (outcomes.Old bytes) = Clean
@@ -72,7 +72,7 @@ datum_text t i reply =
     output_line (signals_text (final_signals (signals_of t i) reply)) ++ write_half_text t (function_of t.request) reply
 
 -- the answer that tells no more than an outcome (this project's own)
-abbrev pub outcome_answer : Board → Outcome → Answer
+abbrev pub outcome_answer : Board → OutcomeText → Answer
 outcome_answer board outcome = record { text = output_line (outcome_text outcome); board = board; status = status_of outcome }
 
 -- the answer that tells no more than a refusal (this project's own)
@@ -84,7 +84,7 @@ abbrev pub after_text : List ℕ → Answer → Answer
 after_text text answer = record answer { text = text ++ answer.text }
 
 -- the outcome of a transfer whose data were all answered, with what they replied (this project's own)
-abbrev pub outcome_of : Transfer → List ℕ → Outcome
+abbrev pub outcome_of : Transfer → List ℕ → OutcomeText
 outcome_of t replied =
     if reads t.request then outcomes.Read replied else
     (if is_some (function_of t.request) then outcomes.Old replied else outcomes.Done)

@@ -1,4 +1,4 @@
-pub mod Tellings
+pub mod RunTexts
 pub mod StepFaults
 pub mod CyclesFaults
 pub mod Lines

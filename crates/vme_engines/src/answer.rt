@@ -11,7 +11,7 @@ ghost use Rattle.vme_engines.specs.Answers.{outcome_of, final_signals, offset_of
 use crate::bus::Bus;
 use crate::request::request_of;
 use std::alloc::AllocError;
-use vme_cycle::{Plan, Request, BlockBuffer, Signals};
+use vme_cycle::{BlockBuffer, Plan, Request, Signals};
 use vme_grammar::{
     print_berr, print_done, print_line_refusal, print_old, print_read, print_refusal, print_signals,
 };

@@ -1,7 +1,7 @@
 //! The engine of `vme cycles`: from the bytes of its input to the bytes of its output.
 ghost use Rattle.std.specs.Prelude.{◌≡◌, ◌<◌, ◌≤◌, Err, false, true, length, vec_len, IfOk, IfErr, IfSome, OnOk, OnErr};
 ghost use Rattle.std.specs.Io.KnownBytes.{Appends};
-ghost use Rattle.vme_io.specs.Fronts.{AppendsFront};
+ghost use Rattle.vme_io.specs.Prefixes.{AppendsPrefix};
 ghost use Rattle.vme_engines.specs.Cycles.{cycles_text, cycles_status};
 ghost use Rattle.vme_engines.specs.CyclesFaults.{IsAnswerFault, IsCyclesFault};
 ghost use Rattle.vme_engines.specs.Faults.{IsReadingFault, ReadsPastLimit, is_read_failure, is_write_failure};
@@ -37,8 +37,8 @@ pub fn cycles_engine<R: Source, W: Sink>(
     // What is written is the text of the input, or a front of it before a fault.
     ensures text { IfSome (R.remaining reader.old) (λ input.
         OnOk result (Appends (W.contents writer.old) (W.contents writer.new) (cycles_text input))) }
-    ensures front { IfSome (R.remaining reader.old) (λ input.
-        OnErr result (AppendsFront (W.contents writer.old) (W.contents writer.new) (cycles_text input))) }
+    ensures prefix { IfSome (R.remaining reader.old) (λ input.
+        OnErr result (AppendsPrefix (W.contents writer.old) (W.contents writer.new) (cycles_text input))) }
     ensures nothing { IsReadingFault result → writer.new ≡ writer.old }
     ensures status { IfSome (R.remaining reader.old) (λ input.
         IfOk result (λ status. status ≡ cycles_status input)) }
@@ -63,8 +63,8 @@ fn answer_all<W: Sink>(alloc: Global, input: &[u8], writer: &mut W) -> Result<St
     requires { W.is_marked writer.old ≡ false }
     ensures text { OnOk result
         (Appends (W.contents writer.old) (W.contents writer.new) (cycles_text input.now)) }
-    ensures front { OnErr result
-        (AppendsFront (W.contents writer.old) (W.contents writer.new) (cycles_text input.now)) }
+    ensures prefix { OnErr result
+        (AppendsPrefix (W.contents writer.old) (W.contents writer.new) (cycles_text input.now)) }
     ensures status { IfOk result (λ status. status ≡ cycles_status input.now) }
     ensures write { W.is_marked writer.new ≡ is_write_failure result }
     ensures faults { IfErr result IsAnswerFault }
@@ -86,7 +86,7 @@ fn answer_all<W: Sink>(alloc: Global, input: &[u8], writer: &mut W) -> Result<St
 
 fn write_text<W: Sink>(writer: &mut W, text: &[u8]) -> Result<(), ProgramFault>
     ensures bytes { OnOk result (Appends (W.contents writer.old) (W.contents writer.new) text.now) }
-    ensures front { OnErr result (AppendsFront (W.contents writer.old) (W.contents writer.new) text.now) }
+    ensures prefix { OnErr result (AppendsPrefix (W.contents writer.old) (W.contents writer.new) text.now) }
     ensures unmarked { OnOk result (W.is_marked writer.new ≡ W.is_marked writer.old) }
     ensures marked { OnErr result (W.is_marked writer.new ≡ true) }
     ensures faults { IfErr result (λ fault. fault ≡ ProgramFault.Write) }

@@ -4,7 +4,7 @@ ghost use Rattle.std.specs.Io.KnownBytes.{Appends};
 ghost use Rattle.vme_script.specs.declared.fault.ConfigFault.{ConfigFault};
 ghost use Rattle.vme_engines.specs.Faults.{IsReadingFault, ReadsPastLimit, is_read_failure, is_write_failure};
 ghost use Rattle.vme_engines.specs.Files.{IsRefusedAs};
-ghost use Rattle.vme_engines.specs.Tellings.{TellsRun, WritesFront};
+ghost use Rattle.vme_engines.specs.RunTexts.{IsRunText, WritesPrefix};
 
 use crate::crate::ProgramFault;
 use crate::file::{FILE_LIMIT, read_config};
@@ -42,9 +42,9 @@ pub fn run_engine<T: Threads + Wait + Sync, R: Source, W: Sink>(
 
     // What is written is the text of a report of such a run, or a front of it before a fault.
     ensures text { IfSome (R.remaining reader.old) (λ input. IfOk result (λ status.
-        (text : List ℕ) × TellsRun input text status × Appends (W.contents writer.old) (W.contents writer.new) text)) }
-    ensures front { IfSome (R.remaining reader.old) (λ input.
-        OnErr result (WritesFront input (W.contents writer.old) (W.contents writer.new))) }
+        (text : List ℕ) × IsRunText input text status × Appends (W.contents writer.old) (W.contents writer.new) text)) }
+    ensures prefix { IfSome (R.remaining reader.old) (λ input.
+        OnErr result (WritesPrefix input (W.contents writer.old) (W.contents writer.new))) }
     ensures nothing { IsReadingFault result → writer.new ≡ writer.old }
 
     // When each fault comes; `Memory` comes where a growth is refused, `Thread` where a thread could

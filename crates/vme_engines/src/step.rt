@@ -1,7 +1,7 @@
 //! From the bytes of a configuration file to the bytes of the report.
 ghost use Rattle.std.specs.Prelude.{◌≡◌, ◌<◌, ◌≤◌, Err, false, length, IfOk, IfErr, IfSome, OnOk, OnErr};
 ghost use Rattle.std.specs.Io.KnownBytes.{Appends};
-ghost use Rattle.vme_io.specs.Fronts.{AppendsFront};
+ghost use Rattle.vme_io.specs.Prefixes.{AppendsPrefix};
 ghost use Rattle.vme_script.specs.declared.fault.ConfigFault.{ConfigFault};
 ghost use Rattle.vme_script.specs.Configurations.{Configuration};
 ghost use Rattle.vme_engines.specs.Faults.{IsReadingFault, ReadsPastLimit, is_read_failure, is_write_failure};
@@ -15,7 +15,7 @@ use crate::file::{FILE_LIMIT, read_config};
 use crate::vme_shared::Status;
 use std::alloc::Global;
 use vme_io::{Sink, Source};
-use vme_stepper::run_file;
+use vme_stepper::run_configured;
 
 /// Runs the scripts of a configuration file by its schedule and then its rounds, and writes the
 /// report.
@@ -35,8 +35,8 @@ pub fn step_engine<R: Source, W: Sink>(
         IfOk result (λ _. (config : Configuration) × Configures input config)) }
     ensures text { (config : Configuration) → IfSome (R.remaining reader.old) (λ input. Configures input config →
         OnOk result (Appends (W.contents writer.old) (W.contents writer.new) (run_text config (file_turns config)))) }
-    ensures front { (config : Configuration) → IfSome (R.remaining reader.old) (λ input. Configures input config →
-        OnErr result (AppendsFront (W.contents writer.old) (W.contents writer.new) (run_text config (file_turns config)))) }
+    ensures prefix { (config : Configuration) → IfSome (R.remaining reader.old) (λ input. Configures input config →
+        OnErr result (AppendsPrefix (W.contents writer.old) (W.contents writer.new) (run_text config (file_turns config)))) }
     ensures status { (config : Configuration) → IfSome (R.remaining reader.old) (λ input. Configures input config →
         IfOk result (λ status. status ≡ run_status config (file_turns config))) }
     ensures nothing { IsReadingFault result → writer.new ≡ writer.old }
@@ -55,6 +55,6 @@ pub fn step_engine<R: Source, W: Sink>(
     ensures faults { IfErr result IsStepFault }
 {
     let config = read_config(alloc, reader)?;
-    let status = run_file(alloc, &config, writer)?;
+    let status = run_configured(alloc, &config, writer)?;
     Ok(status)
 }

@@ -1,10 +1,10 @@
 //! The text of a report.
 ghost use Rattle.std.specs.Prelude.{◌≡◌, ◌≢◌, false, length, map, IfOk, IfErr, OnOk, OnErr};
 ghost use Rattle.std.specs.Io.KnownBytes.{Appends};
-ghost use Rattle.vme_io.specs.Fronts.{AppendsFront};
+ghost use Rattle.vme_io.specs.Prefixes.{AppendsPrefix};
 ghost use Rattle.vme_report.specs.Ends.{is_write_end};
 ghost use Rattle.vme_report.specs.Reports.{report_text, report_status};
-ghost use Rattle.vme_engines.specs.Tellings.{ends_told, told_report};
+ghost use Rattle.vme_engines.specs.RunTexts.{ends_reported, reported_report};
 
 use std::alloc::{AllocError, Global};
 use vme_io::Sink;
@@ -22,26 +22,26 @@ pub fn report_text<W: Sink>(
     requires unmarked { W.is_marked sink.old ≡ false }
     requires lists { length report.now.lines.items ≡ length report.now.boards.items }
     ensures text { OnOk result
-        (Appends (W.contents sink.old) (W.contents sink.new) (report_text (told_report report.now))) }
-    ensures front { OnErr result
-        (AppendsFront (W.contents sink.old) (W.contents sink.new) (report_text (told_report report.now))) }
-    ensures status { IfOk result (λ status. status ≡ report_status (told_report report.now)) }
+        (Appends (W.contents sink.old) (W.contents sink.new) (report_text (reported_report report.now))) }
+    ensures prefix { OnErr result
+        (AppendsPrefix (W.contents sink.old) (W.contents sink.new) (report_text (reported_report report.now))) }
+    ensures status { IfOk result (λ status. status ≡ report_status (reported_report report.now)) }
     ensures write { W.is_marked sink.new ≡ is_write_end result }
     ensures faults { IfErr result (λ fault. (fault ≢ RunFault.Thread) × (fault ≢ RunFault.Spent)) }
 {
-    let boards = told_ends(alloc, &report.boards, &report.lines)?;
+    let boards = reported_ends(alloc, &report.boards, &report.lines)?;
     let status = write_report(alloc, &boards, sink)?;
     Ok(status)
 }
 
 /// What is told of boards, by their ends and the lines of their processors.
-fn told_ends<'a>(
+fn reported_ends<'a>(
     alloc: Global,
     ends: &'a [BoardReport],
     lines: &'a [Vec<(u16, LineReply)>],
 ) -> Result<Vec<BoardReportRef<'a>>, AllocError>
     requires { length lines.now ≡ length ends.now }
-    ensures { IfOk result (λ boards. boards.items ≡ ends_told ends.now (map (λ one. one.items) lines.now)) }
+    ensures { IfOk result (λ boards. boards.items ≡ ends_reported ends.now (map (λ one. one.items) lines.now)) }
 {
     let mut boards = Vec::with_capacity(alloc, ends.len())?;
     let mut ends = ends;
@@ -50,7 +50,7 @@ fn told_ends<'a>(
         let Some((own, rest)) = lines.split_first() else {
             break;
         };
-        boards.push(told_end(end, own.as_slice()))?;
+        boards.push(reported_end(end, own.as_slice()))?;
         ends = more;
         lines = rest;
     }
@@ -58,7 +58,7 @@ fn told_ends<'a>(
 }
 
 /// What is told of a board.
-fn told_end<'a>(end: &'a BoardReport, lines: &'a [(u16, LineReply)]) -> BoardReportRef<'a>
+fn reported_end<'a>(end: &'a BoardReport, lines: &'a [(u16, LineReply)]) -> BoardReportRef<'a>
     ensures { result ≡ record {
       slot = end.now.slot;
       lines = lines.now;

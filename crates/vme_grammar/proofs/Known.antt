@@ -14,17 +14,17 @@ use Rattle.vme_grammar.proofs.Spelled.{apart}
 -- two words with a space between
 pub two_words : (text first rest second : List ℕ) (len : ℕ) → first ≡ take len text → rest ≡ drop len text → rest ≡ 32 ∷ second → IsWord first
     → IsWord second → words text ≡ first ∷ second ∷ []
-two_words text first rest second len front back space one other =
-    ap words (apart len text first rest second front back space) ∙ first_word first second one ∙ ap (λ more. first ∷ more) (only_word second other)
+two_words text first rest second len prefix back space one other =
+    ap words (apart len text first rest second prefix back space) ∙ first_word first second one ∙ ap (λ more. first ∷ more) (only_word second other)
 
 -- COUNT HEX
 pub fill_is :
     (n count len : ℕ) (text first rest second : List ℕ) (bytes : ArrayVec ℕ) → first ≡ take len text → rest ≡ drop len text → rest ≡ 32 ∷ second
     → decimal_number 4 first ≡ Some count → Some bytes.items ≡ exact_bytes n second → IsFill n (words text) count bytes
-fill_is n count len text first rest second bytes front back space number datum = record {
+fill_is n count len text first rest second bytes prefix back space number datum = record {
   first = first;
   second = second;
-  both = two_words text first rest second len front back space (decimal_is_word 4 count first number) (exact_is_word n bytes.items second (sym datum));
+  both = two_words text first rest second len prefix back space (decimal_is_word 4 count first number) (exact_is_word n bytes.items second (sym datum));
   number = number;
   datum = sym datum;
 }
@@ -33,10 +33,10 @@ fill_is n count len text first rest second bytes front back space number datum =
 pub data_are :
     (n len : ℕ) (text first rest second : List ℕ) (expect put : ArrayVec ℕ) → first ≡ take len text → rest ≡ drop len text → rest ≡ 32 ∷ second
     → Some expect.items ≡ exact_bytes n first → Some put.items ≡ exact_bytes n second → AreData n (words text) expect put
-data_are n len text first rest second expect put front back space expected datum = record {
+data_are n len text first rest second expect put prefix back space expected datum = record {
   first = first;
   second = second;
-  both = two_words text first rest second len front back space (exact_is_word n expect.items first (sym expected)) (exact_is_word n put.items second (sym datum));
+  both = two_words text first rest second len prefix back space (exact_is_word n expect.items first (sym expected)) (exact_is_word n put.items second (sym datum));
   expected = sym expected;
   datum = sym datum;
 }

@@ -9,7 +9,7 @@ use Rattle.vme_grammar.specs.declared.fault.LineFault.{LineFault}
 use Rattle.vme_grammar.specs.declared.fault.LineFault.TheVariants.{WordCount}
 use Rattle.vme_grammar.specs.declared.line.Line.{Line}
 use Rattle.vme_grammar.specs.declared.line.Line.TheVariants as lines
-use Rattle.vme_grammar.specs.declared.form.Form.TheVariants as form
+use Rattle.vme_grammar.specs.declared.form.LineForm.TheVariants as form
 use Rattle.vme_grammar.specs.declared.function.Function.{Function}
 use Rattle.vme_grammar.specs.declared.function.Function.TheVariants.{Set, Exchange, Add, Compare}
 use Rattle.vme_lexer.specs.Numbers.{hex_number, small_number, local_number, exact_bytes}
@@ -18,7 +18,7 @@ use Rattle.vme_grammar.specs.Fields.{with_field}
 use Rattle.vme_grammar.specs.Forms.{field_at, function_places, fields_of, function_at}
 use Rattle.vme_grammar.specs.Grammar.{◌>>=◌, fields_read, operands_of}
 use Rattle.vme_grammar.specs.Naming.{function_of, line_by, line_named}
-use Rattle.vme_grammar.specs.Modifies.{place_of, operand_count, modify_of, modify_line, local_modify_line}
+use Rattle.vme_grammar.specs.Modifies.{field_place, operand_count, modify_of, modify_line, local_modify_line}
 use Rattle.vme_grammar.proofs.Cases.{cases_Option, cases_Result, same_count}
 
 -- the places behind the name of a function are those of its data
@@ -35,16 +35,16 @@ local_places Add = refl
 local_places Compare = refl
 
 -- a line that is asked for
-abbrev told : Line → Result Line LineFault
-told line = Ok line
+abbrev reported : Line → Result Line LineFault
+reported line = Ok line
 
 -- the data of a function, read as the fields of its places
 data_read :
     (whole : ℕ → ℕ → ℕ → modify.Modify → Line) (function : Function) (o : Operands) (name : List ℕ) (rest : List (List ℕ))
     → (length rest == operand_count function) ≡ true
-    → (modify_of function o.n rest >>= (λ (f : modify.Modify). told (whole o.am o.addr o.n f)))
+    → (modify_of function o.n rest >>= (λ (f : modify.Modify). reported (whole o.am o.addr o.n f)))
     ≡ (fields_read (map field_at (function_places function)) (name ∷ rest) o
-    >>= (λ (given : Operands). told (whole given.am given.addr given.n (function_at function given))))
+    >>= (λ (given : Operands). reported (whole given.am given.addr given.n (function_at function given))))
 unfolding modify_of with_field
 data_read whole Set o name [] count = refl
 data_read whole Set o name (x ∷ rest) count = absurd (omega (arith, eqb-true (length (x ∷ rest)) 0 count))
@@ -78,7 +78,7 @@ data_read whole Compare o name (x ∷ y ∷ z ∷ rest) count = absurd (omega (a
 modify_by :
     (function : Function) (a b c name : List ℕ) (rest : List (List ℕ)) → function_of (Some name) ≡ Ok function
     → modify_line (a ∷ b ∷ c ∷ name ∷ rest) ≡ line_by (form.Modify function) (a ∷ b ∷ c ∷ name ∷ rest)
-unfolding modify_line line_by operands_of with_field place_of
+unfolding modify_line line_by operands_of with_field field_place
 modify_by function a b c name rest is =
     let places
     = same_count (length rest) (operand_count function) 4 (length (a ∷ b ∷ c ∷ name ∷ rest)) (length (drop 1 (fields_of (form.Modify function))))

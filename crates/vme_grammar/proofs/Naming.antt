@@ -8,8 +8,8 @@ use Rattle.std.specs.Str.{bytes_eq}
 use Rattle.std.proofs.lemmas.Bool.{cases_Bool}
 use Rattle.std.proofs.lemmas.Slice.Eq.{bytes_eq-Decides}
 use Rattle.vme_grammar.specs.declared.fault.LineFault.TheVariants.{UnknownWord}
-use Rattle.vme_grammar.specs.declared.form.Form.{Form}
-use Rattle.vme_grammar.specs.declared.form.Form.TheVariants.{Read, Write, BlockRead, BlockWrite, BlockFill, Modify, LocalRead, LocalWrite, LocalModify, Await, Lock, Unlock, Put, Take}
+use Rattle.vme_grammar.specs.declared.form.LineForm.{LineForm}
+use Rattle.vme_grammar.specs.declared.form.LineForm.TheVariants.{Read, Write, BlockRead, BlockWrite, BlockFill, Modify, LocalRead, LocalWrite, LocalModify, Await, Lock, Unlock, Put, Take}
 use Rattle.vme_grammar.specs.declared.function.Function.TheVariants.{Set}
 use Rattle.vme_grammar.specs.Forms.{Place, Word, Of, places, fields_of, forms}
 use Rattle.vme_grammar.specs.Grammar.{go_by, form_of, operands_of, line_of_words}
@@ -49,7 +49,7 @@ first_fails (Word text ∷ more) word words miss =
     ]
 
 none_named :
-    (some : List Form) (word : List ℕ) (words : List (List ℕ)) → find (λ form. go_by true (places form) (word ∷ [])) some ≡ None
+    (some : List LineForm) (word : List ℕ) (words : List (List ℕ)) → find (λ form. go_by true (places form) (word ∷ [])) some ≡ None
     → list_any (λ form. go_by true (places form) (word ∷ words)) some ≡ false
 none_named [] word words none = refl
 none_named (form ∷ some) word words none =
@@ -64,7 +64,7 @@ unfolding form_named form_of
 unnamed word words none = rw (none_named forms word words none) refl
 
 -- the test that a form was found by
-pub find_passes : (p : Form → Bool) (some : List Form) (form : Form) → find p some ≡ Some form → p form ≡ true
+pub find_passes : (p : LineForm → Bool) (some : List LineForm) (form : LineForm) → find p some ≡ Some form → p form ≡ true
 find_passes p [] form found = absurd (cc)
 find_passes p (x ∷ some) form found =
     elim (cases_Bool (p x)) [
@@ -126,7 +126,7 @@ local_modify_named (a ∷ b ∷ word ∷ words) =
     ]
 
 -- the first word of a form
-abbrev pub word_of : Form → List ℕ
+abbrev pub word_of : LineForm → List ℕ
 word_of Read = codes "r"
 word_of Write = codes "w"
 word_of BlockRead = codes "br"
@@ -143,7 +143,7 @@ word_of Put = codes "put"
 word_of Take = codes "take"
 
 -- its places begin with it
-own_first : (form : Form) → slice_get (places form) 0 ≡ Some (Word (word_of form))
+own_first : (form : LineForm) → slice_get (places form) 0 ≡ Some (Word (word_of form))
 own_first Read = refl
 own_first Write = refl
 own_first BlockRead = refl
@@ -160,7 +160,7 @@ own_first Put = refl
 own_first Take = refl
 
 -- a line that begins with it has that form, if it names its function
-pub own_word : (form : Form) (words : List (List ℕ)) → form_of (word_of form ∷ words) ≡ with_function form words
+pub own_word : (form : LineForm) (words : List (List ℕ)) → form_of (word_of form ∷ words) ≡ with_function form words
 unfolding form_of
 own_word Read words = refl
 own_word Write words = refl
@@ -179,7 +179,7 @@ own_word Take words = refl
 
 -- the form that a word names is that of the line, if it names its function
 pub named :
-    (word : List ℕ) (words : List (List ℕ)) (form : Form) → form_named word ≡ Some form
+    (word : List ℕ) (words : List (List ℕ)) (form : LineForm) → form_named word ≡ Some form
     → form_of (word ∷ words) ≡ with_function form words
 unfolding form_named
 named word words form found =
@@ -195,7 +195,7 @@ by_more more word words =
 
 -- what the words of a form give, without its first word
 by_first :
-    (form : Form) (word : List ℕ) (words : List (List ℕ))
+    (form : LineForm) (word : List ℕ) (words : List (List ℕ))
     → operands_of (fields_of form) (word ∷ words) ≡ operands_of (drop 1 (fields_of form)) words
 by_first Read word words = by_more _ word words
 by_first Write word words = by_more _ word words
@@ -214,7 +214,7 @@ by_first Take word words = by_more _ word words
 
 -- a line whose first word names a form asks for what a line of that form does
 pub line_is_named :
-    (word : List ℕ) (words : List (List ℕ)) (form : Form) → form_named word ≡ Some form
+    (word : List ℕ) (words : List (List ℕ)) (form : LineForm) → form_named word ≡ Some form
     → line_of_words (word ∷ words) ≡ line_named form words
 unfolding line_of_words line_named line_by
 line_is_named word words form found =

@@ -6,8 +6,8 @@ use Rattle.vme_cycle.specs.declared.request.Request.TheVariants as requests
 use Rattle.vme_memory.specs.declared.command.BoardCmd.TheVariants as commands
 use Rattle.vme_grammar.specs.declared.line.Line.{Line}
 use Rattle.vme_grammar.specs.declared.line.Line.TheVariants as lines
-use Rattle.vme_grammar.specs.declared.form.Form.{Form}
-use Rattle.vme_grammar.specs.declared.form.Form.TheVariants.{Read, Write, BlockRead, BlockWrite, BlockFill, Modify, LocalRead, LocalWrite, LocalModify, Await, Lock, Unlock, Put, Take}
+use Rattle.vme_grammar.specs.declared.form.LineForm.{LineForm}
+use Rattle.vme_grammar.specs.declared.form.LineForm.TheVariants.{Read, Write, BlockRead, BlockWrite, BlockFill, Modify, LocalRead, LocalWrite, LocalModify, Await, Lock, Unlock, Put, Take}
 use Rattle.vme_grammar.specs.declared.function.Function.{Function}
 use Rattle.vme_grammar.specs.declared.function.Function.TheVariants.{Set, Exchange, Add, Compare}
 use Rattle.vme_grammar.specs.Operands.{Operands}
@@ -37,7 +37,7 @@ function_places Add = Word (name_of Add) ∷ fields (Datum ∷ [])
 function_places Compare = Word (name_of Compare) ∷ fields (Expected ∷ Datum ∷ [])
 
 -- the forms of lines, one row a word (this project's own)
-abbrev pub places : Form → List Place
+abbrev pub places : LineForm → List Place
 places Read = Word (codes "r") ∷ fields (Code ∷ Address ∷ Length ∷ [])
 places Write = Word (codes "w") ∷ fields (Code ∷ Address ∷ Bytes ∷ [])
 places BlockRead = Word (codes "br") ∷ fields (Code ∷ Address ∷ Length ∷ Count ∷ [])
@@ -59,7 +59,7 @@ field_at (Word text) = Name
 field_at (Of field) = field
 
 -- the fields of a form, a certain word among them (this project's own)
-abbrev pub fields_of : Form → List Field
+abbrev pub fields_of : LineForm → List Field
 fields_of form = map field_at (places form)
 
 -- all functions, so that a look-up computes (this project's own)
@@ -67,7 +67,7 @@ abbrev pub functions : List Function
 functions = Set ∷ Exchange ∷ Add ∷ Compare ∷ []
 
 -- all forms (this project's own)
-abbrev pub forms : List Form
+abbrev pub forms : List LineForm
 forms =
     Read ∷ Write ∷ BlockRead ∷ BlockWrite ∷ BlockFill ∷ LocalRead ∷ LocalWrite ∷ Await ∷ Lock ∷ Unlock ∷ Put ∷ Take
     ∷ map Modify functions ++ map LocalModify functions
@@ -80,7 +80,7 @@ function_at Add o = modifies.Add (record { items = o.bytes })
 function_at Compare o = modifies.Compare (record { items = o.expected }) (record { items = o.bytes })
 
 -- what a line asks for, by its form and what its fields give (this project's own)
-abbrev pub line_at : Form → Operands → Line
+abbrev pub line_at : LineForm → Operands → Line
 line_at Read o = lines.Bus (requests.Read o.am o.addr o.n)
 line_at Write o = lines.Bus (requests.Write o.am o.addr (record { items = o.bytes }))
 line_at BlockRead o = lines.Bus (requests.BlockRead o.am o.addr o.n o.count)

@@ -5,7 +5,7 @@ use Rattle.std.specs.Str.{bytes_eq}
 use Rattle.std.specs.Option.{ok_or, option_map_or}
 use Rattle.vme_grammar.specs.declared.fault.LineFault.{LineFault}
 use Rattle.vme_grammar.specs.declared.fault.LineFault.TheVariants.{LineTooLong, UnknownWord, WordCount}
-use Rattle.vme_grammar.specs.declared.form.Form.{Form}
+use Rattle.vme_grammar.specs.declared.form.LineForm.{LineForm}
 use Rattle.vme_grammar.specs.declared.line.Line.{Line}
 use Rattle.vme_grammar.specs.declared.line.Line.TheVariants.{Bus, Local, Await, Lock, Unlock, Put, Take}
 use Rattle.vme_memory.specs.declared.command.BoardCmd.TheVariants.{LocalRead, LocalWrite, LocalModify, Cycle}
@@ -34,7 +34,7 @@ go_by absent (Of field ∷ more) words = go_by absent more (drop 1 words)
 
 -- the form of a line: a word is unknown where the words, as far as they go, go by no form; and there are too few where they
 -- have the certain words of none (this project's own)
-unfoldable pub form_of : List (List ℕ) → Result Form LineFault
+unfoldable pub form_of : List (List ℕ) → Result LineForm LineFault
 form_of words = do
   _ ← refuse (not (list_any (λ form. go_by true (places form) words) forms)) UnknownWord
   ok_or (find (λ form. go_by false (places form) words) forms) WordCount
@@ -81,7 +81,7 @@ pub data Fill : List Place → List (List ℕ) → Operands → Operands → Typ
 
 -- the words of a line spell what it asks for: they fill the places of a form (this project's own)
 pub record Spell (words : List (List ℕ)) (line : Line) : Type 0 where
-  pub form : Form
+  pub form : LineForm
   pub operands : Operands
   pub places_filled : Fill (places form) words no_operands operands
   pub same : line ≡ line_at form operands

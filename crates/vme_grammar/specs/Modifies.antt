@@ -32,8 +32,8 @@ four_and_more (a ∷ b ∷ c ∷ []) = None
 four_and_more (a ∷ b ∷ c ∷ d ∷ more) = Some (a, b, c, d, more)
 
 -- the code and the address that two words spell: AM ADDR (this project's own)
-unfoldable pub place_of : List ℕ → List ℕ → Result (ℕ × ℕ) LineFault
-place_of am addr = do
+unfoldable pub field_place : List ℕ → List ℕ → Result (ℕ × ℕ) LineFault
+field_place am addr = do
   code ← ok_or (hex_number 2 am) BadCode
   address ← ok_or (hex_number 8 addr) BadAddress
   Ok (code, address)
@@ -71,7 +71,7 @@ modify_line words = do
   parts ← ok_or (four_and_more words) WordCount
   function ← function_of (Some parts.3)
   _ ← refuse (not (length parts.4 == operand_count function)) WordCount
-  place ← place_of parts.0 parts.1
+  place ← field_place parts.0 parts.1
   n ← ok_or (small_number parts.2) BadNumber
   f ← modify_of function n parts.4
   Ok (lines.Bus (requests.Modify place.0 place.1 n f))

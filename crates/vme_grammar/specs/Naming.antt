@@ -5,14 +5,14 @@ use Rattle.std.specs.Str.{bytes_eq}
 use Rattle.vme_grammar.specs.declared.line.Line.{Line}
 use Rattle.vme_grammar.specs.declared.fault.LineFault.{LineFault}
 use Rattle.vme_grammar.specs.declared.fault.LineFault.TheVariants.{UnknownWord, WordCount}
-use Rattle.vme_grammar.specs.declared.form.Form.{Form}
-use Rattle.vme_grammar.specs.declared.form.Form.TheVariants.{Read, Write, BlockRead, BlockWrite, BlockFill, Modify, LocalRead, LocalWrite, LocalModify, Await, Lock, Unlock, Put, Take}
+use Rattle.vme_grammar.specs.declared.form.LineForm.{LineForm}
+use Rattle.vme_grammar.specs.declared.form.LineForm.TheVariants.{Read, Write, BlockRead, BlockWrite, BlockFill, Modify, LocalRead, LocalWrite, LocalModify, Await, Lock, Unlock, Put, Take}
 use Rattle.vme_grammar.specs.declared.function.Function.{Function}
 use Rattle.vme_grammar.specs.Forms.{name_of, functions, places, fields_of, forms, line_at}
 use Rattle.vme_grammar.specs.Grammar.{◌>>=◌, go_by, operands_of}
 
 -- the first form whose first word this is (this project's own)
-unfoldable pub form_named : List ℕ → Option Form
+unfoldable pub form_named : List ℕ → Option LineForm
 form_named word = find (λ form. go_by true (places form) (word ∷ [])) forms
 
 -- the function that a word names, if there is a word (this project's own)
@@ -21,7 +21,7 @@ function_of None = Err WordCount
 function_of (Some word) = ok_or (find (λ function. bytes_eq word (name_of function)) functions) UnknownWord
 
 -- a form, with the function that the words after the first name in its place, if it has one (this project's own)
-abbrev pub with_function : Form → List (List ℕ) → Result Form LineFault
+abbrev pub with_function : LineForm → List (List ℕ) → Result LineForm LineFault
 with_function (Modify first) words = do
   function ← function_of (slice_get words 3)
   Ok (Modify function)
@@ -42,13 +42,13 @@ with_function Put words = Ok Put
 with_function Take words = Ok Take
 
 -- what a line of a form asks for, by the words after its first (this project's own)
-unfoldable pub line_by : Form → List (List ℕ) → Result Line LineFault
+unfoldable pub line_by : LineForm → List (List ℕ) → Result Line LineFault
 line_by form words = do
   operands ← operands_of (drop 1 (fields_of form)) words
   Ok (line_at form operands)
 
 -- what a line of a form asks for, whose function its words name (this project's own)
-unfoldable pub line_named : Form → List (List ℕ) → Result Line LineFault
+unfoldable pub line_named : LineForm → List (List ℕ) → Result Line LineFault
 line_named first words = do
   form ← with_function first words
   line_by form words

@@ -41,9 +41,9 @@ abbrev pub lanes_text : List (Option ℕ) → List ℕ
 lanes_text lanes = flat_map lane_text lanes
 
 -- the lanes that are told: all eight with a code of eight-byte data, else the last four, D31-D24 to D07-D00 (this project's own)
-abbrev pub told_lanes : Bool → List (Option ℕ) → List (Option ℕ)
-told_lanes true lanes = lanes
-told_lanes false lanes = drop 4 lanes
+abbrev pub reported_lanes : Bool → List (Option ℕ) → List (Option ℕ)
+reported_lanes true lanes = lanes
+reported_lanes false lanes = drop 4 lanes
 
 -- the code, and the address lines as an address of eight digits (this project's own)
 unfoldable pub address_text : ℕ → ℕ → List ℕ
@@ -61,7 +61,7 @@ levels_text s = strobes_text s.strobes ++ level_text (codes " write=") s.write
 
 -- the data lines, by whether the code is one of eight-byte data (this project's own)
 unfoldable pub data_text : Bool → List (Option ℕ) → List ℕ
-data_text wide lanes = codes " data=" ++ lanes_text (told_lanes wide lanes)
+data_text wide lanes = codes " data=" ++ lanes_text (reported_lanes wide lanes)
 
 -- the signals of a cycle (this project's own)
 unfoldable pub signals_text : SignalLines → List ℕ
@@ -69,11 +69,11 @@ signals_text s = address_text s.am.code s.addr ++ (levels_text s ++ data_text s.
 
 -- how a transfer ends: with all bytes that were read, with all data written, with the old bytes of a read-modify-write, or
 -- with a bus error after so many data, and what was read by then (this project's own)
-pub data Outcome : Type 0 where
-  Read : List ℕ → Outcome
-  Done : Outcome
-  Old : List ℕ → Outcome
-  Berr : ℕ → List ℕ → Outcome
+pub data OutcomeText : Type 0 where
+  Read : List ℕ → OutcomeText
+  Done : OutcomeText
+  Old : List ℕ → OutcomeText
+  Berr : ℕ → List ℕ → OutcomeText
 
 -- a space and bytes, where there are any (this project's own)
 abbrev pub more_bytes : List ℕ → List ℕ
@@ -81,7 +81,7 @@ more_bytes [] = []
 more_bytes (byte ∷ bytes) = 32 ∷ hex_text (byte ∷ bytes)
 
 -- what the end of a transfer is told as (this project's own)
-unfoldable pub outcome_text : Outcome → List ℕ
+unfoldable pub outcome_text : OutcomeText → List ℕ
 outcome_text (Read bytes) = codes "read " ++ hex_text bytes
 outcome_text Done = codes "done"
 outcome_text (Old bytes) = codes "old " ++ hex_text bytes

@@ -1,6 +1,6 @@
 //! Lines that ask the own board for something by its local port, by the words after their first.
 ghost use Rattle.std.specs.Prelude.{◌≡◌};
-ghost use Rattle.vme_grammar.specs.declared.form.Form.TheVariants as form;
+ghost use Rattle.vme_grammar.specs.declared.form.LineForm.TheVariants as form;
 ghost use Rattle.vme_lexer.specs.Words.{words};
 ghost use Rattle.vme_grammar.specs.Naming.{line_by};
 ghost use Rattle.vme_grammar.specs.Modifies.{local_modify_line};

@@ -14,7 +14,7 @@ use vme_lexer::Words;
 
 /// The form of a line: what its first word says and, where it names a function, that.
 #[derive(Clone, Copy)]
-pub(crate) enum Form {
+pub(crate) enum LineForm {
     Read,
     Write,
     BlockRead,
@@ -31,28 +31,28 @@ pub(crate) enum Form {
     Take,
 }
 
-impl Form {
+impl LineForm {
     /// The first form whose first word this is.
     #[inline(always)]
     #[tactic(auto, unfolding(crate::specs::Naming::form_named), using(crate::proofs::Naming::unlock_named))]
-    fn named(word: &[u8]) -> Option<Form>
+    fn named(word: &[u8]) -> Option<LineForm>
         ensures { result ≡ form_named word.now }
     {
         match word {
-            b"r" => Some(Form::Read),
-            b"w" => Some(Form::Write),
-            b"br" => Some(Form::BlockRead),
-            b"bw" => Some(Form::BlockWrite),
-            b"bf" => Some(Form::BlockFill),
-            b"m" => Some(Form::Modify(Function::Set)),
-            b"lr" => Some(Form::LocalRead),
-            b"lw" => Some(Form::LocalWrite),
-            b"lm" => Some(Form::LocalModify(Function::Set)),
-            b"await" => Some(Form::Await),
-            b"lock" => Some(Form::Lock),
-            b"unlock" => Some(Form::Unlock),
-            b"put" => Some(Form::Put),
-            b"take" => Some(Form::Take),
+            b"r" => Some(LineForm::Read),
+            b"w" => Some(LineForm::Write),
+            b"br" => Some(LineForm::BlockRead),
+            b"bw" => Some(LineForm::BlockWrite),
+            b"bf" => Some(LineForm::BlockFill),
+            b"m" => Some(LineForm::Modify(Function::Set)),
+            b"lr" => Some(LineForm::LocalRead),
+            b"lw" => Some(LineForm::LocalWrite),
+            b"lm" => Some(LineForm::LocalModify(Function::Set)),
+            b"await" => Some(LineForm::Await),
+            b"lock" => Some(LineForm::Lock),
+            b"unlock" => Some(LineForm::Unlock),
+            b"put" => Some(LineForm::Put),
+            b"take" => Some(LineForm::Take),
             _ => None,
         }
     }
@@ -64,20 +64,20 @@ impl Form {
         ensures { result ≡ line_named self (words operands.entry.rest.now) }
     {
         match self {
-            Form::Read => read(operands),
-            Form::Write => write(operands),
-            Form::BlockRead => block_read(operands),
-            Form::BlockWrite => block_write(operands),
-            Form::BlockFill => block_fill(operands),
-            Form::Modify(_) => modify(operands),
-            Form::LocalRead => local_read(operands),
-            Form::LocalWrite => local_write(operands),
-            Form::LocalModify(_) => local_modify(operands),
-            Form::Await => await_bytes(operands),
-            Form::Lock => lock(operands),
-            Form::Unlock => unlock(operands),
-            Form::Put => put(operands),
-            Form::Take => take(operands),
+            LineForm::Read => read(operands),
+            LineForm::Write => write(operands),
+            LineForm::BlockRead => block_read(operands),
+            LineForm::BlockWrite => block_write(operands),
+            LineForm::BlockFill => block_fill(operands),
+            LineForm::Modify(_) => modify(operands),
+            LineForm::LocalRead => local_read(operands),
+            LineForm::LocalWrite => local_write(operands),
+            LineForm::LocalModify(_) => local_modify(operands),
+            LineForm::Await => await_bytes(operands),
+            LineForm::Lock => lock(operands),
+            LineForm::Unlock => unlock(operands),
+            LineForm::Put => put(operands),
+            LineForm::Take => take(operands),
         }
     }
 }
@@ -88,7 +88,7 @@ impl Form {
 pub(crate) fn line_of_words(word: &[u8], operands: Words<'_>) -> Result<Line, LineFault>
     ensures { result ≡ line_of_words (word.now ∷ words operands.entry.rest.now) }
 {
-    match Form::named(word) {
+    match LineForm::named(word) {
         Some(form) => form.line(operands),
         None => Err(LineFault::UnknownWord),
     }

@@ -1,9 +1,9 @@
 //! Lines that ask the bus for something, by the words after their first.
 ghost use Rattle.std.specs.Prelude.{◌≡◌};
-ghost use Rattle.vme_grammar.specs.declared.form.Form.TheVariants as form;
+ghost use Rattle.vme_grammar.specs.declared.form.LineForm.TheVariants as form;
 ghost use Rattle.vme_lexer.specs.Words.{words};
 ghost use Rattle.vme_grammar.specs.Naming.{line_by};
-ghost use Rattle.vme_grammar.specs.Modifies.{place_of, modify_line};
+ghost use Rattle.vme_grammar.specs.Modifies.{field_place, modify_line};
 
 use crate::counted::{five_words, four_and_more, four_words, three_words};
 use crate::fault::LineFault;
@@ -14,9 +14,9 @@ use vme_lexer::{Words, decimal_number, exact_bytes, hex_bytes, hex_number, small
 
 /// The code and the address that two words spell.
 #[inline(always)]
-#[tactic(auto, unfolding(crate::specs::Modifies::place_of))]
-pub(crate) fn place_of(am: &[u8], addr: &[u8]) -> Result<(u8, u32), LineFault>
-    ensures { result ≡ place_of am.now addr.now }
+#[tactic(auto, unfolding(crate::specs::Modifies::field_place))]
+pub(crate) fn field_place(am: &[u8], addr: &[u8]) -> Result<(u8, u32), LineFault>
+    ensures { result ≡ field_place am.now addr.now }
 {
     let am = hex_number(2, am).ok_or(LineFault::BadCode)? as u8;
     let addr = hex_number(8, addr).ok_or(LineFault::BadAddress)?;
@@ -25,36 +25,36 @@ pub(crate) fn place_of(am: &[u8], addr: &[u8]) -> Result<(u8, u32), LineFault>
 
 /// `r`
 #[inline(always)]
-#[tactic(auto, unfolding(crate::specs::Naming::line_by, crate::specs::Grammar::operands_of, crate::specs::Fields::with_field, crate::specs::Modifies::place_of))]
+#[tactic(auto, unfolding(crate::specs::Naming::line_by, crate::specs::Grammar::operands_of, crate::specs::Fields::with_field, crate::specs::Modifies::field_place))]
 pub(crate) fn read(operands: Words<'_>) -> Result<Line, LineFault>
     ensures { result ≡ line_by form.Read (words operands.entry.rest.now) }
 {
     let (am, addr, n) = three_words(operands).ok_or(LineFault::WordCount)?;
-    let (am, addr) = place_of(am, addr)?;
+    let (am, addr) = field_place(am, addr)?;
     let n = small_number(n).ok_or(LineFault::BadNumber)?;
     Ok(Line::Bus(Request::Read { am, addr, n }))
 }
 
 /// `w`
 #[inline(always)]
-#[tactic(auto, unfolding(crate::specs::Naming::line_by, crate::specs::Grammar::operands_of, crate::specs::Fields::with_field, crate::specs::Modifies::place_of))]
+#[tactic(auto, unfolding(crate::specs::Naming::line_by, crate::specs::Grammar::operands_of, crate::specs::Fields::with_field, crate::specs::Modifies::field_place))]
 pub(crate) fn write(operands: Words<'_>) -> Result<Line, LineFault>
     ensures { result ≡ line_by form.Write (words operands.entry.rest.now) }
 {
     let (am, addr, bytes) = three_words(operands).ok_or(LineFault::WordCount)?;
-    let (am, addr) = place_of(am, addr)?;
+    let (am, addr) = field_place(am, addr)?;
     let bytes = hex_bytes(bytes).ok_or(LineFault::BadBytes)?;
     Ok(Line::Bus(Request::Write { am, addr, bytes }))
 }
 
 /// `br`
 #[inline(always)]
-#[tactic(auto, unfolding(crate::specs::Naming::line_by, crate::specs::Grammar::operands_of, crate::specs::Fields::with_field, crate::specs::Modifies::place_of))]
+#[tactic(auto, unfolding(crate::specs::Naming::line_by, crate::specs::Grammar::operands_of, crate::specs::Fields::with_field, crate::specs::Modifies::field_place))]
 pub(crate) fn block_read(operands: Words<'_>) -> Result<Line, LineFault>
     ensures { result ≡ line_by form.BlockRead (words operands.entry.rest.now) }
 {
     let (am, addr, n, count) = four_words(operands).ok_or(LineFault::WordCount)?;
-    let (am, addr) = place_of(am, addr)?;
+    let (am, addr) = field_place(am, addr)?;
     let n = small_number(n).ok_or(LineFault::BadNumber)?;
     let count = decimal_number(4, count).ok_or(LineFault::BadNumber)?;
     Ok(Line::Bus(Request::BlockRead { am, addr, n, count }))
@@ -62,12 +62,12 @@ pub(crate) fn block_read(operands: Words<'_>) -> Result<Line, LineFault>
 
 /// `bw`
 #[inline(always)]
-#[tactic(auto, unfolding(crate::specs::Naming::line_by, crate::specs::Grammar::operands_of, crate::specs::Fields::with_field, crate::specs::Modifies::place_of))]
+#[tactic(auto, unfolding(crate::specs::Naming::line_by, crate::specs::Grammar::operands_of, crate::specs::Fields::with_field, crate::specs::Modifies::field_place))]
 pub(crate) fn block_write(operands: Words<'_>) -> Result<Line, LineFault>
     ensures { result ≡ line_by form.BlockWrite (words operands.entry.rest.now) }
 {
     let (am, addr, n, bytes) = four_words(operands).ok_or(LineFault::WordCount)?;
-    let (am, addr) = place_of(am, addr)?;
+    let (am, addr) = field_place(am, addr)?;
     let n = small_number(n).ok_or(LineFault::BadNumber)?;
     let bytes = Block::from_short_slice(hex_bytes(bytes).ok_or(LineFault::BadBytes)?);
     Ok(Line::Bus(Request::BlockWrite { am, addr, n, bytes }))
@@ -75,12 +75,12 @@ pub(crate) fn block_write(operands: Words<'_>) -> Result<Line, LineFault>
 
 /// `bf`
 #[inline(always)]
-#[tactic(auto, unfolding(crate::specs::Naming::line_by, crate::specs::Grammar::operands_of, crate::specs::Fields::with_field, crate::specs::Modifies::place_of))]
+#[tactic(auto, unfolding(crate::specs::Naming::line_by, crate::specs::Grammar::operands_of, crate::specs::Fields::with_field, crate::specs::Modifies::field_place))]
 pub(crate) fn block_fill(operands: Words<'_>) -> Result<Line, LineFault>
     ensures { result ≡ line_by form.BlockFill (words operands.entry.rest.now) }
 {
     let (am, addr, n, count, bytes) = five_words(operands).ok_or(LineFault::WordCount)?;
-    let (am, addr) = place_of(am, addr)?;
+    let (am, addr) = field_place(am, addr)?;
     let n = small_number(n).ok_or(LineFault::BadNumber)?;
     let count = decimal_number(4, count).ok_or(LineFault::BadNumber)?;
     let bytes = exact_bytes(n, bytes).ok_or(LineFault::BadBytes)?;
@@ -104,7 +104,7 @@ pub(crate) fn modify(operands: Words<'_>) -> Result<Line, LineFault>
     if !function.has_operands(operands) {
         return Err(LineFault::WordCount);
     }
-    let (am, addr) = place_of(am, addr)?;
+    let (am, addr) = field_place(am, addr)?;
     let n = small_number(n).ok_or(LineFault::BadNumber)?;
     let f = function.modify(n, operands)?;
     Ok(Line::Bus(Request::Modify { am, addr, n, f }))
@@ -112,12 +112,12 @@ pub(crate) fn modify(operands: Words<'_>) -> Result<Line, LineFault>
 
 /// `await`
 #[inline(always)]
-#[tactic(auto, unfolding(crate::specs::Naming::line_by, crate::specs::Grammar::operands_of, crate::specs::Fields::with_field, crate::specs::Modifies::place_of))]
+#[tactic(auto, unfolding(crate::specs::Naming::line_by, crate::specs::Grammar::operands_of, crate::specs::Fields::with_field, crate::specs::Modifies::field_place))]
 pub(crate) fn await_bytes(operands: Words<'_>) -> Result<Line, LineFault>
     ensures { result ≡ line_by form.Await (words operands.entry.rest.now) }
 {
     let (am, addr, bytes) = three_words(operands).ok_or(LineFault::WordCount)?;
-    let (am, addr) = place_of(am, addr)?;
+    let (am, addr) = field_place(am, addr)?;
     let bytes = hex_bytes(bytes).ok_or(LineFault::BadBytes)?;
     Ok(Line::Await { am, addr, bytes })
 }

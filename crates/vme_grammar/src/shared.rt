@@ -1,7 +1,7 @@
 //! Lines that ask for a lock or a mailbox, by the words after their first.
 ghost use Rattle.std.specs.Prelude.{◌≡◌};
 ghost use Rattle.std.specs.Option.{ok_or};
-ghost use Rattle.vme_grammar.specs.declared.form.Form.TheVariants as form;
+ghost use Rattle.vme_grammar.specs.declared.form.LineForm.TheVariants as form;
 ghost use Rattle.vme_grammar.specs.Naming.{line_by};
 ghost use Rattle.vme_lexer.specs.Numbers.{decimal_number};
 ghost use Rattle.vme_lexer.specs.Words.{words};
@@ -9,7 +9,7 @@ ghost use Rattle.vme_lexer.specs.Words.{words};
 use crate::counted::{one_word, two_words};
 use crate::fault::LineFault;
 use crate::line::Line;
-use crate::requests::place_of;
+use crate::requests::field_place;
 use vme_lexer::{Words, decimal_number, hex_number};
 
 /// The number of a mailbox.
@@ -23,23 +23,23 @@ fn mailbox_of(number: &[u8]) -> Result<u8, LineFault>
 
 /// `lock`
 #[inline(always)]
-#[tactic(auto, unfolding(crate::specs::Naming::line_by, crate::specs::Grammar::operands_of, crate::specs::Fields::with_field, crate::specs::Modifies::place_of))]
+#[tactic(auto, unfolding(crate::specs::Naming::line_by, crate::specs::Grammar::operands_of, crate::specs::Fields::with_field, crate::specs::Modifies::field_place))]
 pub(crate) fn lock(operands: Words<'_>) -> Result<Line, LineFault>
     ensures { result ≡ line_by form.Lock (words operands.entry.rest.now) }
 {
     let (am, addr) = two_words(operands).ok_or(LineFault::WordCount)?;
-    let (am, addr) = place_of(am, addr)?;
+    let (am, addr) = field_place(am, addr)?;
     Ok(Line::Lock { am, addr })
 }
 
 /// `unlock`
 #[inline(always)]
-#[tactic(auto, unfolding(crate::specs::Naming::line_by, crate::specs::Grammar::operands_of, crate::specs::Fields::with_field, crate::specs::Modifies::place_of))]
+#[tactic(auto, unfolding(crate::specs::Naming::line_by, crate::specs::Grammar::operands_of, crate::specs::Fields::with_field, crate::specs::Modifies::field_place))]
 pub(crate) fn unlock(operands: Words<'_>) -> Result<Line, LineFault>
     ensures { result ≡ line_by form.Unlock (words operands.entry.rest.now) }
 {
     let (am, addr) = two_words(operands).ok_or(LineFault::WordCount)?;
-    let (am, addr) = place_of(am, addr)?;
+    let (am, addr) = field_place(am, addr)?;
     Ok(Line::Unlock { am, addr })
 }
 

@@ -13,8 +13,8 @@ abbrev pub inner_of : {T : Type 0} → Io T → T
 inner_of io = io.inner
 
 -- the bytes that a source has left (this project's own)
-abbrev pub told_by : SliceSource → List ℕ
-told_by source = source.rest.now
+abbrev pub reported_by : SliceSource → List ℕ
+reported_by source = source.rest.now
 
 -- whether a source has failed (this project's own)
 abbrev pub is_marked_source : SliceSource → Bool

@@ -1,6 +1,6 @@
 ghost use Rattle.std.specs.Prelude.{◌≡◌, ℕ, ◌<◌, ◌≤◌, Bool, true, List, Option, length, take, IfOk, OnOk, OnErr};
 ghost use Rattle.std.specs.Io.KnownBytes.{Keeps, Appends};
-ghost use Rattle.vme_io.specs.Fronts.{AppendsFront};
+ghost use Rattle.vme_io.specs.Prefixes.{AppendsPrefix};
 
 use crate::source::Failed;
 
@@ -26,7 +26,7 @@ pub trait Sink {
 /// Writes all of the bytes, or a front of them before a failure.
 pub fn write_all<W: Sink>(writer: &mut W, bytes: &[u8]) -> Result<(), Failed>
     ensures bytes { OnOk result (Appends (W.contents writer.old) (W.contents writer.new) bytes.now) }
-    ensures front { OnErr result (AppendsFront (W.contents writer.old) (W.contents writer.new) bytes.now) }
+    ensures prefix { OnErr result (AppendsPrefix (W.contents writer.old) (W.contents writer.new) bytes.now) }
     ensures unmarked { OnOk result (W.is_marked writer.new ≡ W.is_marked writer.old) }
     ensures marked { OnErr result (W.is_marked writer.new ≡ true) }
 {

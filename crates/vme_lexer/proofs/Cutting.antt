@@ -37,10 +37,10 @@ place_found byte text (Some k) found =
 pub cut_at :
     (byte end : ℕ) (text before after : List ℕ) → position (λ b. b == byte) text ≡ Some end → before ≡ take end text → after ≡ drop (end + 1) text
     → IsCut byte text before after
-cut_at byte end text before after place front back =
+cut_at byte end text before after place prefix back =
     let at = position_is (is_byte byte) text end place in
     record {
-      parts = slice_split_first (is_byte byte) text 0 (rw at.1 at.0) ∙ rw (at.1, front, back) refl;
+      parts = slice_split_first (is_byte byte) text 0 (rw at.1 at.0) ∙ rw (at.1, prefix, back) refl;
       shorter = omega (arith, ap length back, length-drop (end + 1) text, at.0);
     }
 

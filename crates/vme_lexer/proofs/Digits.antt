@@ -86,29 +86,29 @@ pub read_more :
 read_more n k c count rest word few counts so = read_by n k c count rest word (hex_digit c) few refl counts so
 
 -- some bytes, and then those that were read
-abbrev pub with_front : List ℕ → Option (List ℕ) → Option (List ℕ)
-with_front front bytes = option_map (λ bs. front ++ bs) bytes
+abbrev pub with_prefix : List ℕ → Option (List ℕ) → Option (List ℕ)
+with_prefix prefix bytes = option_map (λ bs. prefix ++ bs) bytes
 
 -- bytes before the bytes that were read
-with_front-append : (front bytes : List ℕ) (read : Option (List ℕ)) → with_front (front ++ bytes) read ≡ with_front front (with_front bytes read)
-with_front-append front bytes None = refl
-with_front-append front bytes (Some bs) = ap Some (append_assoc front bytes bs)
+with_prefix-append : (prefix bytes : List ℕ) (read : Option (List ℕ)) → with_prefix (prefix ++ bytes) read ≡ with_prefix prefix (with_prefix bytes read)
+with_prefix-append prefix bytes None = refl
+with_prefix-append prefix bytes (Some bs) = ap Some (append_assoc prefix bytes bs)
 
 -- a pair of digits is one byte more
 pub hex_pairs-more :
     (bytes new rest tail : List ℕ) (high low : ℕ) → 2 ≤ length rest → hex_digit (get_or rest 0 0) ≡ Some high → hex_digit (get_or rest 1 0) ≡ Some low
-    → new ≡ bytes ++ (16 * high + low) ∷ [] → tail ≡ drop 2 rest → with_front new (hex_pairs tail) ≡ with_front bytes (hex_pairs rest)
+    → new ≡ bytes ++ (16 * high + low) ∷ [] → tail ≡ drop 2 rest → with_prefix new (hex_pairs tail) ≡ with_prefix bytes (hex_pairs rest)
 hex_pairs-more bytes new [] tail high low long first second pushed cut = absurd (omega arith)
 hex_pairs-more bytes new (c ∷ []) tail high low long first second pushed cut = absurd (omega arith)
 hex_pairs-more bytes new (c ∷ d ∷ cs) tail high low long first second pushed cut =
-    ap (λ b. with_front b (hex_pairs tail)) pushed
-    ∙ ap (λ t. with_front (bytes ++ (16 * high + low) ∷ []) (hex_pairs t)) cut
-    ∙ with_front-append bytes ((16 * high + low) ∷ []) (hex_pairs cs)
+    ap (λ b. with_prefix b (hex_pairs tail)) pushed
+    ∙ ap (λ t. with_prefix (bytes ++ (16 * high + low) ∷ []) (hex_pairs t)) cut
+    ∙ with_prefix-append bytes ((16 * high + low) ∷ []) (hex_pairs cs)
     ∙ rw (first, second) refl
 
 -- a sum below 2 ^ 32 is that of bytes, which go on as the rest; one that is not tells of a byte of the word that is no digit
 pub record IsSpelled (bytes : List ℕ) (sum : ℕ) (rest word : List ℕ) : Type 0 where
-  pub spelled : sum < 2 ^ 32 → with_front bytes (hex_pairs rest) ≡ hex_pairs word
+  pub spelled : sum < 2 ^ 32 → with_prefix bytes (hex_pairs rest) ≡ hex_pairs word
   pub small : sum < 2 ^ 32 → sum ≤ 255 * length bytes
   pub unspelled : 2 ^ 32 ≤ sum → hex_pairs word ≡ None
   pub capacity : sum ≤ 17 * 2 ^ 32 * length bytes
@@ -131,7 +131,7 @@ spelled_none :
 spelled_none bytes new sum pair rest tail word much most none longer so = record {
   spelled = λ less. absurd (omega (arith, less, much));
   small = λ less. absurd (omega (arith, less, much));
-  unspelled = λ more. elim (cases_lt sum (2 ^ 32)) [ inl less ↦ sym (so.spelled less) ∙ ap (with_front bytes) none | inr le ↦ so.unspelled le ];
+  unspelled = λ more. elim (cases_lt sum (2 ^ 32)) [ inl less ↦ sym (so.spelled less) ∙ ap (with_prefix bytes) none | inr le ↦ so.unspelled le ];
   capacity = omega (arith, so.capacity, most, longer);
 }
 

@@ -9,9 +9,9 @@ use Rattle.vme_arbiter.specs.declared.command.ArbReply.{ArbReply}
 use Rattle.vme_arbiter.specs.declared.command.ArbReply.TheVariants as turned
 use Rattle.vme_arbiter.specs.Requests.{is_level}
 use Rattle.vme_arbiter.specs.Arbitration.{Arbitration}
-use Rattle.vme_arbiter.specs.Turns.{may_give, StandsAsTold}
+use Rattle.vme_arbiter.specs.Turns.{may_give, StandsAsReplied}
 use Rattle.vme_core.specs.declared.event.EventReply.{EventReply}
-use Rattle.vme_core.specs.declared.event.EventReply.TheVariants as told
+use Rattle.vme_core.specs.declared.event.EventReply.TheVariants as event_replies
 use Rattle.vme_core.specs.Calls.{Call, OnBoard, OnBus}
 use Rattle.vme_master.specs.declared.job.Job.{Job}
 use Rattle.vme_master.specs.declared.job.Job.TheVariants.{Bus, Local}
@@ -26,19 +26,19 @@ use Rattle.vme_shared.specs.declared.reply.LineReply.TheVariants as replies
 use Rattle.vme_shared.specs.declared.outcome.SharedOutcome.{SharedOutcome}
 use Rattle.vme_shared.specs.declared.outcome.SharedOutcome.TheVariants as shared
 use Rattle.vme_shared.specs.Tables as shares
-use Rattle.vme_shared.specs.Tables.{SharedNext, shared_next, shared_told}
+use Rattle.vme_shared.specs.Tables.{SharedNext, shared_next, shared_reported}
 use Rattle.vme_shared.proofs.lemmas.Tenures as laws
 use Rattle.vme_line_task.specs.Scripts.{Attempt, Transferring, Awaiting, Sharing}
 use Rattle.vme_line_task.specs.Tables.{Invokes, Returns, moves_next, waits_next, shares_next, attempt_next}
-use Rattle.vme_line_task.specs.Tenures.{job_told, attempt_told, IsGood, IsGranted}
+use Rattle.vme_line_task.specs.Tenures.{job_reported, attempt_reported, IsGood, IsGranted}
 use Rattle.vme_line_task.proofs.lemmas.Below.{moves_makes, waits_makes, shares_makes}
-use Rattle.vme_line_task.proofs.Tenures.{good_end, good_freed, FreedBy, freed_stands, local_never, turn_told, datum_told, begin_told, IsOwnJob}
+use Rattle.vme_line_task.proofs.Tenures.{good_end, good_freed, FreedBy, freed_stands, local_never, turn_reported, datum_reported, begin_reported, IsOwnJob}
 
 -- before the first call
-pub attempt_begins : (a : Attempt) → attempt_told a (None ∷ []) ≡ None
-attempt_begins (Transferring job) = begin_told job
-attempt_begins (Awaiting job want) = begin_told job
-attempt_begins (Sharing s) = laws.begin_told s
+pub attempt_begins : (a : Attempt) → attempt_reported a (None ∷ []) ≡ None
+attempt_begins (Transferring job) = begin_reported job
+attempt_begins (Awaiting job want) = begin_reported job
+attempt_begins (Sharing s) = laws.begin_reported s
 
 -- the transfers of an attempt are of a slot, on a level
 abbrev pub IsOwnAttempt : ℕ → ℕ → Attempt → Type 0
@@ -48,20 +48,20 @@ IsOwnAttempt slot level (Sharing s) = (s.slot ≡ slot) × (s.level ≡ level)
 
 -- its commands to the arbiter go by what the slot was told last
 job_turns : (slot level : ℕ) (job : Job) (g : Given) (cmd : ArbCmd) → IsOwnJob slot level job → is_level level ≡ true
-    → next_of job g ≡ tasks.Invokes (OnBus cmd) → may_give slot (job_told job g) cmd ≡ true
+    → next_of job g ≡ tasks.Invokes (OnBus cmd) → may_give slot (job_reported job g) cmd ≡ true
 job_turns slot level (Bus j) g cmd own lawful made =
     subst (λ (s : ℕ). may_give s (last_turn g) cmd ≡ true) own.0
     (turns_go_by j g cmd (subst (λ (l : ℕ). is_level l ≡ true) (sym own.1) lawful) made)
 job_turns slot level (Local j) g cmd own lawful made = absurd (local_never j g cmd made)
 
 pub attempt_turns : (slot level : ℕ) (a : Attempt) (g : Given) (cmd : ArbCmd) → IsOwnAttempt slot level a → is_level level ≡ true
-    → attempt_next a g ≡ Invokes (OnBus cmd) → may_give slot (attempt_told a g) cmd ≡ true
+    → attempt_next a g ≡ Invokes (OnBus cmd) → may_give slot (attempt_reported a g) cmd ≡ true
 attempt_turns slot level (Transferring job) g cmd own lawful made =
     job_turns slot level job g cmd own lawful (moves_makes (next_of job g) (OnBus cmd) made)
 attempt_turns slot level (Awaiting job want) g cmd own lawful made =
     job_turns slot level job g cmd own lawful (waits_makes want (next_of job g) (OnBus cmd) made)
 attempt_turns slot level (Sharing s) g cmd own lawful made =
-    subst (λ (one : ℕ). may_give one (shared_told s g) cmd ≡ true) own.0
+    subst (λ (one : ℕ). may_give one (shared_reported s g) cmd ≡ true) own.0
     (laws.turns_go_by s g cmd (subst (λ (l : ℕ). is_level l ≡ true) (sym own.1) lawful) (shares_makes (shared_next s g) (OnBus cmd) made))
 
 -- data go to a board while the slot is told that it holds the bus, or are those of a command to the local port
@@ -73,7 +73,7 @@ IsTransfer (Awaiting (Local j) want) = ⊥
 IsTransfer (Sharing s) = Unit {0}
 
 pub attempt_holds : (a : Attempt) (g : Given) (b : ℕ) (command : Option Command) → IsTransfer a
-    → attempt_next a g ≡ Invokes (OnBoard b command) → attempt_told a g ≡ Some turned.Granted
+    → attempt_next a g ≡ Invokes (OnBoard b command) → attempt_reported a g ≡ Some turned.Granted
 attempt_holds (Transferring (Bus j)) g b command transfer made =
     holds_for_data j g b command (moves_makes (next_of (Bus j) g) (OnBoard b command) made)
 attempt_holds (Transferring (Local j)) g b command transfer made = absurd transfer
@@ -85,29 +85,29 @@ attempt_holds (Sharing s) g b command transfer made =
 
 -- a good reply of the arbiter is what the slot is told
 pub attempt_turn : (a : Attempt) (g : Given) (cmd : ArbCmd) (reply : ArbReply) (bus : Arbitration) (slot : ℕ)
-    → attempt_next a g ≡ Invokes (OnBus cmd) → IsGood (OnBus cmd) (told.Bus reply) → StandsAsTold bus slot (Some reply)
-    → StandsAsTold bus slot (attempt_told a (Some (told.Bus reply) ∷ g))
+    → attempt_next a g ≡ Invokes (OnBus cmd) → IsGood (OnBus cmd) (event_replies.Bus reply) → StandsAsReplied bus slot (Some reply)
+    → StandsAsReplied bus slot (attempt_reported a (Some (event_replies.Bus reply) ∷ g))
 attempt_turn (Transferring job) g cmd reply bus slot made good stands =
-    turn_told job g cmd reply bus slot (moves_makes (next_of job g) (OnBus cmd) made) stands
+    turn_reported job g cmd reply bus slot (moves_makes (next_of job g) (OnBus cmd) made) stands
 attempt_turn (Awaiting job want) g cmd reply bus slot made good stands =
-    turn_told job g cmd reply bus slot (waits_makes want (next_of job g) (OnBus cmd) made) stands
+    turn_reported job g cmd reply bus slot (waits_makes want (next_of job g) (OnBus cmd) made) stands
 attempt_turn (Sharing s) g cmd reply bus slot made good stands =
-    laws.turn_told s g cmd reply bus slot (shares_makes (shared_next s g) (OnBus cmd) made) good.fit good.granted stands
+    laws.turn_reported s g cmd reply bus slot (shares_makes (shared_next s g) (OnBus cmd) made) good.fit good.granted stands
 
 -- and one of a board is not
-pub attempt_datum : (a : Attempt) (g : Given) (call : Call) (reply : Reply) → attempt_next a g ≡ Invokes call → IsGood call (told.Board reply)
-    → attempt_told a (Some (told.Board reply) ∷ g) ≡ attempt_told a g
-attempt_datum (Transferring job) g call reply made good = datum_told job g reply
-attempt_datum (Awaiting job want) g call reply made good = datum_told job g reply
+pub attempt_datum : (a : Attempt) (g : Given) (call : Call) (reply : Reply) → attempt_next a g ≡ Invokes call → IsGood call (event_replies.Board reply)
+    → attempt_reported a (Some (event_replies.Board reply) ∷ g) ≡ attempt_reported a g
+attempt_datum (Transferring job) g call reply made good = datum_reported job g reply
+attempt_datum (Awaiting job want) g call reply made good = datum_reported job g reply
 attempt_datum (Sharing s) g call reply made good =
-    laws.datum_told s g call reply (shares_makes (shared_next s g) call made) good.fit
+    laws.datum_reported s g call reply (shares_makes (shared_next s g) call made) good.fit
 
 -- an attempt that ends with a good reply is not denied, and leaves the slot as one that was told nothing; where the reply is a
 -- board's, the slot was told nothing before
 pub record EndsWell (a : Attempt) (g : Given) (reply : EventReply) (answer : LineReply) : Type 0 where
   pub granted : IsGranted answer
-  pub free : (bus : Arbitration) (slot : ℕ) → StandsAsTold bus slot (attempt_told a (Some reply ∷ g)) → StandsAsTold bus slot None
-  pub quiet : (datum : Reply) → reply ≡ told.Board datum → attempt_told a g ≡ None
+  pub free : (bus : Arbitration) (slot : ℕ) → StandsAsReplied bus slot (attempt_reported a (Some reply ∷ g)) → StandsAsReplied bus slot None
+  pub quiet : (datum : Reply) → reply ≡ event_replies.Board datum → attempt_reported a g ≡ None
 
 -- so where its task has ended
 record EndsBy (next : Next) (answer : LineReply) : Type 0 where
@@ -155,7 +155,7 @@ shares_ends (shares.Returns outcome) answer ends = record { outcome = outcome; e
 shared_granted : (outcome : SharedOutcome) → outcome ≢ shared.Denied → IsGranted (replies.Shared outcome)
 shared_granted outcome good = (λ denied. absurd cc, λ denied. good cc)
 
-board_quiet : (job : Job) (g : Given) (reply : EventReply) (datum : Reply) → FreedBy job reply → reply ≡ told.Board datum → job_told job g ≡ None
+board_quiet : (job : Job) (g : Given) (reply : EventReply) (datum : Reply) → FreedBy job reply → reply ≡ event_replies.Board datum → job_reported job g ≡ None
 board_quiet (Bus j) g reply datum freed board = absurd cc
 board_quiet (Local j) g reply datum freed board = refl
 
@@ -184,6 +184,6 @@ attempt_ends (Sharing s) g call reply answer made good ends =
     let well = laws.ends_well s g call reply by.outcome (shares_makes (shared_next s g) call made) good.fit good.granted by.ends in
     record {
       granted = subst IsGranted by.is (shared_granted by.outcome well.granted);
-      free = λ bus slot stands. subst (StandsAsTold bus slot) well.nothing stands;
-      quiet = λ datum board. let one : told.Bus turned.Freed ≡ told.Board datum = sym well.freed ∙ board in absurd cc;
+      free = λ bus slot stands. subst (StandsAsReplied bus slot) well.nothing stands;
+      quiet = λ datum board. let one : event_replies.Bus turned.Freed ≡ event_replies.Board datum = sym well.freed ∙ board in absurd cc;
     }

@@ -5,8 +5,8 @@ use Rattle.std.proofs.lemmas.Option.{slice_get_cases, get_or_from_slice_get, sam
 use Rattle.std.proofs.lemmas.List.{length-map}
 use Rattle.std.proofs.lemmas.Bool.Decides.{nat_tests}
 use Rattle.vme_shared.specs.Mailboxes.{IsMailbox}
-use Rattle.vme_script.specs.declared.boxes.Boxes.TheVariants.{Declared}
-use Rattle.vme_script.specs.Names.{may_ask}
+use Rattle.vme_script.specs.declared.mailbox_numbers.MailboxNumbers.TheVariants.{Declared}
+use Rattle.vme_script.specs.MailboxNumbers.{may_ask}
 use Rattle.vme_grammar.specs.declared.line.Line.{Line}
 use Rattle.vme_grammar.specs.declared.line.Line.TheVariants as lines
 use Rattle.vme_script.specs.declared.script.ScriptLine.{ScriptLine}

@@ -6,9 +6,9 @@ use Rattle.vme_arbiter.specs.declared.command.ArbCmd.{ArbCmd}
 use Rattle.vme_arbiter.specs.declared.command.ArbReply.{ArbReply}
 use Rattle.vme_arbiter.specs.declared.command.ArbReply.TheVariants as turned
 use Rattle.vme_arbiter.specs.Arbitration.{Arbitration}
-use Rattle.vme_arbiter.specs.Turns.{StandsAsTold}
+use Rattle.vme_arbiter.specs.Turns.{StandsAsReplied}
 use Rattle.vme_core.specs.declared.event.EventReply.{EventReply}
-use Rattle.vme_core.specs.declared.event.EventReply.TheVariants as told
+use Rattle.vme_core.specs.declared.event.EventReply.TheVariants as replies
 use Rattle.vme_core.specs.Calls.{Call, OnBus}
 use Rattle.vme_master.specs.declared.expected.ExpectedReply.{ExpectedReply}
 use Rattle.vme_master.specs.declared.expected.ExpectedReply.TheVariants as expected_replies
@@ -23,7 +23,7 @@ use Rattle.vme_master.specs.Tables as tasks
 use Rattle.vme_master.specs.Tables.{Next, Given, next_of, next_after, outcome_by, row_of_reply, bus_row, local_row}
 use Rattle.vme_master.proofs.lemmas.Tenures.{ends_freed}
 use Rattle.vme_master.proofs.lemmas.Locals.{local_calls}
-use Rattle.vme_line_task.specs.Tenures.{job_told, IsGood}
+use Rattle.vme_line_task.specs.Tenures.{job_reported, IsGood}
 
 -- what comes of bytes is no denial
 expected_granted : (expected : ExpectedReply) (bytes : List ℕ) → expected_outcome expected bytes ≢ outcomes.Denied
@@ -35,10 +35,10 @@ outcome_granted : (j : BusJob) (place : Option (ℕ × ℕ)) (g : Given) → out
 outcome_granted j None g = λ same. absurd cc
 outcome_granted j (Some place) [] = expected_granted _ _
 outcome_granted j (Some place) (None ∷ before) = expected_granted _ _
-outcome_granted j (Some place) (Some (told.Bus reply) ∷ before) = expected_granted _ _
-outcome_granted j (Some place) (Some (told.Board (Bytes datum)) ∷ before) = expected_granted _ _
-outcome_granted j (Some place) (Some (told.Board Done) ∷ before) = expected_granted _ _
-outcome_granted j (Some place) (Some (told.Board Berr) ∷ before) = λ same. absurd cc
+outcome_granted j (Some place) (Some (replies.Bus reply) ∷ before) = expected_granted _ _
+outcome_granted j (Some place) (Some (replies.Board (Bytes datum)) ∷ before) = expected_granted _ _
+outcome_granted j (Some place) (Some (replies.Board Done) ∷ before) = expected_granted _ _
+outcome_granted j (Some place) (Some (replies.Board Berr) ∷ before) = λ same. absurd cc
 
 -- an end that is a denial
 abbrev IsDenial : Next → Type 0
@@ -58,19 +58,19 @@ datum_granted j i denial = denial
 -- a good reply's row is no denial
 row_granted : (job : Job) (g : Given) (call : Call) (reply : EventReply) → next_of job g ≡ tasks.Invokes call → IsGood call reply
     → IsDenial (row_of_reply job reply g) → ⊥
-row_granted (Bus j) g call (told.Bus turned.Waiting) made good denial = denial
-row_granted (Bus j) g call (told.Bus turned.Granted) made good denial = denial
-row_granted (Bus j) g call (told.Board (Bytes datum)) made good denial = denial
-row_granted (Bus j) g call (told.Board Done) made good denial = denial
-row_granted (Bus j) g call (told.Board Berr) made good denial = denial
-row_granted (Bus j) g call (told.Bus turned.Freed) made good denial = end_granted (outcome_by j j.place g) (outcome_granted j j.place g) denial
-row_granted (Bus j) g call (told.Bus turned.Denied) made good denial = good.granted refl
-row_granted (Local j) g call (told.Board (Bytes datum)) made good denial = end_granted _ (expected_granted _ datum.items) denial
-row_granted (Local j) g call (told.Board Done) made good denial = end_granted _ (expected_granted _ []) denial
-row_granted (Local j) g call (told.Board Berr) made good denial = denial
-row_granted (Local j) g call (told.Bus reply) made good denial =
+row_granted (Bus j) g call (replies.Bus turned.Waiting) made good denial = denial
+row_granted (Bus j) g call (replies.Bus turned.Granted) made good denial = denial
+row_granted (Bus j) g call (replies.Board (Bytes datum)) made good denial = denial
+row_granted (Bus j) g call (replies.Board Done) made good denial = denial
+row_granted (Bus j) g call (replies.Board Berr) made good denial = denial
+row_granted (Bus j) g call (replies.Bus turned.Freed) made good denial = end_granted (outcome_by j j.place g) (outcome_granted j j.place g) denial
+row_granted (Bus j) g call (replies.Bus turned.Denied) made good denial = good.granted refl
+row_granted (Local j) g call (replies.Board (Bytes datum)) made good denial = end_granted _ (expected_granted _ datum.items) denial
+row_granted (Local j) g call (replies.Board Done) made good denial = end_granted _ (expected_granted _ []) denial
+row_granted (Local j) g call (replies.Board Berr) made good denial = denial
+row_granted (Local j) g call (replies.Bus reply) made good denial =
     let own : call ≡ local_call j = local_calls j g call made in
-    let fit : fits (local_call j) (told.Bus reply) ≡ true = subst (λ c. fits c (told.Bus reply) ≡ true) own good.fit in
+    let fit : fits (local_call j) (replies.Bus reply) ≡ true = subst (λ c. fits c (replies.Bus reply) ≡ true) own good.fit in
     absurd cc
 
 -- after a good reply a task goes by its row
@@ -87,7 +87,7 @@ good_end job g call reply outcome made good ends = λ denied.
 
 -- and the slot was told so, if it is a transfer's
 abbrev pub FreedBy : Job → EventReply → Type 0
-FreedBy (Bus j) reply = reply ≡ told.Bus turned.Freed
+FreedBy (Bus j) reply = reply ≡ replies.Bus turned.Freed
 FreedBy (Local j) reply = Unit {0}
 
 pub good_freed : (job : Job) (g : Given) (call : Call) (reply : EventReply) (outcome : Outcome) → next_of job g ≡ tasks.Invokes call
@@ -98,8 +98,8 @@ good_freed (Local j) g call reply outcome made good ends = tt
 
 -- a slot that was told so stands as one that was told nothing
 pub freed_stands : (job : Job) (g : Given) (reply : EventReply) (bus : Arbitration) (slot : ℕ) → FreedBy job reply
-    → StandsAsTold bus slot (job_told job (Some reply ∷ g)) → StandsAsTold bus slot None
-freed_stands (Bus j) g reply bus slot freed stands = subst (λ r. StandsAsTold bus slot (job_told (Bus j) (Some r ∷ g))) freed stands
+    → StandsAsReplied bus slot (job_reported job (Some reply ∷ g)) → StandsAsReplied bus slot None
+freed_stands (Bus j) g reply bus slot freed stands = subst (λ r. StandsAsReplied bus slot (job_reported (Bus j) (Some r ∷ g))) freed stands
 freed_stands (Local j) g reply bus slot freed stands = stands
 
 -- no command of a local port goes to the arbiter
@@ -107,20 +107,20 @@ pub local_never : (j : LocalJob) (g : Given) (cmd : ArbCmd) → next_of (Local j
 local_never j g cmd made = let own : OnBus cmd ≡ local_call j = local_calls j g (OnBus cmd) made in absurd cc
 
 -- a task is told what the arbiter replies
-pub turn_told : (job : Job) (g : Given) (cmd : ArbCmd) (reply : ArbReply) (bus : Arbitration) (slot : ℕ)
-    → next_of job g ≡ tasks.Invokes (OnBus cmd) → StandsAsTold bus slot (Some reply)
-    → StandsAsTold bus slot (job_told job (Some (told.Bus reply) ∷ g))
-turn_told (Bus j) g cmd reply bus slot made stands = stands
-turn_told (Local j) g cmd reply bus slot made stands = absurd (local_never j g cmd made)
+pub turn_reported : (job : Job) (g : Given) (cmd : ArbCmd) (reply : ArbReply) (bus : Arbitration) (slot : ℕ)
+    → next_of job g ≡ tasks.Invokes (OnBus cmd) → StandsAsReplied bus slot (Some reply)
+    → StandsAsReplied bus slot (job_reported job (Some (replies.Bus reply) ∷ g))
+turn_reported (Bus j) g cmd reply bus slot made stands = stands
+turn_reported (Local j) g cmd reply bus slot made stands = absurd (local_never j g cmd made)
 
 -- and not what a board replies
-pub datum_told : (job : Job) (g : Given) (reply : Reply) → job_told job (Some (told.Board reply) ∷ g) ≡ job_told job g
-datum_told (Bus j) g reply = refl
-datum_told (Local j) g reply = refl
+pub datum_reported : (job : Job) (g : Given) (reply : Reply) → job_reported job (Some (replies.Board reply) ∷ g) ≡ job_reported job g
+datum_reported (Bus j) g reply = refl
+datum_reported (Local j) g reply = refl
 
-pub begin_told : (job : Job) → job_told job (None ∷ []) ≡ None
-begin_told (Bus j) = refl
-begin_told (Local j) = refl
+pub begin_reported : (job : Job) → job_reported job (None ∷ []) ≡ None
+begin_reported (Bus j) = refl
+begin_reported (Local j) = refl
 
 -- a transfer is of a slot, on a level
 abbrev pub IsOwnJob : ℕ → ℕ → Job → Type 0

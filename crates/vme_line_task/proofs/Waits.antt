@@ -15,7 +15,7 @@ use Rattle.vme_script.specs.Configurations.{Configuration}
 use Rattle.vme_line_task.specs.declared.attempt.AttemptTask.{AttemptTask}
 use Rattle.vme_line_task.specs.declared.attempt.AttemptTask.TheVariants as tries
 use Rattle.vme_line_task.specs.Scripts.{Awaiting, slot_at, level_at, transfer_job, request_attempt}
-use Rattle.vme_line_task.specs.Waits.{WaitView}
+use Rattle.vme_line_task.specs.Waits.{AwaitView}
 use Rattle.vme_line_task.specs.Machine.{fresh_of}
 
 -- a lawful read reads as many bytes as it says
@@ -32,7 +32,7 @@ task_is_short map slot level (Ok t) task short is =
 task_is_short map slot level (Err fault) task short is = absurd cc
 
 -- a wait by its task and what it is to find
-pub waits_so : (config : Configuration) (board am addr : ℕ) (bytes want : List ℕ) (task : TaskView) (wait : WaitView)
+pub waits_so : (config : Configuration) (board am addr : ℕ) (bytes want : List ℕ) (task : TaskView) (wait : AwaitView)
     → Ok task ≡ bus_task (entries_of config.boards) (slot_at config board) (level_at config board) (transfer_of (Read am addr (length bytes)))
     → bytes ≡ want → wait.task ≡ task → wait.want ≡ record { items = want }
     → Ok (tries.Await wait) ≡ fresh_of (request_attempt (λ t. Awaiting (transfer_job config board t) want) (transfer_of (Read am addr (length want))))
@@ -45,6 +45,6 @@ waits_so config board am addr bytes want task wait is same its_task its_want =
         → Ok (tries.Await wait) ≡ fresh_of (request_attempt (λ t. Awaiting (transfer_job config board t) want) transfer)
     by_transfer (Ok t) is =
         let fresh : task ≡ fresh_task (transfer_job config board t) = cc in
-        ap (λ (u : TaskView). let w : WaitView = record { task = u; want = wait.want } in let r : Result AttemptTask CycleFault = Ok (tries.Await w) in r) (its_task ∙ fresh)
-        ∙ ap (λ (b : ArrayVec ℕ). let w : WaitView = record { task = fresh_task (transfer_job config board t); want = b } in let r : Result AttemptTask CycleFault = Ok (tries.Await w) in r) its_want
+        ap (λ (u : TaskView). let w : AwaitView = record { task = u; want = wait.want } in let r : Result AttemptTask CycleFault = Ok (tries.Await w) in r) (its_task ∙ fresh)
+        ∙ ap (λ (b : ArrayVec ℕ). let w : AwaitView = record { task = fresh_task (transfer_job config board t); want = b } in let r : Result AttemptTask CycleFault = Ok (tries.Await w) in r) its_want
     by_transfer (Err fault) is = absurd cc

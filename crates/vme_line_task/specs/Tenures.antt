@@ -5,7 +5,7 @@ use Rattle.vme_memory.specs.Steps.{Command, LocalRead, LocalWrite, LocalModify}
 use Rattle.vme_arbiter.specs.declared.command.ArbReply.{ArbReply}
 use Rattle.vme_arbiter.specs.declared.command.ArbReply.TheVariants as turned
 use Rattle.vme_core.specs.declared.event.EventReply.{EventReply}
-use Rattle.vme_core.specs.declared.event.EventReply.TheVariants as told
+use Rattle.vme_core.specs.declared.event.EventReply.TheVariants as event_replies
 use Rattle.vme_core.specs.Calls.{Call}
 use Rattle.vme_master.specs.declared.job.Job.{Job}
 use Rattle.vme_master.specs.declared.job.Job.TheVariants.{Bus, Local}
@@ -16,7 +16,7 @@ use Rattle.vme_master.specs.declared.outcome.Outcome.TheVariants as outcomes
 use Rattle.vme_shared.specs.declared.outcome.SharedOutcome.TheVariants as shared
 use Rattle.vme_shared.specs.declared.reply.LineReply.{LineReply}
 use Rattle.vme_shared.specs.declared.reply.LineReply.TheVariants.{Transfer, Shared}
-use Rattle.vme_shared.specs.Tables.{shared_told}
+use Rattle.vme_shared.specs.Tables.{shared_reported}
 use Rattle.vme_grammar.specs.declared.line.Line.{Line}
 use Rattle.vme_script.specs.Configurations.{Configuration}
 use Rattle.vme_line_task.specs.Scripts.{Attempt, Transferring, Awaiting, Sharing, line_attempt}
@@ -24,25 +24,25 @@ use Rattle.vme_line_task.specs.Tables.{attempts_of, given_of}
 
 -- what the arbiter told a transfer last, if anything; a command to a local port has nothing to do with it
 -- (this project's own)
-abbrev pub job_told : Job → Given → Option ArbReply
-job_told (Bus job) given = last_turn given
-job_told (Local job) given = None
+abbrev pub job_reported : Job → Given → Option ArbReply
+job_reported (Bus job) given = last_turn given
+job_reported (Local job) given = None
 
 -- what the arbiter told an attempt last, if anything (this project's own)
-abbrev pub attempt_told : Attempt → Given → Option ArbReply
-attempt_told (Transferring job) given = job_told job given
-attempt_told (Awaiting job want) given = job_told job given
-attempt_told (Sharing s) given = shared_told s given
+abbrev pub attempt_reported : Attempt → Given → Option ArbReply
+attempt_reported (Transferring job) given = job_reported job given
+attempt_reported (Awaiting job want) given = job_reported job given
+attempt_reported (Sharing s) given = shared_reported s given
 
 -- the same of a line: what the attempt at work was told (this project's own)
-abbrev pub lawful_told : ℕ → Result Attempt CycleFault → Given → Option ArbReply
-lawful_told tries (Ok attempt) given = attempt_told attempt (attempts_of attempt tries given).given
-lawful_told tries (Err fault) given = None
+abbrev pub lawful_reported : ℕ → Result Attempt CycleFault → Given → Option ArbReply
+lawful_reported tries (Ok attempt) given = attempt_reported attempt (attempts_of attempt tries given).given
+lawful_reported tries (Err fault) given = None
 
 -- what the arbiter told the transfer at work of a line last, if anything, by the replies to the line so far
 -- (this project's own)
-unfoldable pub line_told : Configuration → ℕ → Line → List EventReply → Option ArbReply
-line_told config board line replies = lawful_told config.tries (line_attempt config board line) (given_of replies)
+unfoldable pub line_reported : Configuration → ℕ → Line → List EventReply → Option ArbReply
+line_reported config board line replies = lawful_reported config.tries (line_attempt config board line) (given_of replies)
 
 -- a command of a board's local port (this project's own)
 abbrev pub IsLocal : Option Command → Type 0
@@ -54,7 +54,7 @@ IsLocal command = ⊥
 -- a reply that fits a call, and is no denial of the arbiter (this project's own)
 pub record IsGood (call : Call) (reply : EventReply) : Type 0 where
   pub fit : IsTrue (fits call reply)
-  pub granted : reply ≢ told.Bus turned.Denied
+  pub granted : reply ≢ event_replies.Bus turned.Denied
 
 -- an answer that is no denial (this project's own)
 abbrev pub IsGranted : LineReply → Type 0

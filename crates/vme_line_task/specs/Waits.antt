@@ -4,6 +4,6 @@ use Rattle.arrayvec.specs.ArrayVec.{ArrayVec}
 use Rattle.vme_master.specs.Machine.{TaskView}
 
 -- the read, and the bytes that it is to find (this project's own)
-pub record WaitView : Type 0 where
+pub record AwaitView : Type 0 where
   pub task : TaskView
   pub want : ArrayVec ℕ

@@ -2,13 +2,13 @@
 ghost use Rattle.std.specs.Prelude.{◌≡◌, ◌≢◌, ◌<◌, length, option_map, option_copied, is_some, true, Some, None, IfSome};
 ghost use Rattle.vme_core.specs.Calls.{Call, call_of, machine_step};
 ghost use Rattle.vme_core.specs.EventRefs.{call_asked, target_of_call, CanCount};
-ghost use Rattle.vme_core.specs.Machines.{whos};
+ghost use Rattle.vme_core.specs.Machines.{process_count};
 ghost use Rattle.vme_line_task.specs.Tables.{NotStarted, next_wants_retry};
 ghost use Rattle.vme_line_task.specs.Machine.{attempt_anew, attempt_advance, attempt_to_do, attempts_advance};
 ghost use Rattle.vme_line_task.specs.Events.{call_in, answer_in};
 
-use crate::wait::WaitTask;
-use vme_core::{Core, EventRef, Event, EventReply};
+use crate::wait::AwaitTask;
+use vme_core::{Core, Event, EventRef, EventReply};
 use vme_master::Task;
 use vme_shared::{LineReply, SharedOutcome, SharedTask};
 
@@ -26,7 +26,7 @@ pub enum AttemptTask<'a> {
     /// A transfer over the bus, or a command to the local port.
     Transfer(Task<'a>),
     /// A read that is to find bytes.
-    Await(WaitTask<'a>),
+    Await(AwaitTask<'a>),
     /// What is asked of a lock or a mailbox.
     Shared(SharedTask<'a>),
 }
@@ -52,7 +52,7 @@ impl Attempts<'_> {
     #[inline(always)]
     #[tactic(auto, using(crate::proofs::lemmas::Calls::moves_call, crate::proofs::lemmas::Calls::moves_on))]
     pub(crate) fn make(&mut self, core: &mut Core, who: usize)
-        requires who { who < whos core.old }
+        requires who { who < process_count core.old }
         requires can { IfSome (call_in (attempt_to_do self.old.attempt))
             (λ call. CanCount core.old (target_of_call call)) }
         ensures machine { (call : Call) → call_in (attempt_to_do self.old.attempt) ≡ Some call →
@@ -64,7 +64,7 @@ impl Attempts<'_> {
         ensures nothing { call_in (attempt_to_do self.old.attempt) ≡ None →
             (core.new ≡ core.old) × (self.new ≡ self.old) }
         ensures boards { length core.new.boards ≡ length core.old.boards }
-        ensures whos { whos core.new ≡ whos core.old }
+        ensures process_count { process_count core.new ≡ process_count core.old }
     {
         if let AttemptTask::Transfer(task) = &mut self.attempt {
             task.make(core, who);
@@ -77,7 +77,7 @@ impl Attempts<'_> {
     #[inline(never)]
     #[tactic(auto, using(crate::proofs::lemmas::Calls::asked_of))]
     fn make_in_attempts(&mut self, core: &mut Core, who: usize)
-        requires who { who < whos core.old }
+        requires who { who < process_count core.old }
         requires can { IfSome (call_in (attempt_to_do self.old.attempt))
             (λ call. CanCount core.old (target_of_call call)) }
         ensures machine { (call : Call) → call_in (attempt_to_do self.old.attempt) ≡ Some call →
@@ -89,7 +89,7 @@ impl Attempts<'_> {
         ensures nothing { call_in (attempt_to_do self.old.attempt) ≡ None →
             (core.new ≡ core.old) × (self.new ≡ self.old) }
         ensures boards { length core.new.boards ≡ length core.old.boards }
-        ensures whos { whos core.new ≡ whos core.old }
+        ensures process_count { process_count core.new ≡ process_count core.old }
     {
         let Some(event_ref) = &self.attempt.event_ref() else {
             return;

@@ -6,9 +6,9 @@ ghost use Rattle.vme_arbiter.specs.declared.command.ArbReply.{ArbReply};
 ghost use Rattle.vme_arbiter.specs.declared.command.ArbReply.TheVariants.{Granted};
 ghost use Rattle.vme_arbiter.specs.Requests.{is_level};
 ghost use Rattle.vme_arbiter.specs.Arbitration.{Arbitration};
-ghost use Rattle.vme_arbiter.specs.Turns.{may_give, StandsAsTold};
+ghost use Rattle.vme_arbiter.specs.Turns.{may_give, StandsAsReplied};
 ghost use Rattle.vme_core.specs.declared.event.EventReply.{EventReply};
-ghost use Rattle.vme_core.specs.declared.event.EventReply.TheVariants as told;
+ghost use Rattle.vme_core.specs.declared.event.EventReply.TheVariants as event_replies;
 ghost use Rattle.vme_core.specs.Calls.{Call, OnBoard, OnBus, call_of};
 ghost use Rattle.vme_core.specs.Runs.{Transition};
 ghost use Rattle.vme_master.specs.Tables.{Given};
@@ -21,7 +21,7 @@ ghost use Rattle.vme_line_task.specs.Tables.{Invokes, Returns, next_given, line_
 ghost use Rattle.vme_line_task.specs.Machine.{line_given, line_after, line_to_do};
 ghost use Rattle.vme_line_task.specs.Events.{IsCallBelow};
 ghost use Rattle.vme_line_task.specs.Traces.{ScriptState, IsTracePrefix};
-ghost use Rattle.vme_line_task.specs.Tenures.{line_told, IsLocal, IsGood, IsGranted};
+ghost use Rattle.vme_line_task.specs.Tenures.{line_reported, IsLocal, IsGood, IsGranted};
 
 /// A line goes by the table: after calls with any replies, fitting or not, it does next what the
 /// table says of them; and an answer is for good.
@@ -68,27 +68,27 @@ pub fn traces_go_line_by_line()
 /// Nor is the answer of a line without a call a denial.
 pub fn lines_keep_their_tenure()
     ensures begin { (config : Configuration) (board : ℕ) (line : Line) →
-        line_told config board line [] ≡ None }
+        line_reported config board line [] ≡ None }
     ensures first { (config : Configuration) (board : ℕ) (line : Line) (answer : LineReply) →
         line_next config board line [] ≡ Returns answer → IsGranted answer }
     ensures turns { (config : Configuration) (board : ℕ) (line : Line) (replies : List EventReply)
         (cmd : ArbCmd) → IsTrue (is_level (level_at config board)) →
         line_next config board line replies ≡ Invokes (OnBus cmd) →
-        IsTrue (may_give (slot_at config board) (line_told config board line replies) cmd) }
+        IsTrue (may_give (slot_at config board) (line_reported config board line replies) cmd) }
     ensures holds { (config : Configuration) (board : ℕ) (line : Line) (replies : List EventReply)
         (b : ℕ) (command : Option Command) → IsOwnLine line →
         line_next config board line replies ≡ Invokes (OnBoard b command) →
-        IsLocal command ⊎ (line_told config board line replies ≡ Some Granted) }
+        IsLocal command ⊎ (line_reported config board line replies ≡ Some Granted) }
     ensures turn { (config : Configuration) (board : ℕ) (line : Line) (replies : List EventReply)
         (cmd : ArbCmd) (reply : ArbReply) (bus : Arbitration) (slot : ℕ) →
         line_next config board line replies ≡ Invokes (OnBus cmd) →
-        IsGood (OnBus cmd) (told.Bus reply) → StandsAsTold bus slot (Some reply) →
-        StandsAsTold bus slot (line_told config board line (told.Bus reply ∷ replies)) }
+        IsGood (OnBus cmd) (event_replies.Bus reply) → StandsAsReplied bus slot (Some reply) →
+        StandsAsReplied bus slot (line_reported config board line (event_replies.Bus reply ∷ replies)) }
     ensures datum { (config : Configuration) (board : ℕ) (line : Line) (replies : List EventReply)
         (call : Call) (reply : Reply) → line_next config board line replies ≡ Invokes call →
-        IsGood call (told.Board reply) →
-        line_told config board line (told.Board reply ∷ replies)
-        ≡ line_told config board line replies }
+        IsGood call (event_replies.Board reply) →
+        line_reported config board line (event_replies.Board reply ∷ replies)
+        ≡ line_reported config board line replies }
     ensures granted { (config : Configuration) (board : ℕ) (line : Line) (replies : List EventReply)
         (call : Call) (reply : EventReply) (answer : LineReply) →
         line_next config board line replies ≡ Invokes call → IsGood call reply →
@@ -97,6 +97,6 @@ pub fn lines_keep_their_tenure()
         (call : Call) (reply : EventReply) (answer : LineReply) (bus : Arbitration) (slot : ℕ) →
         line_next config board line replies ≡ Invokes call → IsGood call reply →
         line_next config board line (reply ∷ replies) ≡ Returns answer →
-        StandsAsTold bus slot (line_told config board line (reply ∷ replies)) →
-        StandsAsTold bus slot None }
+        StandsAsReplied bus slot (line_reported config board line (reply ∷ replies)) →
+        StandsAsReplied bus slot None }
 {}

@@ -13,10 +13,10 @@ mod wait;
 
 pub use attempt::{AttemptTask, Attempts};
 pub use laws::{
-    traces_go_line_by_line, lines_call_boards_that_are_there, lines_go_by_the_table,
-    lines_keep_their_tenure,
+    lines_call_boards_that_are_there, lines_go_by_the_table, lines_keep_their_tenure,
+    traces_go_line_by_line,
 };
 pub use read_buffers::{ReadBuffers, line_read_len};
 pub use task::{LineTask, line_count};
 pub use todo::LineTodo;
-pub use wait::WaitTask;
+pub use wait::AwaitTask;

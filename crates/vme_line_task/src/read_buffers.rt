@@ -7,7 +7,7 @@ ghost use Rattle.vme_line_task.specs.ReadBuffers.{line_read_len, buffers_of};
 use std::alloc::{AllocError, Global};
 use std::marker::Model;
 use std::vec::IntoIter;
-use vme_cycle::{Plan, Request, BlockBuffer, INLINE_LEN};
+use vme_cycle::{BlockBuffer, INLINE_LEN, Plan, Request};
 use vme_grammar::Line;
 use vme_script::Script;
 

@@ -12,8 +12,8 @@ ghost use Rattle.vme_line_task.specs.ReadBuffers.{request_read_len, line_read_le
 ghost use Rattle.vme_line_task.specs.Machine.{fresh_of};
 
 use crate::attempt::AttemptTask;
-use crate::wait::WaitTask;
-use vme_cycle::{CycleFault, Request, BlockBuffer};
+use crate::wait::AwaitTask;
+use vme_cycle::{BlockBuffer, CycleFault, Request};
 use vme_grammar::Line;
 use vme_lanes::{Datum, copy_bytes};
 use vme_master::Task;
@@ -108,7 +108,7 @@ fn waits<'a>(
     let n = bytes.as_slice().len() as u8;
     let task = short_transfer(config, board, Request::Read { am, addr, n })?;
     let want = copy_bytes(bytes);
-    Ok(AttemptTask::Await(WaitTask::of(task, want)))
+    Ok(AttemptTask::Await(AwaitTask::of(task, want)))
 }
 
 /// The task of a request of a board's processor that reads few bytes, or the refusal of the request.

@@ -1,7 +1,7 @@
 ghost use Rattle.std.specs.Prelude.{◌≡◌, ◌≢◌, ◌<◌, ◌≤◌, ◌∷◌, [], ℕ, length, option_map, option_copied, is_some, slice_get, Some, None, IfSome};
 ghost use Rattle.vme_core.specs.Calls.{Call, call_of, machine_step};
 ghost use Rattle.vme_core.specs.EventRefs.{call_asked, target_of_call, CanCount};
-ghost use Rattle.vme_core.specs.Machines.{whos};
+ghost use Rattle.vme_core.specs.Machines.{process_count};
 ghost use Rattle.vme_grammar.specs.declared.line.Line.{Line as AnyLine};
 ghost use Rattle.vme_script.specs.Configurations.{Configuration};
 ghost use Rattle.vme_master.specs.Tables.{Given};
@@ -16,8 +16,8 @@ ghost use Rattle.vme_line_task.specs.Events.{next_in, call_in, answer_in, IsEven
 use crate::attempt::{AttemptTask, Attempts};
 use crate::start::{attempt_of, transfer};
 use crate::todo::LineTodo;
-use vme_core::{Core, EventRef, Event, EventReply};
-use vme_cycle::{CycleFault, BlockBuffer};
+use vme_core::{Core, Event, EventRef, EventReply};
+use vme_cycle::{BlockBuffer, CycleFault};
 use vme_grammar::Line;
 use vme_master::{Outcome, Task};
 use vme_script::Config;
@@ -108,7 +108,7 @@ impl<'a> LineTask<'a> {
     /// and `give`, but faster.
     #[inline(always)]
     pub fn make(&mut self, core: &mut Core, who: usize)
-        requires who { who < whos core.old }
+        requires who { who < process_count core.old }
         requires can { IfSome (call_in (line_to_do self.old)) (λ call. CanCount core.old (target_of_call call)) }
         ensures machine { (call : Call) → call_in (line_to_do self.old) ≡ Some call →
             core.new ≡ (machine_step core.old who call).0 }
@@ -119,7 +119,7 @@ impl<'a> LineTask<'a> {
         ensures below { (call : Call) (n : ℕ) → call_in (line_to_do self.old) ≡ Some call →
             IsLineBelow n self.old → IsLineBelow n self.new }
         ensures boards { length core.new.boards ≡ length core.old.boards }
-        ensures whos { whos core.new ≡ whos core.old }
+        ensures process_count { process_count core.new ≡ process_count core.old }
     {
         if let LineTask::Running(attempts) = self {
             attempts.make(core, who);

@@ -10,39 +10,39 @@ ghost use Rattle.vme_line_task.specs.Tables.{NotStarted, waits_next, next_wants_
 ghost use Rattle.vme_line_task.specs.Events.{call_in, answer_in};
 
 use std::marker::Model;
-use vme_core::{EventRef, Event, EventReply};
+use vme_core::{Event, EventRef, EventReply};
 use vme_lanes::Datum;
 use vme_master::{Outcome, Task};
 use vme_shared::LineReply;
 
 /// A read that is to find bytes: so few that they lie in the task itself.
 #[derive(Debug, Drop)]
-pub struct WaitTask<'a> {
+pub struct AwaitTask<'a> {
     task: Task<'a>,
     want: Datum,
 }
 
-impl<'a> Model for WaitTask<'a> {
+impl<'a> Model for AwaitTask<'a> {
     ghost use Rattle.std.specs.Prelude.{◌≤◌};
     ghost use Rattle.vme_cycle.specs.BlockBuffers.{inline_capacity};
     ghost use Rattle.vme_master.specs.Machine.{job_read_len};
-    ghost use Rattle.vme_line_task.specs.Waits.{WaitView};
+    ghost use Rattle.vme_line_task.specs.Waits.{AwaitView};
 
-    ghost Value = { WaitView };
+    ghost Value = { AwaitView };
 
     ghost view = { λ w. record { task = w.task; want = w.want } };
 
     ghost invariant = { λ w. job_read_len w.task.job ≤ inline_capacity };
 }
 
-impl<'a> WaitTask<'a> {
+impl<'a> AwaitTask<'a> {
     /// A read, by its task, with the bytes that it is to find.
-    pub(crate) fn of(task: Task<'a>, want: Datum) -> WaitTask<'a>
+    pub(crate) fn of(task: Task<'a>, want: Datum) -> AwaitTask<'a>
         requires { job_read_len task.job ≤ inline_capacity }
         ensures task { result.task ≡ task.entry }
         ensures want { result.want ≡ want }
     {
-        WaitTask { task, want }
+        AwaitTask { task, want }
     }
 
     /// It is given nothing at first, and then the reply to each of its events.

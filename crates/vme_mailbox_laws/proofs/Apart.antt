@@ -5,23 +5,23 @@ use Rattle.std.proofs.lemmas.Bool.{and_parts, and_from, ltb-true, lt-ltb, eq-eqb
 use Rattle.vme_memory.specs.Steps.{Command}
 use Rattle.vme_shared.specs.Layout.{mailbox_len}
 use Rattle.vme_shared.specs.MailboxSteps.{BoardMailbox, end_of, offset_of, len_of, touches}
-use Rattle.vme_script.specs.declared.place.Place.{Place}
-use Rattle.vme_script.specs.Places.{share}
+use Rattle.vme_script.specs.declared.board_range.BoardRange.{BoardRange}
+use Rattle.vme_script.specs.BoardRanges.{share}
 
 -- a command to the board at a place has its bytes among these
-pub record IsAmong (bytes : Place) (board : ℕ) (c : Command) : Type 0 where
+pub record IsAmong (bytes : BoardRange) (board : ℕ) (c : Command) : Type 0 where
   pub there : bytes.board ≡ board
   pub from : bytes.offset ≤ offset_of c
   pub upto : offset_of c + len_of c ≤ bytes.offset + bytes.len
 
 -- places on one board, each with a byte, of which each begins before the other ends
-share_by : (a b : Place) → a.board ≡ b.board → 0 < a.len → 0 < b.len → a.offset < b.offset + b.len → b.offset < a.offset + a.len
+share_by : (a b : BoardRange) → a.board ≡ b.board → 0 < a.len → 0 < b.len → a.offset < b.offset + b.len → b.offset < a.offset + a.len
     → share a b ≡ true
 share_by a b board some_a some_b before behind =
     let both : max a.offset b.offset < min (a.offset + a.len) (b.offset + b.len) = omega arith in
     and_from _ _ (eq-eqb a.board b.board board) (lt-ltb _ _ both)
 
-pub beside : (bytes mine : Place) (m : BoardMailbox) (c : Command) → IsAmong bytes mine.board c → mine.offset ≡ m.offset
+pub beside : (bytes mine : BoardRange) (m : BoardMailbox) (c : Command) → IsAmong bytes mine.board c → mine.offset ≡ m.offset
     → mine.len ≡ mailbox_len m.slots → share bytes mine ≡ false → touches m c ≡ false
 beside bytes mine m c among at long apart =
     false_from_ne_true (touches m c) (λ touching.

@@ -9,7 +9,7 @@ use Rattle.vme_memory.specs.Steps.{Command}
 use Rattle.vme_shared.specs.declared.outcome.SharedOutcome.TheVariants as shared
 use Rattle.vme_memory.specs.declared.reply.Reply.{Reply}
 use Rattle.vme_core.specs.declared.event.EventReply.{EventReply}
-use Rattle.vme_core.specs.declared.event.EventReply.TheVariants as told
+use Rattle.vme_core.specs.declared.event.EventReply.TheVariants as replies
 use Rattle.vme_core.specs.Calls.{Call, OnBoard}
 use Rattle.vme_master.specs.declared.job.BusJob.{BusJob}
 use Rattle.vme_master.specs.declared.job.Job.{Job}
@@ -35,8 +35,8 @@ use Rattle.vme_shared.proofs.lemmas.Starts.{all_lawful}
 use Rattle.vme_shared.specs.Steps.{first_stage, step_after}
 use Rattle.vme_shared.specs.Tables as shares
 use Rattle.vme_shared.specs.Tables.{SharedJob, Invokes, Progress, At, Over, stage_job, stage_begun, step_begun, progress_by, progress_given, progress_of, task_shown, next_at}
-use Rattle.vme_mailbox_laws.specs.Along.{mailbox_in, UsesMailbox, IsGood, AllGood, IsCount, AllCounts, phase_given, phase_along, words_given, put_told, taken_told}
-use Rattle.vme_mailbox_laws.proofs.Single.{IsGoodTo, Waits, Answered, reply_bytes, waits_fresh, waits_called, waits_told, answered_by, ended}
+use Rattle.vme_mailbox_laws.specs.Along.{mailbox_in, UsesMailbox, IsGood, AllGood, IsCount, AllCounts, phase_given, phase_along, words_given, put_reported, taken_reported}
+use Rattle.vme_mailbox_laws.proofs.Single.{IsGoodTo, Waits, Answered, reply_bytes, waits_fresh, waits_called, waits_reported, answered_by, ended}
 use Rattle.vme_mailbox_laws.proofs.Stages.{IsStage, is_stage, stage_command, stage_expected}
 use Rattle.vme_mailbox_laws.proofs.Rows.{Before, Words, Leads, IsFine, IsFineEnd, goes}
 
@@ -58,8 +58,8 @@ pub record IsAt (m : BoardMailbox) (board : ℕ) (request : SharedRequest) (stag
 -- an end: it has left the mailbox
 pub record IsOver (request : SharedRequest) (end : SharedOutcome) (at : Option Phase) (put taken : List ℕ) : Type 0 where
   pub is : at ≡ Some Idle
-  pub put_is : put ≡ put_told end request
-  pub taken_is : taken ≡ taken_told end
+  pub put_is : put ≡ put_reported end request
+  pub taken_is : taken ≡ taken_reported end
   pub fine : IsFineEnd end
 
 -- how far it has come stands for its phase and its words
@@ -161,22 +161,22 @@ module _ (s : SharedJob) (board : ℕ) (m : BoardMailbox) (uses : UsesMailbox s 
       → IsGood (next_at (At stage job g)) last → Moved (At stage job g) last at put taken
   turned_on stage job g at put taken None call stands waits before which makes good =
       absurd (subst (λ n. IsGood (task_shown n) None) makes good)
-  turned_on stage job g at put taken (Some (told.Board reply)) call stands waits before which makes good =
-      let fine = subst (λ n. IsGood (task_shown n) (Some (told.Board reply))) makes good in
+  turned_on stage job g at put taken (Some (replies.Board reply)) call stands waits before which makes good =
+      let fine = subst (λ n. IsGood (task_shown n) (Some (replies.Board reply))) makes good in
       elim which [
-        | inl asks ↦ let fit = subst (λ c. IsGood (Invokes c) (Some (told.Board reply))) asks fine in let no_fit = fit.0 in absurd cc
-        | inr looks ↦ let fit = subst (λ c. IsGood (Invokes c) (Some (told.Board reply))) looks fine in let no_fit = fit.0 in absurd cc
+        | inl asks ↦ let fit = subst (λ c. IsGood (Invokes c) (Some (replies.Board reply))) asks fine in let no_fit = fit.0 in absurd cc
+        | inr looks ↦ let fit = subst (λ c. IsGood (Invokes c) (Some (replies.Board reply))) looks fine in let no_fit = fit.0 in absurd cc
       ]
-  turned_on stage job g at put taken (Some (told.Bus reply)) call stands waits before which makes good =
-      let fine = subst (λ n. IsGood (task_shown n) (Some (told.Bus reply))) makes good in
+  turned_on stage job g at put taken (Some (replies.Bus reply)) call stands waits before which makes good =
+      let fine = subst (λ n. IsGood (task_shown n) (Some (replies.Bus reply))) makes good in
       let makes_bus : next_of (Bus stands.own.bus) g ≡ tasks.Invokes call = ap (λ j. next_of j g) (sym stands.own.is) ∙ makes in
-      let same : phase_given m board (next_at (At stage job g)) (Some (told.Bus reply)) at ≡ at =
-      ap (λ n. phase_given m board (task_shown n) (Some (told.Bus reply)) at) makes
+      let same : phase_given m board (next_at (At stage job g)) (Some (replies.Bus reply)) at ≡ at =
+      ap (λ n. phase_given m board (task_shown n) (Some (replies.Bus reply)) at) makes
       ∙ elim which [
-        | inl asks ↦ ap (λ c. phase_given m board (Invokes c) (Some (told.Bus reply)) at) asks
-        | inr looks ↦ ap (λ c. phase_given m board (Invokes c) (Some (told.Bus reply)) at) looks
+        | inl asks ↦ ap (λ c. phase_given m board (Invokes c) (Some (replies.Bus reply)) at) asks
+        | inr looks ↦ ap (λ c. phase_given m board (Invokes c) (Some (replies.Bus reply)) at) looks
       ] in
-      waits_on stage job g at put taken (Some (told.Bus reply)) stands (waits_told stands.own.bus stands.own.one g call reply which waits makes_bus fine)
+      waits_on stage job g at put taken (Some (replies.Bus reply)) stands (waits_reported stands.own.bus stands.own.one g call reply which waits makes_bus fine)
       before same
 
   -- the datum goes to the board
@@ -186,23 +186,23 @@ module _ (s : SharedJob) (board : ℕ) (m : BoardMailbox) (uses : UsesMailbox s 
       → next_of job g ≡ tasks.Invokes (OnBoard board (Some (stage_command m stage))) → IsGood (next_at (At stage job g)) last
       → IsCount (phase_given m board (next_at (At stage job g)) last at) → Moved (At stage job g) last at put taken
   datum_on stage job g at put taken None stands waits before makes good count = absurd (subst (λ n. IsGood (task_shown n) None) makes good)
-  datum_on stage job g at put taken (Some (told.Bus reply)) stands waits before makes good count =
-      let fine = subst (λ n. IsGood (task_shown n) (Some (told.Bus reply))) makes good in let no_fit = fine.0 in absurd cc
-  datum_on stage job g at put taken (Some (told.Board reply)) stands waits before makes good count =
-      let fine = subst (λ n. IsGood (task_shown n) (Some (told.Board reply))) makes good in
+  datum_on stage job g at put taken (Some (replies.Bus reply)) stands waits before makes good count =
+      let fine = subst (λ n. IsGood (task_shown n) (Some (replies.Bus reply))) makes good in let no_fit = fine.0 in absurd cc
+  datum_on stage job g at put taken (Some (replies.Board reply)) stands waits before makes good count =
+      let fine = subst (λ n. IsGood (task_shown n) (Some (replies.Board reply))) makes good in
       let makes_bus : next_of (Bus stands.own.bus) g ≡ tasks.Invokes (OnBoard board (Some (stage_command m stage))) =
       ap (λ j. next_of j g) (sym stands.own.is) ∙ makes in
       let answered = answered_by stands.own.bus stands.own.one g (OnBoard board (Some (stage_command m stage))) reply waits makes_bus fine in
-      let fine_reply : IsFine m stage reply = record { form = fine.0; good = λ error. fine.1 (ap told.Board error) } in
+      let fine_reply : IsFine m stage reply = record { form = fine.0; good = λ error. fine.1 (ap replies.Board error) } in
       let went = goes m s.request uses.mailbox uses.asked uses.lies.slots (some_slot s board m uses) put taken stage stands.phase reply before.0 before.1 fine_reply in
       let own_board : (board == board) ≡ true = eq-eqb board board refl in
-      let after : phase_given m board (next_at (At stage job g)) (Some (told.Board reply)) at ≡ Some went.next =
-      ap (λ n. phase_given m board (task_shown n) (Some (told.Board reply)) at) makes ∙ rw own_board (rw stands.is went.is) in
+      let after : phase_given m board (next_at (At stage job g)) (Some (replies.Board reply)) at ≡ Some went.next =
+      ap (λ n. phase_given m board (task_shown n) (Some (replies.Board reply)) at) makes ∙ rw own_board (rw stands.is went.is) in
       let leads = went.leads (subst IsCount after count) in
-      let stays : progress_by s stage job (Some (told.Board reply) ∷ g) (next_of job (Some (told.Board reply) ∷ g)) ≡ At stage job (Some (told.Board reply) ∷ g) =
-      ap (λ j. progress_by s stage job (Some (told.Board reply) ∷ g) (next_of j (Some (told.Board reply) ∷ g))) stands.own.is
-      ∙ ap (progress_by s stage job (Some (told.Board reply) ∷ g)) answered.next in
-      moved_to (At stage job g) (At stage job (Some (told.Board reply) ∷ g)) (Some (told.Board reply)) at (Some went.next) put taken stays after
+      let stays : progress_by s stage job (Some (replies.Board reply) ∷ g) (next_of job (Some (replies.Board reply) ∷ g)) ≡ At stage job (Some (replies.Board reply) ∷ g) =
+      ap (λ j. progress_by s stage job (Some (replies.Board reply) ∷ g) (next_of j (Some (replies.Board reply) ∷ g))) stands.own.is
+      ∙ ap (progress_by s stage job (Some (replies.Board reply) ∷ g)) answered.next in
+      moved_to (At stage job g) (At stage job (Some (replies.Board reply) ∷ g)) (Some (replies.Board reply)) at (Some went.next) put taken stays after
       (record {
         phase = went.next;
         is = refl;
@@ -296,17 +296,17 @@ module _ (s : SharedJob) (board : ℕ) (m : BoardMailbox) (uses : UsesMailbox s 
   datum_goes : (stage : Stage) (job : Job) (g : Given) (at : Option Phase) (put taken : List ℕ) (reply : Reply)
       (stands : IsAt m board s.request stage job g at put taken) → Waits stands.own.bus g
       → Before m s.request stage stands.phase × Words s.request stage put taken
-      → IsGood (Invokes (OnBoard board (Some (stage_command m stage)))) (Some (told.Board reply))
+      → IsGood (Invokes (OnBoard board (Some (stage_command m stage)))) (Some (replies.Board reply))
       → is_some (after_command m at (Some (stage_command m stage)) reply) ≡ true
   datum_goes stage job g at put taken reply stands waits before fine =
-      let fine_reply : IsFine m stage reply = record { form = fine.0; good = λ error. fine.1 (ap told.Board error) } in
+      let fine_reply : IsFine m stage reply = record { form = fine.0; good = λ error. fine.1 (ap replies.Board error) } in
       let went =
       goes m s.request uses.mailbox uses.asked uses.lies.slots (some_slot s board m uses) put taken stage stands.phase reply before.0 before.1 fine_reply in
       rw stands.is (rw went.is refl)
 
   pub command_goes : (progress : Progress) (at : Option Phase) (put taken : List ℕ) (x : ℕ) (command : Option Command) (reply : Reply)
       → Stands m board s.request progress at put taken → next_at progress ≡ Invokes (OnBoard x command)
-      → IsGood (Invokes (OnBoard x command)) (Some (told.Board reply)) → is_some (after_command m at command reply) ≡ true
+      → IsGood (Invokes (OnBoard x command)) (Some (replies.Board reply)) → is_some (after_command m at command reply) ≡ true
   command_goes (Over end) at put taken x command reply stands makes good = absurd cc
   command_goes (At stage job g) at put taken x command reply stands makes good =
       let to_job = ap (λ j. task_shown (next_of j g)) (sym stands.own.is) ∙ makes in
@@ -322,7 +322,7 @@ module _ (s : SharedJob) (board : ℕ) (m : BoardMailbox) (uses : UsesMailbox s 
                   let call : Invokes (OnBoard board (Some (stage_command m stage))) ≡ Invokes (OnBoard x command) =
                   ap Invokes (sym stands.own.datum) ∙ ap task_shown (sym datum) ∙ to_job in
                   let own : command ≡ Some (stage_command m stage) = cc in
-                  let fine = subst (λ n. IsGood n (Some (told.Board reply))) (sym call) good in
+                  let fine = subst (λ n. IsGood n (Some (replies.Board reply))) (sym call) good in
                   rw own (datum_goes stage job g at put taken reply stands waiting.0 waiting.1 fine)
             ]
         | inr answered ↦

@@ -20,7 +20,7 @@ use Rattle.vme_master.specs.Jobs.{bus_job}
 use Rattle.vme_master.specs.Tables.{Given, Invokes, data_in, next_of}
 use Rattle.vme_master.proofs.lemmas.Tenures.{data_go_on}
 use Rattle.vme_shared.specs.MailboxSteps.{offset_of, len_of}
-use Rattle.vme_script.specs.declared.place.Place.{Place}
+use Rattle.vme_script.specs.declared.board_range.BoardRange.{BoardRange}
 use Rattle.vme_script.specs.Bytes.{transfer_bytes, request_bytes}
 use Rattle.vme_mailbox_laws.proofs.Apart.{IsAmong}
 
@@ -62,7 +62,7 @@ same_command c d same = cc
 -- what a transfer sends to a board is among the bytes of its request
 pub sent : (entries : List Entry) (slot level : ℕ) (request : Request) (t : Transfer) (g : Given) (x : ℕ) (c : Command)
     → transfer_of request ≡ Ok t → next_of (bus_job entries slot level t) g ≡ Invokes (OnBoard x (Some c))
-    → (bytes : Place) × (request_bytes entries request ≡ Some bytes) × IsAmong bytes x c
+    → (bytes : BoardRange) × (request_bytes entries request ≡ Some bytes) × IsAmong bytes x c
 unfolding request_bytes
 sent entries slot level request t g x c is makes =
     let place = selection_at entries t.am (addr_of t.request) in

@@ -14,7 +14,7 @@ use Rattle.vme_memory.specs.Steps.{Command, Write, Modify}
 use Rattle.vme_memory.specs.Data.{datum_command}
 use Rattle.vme_memory.proofs.lemmas.Data.{reply_form}
 use Rattle.vme_core.specs.declared.event.EventReply.{EventReply}
-use Rattle.vme_core.specs.declared.event.EventReply.TheVariants as told
+use Rattle.vme_core.specs.declared.event.EventReply.TheVariants as replies
 use Rattle.vme_core.specs.Calls.{OnBoard, command_step}
 use Rattle.vme_master.specs.declared.job.BusJob.{BusJob}
 use Rattle.vme_master.specs.declared.job.Job.{Job}
@@ -163,10 +163,10 @@ touching s given board x m command uses makes =
 -- and answered
 pub answered : (s : SharedJob) (given : Given) (board x : ℕ) (m : BoardMailbox) (command : Option Command) (memory : Board) → UsesMailbox s board m
     → LiesIn memory m → shared_next s given ≡ Invokes (OnBoard x command)
-    → IsGood (shared_next s given) (Some (told.Board (command_step memory command).1))
+    → IsGood (shared_next s given) (Some (replies.Board (command_step memory command).1))
 answered s given board x m command memory uses lies makes =
     let own = commands s given board x m command uses makes in
-    let fine : IsGood (Invokes (OnBoard x (Some (stage_command m own.1.0)))) (Some (told.Board (command_step memory (Some (stage_command m own.1.0))).1)) = (
+    let fine : IsGood (Invokes (OnBoard x (Some (stage_command m own.1.0)))) (Some (replies.Board (command_step memory (Some (stage_command m own.1.0))).1)) = (
       reply_form memory (stage_command m own.1.0),
       λ error. let berr : (command_step memory (Some (stage_command m own.1.0))).1 ≡ Berr = cc in stage_answered memory m lies own.1.0 berr,
       λ denied. absurd cc,

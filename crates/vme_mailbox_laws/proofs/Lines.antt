@@ -11,7 +11,7 @@ use Rattle.vme_memory.specs.Locals.{command_given}
 use Rattle.vme_core.specs.declared.event.Event.{Event}
 use Rattle.vme_core.specs.declared.event.Event.TheVariants as asked
 use Rattle.vme_core.specs.declared.event.EventReply.{EventReply}
-use Rattle.vme_core.specs.declared.event.EventReply.TheVariants as told
+use Rattle.vme_core.specs.declared.event.EventReply.TheVariants as event_replies
 use Rattle.vme_core.specs.Runs.{Transition, move, board_entry, board_part}
 use Rattle.vme_core.specs.Calls.{Call, OnBoard, call_of}
 use Rattle.vme_shared.specs.MailboxSteps.{BoardMailbox, touches}
@@ -30,7 +30,7 @@ use Rattle.vme_script.specs.Configurations.{Configuration}
 use Rattle.vme_line_task.specs.Scripts.{Sharing, line_attempt}
 use Rattle.vme_line_task.specs.Tables.{Invokes, Returns, Attempts, shares_next, attempt_next, next_wants_retry, next_attempt, attempts_of, lawful_next, next_given, given_of, line_next}
 use Rattle.vme_line_task.specs.Traces.{Continues}
-use Rattle.vme_mailbox_laws.specs.Along.{UsesMailbox, IsGood, IsCount, phase_given, put_told, taken_told}
+use Rattle.vme_mailbox_laws.specs.Along.{UsesMailbox, IsGood, IsCount, phase_given, put_reported, taken_reported}
 use Rattle.vme_mailbox_laws.proofs.Courses.{Stands, IsOver, opening, moves}
 use Rattle.vme_mailbox_laws.proofs.Ends.{ends_in}
 use Rattle.vme_mailbox_laws.specs.Names.{LeavesAlone}
@@ -60,7 +60,7 @@ shares_ends (shares.Returns outcome) answer is = (outcome, refl, cc)
 
 -- an end after which another attempt is made has put and taken nothing
 again_ends : (n : SharedNext) → next_wants_retry (shares_next n) ≡ true
-    → (outcome : SharedOutcome) × (n ≡ shares.Returns outcome) × ((request : SharedRequest) → put_told outcome request ≡ []) × (taken_told outcome ≡ [])
+    → (outcome : SharedOutcome) × (n ≡ shares.Returns outcome) × ((request : SharedRequest) → put_reported outcome request ≡ []) × (taken_reported outcome ≡ [])
 again_ends shares.NotStarted is = absurd cc
 again_ends (shares.Invokes call) is = absurd cc
 again_ends (shares.Returns shared.Busy) is = (shared.Busy, refl, λ request. refl, refl)
@@ -142,10 +142,10 @@ beside m (Some c) reply alone = rw (alone c refl) refl
 move_beside : (m : BoardMailbox) (board : ℕ) (who : ℕ) (event : Event) (reply : EventReply) (more : List (Entry BoardCmd Reply)) (wanted : Wanted)
     → ((c : Command) → call_of event ≡ OnBoard board (Some c) → touches m c ≡ false) → Through m (Some Idle) more wanted
     → Through m (Some Idle) (board_part board (move who event reply ∷ []) ++ more) wanted
-move_beside m board who (asked.Bus cmd) (told.Bus reply) more wanted alone through = through
-move_beside m board who (asked.Bus cmd) (told.Board reply) more wanted alone through = through
-move_beside m board who (asked.Board x cmd) (told.Bus reply) more wanted alone through = through
-move_beside m board who (asked.Board x cmd) (told.Board reply) more wanted alone through =
+move_beside m board who (asked.Bus cmd) (event_replies.Bus reply) more wanted alone through = through
+move_beside m board who (asked.Bus cmd) (event_replies.Board reply) more wanted alone through = through
+move_beside m board who (asked.Board x cmd) (event_replies.Bus reply) more wanted alone through = through
+move_beside m board who (asked.Board x cmd) (event_replies.Board reply) more wanted alone through =
     elim (cases_Bool (x == board)) [
       | inl same ↦
           let here : x ≡ board = eqb-true x board same in

@@ -13,10 +13,10 @@ use Rattle.vme_shared.specs.declared.mailbox.Mailbox.{Mailbox}
 use Rattle.vme_shared.specs.declared.request.SharedRequest.{SharedRequest}
 use Rattle.vme_mailbox_laws.specs.Along.{mailbox_in, IsWithin}
 use Rattle.vme_mailbox_laws.proofs.Within.{within}
-use Rattle.vme_script.specs.declared.boxes.Boxes.TheVariants.{Declared}
-use Rattle.vme_script.specs.declared.place.Place.{Place}
-use Rattle.vme_script.specs.Names.{has_box}
-use Rattle.vme_script.specs.Places.{place_by, place_at, place_of, share}
+use Rattle.vme_script.specs.declared.mailbox_numbers.MailboxNumbers.TheVariants.{Declared}
+use Rattle.vme_script.specs.declared.board_range.BoardRange.{BoardRange}
+use Rattle.vme_script.specs.MailboxNumbers.{has_box}
+use Rattle.vme_script.specs.BoardRanges.{range_by, range_at, range_of, share}
 use Rattle.vme_script.specs.Boards.{entries_of}
 use Rattle.vme_script.specs.Configurations.{Configuration}
 use Rattle.vme_script.specs.Lawful.{IsLawful, IsLawfulMailbox}
@@ -28,21 +28,21 @@ use Rattle.vme_mailbox_laws.proofs.CallsApart.{Calls}
 use Rattle.vme_mailbox_laws.proofs.SendsApart.{shared_calls}
 
 -- the place of a mailbox has all its bytes
-found_len : (found : Option (ℕ × ℕ)) (len : ℕ) (place : Place)
+found_len : (found : Option (ℕ × ℕ)) (len : ℕ) (place : BoardRange)
     → option_map (λ one. record { board = one.0; offset = one.1; len = len }) found ≡ Some place → place.len ≡ len
 found_len None len place is = absurd cc
 found_len (Some one) len place is =
     let same : record { board = one.0; offset = one.1; len = len } ≡ place = cc in
-    ap (λ (p : Place). p.len) (sym same)
+    ap (λ (p : BoardRange). p.len) (sym same)
 
-row_len : (entries : List Entry) (row : Result CodeRow AmFault) (addr len : ℕ) (place : Place)
-    → place_by entries row addr len ≡ Some place → place.len ≡ len
+row_len : (entries : List Entry) (row : Result CodeRow AmFault) (addr len : ℕ) (place : BoardRange)
+    → range_by entries row addr len ≡ Some place → place.len ≡ len
 row_len entries (Ok code) addr len place is = found_len (selection_at entries code addr) len place is
 row_len entries (Err fault) addr len place is = absurd cc
 
-pub place_len : (entries : List Entry) (mailbox : Mailbox) (place : Place) → place_of entries mailbox ≡ Some place
+pub place_len : (entries : List Entry) (mailbox : Mailbox) (place : BoardRange) → range_of entries mailbox ≡ Some place
     → place.len ≡ 16 + 4 * mailbox.slots
-unfolding place_at
+unfolding range_at
 place_len entries mailbox place is = row_len entries (read_code mailbox.am) mailbox.addr (16 + 4 * mailbox.slots) place is
 
 module _ (config : Configuration) (lawful : IsLawful config) where

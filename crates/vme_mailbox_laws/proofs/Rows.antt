@@ -25,7 +25,7 @@ use Rattle.vme_shared.specs.declared.stage.Step.{Step}
 use Rattle.vme_shared.specs.declared.stage.Step.TheVariants.{Continue, Finish}
 use Rattle.vme_shared.specs.Mailboxes.{raised}
 use Rattle.vme_shared.specs.Steps.{has_top_bit, word_in, words_between, counted_stage, mailbox_step, step_after}
-use Rattle.vme_mailbox_laws.specs.Along.{mailbox_in, IsCount, put_told, taken_told}
+use Rattle.vme_mailbox_laws.specs.Along.{mailbox_in, IsCount, put_reported, taken_reported}
 use Rattle.vme_mailbox_laws.proofs.Single.{reply_bytes}
 use Rattle.vme_mailbox_laws.proofs.Stages.{stage_command, stage_expected, stage_touches}
 
@@ -53,7 +53,7 @@ Before m request (Unlocks end) phase = BeforeUnlock end phase
 
 -- the words that were put and taken until then
 abbrev pub Words : SharedRequest → Stage → List ℕ → List ℕ → Type 0
-Words request (Unlocks end) put taken = (put ≡ put_told end request) × (taken ≡ taken_told end)
+Words request (Unlocks end) put taken = (put ≡ put_reported end request) × (taken ≡ taken_reported end)
 Words request stage put taken = (put ≡ []) × (taken ≡ [])
 
 -- what a put or a take may end as without an error
@@ -63,7 +63,7 @@ IsFineEnd end = (end ≢ shared.Berr) × (end ≢ shared.Denied)
 -- where a step leads
 abbrev pub Leads : BoardMailbox → SharedRequest → Step → Phase → List ℕ → List ℕ → Type 0
 Leads m request (Continue stage) phase put taken = Before m request stage phase × Words request stage put taken
-Leads m request (Finish end) phase put taken = (phase ≡ Idle) × (put ≡ put_told end request) × (taken ≡ taken_told end) × IsFineEnd end
+Leads m request (Finish end) phase put taken = (phase ≡ Idle) × (put ≡ put_reported end request) × (taken ≡ taken_reported end) × IsFineEnd end
 
 -- a reply has the form that a stage wants, and is no bus error
 pub record IsFine (m : BoardMailbox) (stage : Stage) (reply : Reply) : Type 0 where
@@ -229,7 +229,7 @@ module _ (m : BoardMailbox) (request : SharedRequest) (mailbox : Mailbox) (is : 
       ∙ rw (same_place (places.put_count_at m)) (rw (same_place (p + 1)) refl)
       )
       refl
-      (λ count. (refl, (ap (λ ws. ws ++ (word % 2 ^ 32) ∷ []) none.0 ∙ ap (put_told shared.Put) (sym is_put), nothing taken none.1)))
+      (λ count. (refl, (ap (λ ws. ws ++ (word % 2 ^ 32) ∷ []) none.0 ∙ ap (put_reported shared.Put) (sym is_put), nothing taken none.1)))
   row_raises_put_count p word own Berr below is_put fine none = absurd (fine.good refl)
 
   row_raises_take_count : (t word : ℕ) (reply : Reply) → IsFine m (RaisesTakeCount t word) reply → Words request (RaisesTakeCount t word) put taken
@@ -249,37 +249,37 @@ module _ (m : BoardMailbox) (request : SharedRequest) (mailbox : Mailbox) (is : 
   unlocked : (end : SharedOutcome) (phase : Phase) (reply : Reply) → IsFineEnd end → next_phase m phase (Writes (places.lock_at m) 1 0) ≡ Some Idle
       → put_by (Some phase) (Some Idle) ≡ [] → taken_by (Some phase) (Some Idle) ≡ []
       → IsFine m (Unlocks end) reply → Words request (Unlocks end) put taken → Went m request (Unlocks end) phase put taken reply
-  unlocked end phase (Bytes datum) ok goes no_put no_taken fine told = let form = fine.form in absurd cc
-  unlocked end phase Done ok goes no_put no_taken fine told =
+  unlocked end phase (Bytes datum) ok goes no_put no_taken fine reported = let form = fine.form in absurd cc
+  unlocked end phase Done ok goes no_put no_taken fine reported =
       goes_by (Unlocks end) phase Done Idle (Finish end) goes refl
       (λ count. (
         refl,
-        ap (λ ws. put ++ ws) no_put ∙ append-nil put ∙ told.0,
-        ap (λ ws. taken ++ ws) no_taken ∙ append-nil taken ∙ told.1,
+        ap (λ ws. put ++ ws) no_put ∙ append-nil put ∙ reported.0,
+        ap (λ ws. taken ++ ws) no_taken ∙ append-nil taken ∙ reported.1,
         ok,
       ))
-  unlocked end phase Berr ok goes no_put no_taken fine told = absurd (fine.good refl)
+  unlocked end phase Berr ok goes no_put no_taken fine reported = absurd (fine.good refl)
 
   row_unlocks_both : (end : SharedOutcome) (p t : ℕ) (reply : Reply) → IsFineEnd end → IsFine m (Unlocks end) reply → Words request (Unlocks end) put taken
       → Went m request (Unlocks end) (Both p t) put taken reply
-  row_unlocks_both end p t reply ok fine told = unlocked end (Both p t) reply ok (rw (same_place (places.lock_at m)) refl) refl refl fine told
+  row_unlocks_both end p t reply ok fine reported = unlocked end (Both p t) reply ok (rw (same_place (places.lock_at m)) refl) refl refl fine reported
 
   row_unlocks_counted : (end : SharedOutcome) (reply : Reply) → IsFineEnd end → IsFine m (Unlocks end) reply → Words request (Unlocks end) put taken
       → Went m request (Unlocks end) Counted put taken reply
-  row_unlocks_counted end reply ok fine told = unlocked end Counted reply ok (rw (same_place (places.lock_at m)) refl) refl refl fine told
+  row_unlocks_counted end reply ok fine reported = unlocked end Counted reply ok (rw (same_place (places.lock_at m)) refl) refl refl fine reported
 
   row_unlocks : (end : SharedOutcome) (phase : Phase) (reply : Reply) → BeforeUnlock end phase → IsFine m (Unlocks end) reply
       → Words request (Unlocks end) put taken → Went m request (Unlocks end) phase put taken reply
-  row_unlocks shared.Put phase reply at fine told = subst (λ p. Went m request (Unlocks shared.Put) p put taken reply) (sym at) (row_unlocks_counted shared.Put reply (λ same. absurd cc, λ same. absurd cc) fine told)
-  row_unlocks (shared.Took word) phase reply at fine told =
-      subst (λ p. Went m request (Unlocks (shared.Took word)) p put taken reply) (sym at) (row_unlocks_counted (shared.Took word) reply (λ same. absurd cc, λ same. absurd cc) fine told)
-  row_unlocks shared.Full phase reply at fine told =
-      subst (λ p. Went m request (Unlocks shared.Full) p put taken reply) (sym at.2) (row_unlocks_both shared.Full at.0 at.1 reply (λ same. absurd cc, λ same. absurd cc) fine told)
-  row_unlocks shared.Empty phase reply at fine told =
-      subst (λ p. Went m request (Unlocks shared.Empty) p put taken reply) (sym at.2) (row_unlocks_both shared.Empty at.0 at.1 reply (λ same. absurd cc, λ same. absurd cc) fine told)
-  row_unlocks shared.Spent phase reply at fine told =
-      subst (λ p. Went m request (Unlocks shared.Spent) p put taken reply) (sym at.2) (row_unlocks_both shared.Spent at.0 at.1 reply (λ same. absurd cc, λ same. absurd cc) fine told)
-  row_unlocks end phase reply at fine told = absurd at
+  row_unlocks shared.Put phase reply at fine reported = subst (λ p. Went m request (Unlocks shared.Put) p put taken reply) (sym at) (row_unlocks_counted shared.Put reply (λ same. absurd cc, λ same. absurd cc) fine reported)
+  row_unlocks (shared.Took word) phase reply at fine reported =
+      subst (λ p. Went m request (Unlocks (shared.Took word)) p put taken reply) (sym at) (row_unlocks_counted (shared.Took word) reply (λ same. absurd cc, λ same. absurd cc) fine reported)
+  row_unlocks shared.Full phase reply at fine reported =
+      subst (λ p. Went m request (Unlocks shared.Full) p put taken reply) (sym at.2) (row_unlocks_both shared.Full at.0 at.1 reply (λ same. absurd cc, λ same. absurd cc) fine reported)
+  row_unlocks shared.Empty phase reply at fine reported =
+      subst (λ p. Went m request (Unlocks shared.Empty) p put taken reply) (sym at.2) (row_unlocks_both shared.Empty at.0 at.1 reply (λ same. absurd cc, λ same. absurd cc) fine reported)
+  row_unlocks shared.Spent phase reply at fine reported =
+      subst (λ p. Went m request (Unlocks shared.Spent) p put taken reply) (sym at.2) (row_unlocks_both shared.Spent at.0 at.1 reply (λ same. absurd cc, λ same. absurd cc) fine reported)
+  row_unlocks end phase reply at fine reported = absurd at
 
   -- each stage
   pub goes : (stage : Stage) (phase : Phase) (reply : Reply) → Before m request stage phase → Words request stage put taken → IsFine m stage reply
@@ -297,4 +297,4 @@ module _ (m : BoardMailbox) (request : SharedRequest) (mailbox : Mailbox) (is : 
       subst (λ q. Went m request (ReadsWord t) q put taken reply) (sym at) (row_reads_word p t reply other fine none)
   goes (RaisesTakeCount t word) phase reply at none fine =
       subst (λ q. Went m request (RaisesTakeCount t word) q put taken reply) (sym at) (row_raises_take_count t word reply fine none)
-  goes (Unlocks end) phase reply at told fine = row_unlocks end phase reply at fine told
+  goes (Unlocks end) phase reply at reported fine = row_unlocks end phase reply at fine reported

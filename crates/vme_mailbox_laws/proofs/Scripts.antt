@@ -22,9 +22,9 @@ use Rattle.vme_grammar.specs.declared.line.Line.TheVariants as lines
 use Rattle.vme_script.specs.Configurations.{Configuration}
 use Rattle.vme_line_task.specs.Scripts.{Sharing, shared_job, unless_refused, line_attempt, mailbox_at}
 use Rattle.vme_line_task.specs.Traces.{LineTrace, IsTrace}
-use Rattle.vme_mailbox_laws.specs.Along.{UsesMailbox, put_told, taken_told}
+use Rattle.vme_mailbox_laws.specs.Along.{UsesMailbox, put_reported, taken_reported}
 use Rattle.vme_mailbox_laws.proofs.Courses.{IsOver}
-use Rattle.vme_mailbox_laws.specs.Names.{names, told_put, told_taken, lines_put, lines_taken, LeavesAlone, AllLeave, IsMailboxOf}
+use Rattle.vme_mailbox_laws.specs.Names.{names, reported_put, reported_taken, lines_put, lines_taken, LeavesAlone, AllLeave, IsMailboxOf}
 use Rattle.vme_mailbox_laws.proofs.Through.{Wanted, behind, Through}
 use Rattle.vme_mailbox_laws.specs.Runs.{AllTurned}
 use Rattle.vme_mailbox_laws.proofs.Lines.{line_begins, line_moves, line_over, moves_beside, part_cons}
@@ -41,19 +41,19 @@ takes config who box board m is =
     record { mailbox = mailbox_at config box; asked = refl; lies = is.lies; formed = is.formed; started = is.lawful }
 
 -- what a put tells
-put_tells : (box word : ℕ) (mailbox : Mailbox) (outcome : SharedOutcome)
-    → put_told outcome (requests.Put mailbox word) ≡ told_put (lines.Put box word) (Shared outcome)
-put_tells box word mailbox shared.Put = refl
-put_tells box word mailbox outcome = refl
+put_effect : (box word : ℕ) (mailbox : Mailbox) (outcome : SharedOutcome)
+    → put_reported outcome (requests.Put mailbox word) ≡ reported_put (lines.Put box word) (Shared outcome)
+put_effect box word mailbox shared.Put = refl
+put_effect box word mailbox outcome = refl
 
 take_puts_nothing : (box : ℕ) (mailbox : Mailbox) (outcome : SharedOutcome)
-    → put_told outcome (requests.Take mailbox) ≡ told_put (lines.Take box) (Shared outcome)
+    → put_reported outcome (requests.Take mailbox) ≡ reported_put (lines.Take box) (Shared outcome)
 take_puts_nothing box mailbox shared.Put = refl
 take_puts_nothing box mailbox outcome = refl
 
-taken_tells : (outcome : SharedOutcome) → taken_told outcome ≡ told_taken (Shared outcome)
-taken_tells (shared.Took word) = refl
-taken_tells outcome = refl
+taken_shows : (outcome : SharedOutcome) → taken_reported outcome ≡ reported_taken (Shared outcome)
+taken_shows (shared.Took word) = refl
+taken_shows outcome = refl
 
 -- moves in two parts
 turned_parts : (a b : List Transition) → AllTurned (a ++ b) → AllTurned a × AllTurned b
@@ -71,19 +71,19 @@ module _ (config : Configuration) (who box board : ℕ) (m : BoardMailbox) (is :
   abbrev After : Line → LineReply → List (Entry BoardCmd Reply) → Wanted → Type 0
   After line answer rest wanted =
       Through m (Some Idle) rest
-      (behind wanted (if names box line then told_put line answer else []) (if names box line then told_taken answer else []))
+      (behind wanted (if names box line then reported_put line answer else []) (if names box line then reported_taken answer else []))
 
   -- where a put or a take is over
   at_end : (request : SharedRequest) (outcome : SharedOutcome) (next : Option Phase) (ps ts : List ℕ) (rest : List (Entry BoardCmd Reply))
       (wanted : Wanted) → IsOver request outcome next ps ts
-      → Through m (Some Idle) rest (behind wanted (put_told outcome request) (taken_told outcome)) → Through m next rest (behind wanted ps ts)
+      → Through m (Some Idle) rest (behind wanted (put_reported outcome request) (taken_reported outcome)) → Through m next rest (behind wanted ps ts)
   at_end request outcome next ps ts rest wanted over through = rw (over.is, over.put_is, over.taken_is) through
 
   -- a line with such an attempt
   shared_line : (line : Line) (s : SharedJob) (uses : UsesMailbox s board m) (run : List Transition) (answer : LineReply)
       (rest : List (Entry BoardCmd Reply)) (wanted : Wanted) → line_attempt config who line ≡ Ok (Sharing s) → LineTrace config who line run answer
       → AllTurned run
-      → ((outcome : SharedOutcome) → answer ≡ Shared outcome → Through m (Some Idle) rest (behind wanted (put_told outcome s.request) (taken_told outcome)))
+      → ((outcome : SharedOutcome) → answer ≡ Shared outcome → Through m (Some Idle) rest (behind wanted (put_reported outcome s.request) (taken_reported outcome)))
       → Through m (Some Idle) (board_part board run ++ rest) wanted
   shared_line line s uses run answer rest wanted attempt trace turned leads =
       line_moves s board m uses config who line attempt [] run trace.replies (Some Idle) [] [] rest wanted
@@ -104,7 +104,7 @@ module _ (config : Configuration) (who box board : ℕ) (m : BoardMailbox) (is :
     where
       by_name : (line : Line) (run : List Transition) (answer : LineReply) (rest : List (Entry BoardCmd Reply)) (wanted : Wanted)
           → names box line ≡ true → LineTrace config who line run answer → AllTurned run
-          → Through m (Some Idle) rest (behind wanted (told_put line answer) (told_taken answer))
+          → Through m (Some Idle) rest (behind wanted (reported_put line answer) (reported_taken answer))
           → Through m (Some Idle) (board_part board run ++ rest) wanted
       by_name (lines.Put other word) run answer rest wanted named trace turned after =
           let same : other ≡ box = eqb-true other box named in
@@ -113,9 +113,9 @@ module _ (config : Configuration) (who box board : ℕ) (m : BoardMailbox) (is :
           ∙ ap (unless_refused (Sharing (shared_job config who (requests.Put (mailbox_at config box) word)))) is.lawful in
           shared_line (lines.Put other word) (shared_job config who (requests.Put (mailbox_at config box) word)) (puts config who box board word m is) run
           answer rest wanted attempt trace turned
-          (λ outcome told.
-          rw (put_tells other word (mailbox_at config box) outcome, taken_tells outcome)
-          (subst (λ a. Through m (Some Idle) rest (behind wanted (told_put (lines.Put other word) a) (told_taken a))) told after))
+          (λ outcome reported.
+          rw (put_effect other word (mailbox_at config box) outcome, taken_shows outcome)
+          (subst (λ a. Through m (Some Idle) rest (behind wanted (reported_put (lines.Put other word) a) (reported_taken a))) reported after))
       by_name (lines.Take other) run answer rest wanted named trace turned after =
           let same : other ≡ box = eqb-true other box named in
           let attempt : line_attempt config who (lines.Take other) ≡ Ok (Sharing (shared_job config who (requests.Take (mailbox_at config box)))) =
@@ -123,9 +123,9 @@ module _ (config : Configuration) (who box board : ℕ) (m : BoardMailbox) (is :
           ∙ ap (unless_refused (Sharing (shared_job config who (requests.Take (mailbox_at config box))))) is.lawful in
           shared_line (lines.Take other) (shared_job config who (requests.Take (mailbox_at config box))) (takes config who box board m is) run
           answer rest wanted attempt trace turned
-          (λ outcome told.
-          rw (take_puts_nothing other (mailbox_at config box) outcome, taken_tells outcome)
-          (subst (λ a. Through m (Some Idle) rest (behind wanted (told_put (lines.Take other) a) (told_taken a))) told after))
+          (λ outcome reported.
+          rw (take_puts_nothing other (mailbox_at config box) outcome, taken_shows outcome)
+          (subst (λ a. Through m (Some Idle) rest (behind wanted (reported_put (lines.Take other) a) (reported_taken a))) reported after))
       by_name line run answer rest wanted named trace turned after = absurd cc
 
   -- the whole script
@@ -141,4 +141,4 @@ module _ (config : Configuration) (who box board : ℕ) (m : BoardMailbox) (is :
       rw parts
       (one_line line first answer (board_part board rest) wanted alone.0 own split.0
       (script ls rest answers
-      (behind wanted (if names box line then told_put line answer else []) (if names box line then told_taken answer else [])) alone.1 later split.1 done))
+      (behind wanted (if names box line then reported_put line answer else []) (if names box line then reported_taken answer else [])) alone.1 later split.1 done))

@@ -22,7 +22,7 @@ use Rattle.vme_mailbox_laws.specs.Along.{GoesTo}
 use Rattle.vme_mailbox_laws.proofs.Datums.{taken, given_back}
 use Rattle.vme_grammar.specs.Grammar.{IsOwnLine}
 use Rattle.vme_grammar.specs.declared.line.Line.TheVariants as lines
-use Rattle.vme_script.specs.declared.place.Place.{Place}
+use Rattle.vme_script.specs.declared.board_range.BoardRange.{BoardRange}
 use Rattle.vme_script.specs.Bytes.{transfer_bytes, request_bytes, local_bytes}
 use Rattle.vme_script.specs.Boards.{entries_of}
 use Rattle.vme_script.specs.Configurations.{Configuration}
@@ -32,8 +32,8 @@ use Rattle.vme_mailbox_laws.proofs.DataApart.{sent}
 use Rattle.vme_mailbox_laws.proofs.CallsApart.{JobCalls, SharedCalls, Calls}
 
 -- a command to a board is among these bytes, if there are any
-abbrev pub Among : Option Place → ℕ → Command → Type 0
-Among named x c = (bytes : Place) × (named ≡ Some bytes) × IsAmong bytes x c
+abbrev pub Among : Option BoardRange → ℕ → Command → Type 0
+Among named x c = (bytes : BoardRange) × (named ≡ Some bytes) × IsAmong bytes x c
 
 -- over the bus
 by_transfer : (config : Configuration) (who : ℕ) (request : Request) (x : ℕ) (c : Command) (t : Transfer)

@@ -7,7 +7,7 @@ use Rattle.vme_memory.specs.declared.reply.Reply.TheVariants.{Bytes, Done, Berr}
 use Rattle.vme_arbiter.specs.declared.command.ArbReply.{ArbReply}
 use Rattle.vme_arbiter.specs.declared.command.ArbReply.TheVariants as turned
 use Rattle.vme_core.specs.declared.event.EventReply.{EventReply}
-use Rattle.vme_core.specs.declared.event.EventReply.TheVariants as told
+use Rattle.vme_core.specs.declared.event.EventReply.TheVariants as replies
 use Rattle.vme_core.specs.Calls.{Call}
 use Rattle.vme_master.specs.declared.job.BusJob.{BusJob}
 use Rattle.vme_master.specs.declared.job.Job.TheVariants.{Bus}
@@ -24,7 +24,7 @@ reply_bytes Berr = []
 abbrev pub IsGoodTo : Next → Option EventReply → Type 0
 IsGoodTo NotStarted last = last ≡ None
 IsGoodTo (Invokes call) None = ⊥
-IsGoodTo (Invokes call) (Some reply) = IsTrue (fits call reply) × (reply ≢ told.Board Berr) × (reply ≢ told.Bus turned.Denied)
+IsGoodTo (Invokes call) (Some reply) = IsTrue (fits call reply) × (reply ≢ replies.Board Berr) × (reply ≢ replies.Bus turned.Denied)
 IsGoodTo (Returns outcome) last = Unit {0}
 
 -- its datum was not yet answered: it rests, it asks or looks, or its datum goes to the board
@@ -38,7 +38,7 @@ pub record Waits (job : BusJob) (g : Given) : Type 0 where
 -- its datum was answered, and the bus is given back next
 pub record Answered (job : BusJob) (reply : Reply) (g : Given) : Type 0 where
   pub before : Given
-  pub is : g ≡ Some (told.Board reply) ∷ before
+  pub is : g ≡ Some (replies.Board reply) ∷ before
   pub bytes : bytes_in g ≡ reply_bytes reply
   pub good : reply ≢ Berr
   pub next : next_of (Bus job) g ≡ Invokes (done_call job)
@@ -59,25 +59,25 @@ module _ (job : BusJob) (one : count_of job.transfer.request ≡ 1) where
   past_datum n none = rw none (rw one refl)
 
   -- the arbiter replied to an ask or a look
-  pub waits_told : (g : Given) (cmd : Call) (reply : ArbReply) → ((cmd ≡ ask_call job) ⊎ (cmd ≡ look_call job)) → Waits job g
-      → next_of (Bus job) g ≡ Invokes cmd → IsGoodTo (Invokes cmd) (Some (told.Bus reply)) → Waits job (Some (told.Bus reply) ∷ g)
-  waits_told g cmd turned.Granted which waits makes good = record {
+  pub waits_reported : (g : Given) (cmd : Call) (reply : ArbReply) → ((cmd ≡ ask_call job) ⊎ (cmd ≡ look_call job)) → Waits job g
+      → next_of (Bus job) g ≡ Invokes cmd → IsGoodTo (Invokes cmd) (Some (replies.Bus reply)) → Waits job (Some (replies.Bus reply) ∷ g)
+  waits_reported g cmd turned.Granted which waits makes good = record {
     none = waits.none;
     bytes = waits.bytes;
     next = inr (inr (inr (rw makes (rw good.0 (ap Invokes first_datum)))));
   }
-  waits_told g cmd turned.Waiting which waits makes good = record {
+  waits_reported g cmd turned.Waiting which waits makes good = record {
     none = waits.none;
     bytes = waits.bytes;
     next = inr (inr (inl (rw makes (rw good.0 refl))));
   }
-  waits_told g cmd turned.Freed (inl asks) waits makes good = let fit = ap (λ c. fits c (told.Bus turned.Freed)) (sym asks) ∙ good.0 in absurd cc
-  waits_told g cmd turned.Freed (inr looks) waits makes good = let fit = ap (λ c. fits c (told.Bus turned.Freed)) (sym looks) ∙ good.0 in absurd cc
-  waits_told g cmd turned.Denied which waits makes good = absurd (good.2 refl)
+  waits_reported g cmd turned.Freed (inl asks) waits makes good = let fit = ap (λ c. fits c (replies.Bus turned.Freed)) (sym asks) ∙ good.0 in absurd cc
+  waits_reported g cmd turned.Freed (inr looks) waits makes good = let fit = ap (λ c. fits c (replies.Bus turned.Freed)) (sym looks) ∙ good.0 in absurd cc
+  waits_reported g cmd turned.Denied which waits makes good = absurd (good.2 refl)
 
   -- a board replied to the datum
   pub answered_by : (g : Given) (call : Call) (reply : Reply) → Waits job g → next_of (Bus job) g ≡ Invokes call
-      → IsGoodTo (Invokes call) (Some (told.Board reply)) → Answered job reply (Some (told.Board reply) ∷ g)
+      → IsGoodTo (Invokes call) (Some (replies.Board reply)) → Answered job reply (Some (replies.Board reply) ∷ g)
   answered_by g call (Bytes datum) waits makes good = record {
     before = g;
     is = refl;
@@ -95,29 +95,29 @@ module _ (job : BusJob) (one : count_of job.transfer.request ≡ 1) where
   answered_by g call Berr waits makes good = absurd (good.1 refl)
 
   -- the bus is free again: the outcome is what the request is for
-  ended_by : (g before : Given) (reply : Reply) (place : ℕ × ℕ) → job.place ≡ Some place → g ≡ Some (told.Board reply) ∷ before → reply ≢ Berr
+  ended_by : (g before : Given) (reply : Reply) (place : ℕ × ℕ) → job.place ≡ Some place → g ≡ Some (replies.Board reply) ∷ before → reply ≢ Berr
       → next_of (Bus job) g ≡ Invokes (done_call job)
-      → next_of (Bus job) (Some (told.Bus turned.Freed) ∷ g) ≡ Returns (expected_outcome (request_expected job.transfer.request) (bytes_in g))
+      → next_of (Bus job) (Some (replies.Bus turned.Freed) ∷ g) ≡ Returns (expected_outcome (request_expected job.transfer.request) (bytes_in g))
   ended_by g before (Bytes datum) place placed is good next = rw next (rw placed (rw is refl))
   ended_by g before Done place placed is good next = rw next (rw placed (rw is refl))
   ended_by g before Berr place placed is good next = absurd (good refl)
 
   pub ended : (g : Given) (last : Option EventReply) (reply : Reply) (place : ℕ × ℕ) → job.place ≡ Some place → Answered job reply g
       → IsGoodTo (next_of (Bus job) g) last
-      → (last ≡ Some (told.Bus turned.Freed))
+      → (last ≡ Some (replies.Bus turned.Freed))
       × (next_of (Bus job) (last ∷ g) ≡ Returns (expected_outcome (request_expected job.transfer.request) (reply_bytes reply)))
   ended g last reply place placed answered good = by_last last (subst (λ n. IsGoodTo n last) answered.next good)
     where
       by_last : (last : Option EventReply) → IsGoodTo (Invokes (done_call job)) last
-          → (last ≡ Some (told.Bus turned.Freed))
+          → (last ≡ Some (replies.Bus turned.Freed))
           × (next_of (Bus job) (last ∷ g) ≡ Returns (expected_outcome (request_expected job.transfer.request) (reply_bytes reply)))
       by_last None fine = absurd fine
-      by_last (Some (told.Board r)) fine = let fit = fine.0 in absurd cc
-      by_last (Some (told.Bus turned.Granted)) fine = let fit = fine.0 in absurd cc
-      by_last (Some (told.Bus turned.Waiting)) fine = let fit = fine.0 in absurd cc
-      by_last (Some (told.Bus turned.Freed)) fine = (
+      by_last (Some (replies.Board r)) fine = let fit = fine.0 in absurd cc
+      by_last (Some (replies.Bus turned.Granted)) fine = let fit = fine.0 in absurd cc
+      by_last (Some (replies.Bus turned.Waiting)) fine = let fit = fine.0 in absurd cc
+      by_last (Some (replies.Bus turned.Freed)) fine = (
         refl,
         ended_by g answered.before reply place placed answered.is answered.good answered.next
             ∙ ap (λ bytes. Returns (expected_outcome (request_expected job.transfer.request) bytes)) answered.bytes,
       )
-      by_last (Some (told.Bus turned.Denied)) fine = absurd (fine.2 refl)
+      by_last (Some (replies.Bus turned.Denied)) fine = absurd (fine.2 refl)

@@ -11,7 +11,7 @@ use Rattle.vme_memory.specs.Locals.{command_given, answer_given}
 use Rattle.vme_core.specs.declared.event.Event.{Event}
 use Rattle.vme_core.specs.declared.event.Event.TheVariants as asked
 use Rattle.vme_core.specs.declared.event.EventReply.{EventReply}
-use Rattle.vme_core.specs.declared.event.EventReply.TheVariants as told
+use Rattle.vme_core.specs.declared.event.EventReply.TheVariants as replies
 use Rattle.vme_core.specs.Runs.{move, board_part}
 use Rattle.vme_core.specs.Calls.{Call, OnBoard, OnBus, call_of, command_step}
 use Rattle.vme_master.specs.Tables.{Given}
@@ -50,41 +50,41 @@ module _ (s : SharedJob) (board : ℕ) (m : BoardMailbox) (uses : UsesMailbox s 
 
   -- a board in which the mailbox lies gives a good reply
   by_answer : (given : Given) (x : ℕ) (cmd : BoardCmd) (who : ℕ) (reply : Reply) → shared_next s given ≡ Invokes (OnBoard x (command_given cmd))
-      → IsAnswered m (entry who cmd reply) → IsGood (Invokes (OnBoard x (command_given cmd))) (Some (told.Board reply))
+      → IsAnswered m (entry who cmd reply) → IsGood (Invokes (OnBoard x (command_given cmd))) (Some (replies.Board reply))
   unfolding answer_given
   by_answer given x cmd who reply makes is =
       let fine = answered s given board x m (command_given cmd) is.memory uses is.lies makes in
-      subst (λ r. IsGood (Invokes (OnBoard x (command_given cmd))) (Some (told.Board r))) (sym is.replied)
-      (subst (λ n. IsGood n (Some (told.Board (command_step is.memory (command_given cmd)).1))) makes fine)
+      subst (λ r. IsGood (Invokes (OnBoard x (command_given cmd))) (Some (replies.Board r))) (sym is.replied)
+      (subst (λ n. IsGood n (Some (replies.Board (command_step is.memory (command_given cmd)).1))) makes fine)
 
   -- a move of it, and what comes after
   pub one_move : (given : Given) (at : Option Phase) (put taken : List ℕ) (who : ℕ) (event : Event) (reply : EventReply)
       (rest : List (Entry BoardCmd Reply)) (wanted : Wanted) → IsIn given at put taken → shared_next s given ≡ Invokes (call_of event) → IsTurned event reply
       → ((next : Option Phase) (a b : List ℕ) → IsIn (Some reply ∷ given) next (put ++ a) (taken ++ b) → Through m next rest (behind wanted a b))
       → Through m at (board_part board (move who event reply ∷ []) ++ rest) wanted
-  one_move given at put taken who (asked.Bus cmd) (told.Board reply) rest wanted stands makes good leads = absurd good
-  one_move given at put taken who (asked.Board x cmd) (told.Bus reply) rest wanted stands makes good leads = absurd good
-  one_move given at put taken who (asked.Bus cmd) (told.Bus reply) rest wanted stands makes good leads =
-      let fine : IsGood (Invokes (OnBus cmd)) (Some (told.Bus reply)) = (good.0, λ error. absurd cc, good.1) in
+  one_move given at put taken who (asked.Bus cmd) (replies.Board reply) rest wanted stands makes good leads = absurd good
+  one_move given at put taken who (asked.Board x cmd) (replies.Bus reply) rest wanted stands makes good leads = absurd good
+  one_move given at put taken who (asked.Bus cmd) (replies.Bus reply) rest wanted stands makes good leads =
+      let fine : IsGood (Invokes (OnBus cmd)) (Some (replies.Bus reply)) = (good.0, λ error. absurd cc, good.1) in
       let count = stands_count s board m uses (progress_of s given) at put taken stands in
-      let next = given_on given at put taken (OnBus cmd) (told.Bus reply) at stands makes fine refl count in
+      let next = given_on given at put taken (OnBus cmd) (replies.Bus reply) at stands makes fine refl count in
       let words_put : put ++ put_by at at ≡ put ++ [] = ap (λ ws. put ++ ws) (no_put at) in
       let words_taken : taken ++ taken_by at at ≡ taken ++ [] = ap (λ ws. taken ++ ws) (no_taken at) in
-      leads at [] [] (subst (λ ps. IsIn (Some (told.Bus reply) ∷ given) at ps (taken ++ [])) words_put
-      (subst (λ ts. IsIn (Some (told.Bus reply) ∷ given) at (put ++ put_by at at) ts) words_taken next))
-  one_move given at put taken who (asked.Board x cmd) (told.Board reply) rest wanted stands makes good leads =
+      leads at [] [] (subst (λ ps. IsIn (Some (replies.Bus reply) ∷ given) at ps (taken ++ [])) words_put
+      (subst (λ ts. IsIn (Some (replies.Bus reply) ∷ given) at (put ++ put_by at at) ts) words_taken next))
+  one_move given at put taken who (asked.Board x cmd) (replies.Board reply) rest wanted stands makes good leads =
       let own = commands s given board x m (command_given cmd) uses makes in
       let there : (x == board) ≡ true = eq-eqb x board own.0 in
       rw there (λ is.
-      let fine : IsGood (Invokes (OnBoard x (command_given cmd))) (Some (told.Board reply)) = by_answer given x cmd who reply makes is in
+      let fine : IsGood (Invokes (OnBoard x (command_given cmd))) (Some (replies.Board reply)) = by_answer given x cmd who reply makes is in
       let goes = command_goes s board m uses (progress_of s given) at put taken x (command_given cmd) reply stands makes fine in (
         goes,
         λ count.
-            let after : phase_given m board (Invokes (OnBoard x (command_given cmd))) (Some (told.Board reply)) at ≡ after_command m at (command_given cmd) reply =
+            let after : phase_given m board (Invokes (OnBoard x (command_given cmd))) (Some (replies.Board reply)) at ≡ after_command m at (command_given cmd) reply =
             rw there refl in
             leads (after_command m at (command_given cmd) reply) (put_by at (after_command m at (command_given cmd) reply))
             (taken_by at (after_command m at (command_given cmd) reply))
-            (given_on given at put taken (OnBoard x (command_given cmd)) (told.Board reply) (after_command m at (command_given cmd) reply) stands makes
+            (given_on given at put taken (OnBoard x (command_given cmd)) (replies.Board reply) (after_command m at (command_given cmd) reply) stands makes
             fine after count),
       ))
 

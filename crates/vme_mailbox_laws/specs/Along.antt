@@ -7,7 +7,7 @@ use Rattle.vme_memory.specs.declared.reply.Reply.TheVariants.{Berr}
 use Rattle.vme_memory.specs.Steps.{Command}
 use Rattle.vme_arbiter.specs.declared.command.ArbReply.TheVariants.{Denied}
 use Rattle.vme_core.specs.declared.event.EventReply.{EventReply}
-use Rattle.vme_core.specs.declared.event.EventReply.TheVariants as told
+use Rattle.vme_core.specs.declared.event.EventReply.TheVariants as replies
 use Rattle.vme_core.specs.Calls.{OnBoard}
 use Rattle.vme_master.specs.Jobs.{fits}
 use Rattle.vme_master.specs.Tables.{Given}
@@ -50,7 +50,7 @@ pub record UsesMailbox (s : SharedJob) (board : ℕ) (m : BoardMailbox) : Type 0
 abbrev pub IsGood : SharedNext → Option EventReply → Type 0
 IsGood NotStarted last = last ≡ None
 IsGood (Invokes call) None = ⊥
-IsGood (Invokes call) (Some reply) = IsTrue (fits call reply) × (reply ≢ told.Board Berr) × (reply ≢ told.Bus Denied)
+IsGood (Invokes call) (Some reply) = IsTrue (fits call reply) × (reply ≢ replies.Board Berr) × (reply ≢ replies.Bus Denied)
 IsGood (Returns outcome) last = Unit {0}
 
 -- and so was all before it (this project's own)
@@ -60,7 +60,7 @@ AllGood s (last ∷ before) = IsGood (shared_next s before) last × AllGood s be
 
 -- the phase after a call and what was given to it: a command to the board, with its reply, moves it (this project's own)
 abbrev pub phase_given : BoardMailbox → ℕ → SharedNext → Option EventReply → Option Phase → Option Phase
-phase_given m board (Invokes (OnBoard x command)) (Some (told.Board reply)) phase =
+phase_given m board (Invokes (OnBoard x command)) (Some (replies.Board reply)) phase =
     if x == board then after_command m phase command reply else phase
 phase_given m board next last phase = phase
 
@@ -86,14 +86,14 @@ AllCounts m board s [] = Unit {0}
 AllCounts m board s (last ∷ before) = IsCount (phase_along m board s (last ∷ before)) × AllCounts m board s before
 
 -- the words that are put by what comes of it: its own, as four bytes, where it was put (this project's own)
-abbrev pub put_told : SharedOutcome → SharedRequest → List ℕ
-put_told shared.Put (asked.Put mailbox word) = word % 2 ^ 32 ∷ []
-put_told outcome request = []
+abbrev pub put_reported : SharedOutcome → SharedRequest → List ℕ
+put_reported shared.Put (asked.Put mailbox word) = word % 2 ^ 32 ∷ []
+put_reported outcome request = []
 
 -- and those that are taken (this project's own)
-abbrev pub taken_told : SharedOutcome → List ℕ
-taken_told (shared.Took word) = word ∷ []
-taken_told outcome = []
+abbrev pub taken_reported : SharedOutcome → List ℕ
+taken_reported (shared.Took word) = word ∷ []
+taken_reported outcome = []
 
 -- a command goes to the board, and to the offset there, that a code and an address select (this project's own)
 pub record GoesTo (map : List Entry) (am addr board : ℕ) (command_at : ℕ → Command) (command : Option Command) : Type 0 where

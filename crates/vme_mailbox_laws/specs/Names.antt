@@ -8,7 +8,7 @@ use Rattle.vme_shared.specs.declared.outcome.SharedOutcome.TheVariants as shared
 use Rattle.vme_shared.specs.declared.reply.LineReply.{LineReply}
 use Rattle.vme_shared.specs.declared.reply.LineReply.TheVariants.{Shared}
 use Rattle.vme_shared.specs.Mailboxes.{IsMailbox, mailbox_refusal}
-use Rattle.vme_mailbox_laws.specs.Along.{LiesAt, taken_told}
+use Rattle.vme_mailbox_laws.specs.Along.{LiesAt, taken_reported}
 use Rattle.vme_grammar.specs.declared.line.Line.{Line}
 use Rattle.vme_grammar.specs.declared.line.Line.TheVariants.{Put, Take}
 use Rattle.vme_script.specs.Boards.{entries_of}
@@ -23,25 +23,25 @@ names box (Take other) = other == box
 names box line = false
 
 -- the word that a line has put by its answer, as four bytes (this project's own)
-abbrev pub told_put : Line → LineReply → List ℕ
-told_put (Put box word) (Shared shared.Put) = word % 2 ^ 32 ∷ []
-told_put line answer = []
+abbrev pub reported_put : Line → LineReply → List ℕ
+reported_put (Put box word) (Shared shared.Put) = word % 2 ^ 32 ∷ []
+reported_put line answer = []
 
 -- the word that a line has taken by its answer (this project's own)
-abbrev pub told_taken : LineReply → List ℕ
-told_taken (Shared outcome) = taken_told outcome
-told_taken answer = []
+abbrev pub reported_taken : LineReply → List ℕ
+reported_taken (Shared outcome) = taken_reported outcome
+reported_taken answer = []
 
 -- the words that lines have put into a mailbox by their answers, in order (this project's own)
 abbrev pub lines_put : ℕ → List Line → List LineReply → List ℕ
 lines_put box (line ∷ lines) (answer ∷ answers) =
-    (if names box line then told_put line answer else []) ++ lines_put box lines answers
+    (if names box line then reported_put line answer else []) ++ lines_put box lines answers
 lines_put box lines answers = []
 
 -- the words that lines have taken from a mailbox by their answers, in order (this project's own)
 abbrev pub lines_taken : ℕ → List Line → List LineReply → List ℕ
 lines_taken box (line ∷ lines) (answer ∷ answers) =
-    (if names box line then told_taken answer else []) ++ lines_taken box lines answers
+    (if names box line then reported_taken answer else []) ++ lines_taken box lines answers
 lines_taken box lines answers = []
 
 -- no command of a line to the board at a place touches a mailbox there (this project's own)

@@ -1,8 +1,8 @@
 -- Where a declared mailbox lies in its board.
 use Rattle.vme_shared.specs.MailboxSteps.{BoardMailbox}
 use Rattle.vme_shared.specs.declared.mailbox.Mailbox.{Mailbox}
-use Rattle.vme_script.specs.declared.place.Place.{Place}
+use Rattle.vme_script.specs.declared.board_range.BoardRange.{BoardRange}
 
 -- the mailbox on its board, by the place of its bytes (this project's own)
-abbrev pub on_board : Mailbox → Place → BoardMailbox
+abbrev pub on_board : Mailbox → BoardRange → BoardMailbox
 on_board mailbox place = record { offset = place.offset; slots = mailbox.slots }

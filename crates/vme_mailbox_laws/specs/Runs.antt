@@ -9,7 +9,7 @@ use Rattle.vme_arbiter.specs.declared.command.ArbReply.TheVariants.{Denied}
 use Rattle.vme_core.specs.declared.event.Event.{Event}
 use Rattle.vme_core.specs.declared.event.Event.TheVariants as asked
 use Rattle.vme_core.specs.declared.event.EventReply.{EventReply}
-use Rattle.vme_core.specs.declared.event.EventReply.TheVariants as told
+use Rattle.vme_core.specs.declared.event.EventReply.TheVariants as replies
 use Rattle.vme_core.specs.Runs.{Transition, board_part}
 use Rattle.vme_core.specs.Calls.{OnBus}
 use Rattle.vme_master.specs.Jobs.{fits}
@@ -20,8 +20,8 @@ use Rattle.vme_line_task.specs.Traces.{IsTrace}
 
 -- a reply is of its event's kind, and that of the arbiter fits and is no denial (this project's own)
 abbrev pub IsTurned : Event → EventReply → Type 0
-IsTurned (asked.Bus cmd) (told.Bus reply) = IsTrue (fits (OnBus cmd) (told.Bus reply)) × (told.Bus reply ≢ told.Bus Denied)
-IsTurned (asked.Board x cmd) (told.Board reply) = Unit {0}
+IsTurned (asked.Bus cmd) (replies.Bus reply) = IsTrue (fits (OnBus cmd) (replies.Bus reply)) × (replies.Bus reply ≢ replies.Bus Denied)
+IsTurned (asked.Board x cmd) (replies.Board reply) = Unit {0}
 IsTurned event reply = ⊥
 
 -- the same of all moves (this project's own)
@@ -35,5 +35,5 @@ pub record ShareHistory (config : Configuration) (board : ℕ) (h : List (Entry 
     (answers : List (List LineReply)) : Type 0 where
   pub known : All (λ e. e.who < length runs) h
   pub owns : Each (λ who run. own who h ≡ board_part board run) runs
-  pub trace : AllAt (λ who run told. IsTrace config who (lines_at config who) run told) runs answers
+  pub trace : AllAt (λ who run reported. IsTrace config who (lines_at config who) run reported) runs answers
   pub turned : Each (λ who run. AllTurned run) runs

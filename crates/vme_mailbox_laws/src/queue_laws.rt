@@ -1,6 +1,6 @@
 ghost use Rattle.std.specs.Prelude.{◌≡◌, ◌+◌, ◌≤◌, ℕ, List, Some, None, length};
 ghost use Rattle.vme_object.specs.declared.history.Entry.{Entry};
-ghost use Rattle.vme_object.specs.History.{IsLegal, own, Begins};
+ghost use Rattle.vme_object.specs.History.{IsLegal, own, IsPrefix};
 ghost use Rattle.vme_object.specs.Each.{Each};
 ghost use Rattle.vme_memory.specs.declared.command.BoardCmd.{BoardCmd};
 ghost use Rattle.vme_memory.specs.declared.reply.Reply.{Reply};
@@ -35,7 +35,7 @@ pub fn scripts_go_by_the_rows()
     ensures order { (config : Configuration) (box board : ℕ) (m : BoardMailbox) (memory : Board)
         (h : List (Entry BoardCmd Reply)) (runs : List (List Transition)) (answers : List (List LineReply)) →
         IsMailboxOf config box board m → IsNewMailbox memory m → IsLegal board_step memory h →
-        ShareHistory config board h runs answers → Begins (words_taken m h) (words_put m h) }
+        ShareHistory config board h runs answers → IsPrefix (words_taken m h) (words_put m h) }
     ensures capacity { (config : Configuration) (box board : ℕ) (m : BoardMailbox) (memory : Board)
         (h : List (Entry BoardCmd Reply)) (runs : List (List Transition)) (answers : List (List LineReply)) →
         IsMailboxOf config box board m → IsNewMailbox memory m → IsLegal board_step memory h →
@@ -45,12 +45,12 @@ pub fn scripts_go_by_the_rows()
         (h : List (Entry BoardCmd Reply)) (runs : List (List Transition)) (answers : List (List LineReply)) →
         IsMailboxOf config box board m → IsNewMailbox memory m → IsLegal board_step memory h →
         ShareHistory config board h runs answers →
-        Each (λ who told. own_words_put who m h ≡ lines_put box (lines_at config who) told) answers }
+        Each (λ who reported. own_words_put who m h ≡ lines_put box (lines_at config who) reported) answers }
     ensures taken { (config : Configuration) (box board : ℕ) (m : BoardMailbox) (memory : Board)
         (h : List (Entry BoardCmd Reply)) (runs : List (List Transition)) (answers : List (List LineReply)) →
         IsMailboxOf config box board m → IsNewMailbox memory m → IsLegal board_step memory h →
         ShareHistory config board h runs answers →
-        Each (λ who told. own_words_taken who m h ≡ lines_taken box (lines_at config who) told) answers }
+        Each (λ who reported. own_words_taken who m h ≡ lines_taken box (lines_at config who) reported) answers }
 {}
 
 /// The words of one master among all words of a history are those of its own entries by themselves.

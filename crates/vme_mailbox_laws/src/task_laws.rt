@@ -2,7 +2,7 @@ ghost use Rattle.std.specs.Prelude.{◌≡◌, ◌≢◌, ◌≤◌, ◌∷◌, 
 ghost use Rattle.vme_cycle.specs.declared.modify.Modify.TheVariants.{Set};
 ghost use Rattle.vme_memory.specs.Boards.{Board};
 ghost use Rattle.vme_memory.specs.Steps.{Command, Write, Modify};
-ghost use Rattle.vme_core.specs.declared.event.EventReply.TheVariants as told;
+ghost use Rattle.vme_core.specs.declared.event.EventReply.TheVariants as replies;
 ghost use Rattle.vme_core.specs.Calls.{OnBoard, command_step};
 ghost use Rattle.vme_master.specs.Tables.{Given};
 ghost use Rattle.vme_shared.specs.MailboxSteps.{BoardMailbox, LiesIn, touches};
@@ -13,7 +13,7 @@ ghost use Rattle.vme_shared.specs.declared.outcome.SharedOutcome.{SharedOutcome}
 ghost use Rattle.vme_shared.specs.declared.outcome.SharedOutcome.TheVariants.{Berr, Denied};
 ghost use Rattle.vme_shared.specs.declared.request.SharedRequest.TheVariants.{Lock, Unlock};
 ghost use Rattle.vme_shared.specs.Tables.{SharedJob, Invokes, Returns, shared_next};
-ghost use Rattle.vme_mailbox_laws.specs.Along.{mailbox_in, LiesAt, IsWithin, overlap, UsesMailbox, IsGood, AllGood, AllCounts, phase_along, words_given, put_told, taken_told, GoesTo};
+ghost use Rattle.vme_mailbox_laws.specs.Along.{mailbox_in, LiesAt, IsWithin, overlap, UsesMailbox, IsGood, AllGood, AllCounts, phase_along, words_given, put_reported, taken_reported, GoesTo};
 
 /// Each command of a put or a take to a board goes to the board of its mailbox, and touches the
 /// mailbox; where the mailbox lies wholly in a board that answers quad bytes and read-modify-writes,
@@ -26,7 +26,7 @@ pub fn puts_and_takes_touch_their_mailbox_alone()
     ensures answered { (s : SharedJob) (given : Given) (board x : ℕ) (m : BoardMailbox)
         (command : Option Command) (memory : Board) → UsesMailbox s board m → LiesIn memory m →
         shared_next s given ≡ Invokes (OnBoard x command) →
-        IsGood (shared_next s given) (Some (told.Board (command_step memory command).1)) }
+        IsGood (shared_next s given) (Some (replies.Board (command_step memory command).1)) }
 {}
 
 /// Whatever is replied, each command of a put or a take to a board goes to the board of its mailbox
@@ -63,11 +63,11 @@ pub fn puts_and_takes_go_by_the_rows()
     ensures put { (s : SharedJob) (given : Given) (board : ℕ) (m : BoardMailbox)
         (outcome : SharedOutcome) → UsesMailbox s board m → AllGood s given →
         AllCounts m board s given → shared_next s given ≡ Returns outcome →
-        words_given put_by m board s given ≡ put_told outcome s.request }
+        words_given put_by m board s given ≡ put_reported outcome s.request }
     ensures taken { (s : SharedJob) (given : Given) (board : ℕ) (m : BoardMailbox)
         (outcome : SharedOutcome) → UsesMailbox s board m → AllGood s given →
         AllCounts m board s given → shared_next s given ≡ Returns outcome →
-        words_given taken_by m board s given ≡ taken_told outcome }
+        words_given taken_by m board s given ≡ taken_reported outcome }
 {}
 
 /// A lock is taken by a read-modify-write of its one byte, and given back by a write of that byte:

@@ -16,7 +16,7 @@ use Rattle.vme_arbiter.specs.declared.command.ArbCmd.TheVariants.{Ask, Look, Don
 use Rattle.vme_arbiter.specs.declared.command.ArbReply.{ArbReply}
 use Rattle.vme_arbiter.specs.declared.command.ArbReply.TheVariants.{Granted, Waiting, Freed}
 use Rattle.vme_core.specs.declared.event.EventReply.{EventReply}
-use Rattle.vme_core.specs.declared.event.EventReply.TheVariants as told
+use Rattle.vme_core.specs.declared.event.EventReply.TheVariants as replies
 use Rattle.vme_core.specs.Calls.{Call, OnBoard, OnBus}
 use Rattle.vme_master.specs.declared.job.BusJob.{BusJob}
 use Rattle.vme_master.specs.declared.job.LocalJob.{LocalJob}
@@ -71,8 +71,8 @@ answers_turn cmd reply = true
 -- whether a reply fits a call: the arbiter's is one to such a command; a board's has the bytes that are wanted, or none where
 -- none are wanted, or is a bus error (this project's own)
 abbrev pub fits : Call → EventReply → Bool
-fits (OnBus cmd) (told.Bus reply) = answers_turn cmd reply
-fits (OnBoard board command) (told.Board reply) = has_form (option_and_then reply_len command) reply
+fits (OnBus cmd) (replies.Bus reply) = answers_turn cmd reply
+fits (OnBoard board command) (replies.Board reply) = has_form (option_and_then reply_len command) reply
 fits call reply = false
 
 -- what a request is for, with the length of its data (this project's own)

@@ -4,7 +4,7 @@ use Rattle.vme_cycle.specs.Requests.{datum_len, count_of}
 use Rattle.vme_memory.specs.Steps.{Command}
 use Rattle.vme_memory.specs.Data.{datum_command}
 use Rattle.vme_arbiter.specs.declared.command.ArbReply.{ArbReply}
-use Rattle.vme_core.specs.declared.event.EventReply.TheVariants as told
+use Rattle.vme_core.specs.declared.event.EventReply.TheVariants as replies
 use Rattle.vme_master.specs.declared.job.BusJob.{BusJob}
 use Rattle.vme_master.specs.declared.job.Job.{Job}
 use Rattle.vme_master.specs.declared.job.Job.TheVariants.{Bus, Local}
@@ -13,7 +13,7 @@ use Rattle.vme_master.specs.Tables.{Given, data_in}
 -- the last reply of the arbiter, if there was one (this project's own)
 abbrev pub last_turn : Given → Option ArbReply
 last_turn [] = None
-last_turn (Some (told.Bus reply) ∷ before) = Some reply
+last_turn (Some (replies.Bus reply) ∷ before) = Some reply
 last_turn (given ∷ before) = last_turn before
 
 -- a command to a board is that of the datum which comes next: as many data were answered as stand before it in the request,

@@ -11,7 +11,7 @@ use Rattle.vme_memory.specs.Data.{has_form}
 use Rattle.vme_arbiter.specs.declared.command.ArbReply.{ArbReply}
 use Rattle.vme_arbiter.specs.declared.command.ArbReply.TheVariants as turned
 use Rattle.vme_core.specs.declared.event.EventReply.{EventReply}
-use Rattle.vme_core.specs.declared.event.EventReply.TheVariants as told
+use Rattle.vme_core.specs.declared.event.EventReply.TheVariants as replies
 use Rattle.vme_master.specs.declared.job.BusJob.{BusJob}
 use Rattle.vme_master.specs.declared.job.LocalJob.{LocalJob}
 use Rattle.vme_master.specs.declared.job.Job.{Job}
@@ -77,11 +77,11 @@ first_phase (Bus job) = Requesting
 first_phase (Local job) = phase_at (Local job) 0
 
 -- where a reply of the arbiter to an ask or a look leads (this project's own)
-abbrev pub phase_told : Job → ArbReply → Phase
-phase_told job turned.Granted = phase_at job 0
-phase_told job turned.Waiting = Polling
-phase_told job turned.Freed = Denied
-phase_told job turned.Denied = Denied
+abbrev pub phase_answered : Job → ArbReply → Phase
+phase_answered job turned.Granted = phase_at job 0
+phase_answered job turned.Waiting = Polling
+phase_answered job turned.Freed = Denied
+phase_answered job turned.Denied = Denied
 
 -- where a board's reply to its call i leads (this project's own)
 abbrev pub phase_replied : Job → ℕ → Reply → Phase
@@ -109,10 +109,10 @@ task_replied t i reply =
 -- a task in a phase, after it was given something (this project's own)
 abbrev pub task_after : TaskView → Phase → Option EventReply → TaskView
 task_after t New None = task_at t (first_phase t.job)
-task_after t Requesting (Some (told.Bus reply)) = task_at t (phase_told t.job reply)
-task_after t Polling (Some (told.Bus reply)) = task_at t (phase_told t.job reply)
-task_after t (Transferring i) (Some (told.Board reply)) = task_replied t i reply
-task_after t (Releasing berr) (Some (told.Bus turned.Freed)) = task_at t (Finished berr)
+task_after t Requesting (Some (replies.Bus reply)) = task_at t (phase_answered t.job reply)
+task_after t Polling (Some (replies.Bus reply)) = task_at t (phase_answered t.job reply)
+task_after t (Transferring i) (Some (replies.Board reply)) = task_replied t i reply
+task_after t (Releasing berr) (Some (replies.Bus turned.Freed)) = task_at t (Finished berr)
 task_after t (Finished berr) given = t
 task_after t phase given = task_at t Denied
 

@@ -5,7 +5,7 @@ use Rattle.vme_memory.specs.declared.reply.Reply.TheVariants.{Bytes, Done, Berr}
 use Rattle.vme_memory.specs.Locals.{command_given}
 use Rattle.vme_arbiter.specs.declared.command.ArbReply.TheVariants as turned
 use Rattle.vme_core.specs.declared.event.EventReply.{EventReply}
-use Rattle.vme_core.specs.declared.event.EventReply.TheVariants as told
+use Rattle.vme_core.specs.declared.event.EventReply.TheVariants as replies
 use Rattle.vme_core.specs.Calls.{Call}
 use Rattle.vme_master.specs.declared.job.BusJob.{BusJob}
 use Rattle.vme_master.specs.declared.job.LocalJob.{LocalJob}
@@ -29,14 +29,14 @@ Given = List (Option EventReply)
 -- how many data were answered (this project's own)
 abbrev pub data_in : Given → ℕ
 data_in [] = 0
-data_in (Some (told.Board (Bytes datum)) ∷ before) = data_in before + 1
-data_in (Some (told.Board Done) ∷ before) = data_in before + 1
+data_in (Some (replies.Board (Bytes datum)) ∷ before) = data_in before + 1
+data_in (Some (replies.Board Done) ∷ before) = data_in before + 1
 data_in (given ∷ before) = data_in before
 
 -- the bytes that were replied, in order (this project's own)
 abbrev pub bytes_in : Given → List ℕ
 bytes_in [] = []
-bytes_in (Some (told.Board (Bytes datum)) ∷ before) = bytes_in before ++ datum.items
+bytes_in (Some (replies.Board (Bytes datum)) ∷ before) = bytes_in before ++ datum.items
 bytes_in (given ∷ before) = bytes_in before
 
 -- datum i, where there is such a one; past the last the bus is given back (this project's own)
@@ -47,25 +47,25 @@ datum_or_done job i = if nat_lt i (count_of job.transfer.request) then datum_cal
 -- replied one (IEEE 1014, section 2.3.3), and else what the request asks for
 abbrev pub outcome_by : BusJob → Option (ℕ × ℕ) → Given → Outcome
 outcome_by job None before = error_outcome 0 []
-outcome_by job (Some place) (Some (told.Board Berr) ∷ before) = error_outcome (data_in before) (bytes_in before)
+outcome_by job (Some place) (Some (replies.Board Berr) ∷ before) = error_outcome (data_in before) (bytes_in before)
 outcome_by job (Some place) before = expected_outcome (request_expected job.transfer.request) (bytes_in before)
 
 -- the table of a transfer over the bus, by the last reply, which fits, and what was given before (this project's own)
 abbrev pub bus_row : BusJob → EventReply → Given → Next
-bus_row job (told.Bus turned.Waiting) before = Invokes (look_call job)
-bus_row job (told.Bus turned.Granted) before = Invokes (datum_or_done job 0)
-bus_row job (told.Board (Bytes datum)) before = Invokes (datum_or_done job (data_in before + 1))
-bus_row job (told.Board Done) before = Invokes (datum_or_done job (data_in before + 1))
-bus_row job (told.Board Berr) before = Invokes (done_call job)
-bus_row job (told.Bus turned.Freed) before = Returns (outcome_by job job.place before)
-bus_row job (told.Bus turned.Denied) before = Returns outcomes.Denied
+bus_row job (replies.Bus turned.Waiting) before = Invokes (look_call job)
+bus_row job (replies.Bus turned.Granted) before = Invokes (datum_or_done job 0)
+bus_row job (replies.Board (Bytes datum)) before = Invokes (datum_or_done job (data_in before + 1))
+bus_row job (replies.Board Done) before = Invokes (datum_or_done job (data_in before + 1))
+bus_row job (replies.Board Berr) before = Invokes (done_call job)
+bus_row job (replies.Bus turned.Freed) before = Returns (outcome_by job job.place before)
+bus_row job (replies.Bus turned.Denied) before = Returns outcomes.Denied
 
 -- the table of a command to a local port, by the reply, which fits (this project's own)
 abbrev pub local_row : LocalJob → EventReply → Next
-local_row job (told.Board (Bytes datum)) = Returns (expected_outcome (command_expected (command_given job.cmd)) datum.items)
-local_row job (told.Board Done) = Returns (expected_outcome (command_expected (command_given job.cmd)) [])
-local_row job (told.Board Berr) = Returns (error_outcome 0 [])
-local_row job (told.Bus reply) = Returns outcomes.Denied
+local_row job (replies.Board (Bytes datum)) = Returns (expected_outcome (command_expected (command_given job.cmd)) datum.items)
+local_row job (replies.Board Done) = Returns (expected_outcome (command_expected (command_given job.cmd)) [])
+local_row job (replies.Board Berr) = Returns (error_outcome 0 [])
+local_row job (replies.Bus reply) = Returns outcomes.Denied
 
 -- either table (this project's own)
 abbrev pub row_of_reply : Job → EventReply → Given → Next

@@ -45,7 +45,11 @@ impl ExpectedReply {
             BoardCmd::LocalRead { n, .. } => ExpectedReply::Read { n: *n },
             BoardCmd::LocalWrite { .. } => ExpectedReply::Write,
             BoardCmd::LocalModify { n, .. } => ExpectedReply::Modify { n: *n },
-            BoardCmd::Cycle { signals, at, f } => ExpectedReply::of_cycle(signals, *at, f.is_some()),
+            BoardCmd::Cycle { signals, at, f } => ExpectedReply::of_cycle(
+                signals,
+                *at,
+                f.is_some(),
+            ),
         }
     }
 

@@ -5,7 +5,7 @@ ghost use Rattle.vme_memory.specs.Locals.{command_given};
 ghost use Rattle.vme_core.specs.Calls.{OnBoard, call_of};
 ghost use Rattle.vme_core.specs.EventRefs.{call_asked};
 ghost use Rattle.vme_master.specs.Jobs.{ask_call, look_call, done_call, datum_call, local_call};
-ghost use Rattle.vme_master.specs.Machine.{job_expected, datum_phase, phase_at, phase_broken, first_phase, phase_told, phase_replied, makes, bus_next, local_next, job_next, end_outcome, IsPlaced, IsShort, call_count, job_read_len};
+ghost use Rattle.vme_master.specs.Machine.{job_expected, datum_phase, phase_at, phase_broken, first_phase, phase_answered, phase_replied, makes, bus_next, local_next, job_next, end_outcome, IsPlaced, IsShort, call_count, job_read_len};
 ghost use Rattle.vme_master.specs.declared.phase.Phase.TheVariants.{Transferring};
 ghost use Rattle.vme_master.specs.Events.{call_in};
 
@@ -13,8 +13,8 @@ use crate::expected::ExpectedReply;
 use crate::outcome::Outcome;
 use crate::phase::Phase;
 use vme_arbiter::{ArbCmd, ArbReply};
-use vme_core::{DatumCycle, EventRef, Event};
-use vme_cycle::{Modify, BlockBuffer, Transfer};
+use vme_core::{DatumCycle, Event, EventRef};
+use vme_cycle::{BlockBuffer, Modify, Transfer};
 use vme_lanes::Datum;
 use vme_memory::{BoardCmd, Reply};
 
@@ -286,9 +286,9 @@ impl Job<'_> {
     }
 
     /// Where the arbiter's reply to an ask or a look leads.
-    pub(crate) fn phase_told(&self, reply: ArbReply, count: u16) -> Phase
+    pub(crate) fn phase_answered(&self, reply: ArbReply, count: u16) -> Phase
         requires { count ≡ call_count self.now }
-        ensures { result ≡ phase_told self.now reply }
+        ensures { result ≡ phase_answered self.now reply }
     {
         match reply {
             ArbReply::Granted => self.at(0, count),
@@ -324,7 +324,9 @@ impl Job<'_> {
                 bytes: read.into_block(),
             },
             (None, ExpectedReply::Read { .. }) => Outcome::Read(read.into_block()),
-            (None, ExpectedReply::Modify { .. }) => Outcome::Old(Datum::try_from(read.as_slice()).unwrap()),
+            (None, ExpectedReply::Modify { .. }) => Outcome::Old(Datum::try_from(
+                read.as_slice(),
+            ).unwrap()),
             (None, ExpectedReply::Write) => Outcome::Done,
         }
     }

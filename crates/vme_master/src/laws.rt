@@ -12,7 +12,7 @@ ghost use Rattle.vme_arbiter.specs.Requests.{is_level};
 ghost use Rattle.vme_arbiter.specs.Arbitration.{Arbitration, turn_step};
 ghost use Rattle.vme_arbiter.specs.Turns.{may_give};
 ghost use Rattle.vme_core.specs.declared.event.EventReply.{EventReply};
-ghost use Rattle.vme_core.specs.declared.event.EventReply.TheVariants as told;
+ghost use Rattle.vme_core.specs.declared.event.EventReply.TheVariants as replies;
 ghost use Rattle.vme_core.specs.Calls.{Call, OnBoard, OnBus, command_step};
 ghost use Rattle.vme_master.specs.declared.job.BusJob.{BusJob};
 ghost use Rattle.vme_master.specs.declared.job.LocalJob.{LocalJob};
@@ -84,13 +84,13 @@ pub fn transfers_keep_their_tenure()
     ensures frees { (job : BusJob) (given : Given) (call : Call) (reply : EventReply)
         (outcome : Outcome) → next_of (Bus job) given ≡ Invokes call →
         next_of (Bus job) (Some reply ∷ given) ≡ Returns outcome → outcome ≢ Denied →
-        reply ≡ told.Bus Freed }
+        reply ≡ replies.Bus Freed }
 {}
 
 /// Whatever a board or the arbiter is told, its reply fits.
 pub fn replies_fit()
     ensures board { (memory : Board) (board : ℕ) (command : Option Command) →
-        IsTrue (fits (OnBoard board command) (told.Board (command_step memory command).1)) }
+        IsTrue (fits (OnBoard board command) (replies.Board (command_step memory command).1)) }
     ensures bus { (bus : Arbitration) (cmd : ArbCmd) →
-        IsTrue (fits (OnBus cmd) (told.Bus (turn_step bus cmd).1)) }
+        IsTrue (fits (OnBus cmd) (replies.Bus (turn_step bus cmd).1)) }
 {}

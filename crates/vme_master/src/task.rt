@@ -2,12 +2,12 @@ ghost use Rattle.std.specs.Prelude.{◌≡◌, ◌≢◌, ◌<◌, ◌≤◌, �
 ghost use Rattle.vme_cycle.specs.BlockBuffers.{inline_capacity};
 ghost use Rattle.vme_cycle.specs.Requests.{read_len};
 ghost use Rattle.vme_cycle.specs.Lawful.{Transfer as LawfulRequest, transfer_of};
-ghost use Rattle.vme_core.specs.declared.event.EventReply.TheVariants as told;
+ghost use Rattle.vme_core.specs.declared.event.EventReply.TheVariants as replies;
 ghost use Rattle.vme_master.specs.declared.job.Job.{Job as AnyJob};
 ghost use Rattle.vme_master.specs.Jobs.{bus_job, local_job};
 ghost use Rattle.vme_core.specs.Calls.{Call, call_of, machine_step};
 ghost use Rattle.vme_core.specs.EventRefs.{call_asked, target_of_call, CanCount};
-ghost use Rattle.vme_core.specs.Machines.{whos};
+ghost use Rattle.vme_core.specs.Machines.{process_count};
 ghost use Rattle.vme_master.specs.Tables.{Given, NotStarted, next_of};
 ghost use Rattle.vme_master.specs.Machine.{bytes_of, fresh_task, bus_task, advance, task_given, to_do, is_called, job_read_len, IsPlaced};
 ghost use Rattle.vme_master.specs.Events.{next_in, call_in, outcome_in, read_in, given_out};
@@ -20,8 +20,8 @@ use crate::todo::Todo;
 use std::marker::Model;
 use std::mem;
 use vme_arbiter::{ArbCmd, ArbReply};
-use vme_core::{Core, EventRef, Event, EventReply};
-use vme_cycle::{CycleFault, Request, BlockBuffer, Transfer};
+use vme_core::{Core, Event, EventRef, EventReply};
+use vme_cycle::{BlockBuffer, CycleFault, Request, Transfer};
 use vme_decode::AddressMap;
 use vme_memory::{BoardCmd, Reply};
 
@@ -93,7 +93,13 @@ impl<'a> Task<'a> {
     }
 
     #[inline(always)]
-    fn bus(map: &AddressMap, slot: u16, level: u8, transfer: Transfer<'a>, buffer: BlockBuffer) -> Task<'a>
+    fn bus(
+        map: &AddressMap,
+        slot: u16,
+        level: u8,
+        transfer: Transfer<'a>,
+        buffer: BlockBuffer,
+    ) -> Task<'a>
         requires empty { buffer.items ≡ [] }
         requires enough { read_len transfer.request ≤ buffer.capacity }
         ensures { result ≡ fresh_task (bus_job map.now slot level transfer.entry) }
@@ -173,7 +179,7 @@ impl<'a> Task<'a> {
     /// and `give`, but faster, since neither the event_ref nor the reply is laid out in between.
     #[inline(always)]
     pub fn make(&mut self, core: &mut Core, who: usize)
-        requires who { who < whos core.old }
+        requires who { who < process_count core.old }
         requires can { IfSome (call_in (to_do self.old)) (λ call. CanCount core.old (target_of_call call)) }
         ensures machine { (call : Call) → call_in (to_do self.old) ≡ Some call →
             core.new ≡ (machine_step core.old who call).0 }
@@ -182,7 +188,7 @@ impl<'a> Task<'a> {
         ensures begun { (call : Call) → call_in (to_do self.old) ≡ Some call → to_do self.new ≢ NotStarted }
         ensures nothing { call_in (to_do self.old) ≡ None → (core.new ≡ core.old) × (self.new ≡ self.old) }
         ensures boards { length core.new.boards ≡ length core.old.boards }
-        ensures whos { whos core.new ≡ whos core.old }
+        ensures process_count { process_count core.new ≡ process_count core.old }
     {
         match (&self.job, self.phase) {
             (Job::Bus(job), Phase::Requesting) => {
@@ -231,7 +237,9 @@ impl<'a> Task<'a> {
         ensures { option_map (λ bytes. bytes.now) result ≡ read_in (to_do self.now) }
     {
         match (self.phase, self.expected) {
-            (Phase::Finished { berr: None }, ExpectedReply::Read { .. }) => Some(self.read.as_slice()),
+            (Phase::Finished { berr: None }, ExpectedReply::Read { .. }) => Some(
+                self.read.as_slice(),
+            ),
             _ => None,
         }
     }
@@ -284,11 +292,11 @@ impl<'a> Task<'a> {
     #[inline(always)]
     fn turn(&mut self, phase: Phase, reply: ArbReply)
         requires { self.old.phase ≡ phase }
-        ensures task { self.new ≡ advance self.old (Some (told.Bus reply)) }
+        ensures task { self.new ≡ advance self.old (Some (replies.Bus reply)) }
         ensures called { IsTrue (is_called self.new.phase) }
     {
         self.phase = match (phase, reply) {
-            (Phase::Requesting | Phase::Polling, _) => self.job.phase_told(reply, self.count),
+            (Phase::Requesting | Phase::Polling, _) => self.job.phase_answered(reply, self.count),
             (Phase::Releasing { berr }, ArbReply::Freed) => Phase::Finished { berr },
             (Phase::Finished { berr }, _) => Phase::Finished { berr },
             _ => Phase::Denied,
@@ -299,7 +307,7 @@ impl<'a> Task<'a> {
     #[inline(always)]
     fn answer(&mut self, phase: Phase, reply: &Reply)
         requires { self.old.phase ≡ phase }
-        ensures task { self.new ≡ advance self.old (Some (told.Board reply.now)) }
+        ensures task { self.new ≡ advance self.old (Some (replies.Board reply.now)) }
         ensures called { IsTrue (is_called self.new.phase) }
     {
         match phase {

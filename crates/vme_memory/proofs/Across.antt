@@ -59,12 +59,12 @@ begun_over words at n here next word own own_next within few over made =
     let up : at / 4 + 1 ≡ (at + m) / 4 = omega arith in
     let start : (at + m) % 4 ≡ 0 = omega arith in
     let own_up : next ≡ get_or words ((at + m) / 4) next = own_next ∙ ap (λ i. get_or words i next) up in
-    let front = read_at words at m here own there (omega arith) in
+    let prefix = read_at words at m here own there (omega arith) in
     let back = read_at words (at + m) (n - m) next own_up there_next (omega arith)
     ∙ ap (λ p. slice_range (word_bytes next) p (p + (n - m))) start in
     ap (take n) made
     ∙ sym (both here next (at % 4) n (omega arith) over few)
-    ∙ ap (λ bytes. bytes ++ slice_range (word_bytes next) 0 (0 + (n - m))) (sym front)
+    ∙ ap (λ bytes. bytes ++ slice_range (word_bytes next) 0 (0 + (n - m))) (sym prefix)
     ∙ ap (λ bytes. slice_range (bytes_of_words words) at (at + m) ++ bytes) (sym back)
     ∙ read_on (bytes_of_words words) at m n (omega arith)
 

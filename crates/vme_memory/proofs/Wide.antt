@@ -28,11 +28,11 @@ wide_read words at here next own own_next within place =
     let there = wide_there words at within place in
     let first : 4 * (at / 4) + 0 ≡ at = omega arith in
     let second : 4 * (at / 4 + 1) + 0 ≡ at + 4 = omega arith in
-    let front : slice_range (bytes_of_words words) at (at + 4) ≡ word_bytes here =
+    let prefix : slice_range (bytes_of_words words) at (at + 4) ≡ word_bytes here =
     ap (λ j. slice_range (bytes_of_words words) j (j + 4)) (sym first) ∙ whole_read words (at / 4) here (omega (arith, there)) own in
     let back : slice_range (bytes_of_words words) (at + 4) (at + 4 + (8 - 4)) ≡ word_bytes next =
     ap (λ j. slice_range (bytes_of_words words) j (j + 4)) (sym second) ∙ whole_read words (at / 4 + 1) next there own_next in
-    ap (λ bytes. bytes ++ word_bytes next) (sym front)
+    ap (λ bytes. bytes ++ word_bytes next) (sym prefix)
     ∙ ap (λ bytes. slice_range (bytes_of_words words) at (at + 4) ++ bytes) (sym back)
     ∙ read_on (bytes_of_words words) at 4 8 (omega arith)
 
@@ -57,11 +57,11 @@ wide_written words at here next within place =
     let second : 4 * (at / 4 + 1) + 0 ≡ at + length (word_bytes here) = omega (arith, word_len here) in
     let one = set words (at / 4) here in
     let up : at / 4 + 1 < length one = omega (arith, there, length-set words (at / 4) here) in
-    let front : bytes_of_words one ≡ bytes_after_write (bytes_of_words words) at (word_bytes here) =
+    let prefix : bytes_of_words one ≡ bytes_after_write (bytes_of_words words) at (word_bytes here) =
     whole_written words (at / 4) here (omega (arith, there)) ∙ ap (λ j. bytes_after_write (bytes_of_words words) j (word_bytes here)) first in
     whole_written one (at / 4 + 1) next up
     ∙ ap (λ j. bytes_after_write (bytes_of_words one) j (word_bytes next)) second
-    ∙ ap (λ bytes. bytes_after_write bytes (at + length (word_bytes here)) (word_bytes next)) front
+    ∙ ap (λ bytes. bytes_after_write bytes (at + length (word_bytes here)) (word_bytes next)) prefix
     ∙ written_on (bytes_of_words words) (word_bytes here) (word_bytes next) at (omega (arith, word_len here, word_len next))
 
 -- where four bytes lie over two words the second is there

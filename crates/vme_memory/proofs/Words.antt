@@ -27,8 +27,8 @@ parted words i d less =
     ∙ flat_map-append word_bytes (take i words) (get_or words i d ∷ drop (i + 1) words)
 
 -- and the length of those before it
-front_len : (words : List ℕ) (i : ℕ) → i < length words → length (bytes_of_words (take i words)) ≡ 4 * i
-front_len words i less = words_len (take i words) ∙ ap (λ n. 4 * n) (length-take-le i words (omega arith))
+prefix_len : (words : List ℕ) (i : ℕ) → i < length words → length (bytes_of_words (take i words)) ≡ 4 * i
+prefix_len words i less = words_len (take i words) ∙ ap (λ n. 4 * n) (length-take-le i words (omega arith))
 
 drop_past : (before rest : List ℕ) (k p : ℕ) → length before ≡ k → drop (k + p) (before ++ rest) ≡ drop p rest
 drop_past before rest k p at = sym (drop-drop p k (before ++ rest)) ∙ ap (drop p) (drop_at before rest k at)
@@ -50,11 +50,11 @@ middle_written :
     → bytes_after_write (before ++ (own ++ after)) (k + p) new ≡ before ++ (bytes_after_write own p new ++ after)
 middle_written before own after new k p at few =
     let within : p ≤ length own = omega arith in
-    let front : take (k + p) (before ++ (own ++ after)) ≡ before ++ take p own = take_past before (own ++ after) k p at ∙ ap (λ x. before ++ x) (take-append-le p own after within) in
+    let prefix : take (k + p) (before ++ (own ++ after)) ≡ before ++ take p own = take_past before (own ++ after) k p at ∙ ap (λ x. before ++ x) (take-append-le p own after within) in
     let same : k + p + length new ≡ k + (p + length new) = omega arith in
     let back : drop (k + p + length new) (before ++ (own ++ after)) ≡ drop (p + length new) own ++ after =
     ap (λ j. drop j (before ++ (own ++ after))) same ∙ drop_past before (own ++ after) k (p + length new) at ∙ drop-append-le (p + length new) own after few in
-    rw (front, back) (simp append_assoc)
+    rw (prefix, back) (simp append_assoc)
 
 range_take : (bytes : List ℕ) (at n : ℕ) → slice_range bytes at (at + n) ≡ take n (drop at bytes)
 range_take bytes at n = let same : at + n - at ≡ n = omega arith in ap (λ j. take j (drop at bytes)) same
@@ -69,7 +69,7 @@ read_in_word words i p n d less few =
     let before = bytes_of_words (take i words) in
     range_take (bytes_of_words words) (4 * i + p) n
     ∙ ap (λ bytes. take n (drop (4 * i + p) bytes)) (parted words i d less)
-    ∙ middle_read before own after (4 * i) p n (front_len words i less) (omega (arith, word_len (get_or words i d)))
+    ∙ middle_read before own after (4 * i) p n (prefix_len words i less) (omega (arith, word_len (get_or words i d)))
     ∙ sym (range_take own p n)
 
 -- a word that is changed leaves all others
@@ -87,7 +87,7 @@ word_changed words new i p d word less few changed =
     ∙ flat_map-append word_bytes (take i words) (word ∷ drop (i + 1) words) in
     parts
     ∙ ap (λ bytes. before ++ (bytes ++ after)) changed
-    ∙ sym (middle_written before own after new (4 * i) p (front_len words i less) (omega (arith, word_len (get_or words i d))))
+    ∙ sym (middle_written before own after new (4 * i) p (prefix_len words i less) (omega (arith, word_len (get_or words i d))))
     ∙ ap (λ bytes. bytes_after_write bytes (4 * i + p) new) (sym (parted words i d less))
 
 -- bytes that are read one after another
@@ -100,7 +100,7 @@ read_on bytes at m n part =
     ∙ ap (λ j. take j (drop at bytes)) (sym whole)
     ∙ take-add m rest (drop at bytes)
     ∙ ap (λ back. take m (drop at bytes) ++ take rest back) (drop-drop m at bytes)
-    ∙ sym (ap (λ front. front ++ slice_range bytes (at + m) (at + m + rest)) (range_take bytes at m)
+    ∙ sym (ap (λ prefix. prefix ++ slice_range bytes (at + m) (at + m + rest)) (range_take bytes at m)
     ∙ ap (λ back. take m (drop at bytes) ++ back) (range_take bytes (at + m) rest)))
 
 -- bytes that are written one after another
@@ -111,13 +111,13 @@ written_on bytes a b at fits =
     let rest = drop (at + length a) bytes in
     let within : at ≤ length bytes = omega arith in
     let upto : length (take at bytes ++ a) ≡ at + length a = length-append (take at bytes) a ∙ ap (λ n. n + length a) (length-take-le at bytes within) in
-    let front : take (at + length a) (take at bytes ++ a ++ rest) ≡ take at bytes ++ a = take_at (take at bytes ++ a) rest (at + length a) upto in
+    let prefix : take (at + length a) (take at bytes ++ a ++ rest) ≡ take at bytes ++ a = take_at (take at bytes ++ a) rest (at + length a) upto in
     let back : drop (at + length a + length b) (take at bytes ++ a ++ rest) ≡ drop (at + length a + length b) bytes =
     sym (drop-drop (length b) (at + length a) (take at bytes ++ a ++ rest))
     ∙ ap (drop (length b)) (drop_at (take at bytes ++ a) rest (at + length a) upto)
     ∙ drop-drop (length b) (at + length a) bytes in
     let long : at + length (a ++ b) ≡ at + length a + length b = omega (arith, length-append a b) in
-    rw (front, back, long) (simp append_assoc)
+    rw (prefix, back, long) (simp append_assoc)
 
 -- bytes that are written in some of those that are there
 pub written_inside :

@@ -17,8 +17,8 @@ abbrev pub own : {C R : Type 0} → ℕ → List (Entry C R) → List (Entry C R
 own who h = filter (λ e. e.who == who) h
 
 -- a is followed by some list in b (this project's own)
-abbrev pub Begins : {A : Type 0} → List A → List A → Type 0
-Begins {A} a b = (rest : List A) × (b ≡ a ++ rest)
+abbrev pub IsPrefix : {A : Type 0} → List A → List A → Type 0
+IsPrefix {A} a b = (rest : List A) × (b ≡ a ++ rest)
 
 -- an entry by its parts (this project's own)
 abbrev pub entry : {C R : Type 0} → ℕ → C → R → Entry C R

@@ -3,18 +3,18 @@
 //! is the smallest such thing.
 #![tactic(auto)]
 
-mod operation;
 mod count;
 mod counter;
 mod held;
 mod history;
 mod laws;
 mod object;
+mod operation;
 
-pub use operation::{Operation, CommandRef};
 pub use count::next_count;
 pub use counter::{Counter, CounterCmd};
 pub use held::Held;
 pub use history::Entry;
 pub use laws::{entries_of_one, histories_compose, replies_are_the_steps};
 pub use object::Object;
+pub use operation::{CommandRef, Operation};

@@ -8,7 +8,7 @@ use Rattle.vme_object.specs.History.{own}
 use Rattle.vme_object.proofs.lemmas.Histories.{own-append}
 use Rattle.vme_port.specs.declared.rule.Account.{Account}
 use Rattle.vme_port.specs.Views.{names_among}
-use Rattle.vme_port.specs.Rule.{Fits}
+use Rattle.vme_port.specs.Rule.{IsConsistent}
 
 -- a list that stays the same when another follows it is followed by nothing
 pub append_same : {A : Type 0} (xs ys : List A) → xs ++ ys ≡ xs → ys ≡ []
@@ -34,12 +34,12 @@ module _ {C R : Type 0} where
       rw (ne_eqb e.who other differs) rest
 
   -- of what follows all that an account has seen nothing is its own
-  pub apart : (h : List (Entry C R)) (a : Account C R) (f : Fits h a) → own a.who f.begins.0 ≡ []
+  pub apart : (h : List (Entry C R)) (a : Account C R) (f : IsConsistent h a) → own a.who f.begins.0 ≡ []
   apart h a f = append_same a.mine (own a.who f.begins.0)
       (ap (λ l. l ++ own a.who f.begins.0) (sym f.sound) ∙ sym (own-append a.who a.seen f.begins.0) ∙ ap (own a.who) (sym f.begins.1) ∙ f.whole)
 
   -- an account fits a history that goes on with entries of others
-  pub fits_others : (who : ℕ) (h es : List (Entry C R)) (a : Account C R) → All (λ e. e.who ≡ who) es → a.who ≢ who → Fits h a → Fits (h ++ es) a
+  pub fits_others : (who : ℕ) (h es : List (Entry C R)) (a : Account C R) → All (λ e. e.who ≡ who) es → a.who ≢ who → IsConsistent h a → IsConsistent (h ++ es) a
   fits_others who h es a all other f = record {
     begins = (f.begins.0 ++ es, ap (λ l. l ++ es) f.begins.1 ∙ append_assoc a.seen f.begins.0 es);
     sound = f.sound;
@@ -67,8 +67,8 @@ module _ {C R : Type 0} where
   pub names_self : (a : Account C R) → names_among a.who (a ∷ []) ≡ 1
   names_self a = rw (eq-eqb a.who a.who refl) refl
 
-  -- all accounts of other whos fit the longer history
+  -- all accounts of other process_count fit the longer history
   pub fits_all : (who : ℕ) (h es : List (Entry C R)) (l : List (Account C R)) → All (λ e. e.who ≡ who) es → names_among who l ≡ 0
-      → All (Fits h) l → All (Fits (h ++ es)) l
+      → All (IsConsistent h) l → All (IsConsistent (h ++ es)) l
   fits_all who h es l all none fits = λ k d within.
       fits_others who h es _ all (unnamed who l none k d within) (fits k d within)

@@ -8,7 +8,7 @@ use Rattle.vme_object.specs.declared.history.Entry.{Entry}
 use Rattle.vme_object.specs.History.{replay, IsLegal, own, entry}
 use Rattle.vme_object.proofs.lemmas.Histories.{replay-append, legal-append, own-append, own_within}
 use Rattle.vme_port.specs.declared.rule.Account.{Account}
-use Rattle.vme_port.specs.declared.rule.View.{View}
+use Rattle.vme_port.specs.declared.rule.SeatView.{SeatView}
 use Rattle.vme_port.specs.declared.home.Home.{Home}
 use Rattle.vme_port.specs.Views.{account, view}
 use Rattle.vme_port.specs.Steps.{HasTaken, HasLost, MayPut, HasPut, IsOut, IsFull, HasPerformed}
@@ -22,7 +22,7 @@ first_home other [] = other
 first_home other (x ∷ xs) = x.1
 
 -- a pass with a seat
-abbrev pub pass_view : {S C R : Type 0} → TableId → ℕ → ℕ → Me (Home S) (View C R) → PassView C R
+abbrev pub pass_view : {S C R : Type 0} → TableId → ℕ → ℕ → Me (Home S) (SeatView C R) → PassView C R
 pass_view port who made m = record { port = port; who = who; made = made; seen = seen_by m.0.accounts; mine = made_by m.0.accounts }
 
 module _ {S C R : Type 0} (step : S → C → S × R) (start : S) (k : ℕ) where
@@ -31,10 +31,10 @@ module _ {S C R : Type 0} (step : S → C → S × R) (start : S) (k : ℕ) wher
   Opened object passes = (object ≡ start) × (passes ≡ k)
 
   -- the object is out after a take that was won
-  pub out : (a : Account C R) (m : Me (Home S) (View C R)) → HasTaken step Opened a m → IsOut m
+  pub out : (a : Account C R) (m : Me (Home S) (SeatView C R)) → HasTaken step Opened a m → IsOut m
   out a m t = (t.home, ap (λ m. m.1) t.after)
 
-  module _ (a : Account C R) (m1 : Me (Home S) (View C R)) (t : HasTaken step Opened a m1) where
+  module _ (a : Account C R) (m1 : Me (Home S) (SeatView C R)) (t : HasTaken step Opened a m1) where
     -- the history that was found is legal, and leads to the object
     found_legal : IsLegal step start (a.seen ++ t.others)
     found_legal = subst (λ s. IsLegal step s (a.seen ++ t.others)) t.opens.0 t.legal
@@ -47,7 +47,7 @@ module _ {S C R : Type 0} (step : S → C → S × R) (start : S) (k : ℕ) wher
     same_home home there = ap (first_home home) (sym there ∙ ap (λ m. m.1) t.after)
 
     -- a put of nothing, where the history is full
-    pub put_none : (m2 : Me (Home S) (View C R)) → IsFull m1 m2 → MayPut step start [] m2
+    pub put_none : (m2 : Me (Home S) (SeatView C R)) → IsFull m1 m2 → MayPut step start [] m2
     put_none m2 full =
         let nil = append-nil (a.seen ++ t.others) in record {
           holder = account a.who (a.seen ++ t.others) a.mine;
@@ -60,7 +60,7 @@ module _ {S C R : Type 0} (step : S → C → S × R) (start : S) (k : ℕ) wher
         }
 
     -- a put of one entry, after a command
-    pub put_one : (who : ℕ) (cmd : C) (reply : R) (m2 : Me (Home S) (View C R)) → a.who ≡ who → HasPerformed step cmd reply m1 m2
+    pub put_one : (who : ℕ) (cmd : C) (reply : R) (m2 : Me (Home S) (SeatView C R)) → a.who ≡ who → HasPerformed step cmd reply m1 m2
         → MayPut step start (entry who cmd reply ∷ []) m2
     put_one who cmd reply m2 named p =
         let seen : List (Entry C R) = a.seen ++ t.others in
@@ -77,15 +77,15 @@ module _ {S C R : Type 0} (step : S → C → S × R) (start : S) (k : ℕ) wher
         }
 
     -- the seat after the put
-    pub after_put : (es : List (Entry C R)) (m2 m3 : Me (Home S) (View C R)) → m2.0 ≡ m1.0 → HasPut es m2 m3
+    pub after_put : (es : List (Entry C R)) (m2 m3 : Me (Home S) (SeatView C R)) → m2.0 ≡ m1.0 → HasPut es m2 m3
         → m3 ≡ (view (account a.who (a.seen ++ t.others ++ es) (a.mine ++ es) ∷ []) false, [])
-    after_put es m2 m3 same told = told (account a.who (a.seen ++ t.others) a.mine) (same ∙ ap (λ m. m.0) t.after)
+    after_put es m2 m3 same reported = reported (account a.who (a.seen ++ t.others) a.mine) (same ∙ ap (λ m. m.0) t.after)
 
     -- the history that was found has what the account made
     made_within : length a.mine ≤ length (a.seen ++ t.others)
     made_within = omega (arith, own_within a.who a.seen, ap length t.sound, length-append a.seen t.others)
 
-  module _ (who made : ℕ) (m0 m1 : Me (Home S) (View C R)) (rest : IsAtRest m0 who made) where
+  module _ (who made : ℕ) (m0 m1 : Me (Home S) (SeatView C R)) (rest : IsAtRest m0 who made) where
     -- a pass whose take was lost is at rest
     pub rests_lost : HasLost step Opened m0 m1 → IsAtRest m1 who made
     rests_lost lost = subst (λ m. IsAtRest m who made) (sym lost.same) rest
@@ -113,25 +113,25 @@ module _ {S C R : Type 0} (step : S → C → S × R) (start : S) (k : ℕ) wher
       begins_found = ap (λ m. seen_by m.0.accounts ++ t.others) (sym rest.alone)
 
       -- one more entry can be counted where the command was performed
-      pub made_fits : (cmd : C) (reply : R) (m2 : Me (Home S) (View C R)) → HasPerformed step cmd reply m1 m2 → made + 1 < 2 ^ 64
+      pub made_fits : (cmd : C) (reply : R) (m2 : Me (Home S) (SeatView C R)) → HasPerformed step cmd reply m1 m2 → made + 1 < 2 ^ 64
       made_fits cmd reply m2 p =
           let counted : p.home.count ≡ length found = ap (λ (h : Home S). h.count) (same_home rest.only m1 t p.home p.out) ∙ t.count in
           omega (arith, made_within rest.only m1 t, rest.counted, p.capacity)
 
-      module _ (es : List (Entry C R)) (m2 m3 : Me (Home S) (View C R)) (same : m2.0 ≡ m1.0) (told : HasPut es m2 m3) where
+      module _ (es : List (Entry C R)) (m2 m3 : Me (Home S) (SeatView C R)) (same : m2.0 ≡ m1.0) (reported : HasPut es m2 m3) where
         -- after a put the pass has seen the whole history, and the entries
         seen_after : seen_by m3.0.accounts ≡ found ++ es
-        seen_after = ap (λ m. seen_by m.0.accounts) (after_put rest.only m1 t es m2 m3 same told)
+        seen_after = ap (λ m. seen_by m.0.accounts) (after_put rest.only m1 t es m2 m3 same reported)
 
         -- and made them
         mine_after : made_by m3.0.accounts ≡ made_by m0.0.accounts ++ es
-        mine_after = ap (λ m. made_by m.0.accounts) (after_put rest.only m1 t es m2 m3 same told) ∙ ap (λ m. made_by m.0.accounts ++ es) (sym rest.alone)
+        mine_after = ap (λ m. made_by m.0.accounts) (after_put rest.only m1 t es m2 m3 same reported) ∙ ap (λ m. made_by m.0.accounts ++ es) (sym rest.alone)
 
         -- and is at rest
         rests_after : IsAtRest m3 who (made + length es)
         rests_after = record {
           only = account rest.only.who (found ++ es) (rest.only.mine ++ es);
-          alone = after_put rest.only m1 t es m2 m3 same told;
+          alone = after_put rest.only m1 t es m2 m3 same reported;
           named = rest.named;
           counted = omega (arith, length-append rest.only.mine es, rest.counted);
         }
@@ -153,30 +153,30 @@ module _ {S C R : Type 0} (step : S → C → S × R) (start : S) (k : ℕ) wher
           made = refl;
         }
 
-      module _ (m2 m3 : Me (Home S) (View C R)) (full : IsFull m1 m2) (told : HasPut [] m2 m3) where
+      module _ (m2 m3 : Me (Home S) (SeatView C R)) (full : IsFull m1 m2) (reported : HasPut [] m2 m3) where
         same_full : m2.0 ≡ m1.0
         same_full = ap (λ m. m.0) full.same
 
         seen_full : seen_by m3.0.accounts ≡ found
-        seen_full = seen_after [] m2 m3 same_full told ∙ append-nil found
+        seen_full = seen_after [] m2 m3 same_full reported ∙ append-nil found
 
         -- a pass is at rest after a put of nothing
         pub rests_full : IsAtRest m3 who made
-        rests_full = subst (IsAtRest m3 who) (omega arith) (rests_after [] m2 m3 same_full told)
+        rests_full = subst (IsAtRest m3 who) (omega arith) (rests_after [] m2 m3 same_full reported)
 
         -- it has then seen the whole history, and added nothing
         pub adds_none : (port port' : TableId) → port' ≡ port → Adds step start [] (pass_view port who made m0) (pass_view port' who made m3)
         adds_none port port' same_port =
             let legal : IsLegal step start (found ++ []) = subst (IsLegal step start) (sym (append-nil found)) (found_legal rest.only m1 t) in
             let after : Adds step start [] (pass_view port who made m0) (pass_view port' who (made + 0) m3) =
-            adds_after [] m2 m3 same_full told port port' same_port legal (All-nil (λ (e : Entry C R). e.who ≡ who)) in
+            adds_after [] m2 m3 same_full reported port port' same_port legal (All-nil (λ (e : Entry C R). e.who ≡ who)) in
             subst (λ n. Adds step start [] (pass_view port who made m0) (pass_view port' who n m3)) (omega arith) after
 
         -- and that history has the last count
         pub is_full : length (seen_by m3.0.accounts) ≡ 2 ^ 64 - 1
         is_full = ap length seen_full ∙ sym t.count ∙ ap (λ (h : Home S). h.count) (sym (same_home rest.only m1 t full.home full.out)) ∙ full.last
 
-      module _ (cmd : C) (reply : R) (m2 m3 : Me (Home S) (View C R)) (p : HasPerformed step cmd reply m1 m2) (told : HasPut (entry who cmd reply ∷ []) m2 m3) where
+      module _ (cmd : C) (reply : R) (m2 m3 : Me (Home S) (SeatView C R)) (p : HasPerformed step cmd reply m1 m2) (reported : HasPut (entry who cmd reply ∷ []) m2 m3) where
         abbrev e : Entry C R
         e = entry who cmd reply
 
@@ -185,7 +185,7 @@ module _ {S C R : Type 0} (step : S → C → S × R) (start : S) (k : ℕ) wher
 
         -- a pass is at rest after its call
         pub rests_one : IsAtRest m3 who (made + 1)
-        rests_one = rests_after (e ∷ []) m2 m3 same_one told
+        rests_one = rests_after (e ∷ []) m2 m3 same_one reported
 
         -- the history with the entry is legal
         legal_one : IsLegal step start (found ++ e ∷ [])
@@ -196,4 +196,4 @@ module _ {S C R : Type 0} (step : S → C → S × R) (start : S) (k : ℕ) wher
         -- it has then added its entry to the whole history
         pub adds_one : (port port' : TableId) → port' ≡ port → Adds step start (e ∷ []) (pass_view port who made m0) (pass_view port' who (made + 1) m3)
         adds_one port port' same_port =
-            adds_after (e ∷ []) m2 m3 same_one told port port' same_port legal_one (All-cons (λ (e : Entry C R). e.who ≡ who) e [] refl (All-nil (λ (e : Entry C R). e.who ≡ who)))
+            adds_after (e ∷ []) m2 m3 same_one reported port port' same_port legal_one (All-cons (λ (e : Entry C R). e.who ≡ who) e [] refl (All-nil (λ (e : Entry C R). e.who ≡ who)))

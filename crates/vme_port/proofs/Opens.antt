@@ -11,10 +11,10 @@ use Rattle.atomic_table.specs.Table.{State, Me, Splits, Joins, opening}
 use Rattle.atomic_table.proofs.Lists.{at_set, at_snoc, set_else}
 use Rattle.vme_object.specs.declared.history.Entry.{Entry}
 use Rattle.vme_port.specs.declared.rule.Account.{Account}
-use Rattle.vme_port.specs.declared.rule.View.{View}
+use Rattle.vme_port.specs.declared.rule.SeatView.{SeatView}
 use Rattle.vme_port.specs.declared.home.Home.{Home}
 use Rattle.vme_port.specs.Views.{account, view, fresh_accounts, newcomer, StandsFor, weight, names_among, names, holders}
-use Rattle.vme_port.specs.Rule.{Fits, Kept}
+use Rattle.vme_port.specs.Rule.{IsConsistent, Kept}
 use Rattle.vme_port.specs.Steps.{all_but_first, first_alone, joint_view, empty_view}
 use Rattle.vme_port.proofs.Totals.{sum_set}
 use Rattle.vme_port.proofs.Accounts.{named_more}
@@ -61,9 +61,9 @@ module _ (C R : Type 0) where
   fresh_shared k who false past = fresh_past who 0 k (let least = ltb-false who k past in omega arith)
 
   -- each account fits the history of no entries
-  fresh_fits : (i n : ℕ) → All (Fits []) (fresh_accounts {C = C} {R = R} i n)
-  fresh_fits i zero = All-nil (Fits {C = C} {R = R} [])
-  fresh_fits i (suc n) = All-cons (Fits []) (account i [] []) (fresh_accounts (suc i) n) (record { begins = ([], refl); sound = refl; whole = refl }) (fresh_fits (suc i) n)
+  fresh_fits : (i n : ℕ) → All (IsConsistent []) (fresh_accounts {C = C} {R = R} i n)
+  fresh_fits i zero = All-nil (IsConsistent {C = C} {R = R} [])
+  fresh_fits i (suc n) = All-cons (IsConsistent []) (account i [] []) (fresh_accounts (suc i) n) (record { begins = ([], refl); sound = refl; whole = refl }) (fresh_fits (suc i) n)
 
 module _ {C R : Type 0} where
   -- what a cut view and the part that is cut off weigh together
@@ -77,7 +77,7 @@ module _ {C R : Type 0} where
   cut_named who (a ∷ rest) = omega (arith, named_more who a rest, named_more who a [])
 
 module _ {S C R : Type 0} (step : S → C → S × R) (start : S) (k : ℕ) where
-  abbrev Rule : State (Home S) (View C R) → Type 0
+  abbrev Rule : State (Home S) (SeatView C R) → Type 0
   Rule = Kept step start k
 
   -- the rule holds of a port that was just opened
@@ -87,7 +87,7 @@ module _ {S C R : Type 0} (step : S → C → S × R) (start : S) (k : ℕ) wher
     legal = tt;
     one_word = refl;
     each = elim [
-      | zero ↦ λ v at. subst (λ (v : View C R). All (Fits []) v.accounts) (some-injective (newcomer k) v at) (fresh_fits C R 0 k)
+      | zero ↦ λ v at. subst (λ (v : SeatView C R). All (IsConsistent []) v.accounts) (some-injective (newcomer k) v at) (fresh_fits C R 0 k)
       | suc j ↦ λ v at. absurd (some-ne-none v (sym at))
     ];
     shared = λ who. let shares = fresh_shared C R k who (ltb who k) refl in omega arith;
@@ -97,10 +97,10 @@ module _ {S C R : Type 0} (step : S → C → S × R) (start : S) (k : ℕ) wher
   }
 
   -- other views that fit the history, and share, weigh and hold as the old ones, keep the rule
-  reviewed : (s : State (Home S) (View C R)) (views : List (View C R)) (r : Rule s)
-      → ((j : ℕ) (v : View C R) → get_elem? views j ≡ some v → All (Fits r.history) v.accounts)
+  reviewed : (s : State (Home S) (SeatView C R)) (views : List (SeatView C R)) (r : Rule s)
+      → ((j : ℕ) (v : SeatView C R) → get_elem? views j ≡ some v → All (IsConsistent r.history) v.accounts)
       → ((who : ℕ) → sum_by (names who) views ≡ sum_by (names who) s.views) → sum_by weight views ≡ sum_by weight s.views → holders views ≡ holders s.views
-      → ((j : ℕ) (v : View C R) → get_elem? views j ≡ some v → v.out ≡ true → (i : ℕ) × (get_elem? s.views i ≡ some v))
+      → ((j : ℕ) (v : SeatView C R) → get_elem? views j ≡ some v → v.out ≡ true → (i : ℕ) × (get_elem? s.views i ≡ some v))
       → Rule (record { words = s.words; homes = s.homes; views = views })
   reviewed s views r each shared weights held holder = record {
     history = r.history;
@@ -117,46 +117,46 @@ module _ {S C R : Type 0} (step : S → C → S × R) (start : S) (k : ℕ) wher
   }
 
   -- cutting the first account off
-  pub deals : (id : ℕ) (v : View C R) → v.out ≡ false → Splits Rule id v (all_but_first v) (first_alone v)
+  pub deals : (id : ℕ) (v : SeatView C R) → v.out ≡ false → Splits Rule id v (all_but_first v) (first_alone v)
   deals id v in' s r at =
-      let left : View C R = all_but_first v in
-      let right : View C R = first_alone v in
-      let fits : All (Fits r.history) v.accounts = r.each id v at in
+      let left : SeatView C R = all_but_first v in
+      let right : SeatView C R = first_alone v in
+      let fits : All (IsConsistent r.history) v.accounts = r.each id v at in
       let none : ◌≡◌ {A = ℕ} (cond v.out 1 0) 0 = ap (λ (b : Bool). cond b 1 0) in' in
       reviewed s (set s.views id left ++ right ∷ []) r
       (λ j u there. elim (at_snoc (set s.views id left) right u j there) [
         | inl old ↦ elim (at_set s.views id j left u old) [
-          | inl here ↦ subst (λ (u : View C R). All (Fits r.history) u.accounts) here.1 (All-drop (Fits r.history) 1 v.accounts fits)
+          | inl here ↦ subst (λ (u : SeatView C R). All (IsConsistent r.history) u.accounts) here.1 (All-drop (IsConsistent r.history) 1 v.accounts fits)
           | inr else ↦ r.each j u else.1
         ]
-        | inr new ↦ subst (λ (u : View C R). All (Fits r.history) u.accounts) new (All-take (Fits r.history) 1 v.accounts fits)
+        | inr new ↦ subst (λ (u : SeatView C R). All (IsConsistent r.history) u.accounts) new (All-take (IsConsistent r.history) 1 v.accounts fits)
       ])
       (λ who. let sums = sum_set (names who) s.views id v left at in omega (arith, sum_by_push (names who) (set s.views id left) right, cut_named who v.accounts))
       (let sums = sum_set weight s.views id v left at in omega (arith, sum_by_push weight (set s.views id left) right, cut_length v.accounts))
-      (let sums = sum_set (λ (v : View C R). cond v.out 1 0) s.views id v left at in omega (arith, sum_by_push (λ (v : View C R). cond v.out 1 0) (set s.views id left) right))
+      (let sums = sum_set (λ (v : SeatView C R). cond v.out 1 0) s.views id v left at in omega (arith, sum_by_push (λ (v : SeatView C R). cond v.out 1 0) (set s.views id left) right))
       (λ j u there out. elim (at_snoc (set s.views id left) right u j there) [
         | inl old ↦ elim (at_set s.views id j left u old) [
-          | inl here ↦ absurd (cc (ap (λ (u : View C R). u.out) here.1, out))
+          | inl here ↦ absurd (cc (ap (λ (u : SeatView C R). u.out) here.1, out))
           | inr else ↦ (j, else.1)
         ]
         | inr new ↦ absurd cc
       ])
 
   -- taking another's accounts in
-  pub gathers : (id other : ℕ) (v w : View C R) → v.out ≡ false → w.out ≡ false → Joins Rule id v other w (joint_view v w) empty_view
+  pub gathers : (id other : ℕ) (v w : SeatView C R) → v.out ≡ false → w.out ≡ false → Joins Rule id v other w (joint_view v w) empty_view
   gathers id other v w in' in'' s r at apart there =
-      let both : View C R = joint_view v w in
-      let spent : View C R = empty_view in
-      let views : List (View C R) = set s.views id both in
+      let both : SeatView C R = joint_view v w in
+      let spent : SeatView C R = empty_view in
+      let views : List (SeatView C R) = set s.views id both in
       let was : get_elem? s.views other ≡ some w = sym (set_else s.views id other both apart) ∙ there in
-      let fits : All (Fits r.history) both.accounts = All-append (Fits r.history) w.accounts v.accounts (r.each other w was) (r.each id v at) in
+      let fits : All (IsConsistent r.history) both.accounts = All-append (IsConsistent r.history) w.accounts v.accounts (r.each other w was) (r.each id v at) in
       let none : ◌≡◌ {A = ℕ} (cond v.out 1 0) 0 = ap (λ (b : Bool). cond b 1 0) in' in
       let none' : ◌≡◌ {A = ℕ} (cond w.out 1 0) 0 = ap (λ (b : Bool). cond b 1 0) in'' in
       reviewed s (set views other spent) r
       (λ j u at'. elim (at_set views other j spent u at') [
-        | inl gone ↦ subst (λ (u : View C R). All (Fits r.history) u.accounts) gone.1 (All-nil (Fits r.history))
+        | inl gone ↦ subst (λ (u : SeatView C R). All (IsConsistent r.history) u.accounts) gone.1 (All-nil (IsConsistent r.history))
         | inr old ↦ elim (at_set s.views id j both u old.1) [
-          | inl here ↦ subst (λ (u : View C R). All (Fits r.history) u.accounts) here.1 fits
+          | inl here ↦ subst (λ (u : SeatView C R). All (IsConsistent r.history) u.accounts) here.1 fits
           | inr else ↦ r.each j u else.1
         ]
       ])
@@ -167,20 +167,20 @@ module _ {S C R : Type 0} (step : S → C → S × R) (start : S) (k : ℕ) wher
       (let first = sum_set weight s.views id v both at in
       let then = sum_set weight views other w spent there in
       omega (arith, length-append w.accounts v.accounts))
-      (let first = sum_set (λ (v : View C R). cond v.out 1 0) s.views id v both at in
-      let then = sum_set (λ (v : View C R). cond v.out 1 0) views other w spent there in
+      (let first = sum_set (λ (v : SeatView C R). cond v.out 1 0) s.views id v both at in
+      let then = sum_set (λ (v : SeatView C R). cond v.out 1 0) views other w spent there in
       omega arith)
       (λ j u at' out. elim (at_set views other j spent u at') [
-        | inl gone ↦ absurd (cc (ap (λ (u : View C R). u.out) gone.1, out))
+        | inl gone ↦ absurd (cc (ap (λ (u : SeatView C R). u.out) gone.1, out))
         | inr old ↦ elim (at_set s.views id j both u old.1) [
-          | inl here ↦ absurd (cc (ap (λ (u : View C R). u.out) here.1, out))
+          | inl here ↦ absurd (cc (ap (λ (u : SeatView C R). u.out) here.1, out))
           | inr else ↦ (j, else.1)
         ]
       ])
 
 module _ {S C R : Type 0} where
   -- the first of the accounts that a seat stands for, and the others
-  pub dealt : (k who : ℕ) (m : Me (Home S) (View C R)) → StandsFor k who m → who < k
+  pub dealt : (k who : ℕ) (m : Me (Home S) (SeatView C R)) → StandsFor k who m → who < k
       → (m.0.out ≡ false) × StandsFor k (who + 1) (all_but_first m.0, m.1) × (first_alone m.0 ≡ view (account who [] [] ∷ []) false)
   dealt k who m (zero, sum, is) below = absurd (omega arith)
   dealt k who m (suc n, sum, is) below =
@@ -191,5 +191,5 @@ module _ {S C R : Type 0} where
       )
 
   -- a seat that stands for all passes does so from the first on
-  pub stands_first : (k : ℕ) (m : Me (Home S) (View C R)) → m ≡ (newcomer k, []) → StandsFor k 0 m
+  pub stands_first : (k : ℕ) (m : Me (Home S) (SeatView C R)) → m ≡ (newcomer k, []) → StandsFor k 0 m
   stands_first k m is = (k, omega arith, is)

@@ -90,8 +90,8 @@ module _ {C R : Type 0} where
             cc both
         | inr other ↦ sym (own_later who g a other) ∙ same ∙ own_later who k b (λ its. other (ap (λ (e : Entry C R). e.who) first ∙ its))
       ] in
-      let fronts : a ≡ b = same_place who a b e f x y rest mine theirs owns in
-      λ i. first i ∷ fronts i
+      let prefixes : a ≡ b = same_place who a b e f x y rest mine theirs owns in
+      λ i. first i ∷ prefixes i
 
   -- an entry of a history is one of its who's
   pub own_contains : (h : List (Entry C R)) (e : Entry C R) → Contains h e → Contains (own e.who h) e

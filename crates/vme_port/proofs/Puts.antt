@@ -10,21 +10,21 @@ use Rattle.vme_object.specs.declared.history.Entry.{Entry}
 use Rattle.vme_object.specs.History.{replay, IsLegal, own}
 use Rattle.vme_object.proofs.lemmas.Histories.{own-append, legal-append}
 use Rattle.vme_port.specs.declared.rule.Account.{Account}
-use Rattle.vme_port.specs.declared.rule.View.{View}
+use Rattle.vme_port.specs.declared.rule.SeatView.{SeatView}
 use Rattle.vme_port.specs.declared.home.Home.{Home}
 use Rattle.vme_port.specs.Views.{account, view, weight, names_among, names}
-use Rattle.vme_port.specs.Rule.{Fits, Away, Kept}
-use Rattle.vme_port.specs.Steps.{MayPut, put_tells}
+use Rattle.vme_port.specs.Rule.{IsConsistent, Away, Kept}
+use Rattle.vme_port.specs.Steps.{MayPut, put_effect}
 use Rattle.vme_port.proofs.Totals.{sum_set, sum_two}
 use Rattle.vme_port.proofs.Accounts.{own_all, fits_all, names_self}
 use Rattle.vme_port.proofs.Keeps.{word_set, head_same, out_counts, counts_once, who_below, is_away}
 
 module _ {S C R : Type 0} (step : S → C → S × R) (start : S) (k : ℕ) where
-  abbrev Rule : State (Home S) (View C R) → Type 0
+  abbrev Rule : State (Home S) (SeatView C R) → Type 0
   Rule = Kept step start k
 
-  -- the accounts of a view beside the holder's are of other whos
-  others_named : (s : State (Home S) (View C R)) (id j : ℕ) (a : Account C R) (out : Bool) (u : View C R) → Rule s → get_elem? s.views id ≡ some (view (a ∷ []) out)
+  -- the accounts of a view beside the holder's are of other process_count
+  others_named : (s : State (Home S) (SeatView C R)) (id j : ℕ) (a : Account C R) (out : Bool) (u : SeatView C R) → Rule s → get_elem? s.views id ≡ some (view (a ∷ []) out)
       → get_elem? s.views j ≡ some u → j ≢ id → names_among a.who u.accounts ≡ 0
   others_named s id j a out u r at there apart =
       let self = names_self a in
@@ -32,8 +32,8 @@ module _ {S C R : Type 0} (step : S → C → S × R) (start : S) (k : ℕ) wher
       omega (arith, r.shared a.who, counts_once (ltb a.who k))
 
   -- the holder's account fits the history with its entries behind
-  holder_fits : (h es : List (Entry C R)) (a : Account C R) → All (λ e. e.who ≡ a.who) es → a.seen ≡ h → Fits h a
-      → Fits (h ++ es) (account a.who (a.seen ++ es) (a.mine ++ es))
+  holder_fits : (h es : List (Entry C R)) (a : Account C R) → All (λ e. e.who ≡ a.who) es → a.seen ≡ h → IsConsistent h a
+      → IsConsistent (h ++ es) (account a.who (a.seen ++ es) (a.mine ++ es))
   holder_fits h es a whose seen f = record {
     begins = ([], ap (λ l. l ++ es) (sym seen) ∙ sym (append-nil (a.seen ++ es)));
     sound = own-append a.who a.seen es ∙ ap (λ l. l ++ own a.who es) f.sound ∙ ap (λ l. a.mine ++ l) (own_all a.who es whose);
@@ -41,23 +41,23 @@ module _ {S C R : Type 0} (step : S → C → S × R) (start : S) (k : ℕ) wher
   }
 
   -- the state after a put
-  putting : (s : State (Home S) (View C R)) (id : ℕ) (a : Account C R) (home : Home S) (es : List (Entry C R)) (r : Rule s)
+  putting : (s : State (Home S) (SeatView C R)) (id : ℕ) (a : Account C R) (home : Home S) (es : List (Entry C R)) (r : Rule s)
       → get_elem? s.views id ≡ some (view (a ∷ []) true) → a.seen ≡ r.history → Away step start r.history s
       → IsLegal step (replay step start r.history) es → All (λ e. e.who ≡ a.who) es
       → home.object ≡ replay step start (r.history ++ es) → home.count ≡ length (r.history ++ es)
       → Rule (stepped s 0 0 id ((0, home) ∷ []) (view (account a.who (a.seen ++ es) (a.mine ++ es) ∷ []) false) gives)
   putting s id a home es r at seen away legal whose object count =
-      let v : View C R = view (a ∷ []) true in
+      let v : SeatView C R = view (a ∷ []) true in
       let b : Account C R = account a.who (a.seen ++ es) (a.mine ++ es) in
-      let w : View C R = view (b ∷ []) false in
+      let w : SeatView C R = view (b ∷ []) false in
       let h : List (Entry C R) = r.history in
-      let fits : Fits h a = r.each id v at 0 a (omega arith) in
+      let fits : IsConsistent h a = r.each id v at 0 a (omega arith) in
       let below : a.who < k = who_below k s.views id a true r.shared at in record {
         history = h ++ es;
         legal = legal-append step start h es r.legal legal;
         one_word = length-set s.words 0 0 ∙ r.one_word;
         each = λ j u there. elim (at_set s.views id j w u there) [
-          | inl here ↦ subst (λ (u : View C R). All (Fits (h ++ es)) u.accounts) here.1 (All-cons (Fits (h ++ es)) b [] (holder_fits h es a whose seen fits) (All-nil (Fits (h ++ es))))
+          | inl here ↦ subst (λ (u : SeatView C R). All (IsConsistent (h ++ es)) u.accounts) here.1 (All-cons (IsConsistent (h ++ es)) b [] (holder_fits h es a whose seen fits) (All-nil (IsConsistent (h ++ es))))
           | inr else ↦ fits_all a.who h es u.accounts whose (others_named s id j a true u r at else.1 else.0) (r.each j u else.1)
         ];
         shared = λ who. let sums = sum_set (names who) s.views id v w at in let was = r.shared who in omega arith;
@@ -70,15 +70,15 @@ module _ {S C R : Type 0} (step : S → C → S × R) (start : S) (k : ℕ) wher
           here = ap (λ hs. set hs 0 (some home)) away.gone;
           object = object;
           count = count;
-          none_out = let sums = sum_set (λ (v : View C R). cond v.out 1 0) s.views id v w at in omega (arith, away.one_out);
+          none_out = let sums = sum_set (λ (v : SeatView C R). cond v.out 1 0) s.views id v w at in omega (arith, away.one_out);
         });
       }
 
   -- putting the object home after entries of the holder
-  pub puts : (slots id : ℕ) (es : List (Entry C R)) (me : Me (Home S) (View C R)) → MayPut step start es me
-      → Allows Rule slots id me 0 (λ x. 0) (put_tells es (table_step slots 0 0 0 none) me)
+  pub puts : (slots id : ℕ) (es : List (Entry C R)) (me : Me (Home S) (SeatView C R)) → MayPut step start es me
+      → Allows Rule slots id me 0 (λ x. 0) (put_effect es (table_step slots 0 0 0 none) me)
   puts slots id es me may =
-      subst (λ (m : Me (Home S) (View C R)). Allows Rule slots id m 0 (λ x. 0) (put_tells es (table_step slots 0 0 0 none) m)) (sym may.has) (λ s r wide at fits64.
+      subst (λ (m : Me (Home S) (SeatView C R)). Allows Rule slots id m 0 (λ x. 0) (put_effect es (table_step slots 0 0 0 none) m)) (sym may.has) (λ s r wide at fits64.
       let a = may.holder in
       let away : Away step start r.history s = is_away step start k r.history s (out_counts s.views id (view (a ∷ []) true) at refl) r.place in
       let held = away.holder id (view (a ∷ []) true) at refl in

@@ -9,12 +9,12 @@ use mathlib.Core.Option.{some, some-injective}
 use lib.ListN.{get_elem?}
 use Rattle.atomic_table.specs.Table.{State, Me, Final, Seen}
 use Rattle.vme_object.specs.declared.history.Entry.{Entry}
-use Rattle.vme_object.specs.History.{own, Begins}
+use Rattle.vme_object.specs.History.{own, IsPrefix}
 use Rattle.vme_port.specs.declared.rule.Account.{Account}
-use Rattle.vme_port.specs.declared.rule.View.{View}
+use Rattle.vme_port.specs.declared.rule.SeatView.{SeatView}
 use Rattle.vme_port.specs.declared.home.Home.{Home}
 use Rattle.vme_port.specs.Views.{view, weight, names_among, names}
-use Rattle.vme_port.specs.Rule.{Fits, AtHome, Away, Kept}
+use Rattle.vme_port.specs.Rule.{IsConsistent, AtHome, Away, Kept}
 use Rattle.vme_port.specs.Passes.{PassView, account_of, IsCounted}
 use Rattle.vme_port.specs.Settlements.{Closes, Settles}
 use Rattle.vme_port.proofs.Totals.{sum_at, sum_over}
@@ -39,7 +39,7 @@ module _ {C R : Type 0} where
         omega (arith, ap length its)
   ]
 
-  -- how many entries of a history are those of some accounts' whos
+  -- how many entries of a history are those of some accounts' process_count
   abbrev owned : List (Account C R) → List (Entry C R) → ℕ
   owned l h = sum_by (λ a. length (own a.who h)) l
 
@@ -63,13 +63,13 @@ module _ {C R : Type 0} where
       omega (arith, owned_more l e h, one e.who below)
 
   -- what passes made is what the history has of them
-  made_owned : (h : List (Entry C R)) (ps : List (PassView C R)) → All (Fits h) (map account_of ps) → All IsCounted ps
+  made_owned : (h : List (Entry C R)) (ps : List (PassView C R)) → All (IsConsistent h) (map account_of ps) → All IsCounted ps
       → sum_by (λ p. p.made) ps ≡ owned (map account_of ps) h
   made_owned h [] fits counted = refl
   made_owned h (p ∷ ps) fits counted =
-      let fit : Fits h (account_of p) = All-head (Fits h) (account_of p) (map account_of ps) fits in
+      let fit : IsConsistent h (account_of p) = All-head (IsConsistent h) (account_of p) (map account_of ps) fits in
       let count : length p.mine ≡ p.made = All-head IsCounted p ps counted in
-      let rest = made_owned h ps (All-tail (Fits h) (account_of p) (map account_of ps) fits) (All-tail IsCounted p ps counted) in
+      let rest = made_owned h ps (All-tail (IsConsistent h) (account_of p) (map account_of ps) fits) (All-tail IsCounted p ps counted) in
       omega (arith, sum_by-cons (λ (p : PassView C R). p.made) p ps, sum_by-cons (λ (a : Account C R). length (own a.who h)) (account_of p) (map account_of ps), ap length fit.whole)
 
   -- passes of a who are accounts of it
@@ -79,36 +79,36 @@ module _ {C R : Type 0} where
       omega (arith, sum_by-cons (λ (p : PassView C R). cond (p.who == who) 1 0) p ps, named_more who (account_of p) (map account_of ps), named_passes who ps)
 
   -- what fits of each pass's account
-  fits_passes : (h : List (Entry C R)) (ps : List (PassView C R)) → All (Fits h) (map account_of ps) → All (λ p. Fits h (account_of p)) ps
-  fits_passes h [] fits = All-nil (λ (p : PassView C R). Fits h (account_of p))
+  fits_passes : (h : List (Entry C R)) (ps : List (PassView C R)) → All (IsConsistent h) (map account_of ps) → All (λ p. IsConsistent h (account_of p)) ps
+  fits_passes h [] fits = All-nil (λ (p : PassView C R). IsConsistent h (account_of p))
   fits_passes h (p ∷ ps) fits =
-      All-cons (λ (p : PassView C R). Fits h (account_of p)) p ps (All-head (Fits h) (account_of p) (map account_of ps) fits) (fits_passes h ps (All-tail (Fits h) (account_of p) (map account_of ps) fits))
+      All-cons (λ (p : PassView C R). IsConsistent h (account_of p)) p ps (All-head (IsConsistent h) (account_of p) (map account_of ps) fits) (fits_passes h ps (All-tail (IsConsistent h) (account_of p) (map account_of ps) fits))
 
 module _ {S C R : Type 0} (step : S → C → S × R) (start : S) (k : ℕ) where
-  abbrev Rule : State (Home S) (View C R) → Type 0
+  abbrev Rule : State (Home S) (SeatView C R) → Type 0
   Rule = Kept step start k
 
   -- a seat that stands for k passes and holds nothing finds the object at home
-  at_home : (s : State (Home S) (View C R)) (id : ℕ) (accounts : List (Account C R)) (r : Rule s) → get_elem? s.views id ≡ some (view accounts false)
+  at_home : (s : State (Home S) (SeatView C R)) (id : ℕ) (accounts : List (Account C R)) (r : Rule s) → get_elem? s.views id ≡ some (view accounts false)
       → k ≤ length accounts → AtHome step start r.history s ⊎ Away step start r.history s → AtHome step start r.history s
   at_home s id accounts r at enough (inl home) = home
   at_home s id accounts r at enough (inr away) =
-      let less = λ (j : ℕ) (v : View C R) (there : get_elem? s.views j ≡ some v). out_weighs v r.history (λ out. away.holder j v there out) v.out refl in
-      let over = sum_over (λ (v : View C R). cond v.out 1 0) weight s.views id (view accounts false) less at in
+      let less = λ (j : ℕ) (v : SeatView C R) (there : get_elem? s.views j ≡ some v). out_weighs v r.history (λ out. away.holder j v there out) v.out refl in
+      let over = sum_over (λ (v : SeatView C R). cond v.out 1 0) weight s.views id (view accounts false) less at in
       absurd (omega (arith, away.one_out, r.weights))
 
   -- and its accounts are one of each who
-  each_named : (s : State (Home S) (View C R)) (id : ℕ) (accounts : List (Account C R)) (r : Rule s) → get_elem? s.views id ≡ some (view accounts false)
+  each_named : (s : State (Home S) (SeatView C R)) (id : ℕ) (accounts : List (Account C R)) (r : Rule s) → get_elem? s.views id ≡ some (view accounts false)
       → k ≤ length accounts → (who : ℕ) → who < k → names_among who accounts ≡ 1
   each_named s id accounts r at enough who below =
-      let less = λ (j : ℕ) (v : View C R) (there : get_elem? s.views j ≡ some v). names_within who v.accounts in
+      let less = λ (j : ℕ) (v : SeatView C R) (there : get_elem? s.views j ≡ some v). names_within who v.accounts in
       let over = sum_over (names who) weight s.views id (view accounts false) less at in
       let most = sum_at (names who) s.views id (view accounts false) at in
       let one : ◌≡◌ {A = ℕ} (cond (ltb who k) 1 0) 1 = ap (λ (b : Bool). cond b 1 0) (lt-ltb who k below) in
       omega (arith, r.shared who, r.weights)
 
   -- the object is at home, and the accounts fit its history
-  pub closes : (s : State (Home S) (View C R)) (id : ℕ) (accounts : List (Account C R)) → Rule s → get_elem? s.views id ≡ some (view accounts false)
+  pub closes : (s : State (Home S) (SeatView C R)) (id : ℕ) (accounts : List (Account C R)) → Rule s → get_elem? s.views id ≡ some (view accounts false)
       → k ≤ length accounts → (home : Home S) × (s.homes ≡ some home ∷ []) × Closes step start k accounts home.object home.count
   closes s id accounts r at enough =
       let home = at_home s id accounts r at enough r.place in (
@@ -127,31 +127,31 @@ module _ {S C R : Type 0} (step : S → C → S × R) (start : S) (k : ℕ) wher
       )
 
   -- the table's last state tells it of the object that it gives back
-  pub last : (id : ℕ) (m : Me (Home S) (View C R)) (words : List ℕ) (homes : List (Home S)) (home : Home S) → Final (Seen Rule id m.0) words homes
+  pub last : (id : ℕ) (m : Me (Home S) (SeatView C R)) (words : List ℕ) (homes : List (Home S)) (home : Home S) → Final (Seen Rule id m.0) words homes
       → get_elem? homes 0 ≡ some home → m ≡ (view m.0.accounts false, []) → k ≤ length m.0.accounts → Closes step start k m.0.accounts home.object home.count
   last id m words homes home final at idle enough =
-      let s : State (Home S) (View C R) = final.0 in
+      let s : State (Home S) (SeatView C R) = final.0 in
       let there : get_elem? s.views id ≡ some (view m.0.accounts false) = final.1.1 ∙ ap (λ m. some m.0) idle in
-      let told = closes s id m.0.accounts final.1.0 there enough in
-      let same : told.0 ≡ home = some-injective told.0 home (sym (final.4 0 told.0 (ap (λ hs. get_elem? hs 0) told.1)) ∙ at) in
-      subst (λ (home : Home S). Closes step start k m.0.accounts home.object home.count) same told.2
+      let reported = closes s id m.0.accounts final.1.0 there enough in
+      let same : reported.0 ≡ home = some-injective reported.0 home (sym (final.4 0 reported.0 (ap (λ hs. get_elem? hs 0) reported.1)) ∙ at) in
+      subst (λ (home : Home S). Closes step start k m.0.accounts home.object home.count) same reported.2
 
   -- what the accounts of some passes tell is told of the passes
   pub settled : (passes : List (PassView C R)) (object : S) (n : ℕ) → Closes step start k (map account_of passes) object n → All IsCounted passes
       → Settles step start k passes object n
-  settled passes object n told counted =
-      let h : List (Entry C R) = told.history in
-      let fits = fits_passes h passes told.fits in record {
+  settled passes object n reported counted =
+      let h : List (Entry C R) = reported.history in
+      let fits = fits_passes h passes reported.fits in record {
         history = h;
-        legal = told.legal;
-        replayed = told.replayed;
-        counted = told.counted;
-        known = told.known;
-        summed = omega (arith, told.counted, made_owned h passes told.fits counted, owned_once k (map account_of passes) h told.each_who told.known);
-        all = sym (length-map passes account_of) ∙ told.all;
-        each_who = λ who below. named_passes who passes ∙ told.each_who who below;
-        seen = All-weaker (λ (p : PassView C R). Fits h (account_of p)) (λ (p : PassView C R). Begins p.seen h) (λ p fit. fit.begins) passes fits;
-        sound = All-weaker (λ (p : PassView C R). Fits h (account_of p)) (λ (p : PassView C R). own p.who p.seen ≡ p.mine) (λ p fit. fit.sound) passes fits;
-        mine = All-weaker (λ (p : PassView C R). Fits h (account_of p)) (λ (p : PassView C R). own p.who h ≡ p.mine) (λ p fit. fit.whole) passes fits;
+        legal = reported.legal;
+        replayed = reported.replayed;
+        counted = reported.counted;
+        known = reported.known;
+        summed = omega (arith, reported.counted, made_owned h passes reported.fits counted, owned_once k (map account_of passes) h reported.each_who reported.known);
+        all = sym (length-map passes account_of) ∙ reported.all;
+        each_who = λ who below. named_passes who passes ∙ reported.each_who who below;
+        seen = All-weaker (λ (p : PassView C R). IsConsistent h (account_of p)) (λ (p : PassView C R). IsPrefix p.seen h) (λ p fit. fit.begins) passes fits;
+        sound = All-weaker (λ (p : PassView C R). IsConsistent h (account_of p)) (λ (p : PassView C R). own p.who p.seen ≡ p.mine) (λ p fit. fit.sound) passes fits;
+        mine = All-weaker (λ (p : PassView C R). IsConsistent h (account_of p)) (λ (p : PassView C R). own p.who h ≡ p.mine) (λ p fit. fit.whole) passes fits;
         made = counted;
       }

@@ -4,7 +4,7 @@ use Rattle.atomic_table.specs.Table.{Me}
 use Rattle.atomic_table.specs.Seated.{TableId}
 use Rattle.vme_object.specs.declared.history.Entry.{Entry}
 use Rattle.vme_port.specs.declared.rule.Account.{Account}
-use Rattle.vme_port.specs.declared.rule.View.{View}
+use Rattle.vme_port.specs.declared.rule.SeatView.{SeatView}
 use Rattle.vme_port.specs.declared.home.Home.{Home}
 use Rattle.vme_port.specs.Views.{account, view}
 
@@ -29,7 +29,7 @@ made_by (a ∷ rest) = a.mine
 
 -- between calls a pass stands for one account, which is of its who and has as many entries as it made; and the object is not
 -- out with it (this project's own)
-pub record IsAtRest {S C R : Type 0} (me : Me (Home S) (View C R)) (who made : ℕ) : Type 0 where
+pub record IsAtRest {S C R : Type 0} (me : Me (Home S) (SeatView C R)) (who made : ℕ) : Type 0 where
   pub only : Account C R
   pub alone : me ≡ (view (only ∷ []) false, [])
   pub named : only.who ≡ who

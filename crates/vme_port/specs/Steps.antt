@@ -5,35 +5,35 @@ use Rattle.atomic_table.specs.Table.{Me, Step}
 use Rattle.vme_object.specs.declared.history.Entry.{Entry}
 use Rattle.vme_object.specs.History.{replay, IsLegal, own}
 use Rattle.vme_port.specs.declared.rule.Account.{Account}
-use Rattle.vme_port.specs.declared.rule.View.{View}
+use Rattle.vme_port.specs.declared.rule.SeatView.{SeatView}
 use Rattle.vme_port.specs.declared.home.Home.{Home}
 use Rattle.vme_port.specs.Views.{account, view}
 
 module _ {C R : Type 0} where
   -- split: what is left of a view when its first account is cut off (this project's own)
-  abbrev pub all_but_first : View C R → View C R
+  abbrev pub all_but_first : SeatView C R → SeatView C R
   all_but_first v = view (drop 1 v.accounts) false
 
   -- split: the account that is cut off (this project's own)
-  abbrev pub first_alone : View C R → View C R
+  abbrev pub first_alone : SeatView C R → SeatView C R
   first_alone v = view (take 1 v.accounts) false
 
   -- join: the accounts of the joined view are added, each with what it has seen itself (this project's own)
-  abbrev pub joint_view : View C R → View C R → View C R
+  abbrev pub joint_view : SeatView C R → SeatView C R → SeatView C R
   joint_view v w = view (w.accounts ++ v.accounts) false
 
   -- join: the joined view is spent (this project's own)
-  abbrev pub empty_view : View C R
+  abbrev pub empty_view : SeatView C R
   empty_view = view [] false
 
 -- mark wanted: the view is as it was (this project's own)
-abbrev pub mark_tells : {T C R : Type 0} → Step T → Me T (View C R) → ℕ → Me T (View C R) → Type 0
-mark_tells st m n m' = m' ≡ m
+abbrev pub mark_effect : {T C R : Type 0} → Step T → Me T (SeatView C R) → ℕ → Me T (SeatView C R) → Type 0
+mark_effect st m n m' = m' ≡ m
 
 module _ {S C R : Type 0} (step : S → C → S × R) (opened : S → ℕ → Type 0) where
   -- take won: the account has seen the whole history, in which entries of others follow what it had seen; the object is out with
   -- it, and is the history's replay (this project's own)
-  pub record HasTaken (a : Account C R) (m : Me (Home S) (View C R)) : Type 0 where
+  pub record HasTaken (a : Account C R) (m : Me (Home S) (SeatView C R)) : Type 0 where
     pub start : S
     pub passes : ℕ
     pub opens : opened start passes
@@ -47,7 +47,7 @@ module _ {S C R : Type 0} (step : S → C → S × R) (opened : S → ℕ → Ty
     pub count : home.count ≡ length (a.seen ++ others)
 
   -- take lost: nothing changed, and the port has two passes or more (this project's own)
-  pub record HasLost (m m' : Me (Home S) (View C R)) : Type 0 where
+  pub record HasLost (m m' : Me (Home S) (SeatView C R)) : Type 0 where
     pub start : S
     pub passes : ℕ
     pub opens : opened start passes
@@ -55,15 +55,15 @@ module _ {S C R : Type 0} (step : S → C → S × R) (opened : S → ℕ → Ty
     pub shared : 2 ≤ passes
 
   -- a take is won where the exchange found the word free, else lost (this project's own)
-  abbrev pub take_tells : Step (Home S) → Me (Home S) (View C R) → ℕ → Me (Home S) (View C R) → Type 0
-  take_tells st m n m' = (a : Account C R) → m ≡ (view (a ∷ []) false, []) → (n ≡ 0 → HasTaken a m') × (n ≢ 0 → HasLost m m')
+  abbrev pub take_effect : Step (Home S) → Me (Home S) (SeatView C R) → ℕ → Me (Home S) (SeatView C R) → Type 0
+  take_effect st m n m' = (a : Account C R) → m ≡ (view (a ∷ []) false, []) → (n ≡ 0 → HasTaken a m') × (n ≢ 0 → HasLost m m')
 
   -- a take, by whether it was won (this project's own)
-  abbrev pub HasTried : Me (Home S) (View C R) → Bool → Me (Home S) (View C R) → Type 0
+  abbrev pub HasTried : Me (Home S) (SeatView C R) → Bool → Me (Home S) (SeatView C R) → Type 0
   HasTried m won m' = (a : Account C R) → m ≡ (view (a ∷ []) false, []) → MatchBool won (HasTaken a m') (HasLost m m')
 
 -- put: the object is out with the seat, and is what these entries of the holder's lead to (this project's own)
-pub record MayPut {S C R : Type 0} (step : S → C → S × R) (start : S) (es : List (Entry C R)) (m : Me (Home S) (View C R)) :
+pub record MayPut {S C R : Type 0} (step : S → C → S × R) (start : S) (es : List (Entry C R)) (m : Me (Home S) (SeatView C R)) :
     Type 0 where
   pub holder : Account C R
   pub home : Home S
@@ -75,31 +75,31 @@ pub record MayPut {S C R : Type 0} (step : S → C → S × R) (start : S) (es :
 
 module _ {S C R : Type 0} where
   -- put: the entries are added to what the account has seen and to what it made, and it holds nothing (this project's own)
-  abbrev pub HasPut : List (Entry C R) → Me (Home S) (View C R) → Me (Home S) (View C R) → Type 0
+  abbrev pub HasPut : List (Entry C R) → Me (Home S) (SeatView C R) → Me (Home S) (SeatView C R) → Type 0
   HasPut es m m' = (a : Account C R) → m.0 ≡ view (a ∷ []) true
       → m' ≡ (view (account a.who (a.seen ++ es) (a.mine ++ es) ∷ []) false, [])
 
   -- put with entry, and put unchanged where there is none; put and wake is the same step (this project's own)
-  abbrev pub put_tells : List (Entry C R) → Step (Home S) → Me (Home S) (View C R) → ℕ → Me (Home S) (View C R) → Type 0
-  put_tells es st m n m' = HasPut es m m'
+  abbrev pub put_effect : List (Entry C R) → Step (Home S) → Me (Home S) (SeatView C R) → ℕ → Me (Home S) (SeatView C R) → Type 0
+  put_effect es st m n m' = HasPut es m m'
 
   -- between calls a seat stands for one pass, and holds nothing (this project's own)
-  abbrev pub IsIdle : Me (Home S) (View C R) → Type 0
+  abbrev pub IsIdle : Me (Home S) (SeatView C R) → Type 0
   IsIdle m = (a : Account C R) × (m ≡ (view (a ∷ []) false, []))
 
   -- the object is out with the seat (this project's own)
-  abbrev pub IsOut : Me (Home S) (View C R) → Type 0
+  abbrev pub IsOut : Me (Home S) (SeatView C R) → Type 0
   IsOut m = (home : Home S) × (m.1 ≡ (0, home) ∷ [])
 
   -- the history of the object that is out has the last count, and nothing changed (this project's own)
-  pub record IsFull (m m' : Me (Home S) (View C R)) : Type 0 where
+  pub record IsFull (m m' : Me (Home S) (SeatView C R)) : Type 0 where
     pub home : Home S
     pub out : m.1 ≡ (0, home) ∷ []
     pub last : home.count ≡ 2 ^ 64 - 1
     pub same : m' ≡ m
 
-  -- the object that is out take_tells a command and gave a reply, and counts one step more (this project's own)
-  pub record HasPerformed (step : S → C → S × R) (cmd : C) (reply : R) (m m' : Me (Home S) (View C R)) : Type 0 where
+  -- the object that is out take_effect a command and gave a reply, and counts one step more (this project's own)
+  pub record HasPerformed (step : S → C → S × R) (cmd : C) (reply : R) (m m' : Me (Home S) (SeatView C R)) : Type 0 where
     pub home : Home S
     pub out : m.1 ≡ (0, home) ∷ []
     pub capacity : home.count < 2 ^ 64 - 1

@@ -6,12 +6,12 @@ ghost use Rattle.vme_port.specs.Calls.{entries_of, Adds, UnlessBusy, IfBusy, IfS
 use crate::fault::{Spent, TryFault};
 use crate::pass::Pass;
 use crate::port::Port;
-use crate::rule::Marks;
+use crate::rule::MarkStep;
 use crate::seats::{FREE, TAKEN, Taking, WANTED};
 use crossbeam_utils::Backoff;
 use std::marker::Brand;
 use std::sync::Wait;
-use vme_object::{Operation, CommandRef, Object};
+use vme_object::{CommandRef, Object, Operation};
 
 /// How often a call tries before it parks.
 const TRIES: u32 = 10;
@@ -93,7 +93,7 @@ impl<O: Object> Port<O> {
     {
         self.table
             .shared
-            .compare_exchange::<Marks>(&mut pass.seat, 0, TAKEN, WANTED)
+            .compare_exchange::<MarkStep>(&mut pass.seat, 0, TAKEN, WANTED)
     }
 
     /// Gives the object one command, as soon as it is at home, and answers its reply. It tries some

@@ -3,7 +3,7 @@ ghost use Rattle.vme_port.specs.Views.{view};
 ghost use Rattle.vme_port.specs.Passes.{account_of, IsCounted};
 
 use crate::home::Home;
-use crate::rule::View;
+use crate::rule::SeatView;
 use atomic_table::Seat;
 use std::marker::Model;
 use vme_object::Object;
@@ -12,7 +12,7 @@ use vme_object::Object;
 /// `PassView`, with the history that it has seen and its own entries there. It can't be copied.
 #[derive(Drop)]
 pub struct Pass<O: Object> {
-    pub(crate) seat: Seat<Home<O>, View<O::Cmd, O::Reply>>,
+    pub(crate) seat: Seat<Home<O>, SeatView<O::Cmd, O::Reply>>,
     pub(crate) who: usize,
     pub(crate) made: u64,
 }
@@ -44,7 +44,7 @@ impl<O: Object> Pass<O> {
     }
 
     /// The seat of the pass, which stands for it alone.
-    pub(crate) fn into_seat(self) -> Seat<Home<O>, View<O::Cmd, O::Reply>>
+    pub(crate) fn into_seat(self) -> Seat<Home<O>, SeatView<O::Cmd, O::Reply>>
         ensures port { result.table_id ≡ self.port }
         ensures alone { result.me ≡ (view (account_of self ∷ []) false, []) }
         ensures counted { IsCounted self }

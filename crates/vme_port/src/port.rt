@@ -7,7 +7,7 @@ ghost use Rattle.vme_port.specs.Passes.{IsUnused};
 use crate::fault::PortFault;
 use crate::home::{Home, Opening};
 use crate::pass::Pass;
-use crate::rule::{Dealing, Law, View};
+use crate::rule::{PortRule, SeatView, SplitStep};
 use crate::seats::{FREE, WANTED};
 use atomic_table::{Seat, Table};
 use std::alloc::{AllocError, Global};
@@ -20,7 +20,7 @@ const MOST_PASSES: usize = 21;
 /// One object that callers in any threads share, each through a pass of its own.
 #[derive(Drop)]
 pub struct Port<O: Object> {
-    pub(crate) table: Table<Home<O>, View<O::Cmd, O::Reply>, Opening<O>, Law<O>, Global>,
+    pub(crate) table: Table<Home<O>, SeatView<O::Cmd, O::Reply>, Opening<O>, PortRule<O>, Global>,
     pub(crate) passes: usize,
     ghost words: { table.shared.table_id.words ≡ 1 },
     ghost slots: { table.shared.table_id.slots ≡ 1 },
@@ -31,7 +31,7 @@ pub struct Port<O: Object> {
 /// The passes of a port that was just opened are all with one seat.
 struct Opened<O: Object> {
     port: Port<O>,
-    seat: Seat<Home<O>, View<O::Cmd, O::Reply>>,
+    seat: Seat<Home<O>, SeatView<O::Cmd, O::Reply>>,
 }
 
 impl<O: Object> Port<O> {
@@ -101,7 +101,7 @@ impl<O: Object> Port<O> {
     }
 
     /// Cuts off the seat's first account, and gives it a pass of its own.
-    fn deal_one(&self, seat: &mut Seat<Home<O>, View<O::Cmd, O::Reply>>, who: usize) -> Pass<O>
+    fn deal_one(&self, seat: &mut Seat<Home<O>, SeatView<O::Cmd, O::Reply>>, who: usize) -> Pass<O>
         requires port { seat.old.table_id ≡ port_id self.now }
         requires below { who < passes_of self.now }
         requires all { StandsFor (passes_of self.now) who seat.old.me }
@@ -109,12 +109,12 @@ impl<O: Object> Port<O> {
         ensures all { StandsFor (passes_of self.now) (who + 1) seat.new.me }
         ensures unused { IsUnused (port_id self.now) who result }
     {
-        let seat = self.table.shared.split_seat::<Dealing>(seat);
+        let seat = self.table.shared.split_seat::<SplitStep>(seat);
         Pass { seat, who, made: 0 }
     }
 
     /// Gives each account of the seat a pass of its own.
-    fn deal(&self, mut seat: Seat<Home<O>, View<O::Cmd, O::Reply>>, passes: &mut Vec<Pass<O>>)
+    fn deal(&self, mut seat: Seat<Home<O>, SeatView<O::Cmd, O::Reply>>, passes: &mut Vec<Pass<O>>)
         requires port { seat.table_id ≡ port_id self.now }
         requires all { StandsFor (passes_of self.now) 0 seat.me }
         requires empty { passes.old.items ≡ [] }

@@ -21,17 +21,17 @@ pub struct Account<C, R> {
 }
 
 /// What a seat knows: the accounts that it stands for, and whether the object is out with it.
-pub struct View<C, R> {
+pub struct SeatView<C, R> {
     pub accounts: LinkedList<Account<C, R>>,
     pub out: bool,
 }
 
 /// The rule.
-pub struct Law<O> {
+pub struct PortRule<O> {
     of: PhantomData<O>,
 }
 
-impl<O: Object> TableRule<Home<O>, View<O::Cmd, O::Reply>, Opening<O>> for Law<O> {
+impl<O: Object> TableRule<Home<O>, SeatView<O::Cmd, O::Reply>, Opening<O>> for PortRule<O> {
     ghost use Rattle.vme_port.specs.Views.{newcomer};
     ghost use Rattle.vme_port.specs.Rule.{Kept};
 
@@ -41,65 +41,66 @@ impl<O: Object> TableRule<Home<O>, View<O::Cmd, O::Reply>, Opening<O>> for Law<O
 }
 
 /// How a port was opened, as one who takes the object knows it. Each call picks it.
-pub trait Knows<O> {
+pub trait OpeningWitness<O> {
     ghost use Rattle.std.specs.Prelude.{ℕ};
 
     ghost opened: { O → ℕ → Type 0 };
 }
 
-impl<O> Knows<O> for Brand {
+impl<O> OpeningWitness<O> for Brand {
     ghost opened = { λ start passes. Unit {0} };
 }
 
 /// The entries that a put adds. Each call picks them.
-pub trait Tells<C, R> {
+pub trait EntryWitness<C, R> {
     ghost use Rattle.std.specs.Prelude.{List};
     ghost use Rattle.vme_object.specs.declared.history.Entry.{Entry};
 
     ghost entries: { List (Entry C R) };
 }
 
-impl<C, R> Tells<C, R> for Brand {
+impl<C, R> EntryWitness<C, R> for Brand {
     ghost use Rattle.std.specs.Prelude.{[]};
 
     ghost entries = { [] };
 }
 
 /// Taking the object, which is won or lost.
-pub struct Takes<O, W> {
+pub struct TakeStep<O, W> {
     of: PhantomData<(O, W)>,
 }
 
-impl<O: Object, W: Knows<O>> Play<Home<O>, View<O::Cmd, O::Reply>> for Takes<O, W> {
-    ghost use Rattle.vme_port.specs.Steps.{take_tells};
+impl<O: Object, W: OpeningWitness<O>> Play<Home<O>, SeatView<O::Cmd, O::Reply>> for TakeStep<O, W> {
+    ghost use Rattle.vme_port.specs.Steps.{take_effect};
 
-    ghost then = { take_tells O.step W.opened };
+    ghost then = { take_effect O.step W.opened };
 }
 
 /// Putting the object home, with the entries that were made.
-pub struct Puts<O, W> {
+pub struct PutStep<O, W> {
     of: PhantomData<(O, W)>,
 }
 
-impl<O: Object, W: Tells<O::Cmd, O::Reply>> Play<Home<O>, View<O::Cmd, O::Reply>> for Puts<O, W> {
-    ghost use Rattle.vme_port.specs.Steps.{put_tells};
+impl<O: Object, W: EntryWitness<O::Cmd, O::Reply>> Play<Home<O>, SeatView<O::Cmd, O::Reply>>
+    for PutStep<O, W> {
+    ghost use Rattle.vme_port.specs.Steps.{put_effect};
 
-    ghost then = { put_tells W.entries };
+    ghost then = { put_effect W.entries };
 }
 
 /// Marking the word as wanted.
-pub struct Marks;
+pub struct MarkStep;
 
-impl<T, C, R> Play<T, View<C, R>> for Marks {
-    ghost use Rattle.vme_port.specs.Steps.{mark_tells};
+impl<T, C, R> Play<T, SeatView<C, R>> for MarkStep {
+    ghost use Rattle.vme_port.specs.Steps.{mark_effect};
 
-    ghost then = { mark_tells };
+    ghost then = { mark_effect };
 }
 
 /// Cutting the first account off.
-pub struct Dealing;
+pub struct SplitStep;
 
-impl<C, R> Split<View<C, R>> for Dealing {
+impl<C, R> Split<SeatView<C, R>> for SplitStep {
     ghost use Rattle.vme_port.specs.Steps.{all_but_first, first_alone};
 
     ghost left = { all_but_first };
@@ -108,9 +109,9 @@ impl<C, R> Split<View<C, R>> for Dealing {
 }
 
 /// Taking another's accounts in.
-pub struct Gathering;
+pub struct JoinStep;
 
-impl<C, R> Join<View<C, R>> for Gathering {
+impl<C, R> Join<SeatView<C, R>> for JoinStep {
     ghost use Rattle.vme_port.specs.Steps.{joint_view, empty_view};
 
     ghost both = { joint_view };

@@ -6,10 +6,10 @@ ghost use Rattle.vme_port.specs.Ports.{port_id, opening, passes_of};
 
 use crate::home::Home;
 use crate::port::Port;
-use crate::rule::{Knows, Puts, Takes, Tells, View};
+use crate::rule::{EntryWitness, OpeningWitness, PutStep, SeatView, TakeStep};
 use atomic_table::Seat;
 use std::marker::Brand;
-use vme_object::{Operation, Object, next_count};
+use vme_object::{Object, Operation, next_count};
 
 /// The word where the object is at home.
 pub(crate) const FREE: u64 = 0;
@@ -43,27 +43,27 @@ impl Taking {
 
 impl<O: Object> Port<O> {
     /// Takes the object, where it is at home.
-    pub(crate) fn take<W: Knows<O>>(
+    pub(crate) fn take<W: OpeningWitness<O>>(
         &self,
-        seat: &mut Seat<Home<O>, View<O::Cmd, O::Reply>>,
+        seat: &mut Seat<Home<O>, SeatView<O::Cmd, O::Reply>>,
         taking: Taking,
     ) -> bool
         requires port { seat.old.table_id ≡ port_id self.now }
         requires idle { IsIdle seat.old.me }
         requires opened { W.opened (opening self.now) (passes_of self.now) }
         ensures port { seat.new.table_id ≡ seat.old.table_id }
-        ensures told { HasTried O.step W.opened seat.old.me result seat.new.me }
+        ensures reported { HasTried O.step W.opened seat.old.me result seat.new.me }
     {
         self.table
             .shared
-            .compare_exchange::<Takes<O, W>>(seat, 0, FREE, taking.word())
+            .compare_exchange::<TakeStep<O, W>>(seat, 0, FREE, taking.word())
             == FREE
     }
 
     /// Performs a command on the object that is out with the seat, unless its history is full.
     pub(crate) fn perform_counted<A: Operation<O>>(
         &self,
-        seat: &mut Seat<Home<O>, View<O::Cmd, O::Reply>>,
+        seat: &mut Seat<Home<O>, SeatView<O::Cmd, O::Reply>>,
         asked: &A,
     ) -> Option<O::Reply>
         requires port { seat.old.table_id ≡ port_id self.now }
@@ -80,16 +80,16 @@ impl<O: Object> Port<O> {
     }
 
     /// Puts the object home with these entries behind its history, and wakes one who waits for it.
-    pub(crate) fn put_entries<W: Tells<O::Cmd, O::Reply>>(
+    pub(crate) fn put_entries<W: EntryWitness<O::Cmd, O::Reply>>(
         &self,
-        seat: &mut Seat<Home<O>, View<O::Cmd, O::Reply>>,
+        seat: &mut Seat<Home<O>, SeatView<O::Cmd, O::Reply>>,
     )
         requires port { seat.old.table_id ≡ port_id self.now }
         requires out { MayPut O.step (opening self.now) W.entries seat.old.me }
         ensures port { seat.new.table_id ≡ seat.old.table_id }
-        ensures told { HasPut W.entries seat.old.me seat.new.me }
+        ensures reported { HasPut W.entries seat.old.me seat.new.me }
     {
-        if self.table.shared.swap::<Puts<O, W>>(seat, 0, FREE) == WANTED {
+        if self.table.shared.swap::<PutStep<O, W>>(seat, 0, FREE) == WANTED {
             self.wake();
         }
     }
@@ -104,28 +104,28 @@ impl<O: Object> Port<O> {
     /// Puts the object home as it was, since its history is full.
     #[cold]
     #[inline(never)]
-    pub(crate) fn put_unchanged(&self, seat: &mut Seat<Home<O>, View<O::Cmd, O::Reply>>)
+    pub(crate) fn put_unchanged(&self, seat: &mut Seat<Home<O>, SeatView<O::Cmd, O::Reply>>)
         requires port { seat.old.table_id ≡ port_id self.now }
         requires out { MayPut O.step (opening self.now) [] seat.old.me }
         ensures port { seat.new.table_id ≡ seat.old.table_id }
-        ensures told { HasPut [] seat.old.me seat.new.me }
+        ensures reported { HasPut [] seat.old.me seat.new.me }
     {
         self.put_entries::<Brand>(seat);
     }
 
     /// Puts the object home with one entry. The entry is named so that the call can pick it.
-    pub(crate) fn put_entry<A: Operation<O>, W: Tells<O::Cmd, O::Reply>>(
+    pub(crate) fn put_entry<A: Operation<O>, W: EntryWitness<O::Cmd, O::Reply>>(
         &self,
-        seat: &mut Seat<Home<O>, View<O::Cmd, O::Reply>>,
+        seat: &mut Seat<Home<O>, SeatView<O::Cmd, O::Reply>>,
         who: usize,
         asked: &A,
         reply: &O::Reply,
     )
         requires port { seat.old.table_id ≡ port_id self.now }
-        requires told { W.entries ≡ entry who (A.command asked.now) reply.now ∷ [] }
+        requires reported { W.entries ≡ entry who (A.command asked.now) reply.now ∷ [] }
         requires out { MayPut O.step (opening self.now) (entry who (A.command asked.now) reply.now ∷ []) seat.old.me }
         ensures port { seat.new.table_id ≡ seat.old.table_id }
-        ensures told { HasPut (entry who (A.command asked.now) reply.now ∷ []) seat.old.me seat.new.me }
+        ensures reported { HasPut (entry who (A.command asked.now) reply.now ∷ []) seat.old.me seat.new.me }
     {
         self.put_entries::<W>(seat);
     }

@@ -8,7 +8,7 @@ ghost use Rattle.vme_port.specs.Ports.{IsPassOf, port_id, opening, passes_of};
 use crate::home::Home;
 use crate::pass::Pass;
 use crate::port::Port;
-use crate::rule::{Gathering, View};
+use crate::rule::{JoinStep, SeatView};
 use atomic_table::Seat;
 use vme_object::Object;
 
@@ -42,7 +42,7 @@ impl<O: Object> Port<O> {
     }
 
     /// One seat with the accounts of all these passes, in their order.
-    fn gather(&self, mut passes: Vec<Pass<O>>) -> Seat<Home<O>, View<O::Cmd, O::Reply>>
+    fn gather(&self, mut passes: Vec<Pass<O>>) -> Seat<Home<O>, SeatView<O::Cmd, O::Reply>>
         requires port { All (IsPassOf self.now) passes.items }
         requires some { 0 < vec_len passes }
         ensures port { result.table_id ≡ port_id self.now }
@@ -55,14 +55,14 @@ impl<O: Object> Port<O> {
         let mut all = last.into_seat();
         while let Some(pass) = passes.pop() {
             let seat = pass.into_seat();
-            self.table.shared.join_seat::<Gathering>(&mut all, seat);
+            self.table.shared.join_seat::<JoinStep>(&mut all, seat);
         }
         passes.destroy_empty();
         all
     }
 
     /// Closes the port with a seat that stands for all its passes.
-    fn close(self, seat: Seat<Home<O>, View<O::Cmd, O::Reply>>) -> (O, u64)
+    fn close(self, seat: Seat<Home<O>, SeatView<O::Cmd, O::Reply>>) -> (O, u64)
         requires port { seat.table_id ≡ port_id self }
         requires idle { seat.me ≡ (view seat.me.0.accounts false, []) }
         requires all { passes_of self ≤ length seat.me.0.accounts }

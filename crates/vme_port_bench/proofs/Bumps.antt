@@ -32,7 +32,7 @@ bumped c (e ∷ h) all fits =
 -- passes that only bump settle on a counter that went up by one for each of their entries
 pub settled_number : (start : Counter) (k : ℕ) (passes : List (PassView CounterCmd ℕ)) (c : Counter) (n : ℕ) → Settles count_step start k passes c n
     → All (λ p. All (λ e. e.cmd ≡ Bump) p.mine) passes → start.number + n < 2 ^ 64 → c.number ≡ start.number + n
-settled_number start k passes c n told each fits =
-    let all = all_made count_step start k passes c n told (λ (e : Entry CounterCmd ℕ). e.cmd ≡ Bump) each in
-    let up = bumped start told.history all (omega (arith, told.counted)) in
-    omega (arith, told.counted, up, ap (λ (c : Counter). c.number) told.replayed)
+settled_number start k passes c n reported each fits =
+    let all = all_made count_step start k passes c n reported (λ (e : Entry CounterCmd ℕ). e.cmd ≡ Bump) each in
+    let up = bumped start reported.history all (omega (arith, reported.counted)) in
+    omega (arith, reported.counted, up, ap (λ (c : Counter). c.number) reported.replayed)

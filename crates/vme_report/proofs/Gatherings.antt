@@ -1,7 +1,7 @@
 -- A text that is printed, and then passed on.
 use Rattle.std.proofs.Common.{◌≡◌, ℕ, List, [], ◌++◌, Option, refl, sym, ◌∙◌}
 use Rattle.std.proofs.lemmas.List.{append-nil}
-use Rattle.vme_io.specs.Fronts.{AppendsFront}
+use Rattle.vme_io.specs.Prefixes.{AppendsPrefix}
 use Rattle.vme_io.proofs.lemmas.Appending.{Appends-none}
 use Rattle.vme_report.specs.Ends.{Gathers}
 
@@ -9,23 +9,23 @@ use Rattle.vme_report.specs.Ends.{Gathers}
 pub printed_gathers :
     (old new : Option (List ℕ)) (before text printed after : List ℕ) → Gathers old new printed after [] → printed ≡ before ++ text
     → Gathers old new before after text
-printed_gathers old new before text printed after passed as_told = record {
-  front = passed.front;
+printed_gathers old new before text printed after passed as_reported = record {
+  prefix = passed.prefix;
   appends = passed.appends;
-  split = sym as_told ∙ sym (append-nil printed) ∙ passed.split;
+  split = sym as_reported ∙ sym (append-nil printed) ∙ passed.split;
 }
 
 -- a text was printed, and a front of what is gathered was written
-pub printed_front :
-    (old new : Option (List ℕ)) (before text printed : List ℕ) → AppendsFront old new printed → printed ≡ before ++ text
-    → AppendsFront old new (before ++ text)
-printed_front old new before text printed failed as_told = record {
-  front = failed.front;
+pub printed_prefix :
+    (old new : Option (List ℕ)) (before text printed : List ℕ) → AppendsPrefix old new printed → printed ≡ before ++ text
+    → AppendsPrefix old new (before ++ text)
+printed_prefix old new before text printed failed as_reported = record {
+  prefix = failed.prefix;
   rest = failed.rest;
-  split = sym as_told ∙ failed.split;
+  split = sym as_reported ∙ failed.split;
   appends = failed.appends;
 }
 
 -- nothing was written
-pub nothing_front : (told : Option (List ℕ)) (all : List ℕ) → AppendsFront told told all
-nothing_front told all = record { front = []; rest = all; split = refl; appends = Appends-none told }
+pub nothing_prefix : (reported : Option (List ℕ)) (all : List ℕ) → AppendsPrefix reported reported all
+nothing_prefix reported all = record { prefix = []; rest = all; split = refl; appends = Appends-none reported }

@@ -2,7 +2,7 @@
 use Rattle.std.proofs.Common.{◌≡◌, ℕ, List, [], ◌++◌, Option, refl, sym}
 use Rattle.std.proofs.lemmas.List.{append-nil}
 use Rattle.std.specs.List.{flat_map}
-use Rattle.vme_io.specs.Fronts.{AppendsFront}
+use Rattle.vme_io.specs.Prefixes.{AppendsPrefix}
 use Rattle.vme_report.specs.declared.part.Part.TheVariants.{Replies, Counts, Memory}
 use Rattle.vme_report.specs.Boards.{BoardText}
 use Rattle.vme_report.specs.Ends.{Gathers}
@@ -24,30 +24,30 @@ module _ (boards : List BoardText) where
   by_parts = refl
 
   -- the replies are told
-  pub replies_told :
+  pub replies_reported :
       (old new : Option (List ℕ)) (before after : List ℕ) → before ≡ [] → Gathers old new before after replies
       → SoFar old new after (counts ++ memories) (report_text boards)
-  replies_told old new before after none told =
+  replies_reported old new before after none reported =
       so_far_more old old new before after replies (report_text boards) (counts ++ memories) (report_text boards)
-      (so_far_none old before (report_text boards) none) by_parts told
+      (so_far_none old before (report_text boards) none) by_parts reported
 
   -- then the counts
-  pub counts_told :
+  pub counts_reported :
       (old mid new : Option (List ℕ)) (before after : List ℕ) → SoFar old mid before (counts ++ memories) (report_text boards)
       → Gathers mid new before after counts → SoFar old new after memories (report_text boards)
-  counts_told old mid new before after so_far told =
-      so_far_more old mid new before after counts (counts ++ memories) memories (report_text boards) so_far refl told
+  counts_reported old mid new before after so_far reported =
+      so_far_more old mid new before after counts (counts ++ memories) memories (report_text boards) so_far refl reported
 
   -- then the memories
-  pub memory_told :
+  pub memory_reported :
       (old mid new : Option (List ℕ)) (before after : List ℕ) → SoFar old mid before memories (report_text boards)
       → Gathers mid new before after memories → SoFar old new after [] (report_text boards)
-  memory_told old mid new before after so_far told =
-      so_far_more old mid new before after memories memories [] (report_text boards) so_far (sym (append-nil memories)) told
+  memory_reported old mid new before after so_far reported =
+      so_far_more old mid new before after memories memories [] (report_text boards) so_far (sym (append-nil memories)) reported
 
   -- the sink fails in the replies
   pub replies_cut :
-      (old new : Option (List ℕ)) (before : List ℕ) → before ≡ [] → AppendsFront old new (before ++ replies) → AppendsFront old new (report_text boards)
+      (old new : Option (List ℕ)) (before : List ℕ) → before ≡ [] → AppendsPrefix old new (before ++ replies) → AppendsPrefix old new (report_text boards)
   replies_cut old new before none failed =
       so_far_fails old old new before replies (report_text boards) (counts ++ memories) (report_text boards)
       (so_far_none old before (report_text boards) none) by_parts failed
@@ -55,13 +55,13 @@ module _ (boards : List BoardText) where
   -- or in the counts
   pub counts_cut :
       (old mid new : Option (List ℕ)) (before : List ℕ) → SoFar old mid before (counts ++ memories) (report_text boards)
-      → AppendsFront mid new (before ++ counts) → AppendsFront old new (report_text boards)
+      → AppendsPrefix mid new (before ++ counts) → AppendsPrefix old new (report_text boards)
   counts_cut old mid new before so_far failed =
       so_far_fails old mid new before counts (counts ++ memories) memories (report_text boards) so_far refl failed
 
   -- or in the memories
   pub memory_cut :
       (old mid new : Option (List ℕ)) (before : List ℕ) → SoFar old mid before memories (report_text boards)
-      → AppendsFront mid new (before ++ memories) → AppendsFront old new (report_text boards)
+      → AppendsPrefix mid new (before ++ memories) → AppendsPrefix old new (report_text boards)
   memory_cut old mid new before so_far failed =
       so_far_fails old mid new before memories memories [] (report_text boards) so_far (sym (append-nil memories)) failed

@@ -9,9 +9,9 @@ use Rattle.vme_report.specs.declared.fault.RunFault.TheVariants as run
 -- a text was gathered behind another: a front of the two went to the sink, and their rest is what is gathered now
 -- (this project's own)
 pub record Gathers (old new : Option (List ℕ)) (before after text : List ℕ) : Type 0 where
-  pub front : List ℕ
-  pub appends : Appends old new front
-  pub split : before ++ text ≡ front ++ after
+  pub prefix : List ℕ
+  pub appends : Appends old new prefix
+  pub split : before ++ text ≡ prefix ++ after
 
 -- whether a fault tells that the sink failed (this project's own)
 abbrev pub is_write : ReportFault → Bool

@@ -1,7 +1,7 @@
 //! The parts of a report, line by line: what is gathered goes to a sink in large pieces.
 ghost use Rattle.std.specs.Prelude.{◌≡◌, ◌≤◌, ◌*◌, ◌++◌, [], false, length, take, drop, flat_map, OnOk, OnErr, IfErr};
 ghost use Rattle.std.specs.Io.KnownBytes.{Appends};
-ghost use Rattle.vme_io.specs.Fronts.{AppendsFront};
+ghost use Rattle.vme_io.specs.Prefixes.{AppendsPrefix};
 ghost use Rattle.vme_report.specs.declared.fault.ReportFault.TheVariants.{Write};
 ghost use Rattle.vme_report.specs.Ends.{Gathers, is_write_failure};
 ghost use Rattle.vme_report.specs.Boards.{BoardText};
@@ -32,7 +32,7 @@ pub(crate) fn gather_boards<W: Sink>(
     requires { W.is_marked writer.old ≡ false }
     ensures gathers { OnOk result (Gathers (W.contents writer.old) (W.contents writer.new)
         text.old.items text.new.items (flat_map (part_text part) boards.now)) }
-    ensures front { OnErr result (AppendsFront (W.contents writer.old) (W.contents writer.new)
+    ensures prefix { OnErr result (AppendsPrefix (W.contents writer.old) (W.contents writer.new)
         (text.old.items ++ flat_map (part_text part) boards.now)) }
     ensures write { W.is_marked writer.new ≡ is_write_failure result }
 {
@@ -52,7 +52,7 @@ fn gather_board<W: Sink>(
     requires { W.is_marked writer.old ≡ false }
     ensures gathers { OnOk result (Gathers (W.contents writer.old) (W.contents writer.new)
         text.old.items text.new.items (part_text part board.now)) }
-    ensures front { OnErr result (AppendsFront (W.contents writer.old) (W.contents writer.new)
+    ensures prefix { OnErr result (AppendsPrefix (W.contents writer.old) (W.contents writer.new)
         (text.old.items ++ part_text part board.now)) }
     ensures write { W.is_marked writer.new ≡ is_write_failure result }
 {
@@ -72,7 +72,7 @@ fn gather_replies<W: Sink>(
     requires { W.is_marked writer.old ≡ false }
     ensures gathers { OnOk result (Gathers (W.contents writer.old) (W.contents writer.new)
         text.old.items text.new.items (replies_text slot lines.now)) }
-    ensures front { OnErr result (AppendsFront (W.contents writer.old) (W.contents writer.new)
+    ensures prefix { OnErr result (AppendsPrefix (W.contents writer.old) (W.contents writer.new)
         (text.old.items ++ replies_text slot lines.now)) }
     ensures write { W.is_marked writer.new ≡ is_write_failure result }
 {
@@ -82,7 +82,7 @@ fn gather_replies<W: Sink>(
     Ok(())
 }
 
-#[tactic(auto, using(crate::proofs::Gatherings::printed_gathers, crate::proofs::Gatherings::printed_front, crate::proofs::Gatherings::nothing_front))]
+#[tactic(auto, using(crate::proofs::Gatherings::printed_gathers, crate::proofs::Gatherings::printed_prefix, crate::proofs::Gatherings::nothing_prefix))]
 fn gather_reply<W: Sink>(
     slot: u16,
     line: u16,
@@ -93,7 +93,7 @@ fn gather_reply<W: Sink>(
     requires { W.is_marked writer.old ≡ false }
     ensures gathers { OnOk result (Gathers (W.contents writer.old) (W.contents writer.new)
         text.old.items text.new.items (line_text slot line reply.now)) }
-    ensures front { OnErr result (AppendsFront (W.contents writer.old) (W.contents writer.new)
+    ensures prefix { OnErr result (AppendsPrefix (W.contents writer.old) (W.contents writer.new)
         (text.old.items ++ line_text slot line reply.now)) }
     ensures write { W.is_marked writer.new ≡ is_write_failure result }
 {
@@ -101,7 +101,7 @@ fn gather_reply<W: Sink>(
     pass_on(text, writer)
 }
 
-#[tactic(auto, using(crate::proofs::Gatherings::printed_gathers, crate::proofs::Gatherings::printed_front, crate::proofs::Gatherings::nothing_front))]
+#[tactic(auto, using(crate::proofs::Gatherings::printed_gathers, crate::proofs::Gatherings::printed_prefix, crate::proofs::Gatherings::nothing_prefix))]
 fn gather_counts<W: Sink>(
     slot: u16,
     steps: u64,
@@ -112,7 +112,7 @@ fn gather_counts<W: Sink>(
     requires { W.is_marked writer.old ≡ false }
     ensures gathers { OnOk result (Gathers (W.contents writer.old) (W.contents writer.new)
         text.old.items text.new.items (counts_text slot steps made.now)) }
-    ensures front { OnErr result (AppendsFront (W.contents writer.old) (W.contents writer.new)
+    ensures prefix { OnErr result (AppendsPrefix (W.contents writer.old) (W.contents writer.new)
         (text.old.items ++ counts_text slot steps made.now)) }
     ensures write { W.is_marked writer.new ≡ is_write_failure result }
 {
@@ -130,7 +130,7 @@ fn gather_memory<W: Sink>(
     requires { W.is_marked writer.old ≡ false }
     ensures gathers { OnOk result (Gathers (W.contents writer.old) (W.contents writer.new)
         text.old.items text.new.items (memory_text slot memory.now.bytes)) }
-    ensures front { OnErr result (AppendsFront (W.contents writer.old) (W.contents writer.new)
+    ensures prefix { OnErr result (AppendsPrefix (W.contents writer.old) (W.contents writer.new)
         (text.old.items ++ memory_text slot memory.now.bytes)) }
     ensures write { W.is_marked writer.new ≡ is_write_failure result }
 {
@@ -141,7 +141,7 @@ fn gather_memory<W: Sink>(
     Ok(())
 }
 
-#[tactic(auto, using(crate::proofs::Gatherings::printed_gathers, crate::proofs::Gatherings::printed_front, crate::proofs::Gatherings::nothing_front))]
+#[tactic(auto, using(crate::proofs::Gatherings::printed_gathers, crate::proofs::Gatherings::printed_prefix, crate::proofs::Gatherings::nothing_prefix))]
 fn gather_row<W: Sink>(
     slot: u16,
     offset: u32,
@@ -152,7 +152,7 @@ fn gather_row<W: Sink>(
     requires { W.is_marked writer.old ≡ false }
     ensures gathers { OnOk result (Gathers (W.contents writer.old) (W.contents writer.new)
         text.old.items text.new.items (row_text slot offset row.now)) }
-    ensures front { OnErr result (AppendsFront (W.contents writer.old) (W.contents writer.new)
+    ensures prefix { OnErr result (AppendsPrefix (W.contents writer.old) (W.contents writer.new)
         (text.old.items ++ row_text slot offset row.now)) }
     ensures write { W.is_marked writer.new ≡ is_write_failure result }
 {
@@ -165,8 +165,8 @@ fn pass_on<W: Sink>(text: &mut Vec<u8>, writer: &mut W) -> Result<(), ReportFaul
     requires { W.is_marked writer.old ≡ false }
     ensures gathers { OnOk result (Gathers (W.contents writer.old) (W.contents writer.new)
         text.old.items text.new.items []) }
-    ensures front { OnErr result
-        (AppendsFront (W.contents writer.old) (W.contents writer.new) text.old.items) }
+    ensures prefix { OnErr result
+        (AppendsPrefix (W.contents writer.old) (W.contents writer.new) text.old.items) }
     ensures write { W.is_marked writer.new ≡ is_write_failure result }
 {
     if WRITE_SIZE <= text.len() {
@@ -180,7 +180,7 @@ fn pass_on<W: Sink>(text: &mut Vec<u8>, writer: &mut W) -> Result<(), ReportFaul
 pub(crate) fn write_text<W: Sink>(text: &[u8], writer: &mut W) -> Result<(), ReportFault>
     requires { W.is_marked writer.old ≡ false }
     ensures bytes { OnOk result (Appends (W.contents writer.old) (W.contents writer.new) text.now) }
-    ensures front { OnErr result (AppendsFront (W.contents writer.old) (W.contents writer.new) text.now) }
+    ensures prefix { OnErr result (AppendsPrefix (W.contents writer.old) (W.contents writer.new) text.now) }
     ensures write { W.is_marked writer.new ≡ is_write_failure result }
 {
     match write_all(writer, text) {

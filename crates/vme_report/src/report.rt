@@ -1,7 +1,7 @@
 //! A report as a whole.
 ghost use Rattle.std.specs.Prelude.{◌≡◌, false, IfOk, OnOk, OnErr};
 ghost use Rattle.std.specs.Io.KnownBytes.{Appends};
-ghost use Rattle.vme_io.specs.Fronts.{AppendsFront};
+ghost use Rattle.vme_io.specs.Prefixes.{AppendsPrefix};
 ghost use Rattle.vme_report.specs.Ends.{is_write_failure};
 ghost use Rattle.vme_report.specs.Reports.{report_text, report_status};
 
@@ -27,8 +27,8 @@ pub fn write_report<W: Sink>(
     requires { W.is_marked writer.old ≡ false }
     ensures text { OnOk result
         (Appends (W.contents writer.old) (W.contents writer.new) (report_text boards.now)) }
-    ensures front { OnErr result
-        (AppendsFront (W.contents writer.old) (W.contents writer.new) (report_text boards.now)) }
+    ensures prefix { OnErr result
+        (AppendsPrefix (W.contents writer.old) (W.contents writer.new) (report_text boards.now)) }
     ensures status { IfOk result (λ status. status ≡ report_status boards.now) }
     ensures write { W.is_marked writer.new ≡ is_write_failure result }
 {

@@ -71,7 +71,7 @@ fn replies() -> [LineReply; 21] {
 }
 
 #[test]
-fn tells_each_reply(rt: HostRuntime) -> Result<(), Fail> {
+fn reports_each_reply(rt: HostRuntime) -> Result<(), Fail> {
     let mut text = Vec::new(rt.alloc());
     for reply in &replies() {
         reply_line(21, 1000, reply, &mut text)?;
@@ -82,7 +82,7 @@ fn tells_each_reply(rt: HostRuntime) -> Result<(), Fail> {
 
 /// Where memory is refused the text is as it was, and the line can be told once more.
 #[test]
-fn tells_each_reply_once_more_where_memory_lacks(rt: HostRuntime) -> Result<(), Fail> {
+fn reports_each_reply_once_more_where_memory_lacks(rt: HostRuntime) -> Result<(), Fail> {
     let mut text = Vec::new(rt.alloc());
     for reply in &replies() {
         if reply_line(21, 1000, reply, &mut text).is_err() {

@@ -81,7 +81,7 @@ fn report(
 }
 
 #[test]
-fn tells_rows_that_are_not_all_zero(rt: HostRuntime) -> Result<(), Fail> {
+fn reports_rows_that_are_not_all_zero(rt: HostRuntime) -> Result<(), Fail> {
     let mut sink = RoomSink::new(rt.alloc(), usize::MAX, 4096)?;
     let end = report(rt.alloc(), LineReply::Transfer(Outcome::Done), &mut sink)?;
     assert_eq!(rt; end, Ok(Status::Clean));

@@ -6,7 +6,7 @@ use vme_io::RoomSink;
 use vme_report::RunFault;
 use vme_script::Config;
 use vme_shared::Status;
-use vme_stepper::{run_file, run_steps};
+use vme_stepper::{run_configured, run_steps};
 
 /// A refused line, a transfer and a local write, on a board of 16 bytes; a block on the other board.
 static FILE: &str = "schedule = [[5, 1], [9, 2]]
@@ -88,7 +88,7 @@ fn check(rt: &impl Abort, alloc: Global, slots: &[u16], report: &str) -> Result<
 }
 
 #[test]
-fn tells_lines_that_have_not_ended(rt: HostRuntime) -> Result<(), Fail> {
+fn reports_lines_that_have_not_ended(rt: HostRuntime) -> Result<(), Fail> {
     check(&rt, rt.alloc(), &[], NONE)?;
     check(&rt, rt.alloc(), &[5], FIRST)
 }
@@ -103,14 +103,14 @@ fn runs_slots_in_the_order_given(rt: HostRuntime) -> Result<(), Fail> {
 fn runs_the_turns_of_the_file(rt: HostRuntime) -> Result<(), Fail> {
     let config = Config::read(rt.alloc(), FILE.as_bytes())?;
     let mut sink = RoomSink::new(rt.alloc(), usize::MAX, 1024)?;
-    let end = run_file(rt.alloc(), &config, &mut sink);
+    let end = run_configured(rt.alloc(), &config, &mut sink);
     assert_eq!(rt; end, Ok(Status::Marked));
     assert_eq!(rt; sink.bytes(), OWN.as_bytes());
     Ok(())
 }
 
 #[test]
-fn writes_a_front_where_the_sink_fails(rt: HostRuntime) -> Result<(), Fail> {
+fn writes_a_prefix_where_the_sink_fails(rt: HostRuntime) -> Result<(), Fail> {
     let config = Config::read(rt.alloc(), FILE.as_bytes())?;
     for buffer in 0..ALL.len() {
         let mut sink = RoomSink::new(rt.alloc(), 7, buffer)?;

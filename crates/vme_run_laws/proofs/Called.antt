@@ -14,12 +14,12 @@ use Rattle.vme_arbiter.specs.declared.command.ArbReply.TheVariants as turned
 use Rattle.vme_arbiter.specs.Requests.{is_slot}
 use Rattle.vme_arbiter.specs.Arbitration.{Arbitration, turn_step}
 use Rattle.vme_arbiter.specs.Orderly.{IsOrderly}
-use Rattle.vme_arbiter.specs.Turns.{slot_of, may_give, StandsAsTold}
+use Rattle.vme_arbiter.specs.Turns.{slot_of, may_give, StandsAsReplied}
 use Rattle.vme_arbiter.proofs.lemmas.Turns.{own-turn}
 use Rattle.vme_arbiter.proofs.lemmas.Orderly.{orderly-step}
 use Rattle.vme_core.specs.declared.event.EventReply.{EventReply}
-use Rattle.vme_core.specs.declared.event.EventReply.TheVariants as told
-use Rattle.vme_core.specs.Tallies.{Tally}
+use Rattle.vme_core.specs.declared.event.EventReply.TheVariants as replies
+use Rattle.vme_core.specs.CountedStates.{CountedState}
 use Rattle.vme_core.specs.Runs.{Machine}
 use Rattle.vme_core.specs.Calls.{Call, OnBoard, OnBus, command_step, board_after, machine_step}
 use Rattle.vme_master.proofs.lemmas.Locals.{board_fits, turn_fits}
@@ -29,10 +29,10 @@ use Rattle.vme_line_task.specs.Tenures.{IsGood}
 pub record BoardCalled (machine : Machine) (who x : ℕ) (command : Option Command) (after : Machine × EventReply) : Type 0 where
   pub bus : after.0.bus ≡ machine.bus
   pub reply : Reply
-  pub replied : after.1 ≡ told.Board reply
-  pub good : IsGood (OnBoard x command) (told.Board reply)
+  pub replied : after.1 ≡ replies.Board reply
+  pub good : IsGood (OnBoard x command) (replies.Board reply)
 
-by_found : (machine : Machine) (who x : ℕ) (command : Option Command) (found : Option (Tally Board))
+by_found : (machine : Machine) (who x : ℕ) (command : Option Command) (found : Option (CountedState Board))
     → BoardCalled machine who x command (board_after machine who x command found)
 by_found machine who x command None =
     record { bus = refl; reply = Berr; replied = refl; good = record { fit = refl; granted = λ same. absurd cc } }
@@ -51,11 +51,11 @@ board_called machine who x command = by_found machine who x command (slice_get m
 pub record BusCalled (bus : Arbitration) (slot : ℕ) (cmd : ArbCmd) : Type 0 where
   pub orderly : IsOrderly (turn_step bus cmd).0
   pub own : slot_of cmd ≡ slot
-  pub stands : StandsAsTold (turn_step bus cmd).0 slot (Some (turn_step bus cmd).1)
-  pub good : IsGood (OnBus cmd) (told.Bus (turn_step bus cmd).1)
+  pub stands : StandsAsReplied (turn_step bus cmd).0 slot (Some (turn_step bus cmd).1)
+  pub good : IsGood (OnBus cmd) (replies.Bus (turn_step bus cmd).1)
 
-never_denied : (bus : Arbitration) (slot : ℕ) (reply : ArbReply) → StandsAsTold bus slot (Some reply)
-    → told.Bus reply ≢ told.Bus turned.Denied
+never_denied : (bus : Arbitration) (slot : ℕ) (reply : ArbReply) → StandsAsReplied bus slot (Some reply)
+    → replies.Bus reply ≢ replies.Bus turned.Denied
 never_denied bus slot turned.Denied stands = λ same. stands
 never_denied bus slot turned.Granted stands = λ same. absurd cc
 never_denied bus slot turned.Waiting stands = λ same. absurd cc
@@ -74,7 +74,7 @@ own_slot slot (Some turned.Granted) (turns.Done s) may = eqb-true s slot may
 own_slot slot last cmd may = absurd cc
 
 pub bus_called : (bus : Arbitration) (slot : ℕ) (last : Option ArbReply) (cmd : ArbCmd) → IsOrderly bus → is_slot slot ≡ true
-    → StandsAsTold bus slot last → may_give slot last cmd ≡ true → BusCalled bus slot cmd
+    → StandsAsReplied bus slot last → may_give slot last cmd ≡ true → BusCalled bus slot cmd
 bus_called bus slot last cmd orderly lawful stands may =
     let now = own-turn bus slot last cmd orderly lawful stands may in
     record {
@@ -86,11 +86,11 @@ bus_called bus slot last cmd orderly lawful stands may =
 
 -- so no reply to either is a denial
 pub call_granted : (machine : Machine) (who slot : ℕ) (last : Option ArbReply) (call : Call) → IsOrderly machine.bus.object
-    → is_slot slot ≡ true → StandsAsTold machine.bus.object slot last → ((cmd : ArbCmd) → call ≡ OnBus cmd → may_give slot last cmd ≡ true)
-    → (machine_step machine who call).1 ≢ told.Bus turned.Denied
+    → is_slot slot ≡ true → StandsAsReplied machine.bus.object slot last → ((cmd : ArbCmd) → call ≡ OnBus cmd → may_give slot last cmd ≡ true)
+    → (machine_step machine who call).1 ≢ replies.Bus turned.Denied
 call_granted machine who slot last (OnBoard x command) orderly lawful stands may =
     let called = board_called machine who x command in
-    let board : told.Board called.reply ≢ told.Bus turned.Denied = λ same. absurd cc in
+    let board : replies.Board called.reply ≢ replies.Bus turned.Denied = λ same. absurd cc in
     λ same. board (sym called.replied ∙ same)
 call_granted machine who slot last (OnBus cmd) orderly lawful stands may =
     (bus_called machine.bus.object slot last cmd orderly lawful stands (may cmd refl)).good.granted

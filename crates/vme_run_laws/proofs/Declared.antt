@@ -7,8 +7,8 @@ use Rattle.vme_memory.specs.declared.command.BoardCmd.{BoardCmd}
 use Rattle.vme_memory.specs.declared.reply.Reply.{Reply}
 use Rattle.vme_shared.specs.MailboxSteps.{BoardMailbox, LiesIn}
 use Rattle.vme_shared.specs.declared.mailbox.Mailbox.{Mailbox}
-use Rattle.vme_script.specs.declared.place.Place.{Place}
-use Rattle.vme_script.specs.Places.{place_of}
+use Rattle.vme_script.specs.declared.board_range.BoardRange.{BoardRange}
+use Rattle.vme_script.specs.BoardRanges.{range_of}
 use Rattle.vme_script.specs.declared.board.BoardConfig.{BoardConfig}
 use Rattle.vme_script.specs.Boards.{entries_of}
 use Rattle.vme_script.specs.Configurations.{Configuration, opening_memory}
@@ -54,7 +54,7 @@ module _ (config : Configuration) (lawful : IsLawful config) (k : ℕ) (mailbox 
       rw (get_or_from_slice_get config.boards fine.place.board fine.board own fine.there) (lies_in config lawful mailbox fine)
 
   -- wherever it is said to lie
-  place_is : (place : Place) → place_of (entries_of config.boards) mailbox ≡ Some place → fine.place ≡ place
+  place_is : (place : BoardRange) → range_of (entries_of config.boards) mailbox ≡ Some place → fine.place ≡ place
   place_is place placed = let first = fine.placed in cc
 
 -- so it is a queue in every report
@@ -62,12 +62,12 @@ pub declared_queue : (config : Configuration) (report : Report) (is : IsReportOf
     (h : List (Entry BoardCmd Reply)) → IsLawful config → IsDeclaredIn config report is box m h → IsQueue config report box m h
 declared_queue config report is box m h lawful at =
     let same = place_is config lawful at.index at.mailbox at.declared at.place at.placed in
-    let on = λ (p : Place). on_board at.mailbox p in
+    let on = λ (p : BoardRange). on_board at.mailbox p in
     let named : IsMailboxOf config (at.index + 1) at.place.board (on at.place) =
-    subst (λ (p : Place). IsMailboxOf config (at.index + 1) p.board (on p)) same
+    subst (λ (p : BoardRange). IsMailboxOf config (at.index + 1) p.board (on p)) same
     (mailbox_of config lawful at.index at.mailbox at.declared) in
     let inside : LiesIn (opening_memory (slice_index_or config.boards at.place.board at.own)) (on at.place) =
-    subst (λ (p : Place). LiesIn (opening_memory (slice_index_or config.boards p.board at.own)) (on p)) same
+    subst (λ (p : BoardRange). LiesIn (opening_memory (slice_index_or config.boards p.board at.own)) (on p)) same
     (memory_of config lawful at.index at.mailbox at.declared at.own) in
     let found = queue config report lawful is (at.index + 1) at.place.board (on at.place) at.own at.end at.below named inside in
     subst (λ (b : ℕ). IsQueue config report b m h) (sym at.number)
@@ -75,9 +75,9 @@ declared_queue config report is box m h lawful at =
     (subst (IsQueue config report (at.index + 1) (on at.place)) (sym at.history) found))
 
 -- what is declared at a place of a board has that board's history
-at_place : (config : Configuration) (report : Report) (is : IsReportOf config report) (k : ℕ) (mailbox : Mailbox) (place : Place)
+at_place : (config : Configuration) (report : Report) (is : IsReportOf config report) (k : ℕ) (mailbox : Mailbox) (place : BoardRange)
     (own : BoardConfig) (end : BoardReport) → slice_get config.mailboxes k ≡ Some mailbox
-    → place_of (entries_of config.boards) mailbox ≡ Some place → place.board < length config.boards
+    → range_of (entries_of config.boards) mailbox ≡ Some place → place.board < length config.boards
     → (m : BoardMailbox) × (h : List (Entry BoardCmd Reply)) × IsDeclaredIn config report is (k + 1) m h
 at_place config report is k mailbox place own end declared placed below = (
   on_board mailbox place,

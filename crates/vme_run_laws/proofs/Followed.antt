@@ -2,20 +2,20 @@
 use Rattle.std.proofs.Common.{◌≡◌, ◌≢◌, ℕ, ◌<◌, List, [], ◌∷◌, ◌++◌, length, map, Option, Some, None, refl, ap, sym, subst, ◌∙◌, append_assoc, inl, inr}
 use Rattle.std.specs.Prelude.{slice_get, slice_set, ◌==◌}
 use Rattle.std.specs.Option.{option_to_list}
-use Rattle.std.proofs.lemmas.Bool.Decides.{eqb_tells}
+use Rattle.std.proofs.lemmas.Bool.Decides.{eqb_shows}
 use Rattle.std.proofs.lemmas.List.{append-nil, map-append, length-map}
 use Rattle.std.proofs.lemmas.List.Elements.{filter-append}
 use Rattle.vme_arbiter.specs.Arbitration.{opening_bus, turn_step}
-use Rattle.vme_core.specs.Tallies.{fresh_tally}
-use Rattle.vme_core.specs.Runs.{Machine, Transition, Did, bus_part}
+use Rattle.vme_core.specs.CountedStates.{fresh_count}
+use Rattle.vme_core.specs.Runs.{Machine, Transition, IsRun, bus_part}
 use Rattle.vme_core.specs.Calls.{Call, call_of}
 use Rattle.vme_core.proofs.lemmas.Dones.{did_nil, did_trans, opened_boards}
-use Rattle.vme_core.proofs.lemmas.Tallies.{went_tells}
+use Rattle.vme_core.proofs.lemmas.CountedStates.{run_replays}
 use Rattle.vme_script.specs.Configurations.{Configuration, opening_memory}
 use Rattle.vme_script.specs.Lawful.{IsLawful}
 use Rattle.vme_line_task.specs.Traces.{ScriptState, IsTracePrefix}
 use Rattle.vme_line_task.proofs.lemmas.Traces.{follows_nothing}
-use Rattle.vme_stepper.specs.Turns.{SystemState, script_state_turn, lines_left, turn_in, turn_at, place_of, turn, run, initial_state, state_after}
+use Rattle.vme_stepper.specs.Turns.{SystemState, script_state_turn, lines_left, turn_in, turn_at, board_in_slot, turn, run, initial_state, state_after}
 use Rattle.vme_run_laws.specs.TurnCalls.{first_call, script_state_call, place_call, turn_call}
 use Rattle.vme_run_laws.specs.Transitions.{calls_from, calls_in, moves_of, AreRun}
 use Rattle.vme_run_laws.proofs.Places.{set_same, set_other, place_is}
@@ -30,7 +30,7 @@ AllFollow config moves system = (b : ℕ) (c : ScriptState) → slice_get system
 pub record Goes (config : Configuration) (before : List Transition) (calls : List (ℕ × Call)) (from to : SystemState) : Type 0 where
   pub more : List Transition
   pub same : calls_in more ≡ calls
-  pub did : Did more from.machine to.machine
+  pub did : IsRun more from.machine to.machine
   pub follow : AllFollow config (before ++ more) to
   pub count : length to.machine.boards ≡ length from.machine.boards
 
@@ -72,7 +72,7 @@ by_script_state config before system board (Some c) lawful there count follow is
 
     each : (b : ℕ) (one : ScriptState) → slice_get (slice_set system.script_states board next.1) b ≡ Some one → IsTracePrefix config b (moves_of b (before ++ moved.more)) one
     each b one at =
-        elim (eqb_tells b board) [
+        elim (eqb_shows b board) [
           | inl same ↦
               let mine : next.1 ≡ one = set_same system.script_states board next.1 one
               (ap (slice_get (slice_set system.script_states board next.1)) (sym same.1) ∙ at) in
@@ -82,7 +82,7 @@ by_script_state config before system board (Some c) lawful there count follow is
         ]
 
 by_place : (config : Configuration) (before : List Transition) (system : SystemState) (slot : ℕ) (place : Option ℕ) → IsLawful config
-    → length system.machine.boards ≡ length config.boards → AllFollow config before system → place_of config slot ≡ place
+    → length system.machine.boards ≡ length config.boards → AllFollow config before system → board_in_slot config slot ≡ place
     → Goes config before (option_to_list (place_call config system place)) system (turn_at config system place)
 by_place config before system slot None lawful count follow is = goes_nowhere config before system follow
 by_place config before system slot (Some board) lawful count follow is =
@@ -92,7 +92,7 @@ turn_goes : (config : Configuration) (before : List Transition) (system : System
     → length system.machine.boards ≡ length config.boards → AllFollow config before system
     → Goes config before (option_to_list (turn_call config system slot)) system (turn config system slot)
 unfolding turn turn_call
-turn_goes config before system slot lawful count follow = by_place config before system slot (place_of config slot) lawful count follow refl
+turn_goes config before system slot lawful count follow = by_place config before system slot (board_in_slot config slot) lawful count follow refl
 
 run_goes : (config : Configuration) (before : List Transition) (system : SystemState) (slots : List ℕ) → IsLawful config
     → length system.machine.boards ≡ length config.boards → AllFollow config before system
@@ -117,7 +117,7 @@ opening_follow config b c found = subst (IsTracePrefix config b []) (script_stat
 
 opening_count : (config : Configuration) → length (initial_state config).machine.boards ≡ length config.boards
 opening_count config =
-    length-map (map opening_memory config.boards) (fresh_tally (length config.boards)) ∙ length-map config.boards opening_memory
+    length-map (map opening_memory config.boards) (fresh_count (length config.boards)) ∙ length-map config.boards opening_memory
 
 pub are_run : (config : Configuration) (slots : List ℕ) → IsLawful config → (run : List Transition) × AreRun config slots run
 unfolding state_after
@@ -129,7 +129,7 @@ are_run config slots lawful =
       record {
         calls = all.same;
         boards = opened_boards memories (opening_bus config.arbiter) (length config.boards) all.more after.machine all.did;
-        bus = went_tells turn_step (opening_bus config.arbiter) (bus_part all.more) (length config.boards) after.machine.bus all.did.bus;
+        bus = run_replays turn_step (opening_bus config.arbiter) (bus_part all.more) (length config.boards) after.machine.bus all.did.bus;
         script_states = all.follow;
       },
     )

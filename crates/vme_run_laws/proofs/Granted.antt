@@ -2,7 +2,7 @@
 use Rattle.std.proofs.Common.{◌≡◌, ◌≢◌, ℕ, ◌<◌, List, [], ◌∷◌, ◌++◌, length, map, slice_index_or, Option, Some, None, ap, subst, sym, ◌∙◌, refl, eqb, inl, inr, arith}
 use Rattle.std.specs.Prelude.{All}
 use Rattle.std.proofs.lemmas.Bool.{cases_Bool, eqb-false}
-use Rattle.std.proofs.lemmas.Bool.Decides.{eqb_tells}
+use Rattle.std.proofs.lemmas.Bool.Decides.{eqb_shows}
 use Rattle.std.proofs.lemmas.List.{get_or-map, length-map}
 use Rattle.std.proofs.lemmas.List.Elements.{All-nil, All-cons, All-head, All-tail}
 use Rattle.vme_object.specs.declared.history.Entry.{Entry}
@@ -16,11 +16,11 @@ use Rattle.vme_arbiter.specs.declared.command.ArbCmd.{ArbCmd}
 use Rattle.vme_arbiter.specs.declared.command.ArbReply.{ArbReply}
 use Rattle.vme_arbiter.specs.declared.command.ArbReply.TheVariants as turned
 use Rattle.vme_arbiter.specs.Arbitration.{turn_step, opening_bus}
-use Rattle.vme_arbiter.specs.Turns.{StandsAsTold}
+use Rattle.vme_arbiter.specs.Turns.{StandsAsReplied}
 use Rattle.vme_core.specs.declared.event.Event.{Event}
 use Rattle.vme_core.specs.declared.event.Event.TheVariants as asked
 use Rattle.vme_core.specs.declared.event.EventReply.{EventReply}
-use Rattle.vme_core.specs.declared.event.EventReply.TheVariants as told
+use Rattle.vme_core.specs.declared.event.EventReply.TheVariants as event_replies
 use Rattle.vme_core.specs.Runs.{Transition, move, IsReplyTo, board_part, bus_part}
 use Rattle.vme_core.specs.Calls.{Call, OnBoard, OnBus, call_of}
 use Rattle.vme_master.proofs.lemmas.Locals.{board_fits}
@@ -33,7 +33,7 @@ use Rattle.vme_script.specs.Lawful.{IsLawful}
 use Rattle.vme_line_task.specs.Scripts.{slot_at, lines_at}
 use Rattle.vme_line_task.specs.Tables.{Invokes, Returns, line_next, given_of}
 use Rattle.vme_line_task.specs.Traces.{Continues, IsTrace}
-use Rattle.vme_line_task.specs.Tenures.{line_told, IsGood, IsGranted}
+use Rattle.vme_line_task.specs.Tenures.{line_reported, IsGood, IsGranted}
 use Rattle.vme_line_task.proofs.lemmas.Kept.{line_begins, line_first, line_turns, line_turn, line_datum, line_ends}
 use Rattle.vme_line_task.proofs.lemmas.Below.{next_below}
 use Rattle.vme_run_laws.proofs.Places.{has_board, lawful_slot, lawful_level, slots_apart}
@@ -45,8 +45,8 @@ use Rattle.vme_run_laws.proofs.Turns.{Leads, GoodTurn, GoesWhile, turns_good}
 
 -- replies of boards that are there fit; replies of the arbiter are of its kind
 abbrev Well : ℕ → Event → EventReply → Type 0
-Well n (asked.Board x cmd) (told.Board reply) = x < n → IsGood (OnBoard x (command_given cmd)) (told.Board reply)
-Well n (asked.Bus cmd) (told.Bus reply) = Unit {0}
+Well n (asked.Board x cmd) (event_replies.Board reply) = x < n → IsGood (OnBoard x (command_given cmd)) (event_replies.Board reply)
+Well n (asked.Bus cmd) (event_replies.Bus reply) = Unit {0}
 Well n event reply = ⊥
 
 abbrev AllWell : ℕ → List Transition → Type 0
@@ -54,23 +54,23 @@ AllWell n [] = Unit {0}
 AllWell n (m ∷ run) = Well n m.event m.reply × AllWell n run
 
 -- replies of the arbiter are good too
-abbrev Told : Event → EventReply → Type 0
-Told (asked.Bus cmd) (told.Bus reply) = IsGood (OnBus cmd) (told.Bus reply)
-Told event reply = Unit {0}
+abbrev Replied : Event → EventReply → Type 0
+Replied (asked.Bus cmd) (event_replies.Bus reply) = IsGood (OnBus cmd) (event_replies.Bus reply)
+Replied event reply = Unit {0}
 
-abbrev AllTold : List Transition → Type 0
-AllTold [] = Unit {0}
-AllTold (m ∷ run) = Told m.event m.reply × AllTold run
+abbrev AllReplied : List Transition → Type 0
+AllReplied [] = Unit {0}
+AllReplied (m ∷ run) = Replied m.event m.reply × AllReplied run
 
 -- an end of a line is no denial and leaves the slot free
 record Closes (config : Configuration) (board : ℕ) (line : Line) (before : List EventReply) : Type 0 where
   granted : (answer : LineReply) → line_next config board line before ≡ Returns answer → IsGranted answer
-  free : (answer : LineReply) (slot : ℕ) → line_next config board line before ≡ Returns answer → Leads slot (line_told config board line before) None
+  free : (answer : LineReply) (slot : ℕ) → line_next config board line before ≡ Returns answer → Leads slot (line_reported config board line before) None
 
 closes_first : (config : Configuration) (board : ℕ) (line : Line) → Closes config board line []
 closes_first config board line = record {
   granted = λ answer ends. line_first config board line answer ends;
-  free = λ answer slot ends bus stands. subst (StandsAsTold bus slot) (line_begins config board line) stands;
+  free = λ answer slot ends bus stands. subst (StandsAsReplied bus slot) (line_begins config board line) stands;
 }
 
 closes_next : (config : Configuration) (board : ℕ) (line : Line) (before : List EventReply) (call : Call) (reply : EventReply)
@@ -87,26 +87,26 @@ module _ (config : Configuration) (lawful : IsLawful config) (board : ℕ) (ther
 
   by_move : (line : Line) (before : List EventReply) (who : ℕ) (event : Event) (reply : EventReply) (tail : List Transition) (last : Option ArbReply)
       → line_next config board line before ≡ Invokes (call_of event) → Well (length config.boards) event reply
-      → Leads (slot_at config board) last (line_told config board line before)
+      → Leads (slot_at config board) last (line_reported config board line before)
       → ((last : Option ArbReply) → Closes config board line (reply ∷ before)
-      → Leads (slot_at config board) last (line_told config board line (reply ∷ before)) → GoesWhile (slot_at config board) last (bus_part tail))
+      → Leads (slot_at config board) last (line_reported config board line (reply ∷ before)) → GoesWhile (slot_at config board) last (bus_part tail))
       → GoesWhile (slot_at config board) last (bus_part (move who event reply ∷ tail))
-  by_move line before who (asked.Board x cmd) (told.Board reply) tail last made well leads then =
+  by_move line before who (asked.Board x cmd) (event_replies.Board reply) tail last made well leads then =
       let good = well (next_below config board line (given_of before) (OnBoard x (command_given cmd)) there made) in
       let same = line_datum config board line before (OnBoard x (command_given cmd)) reply made good in
-      then last (closes_next config board line before (OnBoard x (command_given cmd)) (told.Board reply) made good)
-      (λ bus stands. subst (StandsAsTold bus (slot_at config board)) (sym same) (leads bus stands))
-  by_move line before who (asked.Bus cmd) (told.Bus reply) tail last made well leads then = (
-    (line_told config board line before, leads, line_turns config board line before cmd (lawful_level config board lawful there) made),
-    λ good. then (Some reply) (closes_next config board line before (OnBus cmd) (told.Bus reply) made good)
+      then last (closes_next config board line before (OnBoard x (command_given cmd)) (event_replies.Board reply) made good)
+      (λ bus stands. subst (StandsAsReplied bus (slot_at config board)) (sym same) (leads bus stands))
+  by_move line before who (asked.Bus cmd) (event_replies.Bus reply) tail last made well leads then = (
+    (line_reported config board line before, leads, line_turns config board line before cmd (lawful_level config board lawful there) made),
+    λ good. then (Some reply) (closes_next config board line before (OnBus cmd) (event_replies.Bus reply) made good)
         (λ bus stands. line_turn config board line before cmd reply bus (slot_at config board) made good stands),
   )
-  by_move line before who (asked.Board x cmd) (told.Bus reply) tail last made well leads then = absurd well
-  by_move line before who (asked.Bus cmd) (told.Board reply) tail last made well leads then = absurd well
+  by_move line before who (asked.Board x cmd) (event_replies.Bus reply) tail last made well leads then = absurd well
+  by_move line before who (asked.Bus cmd) (event_replies.Board reply) tail last made well leads then = absurd well
 
   by_line : (line : Line) (before : List EventReply) (moves rest : List Transition) (replies : List EventReply) (answer : LineReply)
       (last : Option ArbReply) → Continues config board line before moves replies → line_next config board line replies ≡ Returns answer
-      → Closes config board line before → Leads (slot_at config board) last (line_told config board line before)
+      → Closes config board line before → Leads (slot_at config board) last (line_reported config board line before)
       → AllWell (length config.boards) (moves ++ rest) → (AllWell (length config.boards) rest → After rest)
       → GoesWhile (slot_at config board) last (bus_part (moves ++ rest))
   by_line line before [] rest replies answer last goes ends closes leads well then =
@@ -124,28 +124,28 @@ module _ (config : Configuration) (lawful : IsLawful config) (board : ℕ) (ther
   by_script_state (line ∷ ls) run (answer ∷ answers) script_state well last free =
       subst (λ (r : List Transition). GoesWhile (slot_at config board) last (bus_part r)) (sym script_state.2)
       (by_line line [] script_state.0 script_state.1 script_state.3.replies answer last script_state.3.goes script_state.3.ends (closes_first config board line)
-      (λ bus stands. subst (StandsAsTold bus (slot_at config board)) (sym (line_begins config board line)) (free bus stands))
+      (λ bus stands. subst (StandsAsReplied bus (slot_at config board)) (sym (line_begins config board line)) (free bus stands))
       (subst (AllWell (length config.boards)) script_state.2 well)
       (λ well_rest. by_script_state ls script_state.1 answers script_state.4 well_rest))
 
   -- so where all replies are good, no answer is a denial
   move_good : (line : Line) (before : List EventReply) (event : Event) (reply : EventReply)
-      → line_next config board line before ≡ Invokes (call_of event) → Well (length config.boards) event reply → Told event reply
+      → line_next config board line before ≡ Invokes (call_of event) → Well (length config.boards) event reply → Replied event reply
       → IsGood (call_of event) reply
-  move_good line before (asked.Board x cmd) (told.Board reply) made well good =
+  move_good line before (asked.Board x cmd) (event_replies.Board reply) made well good =
       well (next_below config board line (given_of before) (OnBoard x (command_given cmd)) there made)
-  move_good line before (asked.Bus cmd) (told.Bus reply) made well good = good
-  move_good line before (asked.Board x cmd) (told.Bus reply) made well good = absurd well
-  move_good line before (asked.Bus cmd) (told.Board reply) made well good = absurd well
+  move_good line before (asked.Bus cmd) (event_replies.Bus reply) made well good = good
+  move_good line before (asked.Board x cmd) (event_replies.Bus reply) made well good = absurd well
+  move_good line before (asked.Bus cmd) (event_replies.Board reply) made well good = absurd well
 
   record Left (rest : List Transition) (answer : LineReply) : Type 0 where
     granted : IsGranted answer
     well : AllWell (length config.boards) rest
-    good : AllTold rest
+    good : AllReplied rest
 
   line_granted : (line : Line) (before : List EventReply) (moves rest : List Transition) (replies : List EventReply) (answer : LineReply)
       → Continues config board line before moves replies → line_next config board line replies ≡ Returns answer
-      → Closes config board line before → AllWell (length config.boards) (moves ++ rest) → AllTold (moves ++ rest) → Left rest answer
+      → Closes config board line before → AllWell (length config.boards) (moves ++ rest) → AllReplied (moves ++ rest) → Left rest answer
   line_granted line before [] rest replies answer goes ends closes well good = record {
     granted = closes.granted answer (ap (line_next config board line) goes ∙ ends);
     well = well;
@@ -157,28 +157,28 @@ module _ (config : Configuration) (lawful : IsLawful config) (board : ℕ) (ther
       well.1 good.1
 
   script_state_granted : (ls : List Line) (run : List Transition) (answers : List LineReply) → IsTrace config board ls run answers
-      → AllWell (length config.boards) run → AllTold run → All IsGranted answers
+      → AllWell (length config.boards) run → AllReplied run → All IsGranted answers
   script_state_granted [] run [] script_state well good = All-nil IsGranted
   script_state_granted [] run (answer ∷ answers) script_state well good = absurd script_state
   script_state_granted (line ∷ ls) run [] script_state well good = absurd script_state
   script_state_granted (line ∷ ls) run (answer ∷ answers) script_state well good =
       let left = line_granted line [] script_state.0 script_state.1 script_state.3.replies answer script_state.3.goes script_state.3.ends (closes_first config board line)
-      (subst (AllWell (length config.boards)) script_state.2 well) (subst AllTold script_state.2 good) in
+      (subst (AllWell (length config.boards)) script_state.2 well) (subst AllReplied script_state.2 good) in
       All-cons IsGranted answer answers left.granted
       (script_state_granted ls script_state.1 answers script_state.4 left.well left.good)
 
 -- replies of a board by its history
 abbrev Fit : ℕ → Entry BoardCmd Reply → Type 0
-Fit x e = IsGood (OnBoard x (command_given e.cmd)) (told.Board e.reply)
+Fit x e = IsGood (OnBoard x (command_given e.cmd)) (event_replies.Board e.reply)
 
-step_fits : (x : ℕ) (memory : Board) (cmd : BoardCmd) → IsGood (OnBoard x (command_given cmd)) (told.Board (board_step memory cmd).1)
+step_fits : (x : ℕ) (memory : Board) (cmd : BoardCmd) → IsGood (OnBoard x (command_given cmd)) (event_replies.Board (board_step memory cmd).1)
 unfolding answer_given
 step_fits x memory cmd = record { fit = board_fits memory x (command_given cmd); granted = λ same. absurd cc }
 
 history_fits : (x : ℕ) (memory : Board) (h : List (Entry BoardCmd Reply)) → IsLegal board_step memory h → All (Fit x) h
 history_fits x memory [] legal = All-nil (Fit x)
 history_fits x memory (e ∷ h) legal =
-    All-cons (Fit x) e h (subst (λ (r : Reply). IsGood (OnBoard x (command_given e.cmd)) (told.Board r)) (sym legal.0) (step_fits x memory e.cmd))
+    All-cons (Fit x) e h (subst (λ (r : Reply). IsGood (OnBoard x (command_given e.cmd)) (event_replies.Board r)) (sym legal.0) (step_fits x memory e.cmd))
     (history_fits x (board_step memory e.cmd).0 h legal.1)
 
 all_own : {C R : Type 0} (P : Entry C R → Type 0) (who : ℕ) (h : List (Entry C R)) → All P h → All P (own who h)
@@ -191,7 +191,7 @@ all_own P who (e ∷ h) all =
 
 -- what a board's part says of its moves
 abbrev FitAt : ℕ → Event → EventReply → Type 0
-FitAt x (asked.Board b cmd) (told.Board reply) = b ≡ x → IsGood (OnBoard b (command_given cmd)) (told.Board reply)
+FitAt x (asked.Board b cmd) (event_replies.Board reply) = b ≡ x → IsGood (OnBoard b (command_given cmd)) (event_replies.Board reply)
 FitAt x event reply = Unit {0}
 
 abbrev AllFitAt : ℕ → List Transition → Type 0
@@ -200,17 +200,17 @@ AllFitAt x (m ∷ run) = FitAt x m.event m.reply × AllFitAt x run
 
 fit_head : (x who : ℕ) (event : Event) (reply : EventReply) (tail : List Transition) → All (Fit x) (board_part x (move who event reply ∷ tail))
     → FitAt x event reply × All (Fit x) (board_part x tail)
-fit_head x who (asked.Board b cmd) (told.Board reply) tail all =
+fit_head x who (asked.Board b cmd) (event_replies.Board reply) tail all =
     elim (cases_Bool (eqb b x)) [
       | inl same ↦
           let now : All (Fit x) (record { who = who; cmd = cmd; reply = reply } ∷ board_part x tail) = rw same at all in (
-            λ at. subst (λ (y : ℕ). IsGood (OnBoard y (command_given cmd)) (told.Board reply)) (sym at)
+            λ at. subst (λ (y : ℕ). IsGood (OnBoard y (command_given cmd)) (event_replies.Board reply)) (sym at)
                 (All-head (Fit x) (record { who = who; cmd = cmd; reply = reply }) (board_part x tail) now),
             All-tail (Fit x) (record { who = who; cmd = cmd; reply = reply }) (board_part x tail) now,
           )
       | inr other ↦ (λ at. absurd (eqb-false b x other at), rw other at all)
     ]
-fit_head x who (asked.Board b cmd) (told.Bus reply) tail all = (tt, all)
+fit_head x who (asked.Board b cmd) (event_replies.Bus reply) tail all = (tt, all)
 fit_head x who (asked.Bus cmd) reply tail all = (tt, all)
 
 fit_moves : (x : ℕ) (run : List Transition) → All (Fit x) (board_part x run) → AllFitAt x run
@@ -220,10 +220,10 @@ fit_moves x (m ∷ run) all =
     (parts.0, fit_moves x run parts.1)
 
 well_move : (n : ℕ) (event : Event) (reply : EventReply) → IsReplyTo event reply → ((x : ℕ) → x < n → FitAt x event reply) → Well n event reply
-well_move n (asked.Board x cmd) (told.Board reply) kind fit = λ less. fit x less refl
-well_move n (asked.Bus cmd) (told.Bus reply) kind fit = tt
-well_move n (asked.Board x cmd) (told.Bus reply) kind fit = kind
-well_move n (asked.Bus cmd) (told.Board reply) kind fit = kind
+well_move n (asked.Board x cmd) (event_replies.Board reply) kind fit = λ less. fit x less refl
+well_move n (asked.Bus cmd) (event_replies.Bus reply) kind fit = tt
+well_move n (asked.Board x cmd) (event_replies.Bus reply) kind fit = kind
+well_move n (asked.Bus cmd) (event_replies.Board reply) kind fit = kind
 
 abbrev OfKind : Transition → Type 0
 OfKind m = IsReplyTo m.event m.reply
@@ -235,20 +235,20 @@ well_moves n (m ∷ run) kind fit = (
   well_moves n run (All-tail OfKind m run kind) (λ x less. (fit x less).1),
 )
 
-told_head : (who : ℕ) (event : Event) (reply : EventReply) (tail : List Transition) → All GoodTurn (bus_part (move who event reply ∷ tail))
-    → Told event reply × All GoodTurn (bus_part tail)
-told_head who (asked.Board b cmd) reply tail all = (tt, all)
-told_head who (asked.Bus cmd) (told.Board reply) tail all = (tt, all)
-told_head who (asked.Bus cmd) (told.Bus reply) tail all = (
+reported_head : (who : ℕ) (event : Event) (reply : EventReply) (tail : List Transition) → All GoodTurn (bus_part (move who event reply ∷ tail))
+    → Replied event reply × All GoodTurn (bus_part tail)
+reported_head who (asked.Board b cmd) reply tail all = (tt, all)
+reported_head who (asked.Bus cmd) (event_replies.Board reply) tail all = (tt, all)
+reported_head who (asked.Bus cmd) (event_replies.Bus reply) tail all = (
   All-head GoodTurn (record { who = who; cmd = cmd; reply = reply }) (bus_part tail) all,
   All-tail GoodTurn (record { who = who; cmd = cmd; reply = reply }) (bus_part tail) all,
 )
 
-told_moves : (run : List Transition) → All GoodTurn (bus_part run) → AllTold run
-told_moves [] all = tt
-told_moves (m ∷ run) all =
-    let parts = told_head m.who m.event m.reply run all in
-    (parts.0, told_moves run parts.1)
+reported_moves : (run : List Transition) → All GoodTurn (bus_part run) → AllReplied run
+reported_moves [] all = tt
+reported_moves (m ∷ run) all =
+    let parts = reported_head m.who m.event m.reply run all in
+    (parts.0, reported_moves run parts.1)
 
 -- the part of a who in a history of all
 part_good : {S C R : Type 0} (step : S → C → S × R) (start : S) (part : List Transition → List (Entry C R)) (runs : List (List Transition)) (object : S)
@@ -282,7 +282,7 @@ all_turns config lawful report is =
     turns_good config.arbiter (length config.boards) (slot_at config) is.bus.1.history
     (record {
       in_range = λ who below. lawful_slot config who lawful below;
-      apart = λ v w one two same. elim (eqb_tells v w) [
+      apart = λ v w one two same. elim (eqb_shows v w) [
         | inl equal ↦ equal.1
         | inr apart ↦ absurd (slots_apart config v w lawful one two apart.1 same)
       ];
@@ -302,7 +302,7 @@ none_denied : (h : List (Entry ArbCmd ArbReply)) → All GoodTurn h → All (λ 
 none_denied [] good = All-nil (λ (e : Entry ArbCmd ArbReply). e.reply ≢ turned.Denied)
 none_denied (e ∷ h) good =
     All-cons (λ (e : Entry ArbCmd ArbReply). e.reply ≢ turned.Denied) e h
-    (λ denied. (All-head GoodTurn e h good).granted (ap (λ (r : ArbReply). told.Bus r) denied))
+    (λ denied. (All-head GoodTurn e h good).granted (ap (λ (r : ArbReply). event_replies.Bus r) denied))
     (none_denied h (All-tail GoodTurn e h good))
 
 -- so the arbiter denied nobody
@@ -318,6 +318,6 @@ report_granted config report lawful is who d below =
     let there : who < length config.boards = omega (arith, within, is.workers) in
     script_state_granted config lawful who there (lines_at config who) (slice_index_or is.runs who [])
     (answers_in (slice_index_or report.lines.items who d).items) (is.trace.each who [] d within) (run_well config report is who within)
-    (told_moves (slice_index_or is.runs who [])
+    (reported_moves (slice_index_or is.runs who [])
     (part_good turn_step (opening_bus config.arbiter) bus_part is.runs is.bus.0 report.arbiter_steps report.arbiter_made.items GoodTurn is.bus.1 who within
     (all_turns config lawful report is)))

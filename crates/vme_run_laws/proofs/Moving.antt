@@ -3,14 +3,14 @@ use Rattle.std.proofs.Common.{◌≡◌, ◌≢◌, ℕ, zero, suc, ◌<◌, tru
 use Rattle.std.specs.Prelude.{slice_get, option_map, ◌==◌}
 use Rattle.std.specs.Option.{option_to_list}
 use Rattle.std.proofs.lemmas.Bool.{eq-eqb}
-use Rattle.std.proofs.lemmas.Bool.Decides.{eqb_tells}
+use Rattle.std.proofs.lemmas.Bool.Decides.{eqb_shows}
 use Rattle.std.proofs.lemmas.List.{append-nil, length-set}
 use Rattle.vme_memory.specs.Boards.{Board}
 use Rattle.vme_memory.specs.Steps.{Command}
 use Rattle.vme_core.specs.declared.event.Event.{Event}
 use Rattle.vme_core.specs.declared.event.EventReply.{EventReply}
-use Rattle.vme_core.specs.Tallies.{Tally}
-use Rattle.vme_core.specs.Runs.{Machine, Transition, Did, move}
+use Rattle.vme_core.specs.CountedStates.{CountedState}
+use Rattle.vme_core.specs.Runs.{Machine, Transition, IsRun, move}
 use Rattle.vme_core.specs.Calls.{Call, OnBoard, OnBus, call_of, board_after, machine_step}
 use Rattle.vme_core.proofs.lemmas.Calls.{did_call}
 use Rattle.vme_core.proofs.lemmas.Dones.{did_nil}
@@ -38,7 +38,7 @@ first_left (suc n) [] line rest left = absurd cc
 first_left (suc n) (first ∷ lines) line rest left = first_left n lines line rest left
 
 -- a call leaves as many boards
-board_count : (machine : Machine) (who x : ℕ) (command : Option Command) (found : Option (Tally Board))
+board_count : (machine : Machine) (who x : ℕ) (command : Option Command) (found : Option (CountedState Board))
     → length (board_after machine who x command found).0.boards ≡ length machine.boards
 board_count machine who x command None = refl
 board_count machine who x command (Some board) = length-set machine.boards x _
@@ -53,13 +53,13 @@ own_move who event reply = let same : (who == who) ≡ true = eq-eqb who who ref
 
 pub other_move : (who other : ℕ) (event : Event) (reply : EventReply) → who ≢ other → moves_of other (move who event reply ∷ []) ≡ []
 other_move who other event reply apart =
-    elim (eqb_tells who other) [ inl same ↦ absurd (apart same.1) | inr not_same ↦ let no : (who == other) ≡ false = not_same.0 in rw no refl ]
+    elim (eqb_shows who other) [ inl same ↦ absurd (apart same.1) | inr not_same ↦ let no : (who == other) ≡ false = not_same.0 in rw no refl ]
 
 -- a turn of a board's processor is a move of it, or none
 pub record Moved (config : Configuration) (board : ℕ) (machine : Machine) (mine : List Transition) (call : Option Call) (after : Machine × ScriptState) : Type 0 where
   pub more : List Transition
   pub calls : calls_in more ≡ option_to_list (option_map {U = ℕ × Call} (λ one. (board, one)) call)
-  pub did : Did more machine after.0
+  pub did : IsRun more machine after.0
   pub follows : IsTracePrefix config board (mine ++ more) after.1
   pub own : moves_of board more ≡ more
   pub others : (b : ℕ) → board ≢ b → moves_of b more ≡ []
@@ -99,8 +99,8 @@ module _ (config : Configuration) (lawful : IsLawful config) (board : ℕ) (ther
       let m = move board has.event step.1 in
       let below = next_below config board line (given_of c.replies) call there made in
       let is_there = event_there machine has.event call has.is (subst (λ (n : ℕ). IsCallBelow n call) (sym count) below) in
-      let did : Did (m ∷ []) machine step.0 =
-      subst (λ (one : Call). Did (move board has.event (machine_step machine board one).1 ∷ []) machine (machine_step machine board one).0) has.is
+      let did : IsRun (m ∷ []) machine step.0 =
+      subst (λ (one : Call). IsRun (move board has.event (machine_step machine board one).1 ∷ []) machine (machine_step machine board one).0) has.is
       (did_call machine board has.event is_there) in
       let next : line_next config board line c.replies ≡ Invokes (call_of m.event) = made ∙ ap Invokes (sym has.is) in
       record {

@@ -15,7 +15,7 @@ use Rattle.vme_script.specs.Configurations.{Configuration}
 use Rattle.vme_script.specs.Lawful.{IsLawful}
 use Rattle.vme_line_task.specs.Scripts.{slot_at, level_at, script_at, lines_at}
 use Rattle.vme_line_task.specs.Traces.{ScriptState}
-use Rattle.vme_stepper.specs.Turns.{lines_left, place_of}
+use Rattle.vme_stepper.specs.Turns.{lines_left, board_in_slot}
 
 -- what was written at a place is read there
 pub set_same : {X : Type 0} (xs : List X) (i : ℕ) (new x : X) → slice_get (slice_set xs i new) i ≡ Some x → new ≡ x
@@ -81,11 +81,11 @@ pub record IsPlace (config : Configuration) (slot board : ℕ) : Type 0 where
   pub there : board < length config.boards
   pub own : slot_at config board ≡ slot
 
-pub place_is : (config : Configuration) (slot board : ℕ) → place_of config slot ≡ Some board → IsPlace config slot board
+pub place_is : (config : Configuration) (slot board : ℕ) → board_in_slot config slot ≡ Some board → IsPlace config slot board
 place_is config slot board placed = by_boards config.boards refl
   where
     by_boards : (boards : List BoardConfig) → config.boards ≡ boards → IsPlace config slot board
-    by_boards [] same = let none : place_of config slot ≡ None = rw same refl in absurd cc
+    by_boards [] same = let none : board_in_slot config slot ≡ None = rw same refl in absurd cc
     by_boards (first ∷ boards) same =
         let at = position-Some (λ (one : BoardConfig). one.slot == slot) config.boards board first placed in
         let has = has_board config board at.0 in

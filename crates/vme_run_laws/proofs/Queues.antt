@@ -1,7 +1,7 @@
 -- A mailbox that the lines which name it alone touch is a queue in every report.
 use Rattle.std.proofs.Common.{◌≡◌, ℕ, ◌+◌, ◌≤◌, ◌<◌, List, length, slice_index_or, ◌∙◌}
 use Rattle.vme_object.specs.declared.history.Entry.{Entry}
-use Rattle.vme_object.specs.History.{Begins}
+use Rattle.vme_object.specs.History.{IsPrefix}
 use Rattle.vme_object.specs.Each.{Each}
 use Rattle.vme_memory.specs.declared.command.BoardCmd.{BoardCmd}
 use Rattle.vme_memory.specs.declared.reply.Reply.{Reply}
@@ -16,18 +16,18 @@ use Rattle.vme_line_task.specs.Scripts.{lines_at}
 use Rattle.vme_mailbox_laws.specs.Names.{lines_put, lines_taken, IsMailboxOf}
 use Rattle.vme_mailbox_laws.specs.Groups.{own_words_put, own_words_taken}
 use Rattle.vme_mailbox_laws.proofs.lemmas.Groups.{own_words}
-use Rattle.vme_mailbox_laws.proofs.lemmas.Shared.{proper, put_told, taken_told}
+use Rattle.vme_mailbox_laws.proofs.lemmas.Shared.{proper, put_reported, taken_reported}
 use Rattle.vme_threads.specs.declared.report.BoardReport.{BoardReport}
 use Rattle.vme_threads.specs.declared.report.Report.{Report}
 use Rattle.vme_threads.specs.Rans.{answers_in}
 use Rattle.vme_threads.specs.Reports.{IsReportOf}
-use Rattle.vme_run_laws.proofs.Shared.{share, new_there, told_in, told_each}
+use Rattle.vme_run_laws.proofs.Shared.{share, new_there, reported_in, reported_each}
 
 -- a history is proper for a mailbox, which so is a queue there; its words are those that a report's lines tell
 pub record IsQueue (config : Configuration) (report : Report) (box : ℕ) (m : BoardMailbox) (h : List (Entry BoardCmd Reply))
     : Type 0 where
   pub goes : IsProper m h
-  pub order : Begins (words_taken m h) (words_put m h)
+  pub order : IsPrefix (words_taken m h) (words_put m h)
   pub capacity : length (words_put m h) ≤ length (words_taken m h) + m.slots
   pub put :
       Each (λ who lines. own_words_put who m h ≡ lines_put box (lines_at config who) (answers_in lines.items))
@@ -47,16 +47,16 @@ queue config report lawful is box board m own end below mailbox lies =
     let h = found.history in
     let new = new_there there m lies in
     let shared = share config report lawful is board own end below in
-    let goes = proper config box board m memory h is.runs (told_in report) mailbox new found.legal shared in
+    let goes = proper config box board m memory h is.runs (reported_in report) mailbox new found.legal shared in
     let fifo = is_queue memory m h new found.legal goes in
     record {
       goes = goes;
       order = fifo.order;
       capacity = fifo.capacity;
-      put = told_each report (λ who told. own_words_put who m h ≡ lines_put box (lines_at config who) told)
+      put = reported_each report (λ who reported. own_words_put who m h ≡ lines_put box (lines_at config who) reported)
           (λ who d less. own_words who put_by m all_idle h
-          ∙ put_told config box board m memory h is.runs (told_in report) mailbox new found.legal shared who d less);
-      taken = told_each report (λ who told. own_words_taken who m h ≡ lines_taken box (lines_at config who) told)
+          ∙ put_reported config box board m memory h is.runs (reported_in report) mailbox new found.legal shared who d less);
+      taken = reported_each report (λ who reported. own_words_taken who m h ≡ lines_taken box (lines_at config who) reported)
           (λ who d less. own_words who taken_by m all_idle h
-          ∙ taken_told config box board m memory h is.runs (told_in report) mailbox new found.legal shared who d less);
+          ∙ taken_reported config box board m memory h is.runs (reported_in report) mailbox new found.legal shared who d less);
     }

@@ -2,7 +2,7 @@
 use Rattle.std.proofs.Common.{◌≡◌, ◌≢◌, ℕ, ◌<◌, List, [], ◌∷◌, length, map, Option, Some, None, refl, ap, sym, subst, ◌∙◌, inl, inr, ◌⊎◌, arith}
 use Rattle.std.specs.Prelude.{slice_get, slice_set, option_map}
 use Rattle.std.specs.Option.{option_map_or}
-use Rattle.std.proofs.lemmas.Bool.Decides.{eqb_tells}
+use Rattle.std.proofs.lemmas.Bool.Decides.{eqb_shows}
 use Rattle.std.proofs.lemmas.List.{length-set, length-map}
 use Rattle.std.proofs.lemmas.Option.{slice_get_within, slice_get-map}
 use Rattle.vme_arbiter.specs.declared.command.ArbReply.TheVariants as turned
@@ -10,7 +10,7 @@ use Rattle.vme_arbiter.specs.Arbitration.{opening_bus}
 use Rattle.vme_arbiter.specs.Orderly.{IsOrderly}
 use Rattle.vme_arbiter.proofs.lemmas.Orderly.{orderly-opening}
 use Rattle.vme_memory.specs.Steps.{Command}
-use Rattle.vme_core.specs.declared.event.EventReply.TheVariants as told
+use Rattle.vme_core.specs.declared.event.EventReply.TheVariants as replies
 use Rattle.vme_core.specs.Runs.{Machine}
 use Rattle.vme_core.specs.Calls.{Call, OnBoard, machine_step}
 use Rattle.vme_script.specs.Configurations.{Configuration}
@@ -19,7 +19,7 @@ use Rattle.vme_script.specs.Lawful.{IsLawful}
 use Rattle.vme_line_task.specs.Scripts.{slot_at}
 use Rattle.vme_line_task.specs.Traces.{ScriptState}
 use Rattle.vme_line_task.specs.Tenures.{IsLocal}
-use Rattle.vme_stepper.specs.Turns.{SystemState, script_state, script_state_turn, lines_left, turn_in, turn_at, place_of, turn, run, initial_state, state_after}
+use Rattle.vme_stepper.specs.Turns.{SystemState, script_state, script_state_turn, lines_left, turn_in, turn_at, board_in_slot, turn, run, initial_state, state_after}
 use Rattle.vme_run_laws.specs.TurnCalls.{first_call, script_state_call, place_call, turn_call}
 use Rattle.vme_run_laws.proofs.Places.{set_same, set_other, slots_apart, place_is, left_own}
 use Rattle.vme_run_laws.proofs.Standing.{ScriptStands, rests_standing}
@@ -63,7 +63,7 @@ by_script_state config system board (Some c) lawful stand there is = record {
 
     each : (b : ℕ) (one : ScriptState) → slice_get (slice_set system.script_states board next.1) b ≡ Some one → ScriptStands config next.0.bus.object b one
     each b one at =
-        elim (eqb_tells b board) [
+        elim (eqb_shows b board) [
           | inl same ↦
               let own : next.1 ≡ one = set_same system.script_states board next.1 one
               (ap (slice_get (slice_set system.script_states board next.1)) (sym same.1) ∙ at) in
@@ -73,7 +73,7 @@ by_script_state config system board (Some c) lawful stand there is = record {
         ]
 
 by_place : (config : Configuration) (system : SystemState) (slot : ℕ) (place : Option ℕ) → IsLawful config → AllStand config system
-    → place_of config slot ≡ place → AllStand config (turn_at config system place)
+    → board_in_slot config slot ≡ place → AllStand config (turn_at config system place)
 by_place config system slot None lawful stand is = stand
 by_place config system slot (Some board) lawful stand is =
     by_script_state config system board (slice_get system.script_states board) lawful stand (place_is config slot board is).there refl
@@ -81,7 +81,7 @@ by_place config system slot (Some board) lawful stand is =
 turn_stand : (config : Configuration) (system : SystemState) (slot : ℕ) → IsLawful config → AllStand config system
     → AllStand config (turn config system slot)
 unfolding turn
-turn_stand config system slot lawful stand = by_place config system slot (place_of config slot) lawful stand refl
+turn_stand config system slot lawful stand = by_place config system slot (board_in_slot config slot) lawful stand refl
 
 run_stand : (config : Configuration) (system : SystemState) (slots : List ℕ) → IsLawful config → AllStand config system
     → AllStand config (run config system slots)
@@ -112,7 +112,7 @@ after_stand config slots lawful = run_stand config (initial_state config) slots 
 
 -- the call of a turn is the first that is left to its processor
 pub record IsCallOf (config : Configuration) (system : SystemState) (slot board : ℕ) (call : Call) : Type 0 where
-  pub place : place_of config slot ≡ Some board
+  pub place : board_in_slot config slot ≡ Some board
   pub c : ScriptState
   pub found : slice_get system.script_states board ≡ Some c
   pub first : first_call config board (lines_left config board c) c.replies ≡ Some call
@@ -123,14 +123,14 @@ same_call b board None call is = absurd cc
 same_call b board (Some one) call is =
     (ap (λ (o : Option (ℕ × Call)). option_map_or (λ p. p.0) o 0) is, ap (λ (o : Option (ℕ × Call)). option_map (λ p. p.1) o) is)
 
-call_by : (config : Configuration) (system : SystemState) (slot b board : ℕ) (call : Call) (found : Option ScriptState) → place_of config slot ≡ Some b
+call_by : (config : Configuration) (system : SystemState) (slot b board : ℕ) (call : Call) (found : Option ScriptState) → board_in_slot config slot ≡ Some b
     → slice_get system.script_states b ≡ found → script_state_call config b found ≡ Some (board, call) → IsCallOf config system slot board call
 call_by config system slot b board call None placed at is = absurd cc
 call_by config system slot b board call (Some c) placed at is =
     let same = same_call b board (first_call config b (lines_left config b c) c.replies) call is in
     subst (λ (p : ℕ). IsCallOf config system slot p call) same.0 (record { place = placed; c = c; found = at; first = same.1 })
 
-call_at : (config : Configuration) (system : SystemState) (slot board : ℕ) (call : Call) (place : Option ℕ) → place_of config slot ≡ place
+call_at : (config : Configuration) (system : SystemState) (slot board : ℕ) (call : Call) (place : Option ℕ) → board_in_slot config slot ≡ place
     → place_call config system place ≡ Some (board, call) → IsCallOf config system slot board call
 call_at config system slot board call None placed is = absurd cc
 call_at config system slot board call (Some b) placed is =
@@ -139,7 +139,7 @@ call_at config system slot board call (Some b) placed is =
 pub call_is : (config : Configuration) (system : SystemState) (slot board : ℕ) (call : Call) → turn_call config system slot ≡ Some (board, call)
     → IsCallOf config system slot board call
 unfolding turn_call
-call_is config system slot board call is = call_at config system slot board call (place_of config slot) refl is
+call_is config system slot board call is = call_at config system slot board call (board_in_slot config slot) refl is
 
 -- so its slot holds the bus for data that go over it
 pub holder_is : (config : Configuration) (system : SystemState) (slot board place : ℕ) (command : Option Command) → IsLawful config
@@ -158,12 +158,12 @@ holder_is config system slot board place command lawful stand is =
 
 -- and is not denied
 pub granted_is : (config : Configuration) (system : SystemState) (slot board : ℕ) (call : Call) → IsLawful config → AllStand config system
-    → turn_call config system slot ≡ Some (board, call) → (machine_step system.machine board call).1 ≢ told.Bus turned.Denied
+    → turn_call config system slot ≡ Some (board, call) → (machine_step system.machine board call).1 ≢ replies.Bus turned.Denied
 granted_is config system slot board call lawful stand is =
     let one = call_is config system slot board call is in
     let at = place_is config slot board one.place in
     let stands = stand.each board one.c one.found in
-    first_is config lawful board at.there (λ made. (machine_step system.machine board made).1 ≢ told.Bus turned.Denied) system.machine.bus.object
+    first_is config lawful board at.there (λ made. (machine_step system.machine board made).1 ≢ replies.Bus turned.Denied) system.machine.bus.object
     (replied_granted config lawful board at.there system.machine stand.orderly) (lines_left config board one.c) one.c.replies call
     (left_own config board one.c lawful at.there) stands.stands stands.opens one.first
 
@@ -181,4 +181,4 @@ made_at config system (Some board) = made_by config system board (slice_get syst
 pub turn_made : (config : Configuration) (system : SystemState) (slot : ℕ)
     → (turn config system slot).machine ≡ machine_called system.machine (turn_call config system slot)
 unfolding turn turn_call
-turn_made config system slot = made_at config system (place_of config slot)
+turn_made config system slot = made_at config system (board_in_slot config slot)

@@ -19,7 +19,7 @@ use Rattle.vme_arbiter.specs.Arbitration.{Arbitration, turn_step, opening_bus}
 use Rattle.vme_core.specs.declared.event.Event.{Event}
 use Rattle.vme_core.specs.declared.event.Event.TheVariants as asked
 use Rattle.vme_core.specs.declared.event.EventReply.{EventReply}
-use Rattle.vme_core.specs.declared.event.EventReply.TheVariants as told
+use Rattle.vme_core.specs.declared.event.EventReply.TheVariants as replies
 use Rattle.vme_core.specs.Runs.{Transition, move, IsReplyTo, board_part, bus_part}
 use Rattle.vme_core.specs.Calls.{OnBus}
 use Rattle.vme_master.specs.Jobs.{fits}
@@ -39,7 +39,7 @@ use Rattle.vme_run_laws.proofs.Granted.{report_turns}
 
 -- a reply of the arbiter that fits and is no denial
 abbrev Fine : Entry ArbCmd ArbReply → Type 0
-Fine e = IsTrue (fits (OnBus e.cmd) (told.Bus e.reply)) × (told.Bus e.reply ≢ told.Bus turned.Denied)
+Fine e = IsTrue (fits (OnBus e.cmd) (replies.Bus e.reply)) × (replies.Bus e.reply ≢ replies.Bus turned.Denied)
 
 abbrev Granted : Entry ArbCmd ArbReply → Type 0
 Granted e = e.reply ≢ turned.Denied
@@ -47,9 +47,9 @@ Granted e = e.reply ≢ turned.Denied
 all_fine : (bus : Arbitration) (h : List (Entry ArbCmd ArbReply)) → IsLegal turn_step bus h → All Granted h → All Fine h
 all_fine bus [] legal granted = All-nil Fine
 all_fine bus (e ∷ h) legal granted =
-    let fit : fits (OnBus e.cmd) (told.Bus e.reply) ≡ true =
-    subst (λ (r : ArbReply). fits (OnBus e.cmd) (told.Bus r) ≡ true) (sym legal.0) (turn_fits bus e.cmd) in
-    let no_denial : told.Bus e.reply ≢ told.Bus turned.Denied = λ same. All-head Granted e h granted cc in
+    let fit : fits (OnBus e.cmd) (replies.Bus e.reply) ≡ true =
+    subst (λ (r : ArbReply). fits (OnBus e.cmd) (replies.Bus r) ≡ true) (sym legal.0) (turn_fits bus e.cmd) in
+    let no_denial : replies.Bus e.reply ≢ replies.Bus turned.Denied = λ same. All-head Granted e h granted cc in
     All-cons Fine e h (fit, no_denial) (all_fine (turn_step bus e.cmd).0 h legal.1 (All-tail Granted e h granted))
 
 all_own : {C R : Type 0} (P : Entry C R → Type 0) (who : ℕ) (h : List (Entry C R)) → All P h → All P (own who h)
@@ -63,10 +63,10 @@ all_own P who (e ∷ h) all =
 -- so each move is turned well
 one_turned : (who : ℕ) (event : Event) (reply : EventReply) (tail : List Transition) → IsReplyTo event reply
     → All Fine (bus_part (move who event reply ∷ tail)) → IsTurned event reply × All Fine (bus_part tail)
-one_turned who (asked.Board x cmd) (told.Board reply) tail kind all = (tt, all)
-one_turned who (asked.Board x cmd) (told.Bus reply) tail kind all = absurd kind
-one_turned who (asked.Bus cmd) (told.Board reply) tail kind all = absurd kind
-one_turned who (asked.Bus cmd) (told.Bus reply) tail kind all = (
+one_turned who (asked.Board x cmd) (replies.Board reply) tail kind all = (tt, all)
+one_turned who (asked.Board x cmd) (replies.Bus reply) tail kind all = absurd kind
+one_turned who (asked.Bus cmd) (replies.Board reply) tail kind all = absurd kind
+one_turned who (asked.Bus cmd) (replies.Bus reply) tail kind all = (
   All-head Fine (record { who = who; cmd = cmd; reply = reply }) (bus_part tail) all,
   All-tail Fine (record { who = who; cmd = cmd; reply = reply }) (bus_part tail) all,
 )
@@ -86,8 +86,8 @@ some_of [] x less = absurd (omega (arith, less))
 some_of (one ∷ xs) x less = one
 
 -- the answers of a report's lines
-abbrev pub told_in : Report → List (List LineReply)
-told_in report = map (λ lines. answers_in lines.items) report.lines.items
+abbrev pub reported_in : Report → List (List LineReply)
+reported_in report = map (λ lines. answers_in lines.items) report.lines.items
 
 module _ (config : Configuration) (report : Report) (lawful : IsLawful config) (is : IsReportOf config report) where
   turned_run : (who : ℕ) (d : List Transition) → who < length is.runs → AllTurned (slice_index_or is.runs who d)
@@ -100,7 +100,7 @@ module _ (config : Configuration) (report : Report) (lawful : IsLawful config) (
       (subst (All Fine) owned (all_own Fine who bus.history fine))
 
   pub share : (board : ℕ) (own_board : BoardConfig) (end : BoardReport) (below : board < length config.boards)
-      → ShareHistory config board (is.boards.each board own_board end below).history.history is.runs (told_in report)
+      → ShareHistory config board (is.boards.each board own_board end below).history.history is.runs (reported_in report)
   share board own_board end below =
       let has = (is.boards.each board own_board end below).history in
       record {
@@ -139,8 +139,8 @@ new_there there m lies =
     record { lies = lies; zero = zeros_at there.entry.size m.offset (mailbox_len m.slots) inside }
 
 -- the answers of one processor's lines
-pub told_each : (report : Report) (P : ℕ → List LineReply → Type 0) → Each P (told_in report)
+pub reported_each : (report : Report) (P : ℕ → List LineReply → Type 0) → Each P (reported_in report)
     → Each (λ who lines. P who (answers_in lines.items)) report.lines.items
-told_each report P each who d below =
+reported_each report P each who d below =
     subst (P who) (get_or-map (λ lines. answers_in lines.items) report.lines.items who d [] below)
     (each who [] (subst (λ (n : ℕ). who < n) (sym (length-map report.lines.items (λ lines. answers_in lines.items))) below))

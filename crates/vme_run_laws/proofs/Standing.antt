@@ -4,7 +4,7 @@ use Rattle.std.specs.Prelude.{All}
 use Rattle.std.proofs.lemmas.List.Elements.{All-push}
 use Rattle.vme_arbiter.specs.declared.command.ArbReply.{ArbReply}
 use Rattle.vme_arbiter.specs.Arbitration.{Arbitration}
-use Rattle.vme_arbiter.specs.Turns.{StandsAsTold}
+use Rattle.vme_arbiter.specs.Turns.{StandsAsReplied}
 use Rattle.vme_core.specs.declared.event.EventReply.{EventReply}
 use Rattle.vme_core.specs.Calls.{Call}
 use Rattle.vme_shared.specs.declared.reply.LineReply.{LineReply}
@@ -13,14 +13,14 @@ use Rattle.vme_script.specs.Configurations.{Configuration}
 use Rattle.vme_line_task.specs.Scripts.{slot_at, lines_at}
 use Rattle.vme_line_task.specs.Tables.{LineNext, NotStarted, Invokes, Returns, line_next}
 use Rattle.vme_line_task.specs.Traces.{ScriptState}
-use Rattle.vme_line_task.specs.Tenures.{line_told, IsGood, IsGranted}
+use Rattle.vme_line_task.specs.Tenures.{line_reported, IsGood, IsGranted}
 use Rattle.vme_line_task.proofs.lemmas.Kept.{line_begins, line_ends}
 use Rattle.vme_stepper.specs.Turns.{script_state, settled, lines_left}
 
 -- what the slot was told last, in the line that comes next
-abbrev pub told_left : Configuration → ℕ → List Line → List EventReply → Option ArbReply
-told_left config board [] replies = None
-told_left config board (line ∷ lines) replies = line_told config board line replies
+abbrev pub reported_left : Configuration → ℕ → List Line → List EventReply → Option ArbReply
+reported_left config board [] replies = None
+reported_left config board (line ∷ lines) replies = line_reported config board line replies
 
 abbrev pub NotEnded : LineNext → Type 0
 NotEnded (Returns answer) = ⊥
@@ -32,14 +32,14 @@ IsOpen config board [] replies = Unit {0}
 IsOpen config board (line ∷ lines) replies = (replies ≡ []) ⊎ NotEnded (line_next config board line replies)
 
 pub record ScriptStands (config : Configuration) (bus : Arbitration) (board : ℕ) (c : ScriptState) : Type 0 where
-  pub stands : StandsAsTold bus (slot_at config board) (told_left config board (lines_left config board c) c.replies)
+  pub stands : StandsAsReplied bus (slot_at config board) (reported_left config board (lines_left config board c) c.replies)
   pub opens : IsOpen config board (lines_left config board c) c.replies
   pub granted : All IsGranted c.ended
 
 -- before a line was replied anything, its slot was told nothing
-pub told_begins : (config : Configuration) (board : ℕ) (lines : List Line) → told_left config board lines [] ≡ None
-told_begins config board [] = refl
-told_begins config board (line ∷ lines) = line_begins config board line
+pub reported_begins : (config : Configuration) (board : ℕ) (lines : List Line) → reported_left config board lines [] ≡ None
+reported_begins config board [] = refl
+reported_begins config board (line ∷ lines) = line_begins config board line
 
 opens_begins : (config : Configuration) (board : ℕ) (lines : List Line) → IsOpen config board lines []
 opens_begins config board [] = tt
@@ -47,11 +47,11 @@ opens_begins config board (line ∷ lines) = inl refl
 
 -- between lines
 pub rests_standing : (config : Configuration) (bus : Arbitration) (board : ℕ) (ended : List LineReply)
-    → StandsAsTold bus (slot_at config board) None → All IsGranted ended → ScriptStands config bus board (script_state ended [])
+    → StandsAsReplied bus (slot_at config board) None → All IsGranted ended → ScriptStands config bus board (script_state ended [])
 rests_standing config bus board ended stands granted =
     let left = drop (length ended) (lines_at config board) in
     record {
-      stands = subst (StandsAsTold bus (slot_at config board)) (sym (told_begins config board left)) stands;
+      stands = subst (StandsAsReplied bus (slot_at config board)) (sym (reported_begins config board left)) stands;
       opens = opens_begins config board left;
       granted = granted;
     }
@@ -65,10 +65,10 @@ ended_begins config board line lines replies answer (inr goes) ends = absurd (su
 -- a line goes on
 goes_on : (config : Configuration) (bus : Arbitration) (board : ℕ) (ended : List LineReply) (replies : List EventReply) (line : Line)
     (rest : List Line) (reply : EventReply) (next : LineNext) → drop (length ended) (lines_at config board) ≡ line ∷ rest
-    → StandsAsTold bus (slot_at config board) (line_told config board line (reply ∷ replies)) → All IsGranted ended
+    → StandsAsReplied bus (slot_at config board) (line_reported config board line (reply ∷ replies)) → All IsGranted ended
     → line_next config board line (reply ∷ replies) ≡ next → NotEnded next → ScriptStands config bus board (script_state ended (reply ∷ replies))
 goes_on config bus board ended replies line rest reply next left stands granted is open_still = record {
-  stands = subst (λ (ls : List Line). StandsAsTold bus (slot_at config board) (told_left config board ls (reply ∷ replies))) (sym left) stands;
+  stands = subst (λ (ls : List Line). StandsAsReplied bus (slot_at config board) (reported_left config board ls (reply ∷ replies))) (sym left) stands;
   opens = subst (λ (ls : List Line). IsOpen config board ls (reply ∷ replies)) (sym left) (inr (subst NotEnded (sym is) open_still));
   granted = granted;
 }
@@ -77,7 +77,7 @@ goes_on config bus board ended replies line rest reply next left stands granted 
 pub settled_stands : (config : Configuration) (bus : Arbitration) (board : ℕ) (ended : List LineReply) (replies : List EventReply) (line : Line)
     (rest : List Line) (call : Call) (reply : EventReply) (next : LineNext) → drop (length ended) (lines_at config board) ≡ line ∷ rest
     → line_next config board line replies ≡ Invokes call → IsGood call reply
-    → StandsAsTold bus (slot_at config board) (line_told config board line (reply ∷ replies)) → All IsGranted ended
+    → StandsAsReplied bus (slot_at config board) (line_reported config board line (reply ∷ replies)) → All IsGranted ended
     → line_next config board line (reply ∷ replies) ≡ next → ScriptStands config bus board (settled ended (reply ∷ replies) next)
 settled_stands config bus board ended replies line rest call reply (Returns answer) left made good stands granted is =
     let well = line_ends config board line replies call reply answer made good is in

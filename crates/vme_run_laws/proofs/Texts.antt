@@ -16,7 +16,7 @@ use Rattle.vme_script.specs.Configurations.{Configuration, configuration_of}
 use Rattle.vme_script.specs.Lawful.{IsLawful}
 use Rattle.vme_script.specs.Readings.{configuration_in}
 use Rattle.vme_script.proofs.lemmas.Lawful.{configuration_known}
-use Rattle.vme_engines.specs.Tellings.{TellsRun}
+use Rattle.vme_engines.specs.RunTexts.{IsRunText}
 use Rattle.vme_run_laws.specs.Declared.{IsDeclaredIn}
 use Rattle.vme_run_laws.proofs.Queues.{IsQueue}
 use Rattle.vme_run_laws.proofs.Declared.{declared_queue, there}
@@ -31,15 +31,15 @@ unfolding configuration_in
 read_lawful None config is = absurd cc
 read_lawful (Some keys) config is = by_values (file_values keys) config is
 
-module _ (input text : List ℕ) (status : Status) (told : TellsRun input text status) where
-  pub told_lawful : IsLawful told.config
-  told_lawful = read_lawful (parse_document input) told.config told.configures.1
+module _ (input text : List ℕ) (status : Status) (reported : IsRunText input text status) where
+  pub reported_lawful : IsLawful reported.config
+  reported_lawful = read_lawful (parse_document input) reported.config reported.configures.1
 
   -- so each mailbox that it declares is a queue in the report that is told
-  pub told_queue : (box : ℕ) (m : BoardMailbox) (h : List (Entry BoardCmd Reply))
-      → IsDeclaredIn told.config told.report told.run box m h → IsQueue told.config told.report box m h
-  told_queue box m h at = declared_queue told.config told.report told.run box m h told_lawful at
+  pub reported_queue : (box : ℕ) (m : BoardMailbox) (h : List (Entry BoardCmd Reply))
+      → IsDeclaredIn reported.config reported.report reported.run box m h → IsQueue reported.config reported.report box m h
+  reported_queue box m h at = declared_queue reported.config reported.report reported.run box m h reported_lawful at
 
-  pub told_there : (k : ℕ) → k < length told.config.mailboxes
-      → (m : BoardMailbox) × (h : List (Entry BoardCmd Reply)) × IsDeclaredIn told.config told.report told.run (k + 1) m h
-  told_there k less = there told.config told.report told.run k told_lawful less
+  pub reported_there : (k : ℕ) → k < length reported.config.mailboxes
+      → (m : BoardMailbox) × (h : List (Entry BoardCmd Reply)) × IsDeclaredIn reported.config reported.report reported.run (k + 1) m h
+  reported_there k less = there reported.config reported.report reported.run k reported_lawful less

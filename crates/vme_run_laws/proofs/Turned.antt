@@ -8,10 +8,10 @@ use Rattle.vme_arbiter.specs.declared.command.ArbReply.{ArbReply}
 use Rattle.vme_arbiter.specs.declared.command.ArbReply.TheVariants as turned
 use Rattle.vme_arbiter.specs.Arbitration.{Arbitration, turn_step}
 use Rattle.vme_arbiter.specs.Orderly.{IsOrderly}
-use Rattle.vme_arbiter.specs.Turns.{StandsAsTold}
+use Rattle.vme_arbiter.specs.Turns.{StandsAsReplied}
 use Rattle.vme_arbiter.proofs.lemmas.Turns.{other-turn, holds-holder}
 use Rattle.vme_core.specs.declared.event.EventReply.{EventReply}
-use Rattle.vme_core.specs.declared.event.EventReply.TheVariants as told
+use Rattle.vme_core.specs.declared.event.EventReply.TheVariants as event_replies
 use Rattle.vme_core.specs.Runs.{Machine}
 use Rattle.vme_core.specs.Calls.{Call, OnBoard, OnBus, machine_step}
 use Rattle.vme_shared.specs.declared.reply.LineReply.{LineReply}
@@ -22,59 +22,59 @@ use Rattle.vme_script.specs.Lawful.{IsLawful}
 use Rattle.vme_line_task.specs.Scripts.{slot_at}
 use Rattle.vme_line_task.specs.Tables.{LineNext, NotStarted, Invokes, Returns, line_next}
 use Rattle.vme_line_task.specs.Traces.{ScriptState}
-use Rattle.vme_line_task.specs.Tenures.{line_told, IsLocal, IsGranted}
+use Rattle.vme_line_task.specs.Tenures.{line_reported, IsLocal, IsGranted}
 use Rattle.vme_line_task.proofs.lemmas.Kept.{line_first, line_turns, line_holds, line_turn, line_datum}
 use Rattle.vme_stepper.specs.Turns.{script_state, settled, call_made, turn_by, script_state_turn, lines_left}
 use Rattle.vme_run_laws.specs.TurnCalls.{call_or, first_call}
 use Rattle.vme_run_laws.proofs.Places.{lawful_slot, lawful_level, left_after, AllOwn}
 use Rattle.vme_run_laws.proofs.Called.{board_called, bus_called, call_granted}
-use Rattle.vme_run_laws.proofs.Standing.{told_left, IsOpen, ScriptStands, told_begins, rests_standing, ended_begins, settled_stands}
+use Rattle.vme_run_laws.proofs.Standing.{reported_left, IsOpen, ScriptStands, reported_begins, rests_standing, ended_begins, settled_stands}
 
 -- after a turn of a board's processor the bus is orderly, the processor stands well, and other slots stand as they did
 pub record Stays (config : Configuration) (board : ℕ) (before : Arbitration) (after : Machine × ScriptState) : Type 0 where
   pub orderly : IsOrderly after.0.bus.object
   pub own : ScriptStands config after.0.bus.object board after.1
-  pub others : (slot : ℕ) (last : Option ArbReply) → slot_at config board ≢ slot → StandsAsTold before slot last
-      → StandsAsTold after.0.bus.object slot last
+  pub others : (slot : ℕ) (last : Option ArbReply) → slot_at config board ≢ slot → StandsAsReplied before slot last
+      → StandsAsReplied after.0.bus.object slot last
 
 module _ (config : Configuration) (lawful : IsLawful config) (board : ℕ) (there : board < length config.boards) where
   -- a call of the next line on a board
   data_stay : (machine : Machine) (c : ScriptState) (line : Line) (rest : List Line) (x : ℕ) (command : Option Command)
       → lines_left config board c ≡ line ∷ rest → IsOrderly machine.bus.object → All IsGranted c.ended
-      → StandsAsTold machine.bus.object (slot_at config board) (line_told config board line c.replies)
+      → StandsAsReplied machine.bus.object (slot_at config board) (line_reported config board line c.replies)
       → line_next config board line c.replies ≡ Invokes (OnBoard x command)
       → Stays config board machine.bus.object (call_made config board line machine c (OnBoard x command))
   data_stay machine c line rest x command left orderly granted stands made =
       let step = machine_step machine board (OnBoard x command) in
       let called = board_called machine board x command in
       let same : step.0.bus.object ≡ machine.bus.object = ap (λ b. b.object) called.bus in
-      let told_same = line_datum config board line c.replies (OnBoard x command) called.reply made called.good in
+      let reported_same = line_datum config board line c.replies (OnBoard x command) called.reply made called.good in
       let own : ScriptStands config machine.bus.object board
-      (settled c.ended (told.Board called.reply ∷ c.replies) (line_next config board line (told.Board called.reply ∷ c.replies))) =
-      settled_stands config machine.bus.object board c.ended c.replies line rest (OnBoard x command) (told.Board called.reply) _ left made
-      called.good (subst (StandsAsTold machine.bus.object (slot_at config board)) (sym told_same) stands) granted refl in
+      (settled c.ended (event_replies.Board called.reply ∷ c.replies) (line_next config board line (event_replies.Board called.reply ∷ c.replies))) =
+      settled_stands config machine.bus.object board c.ended c.replies line rest (OnBoard x command) (event_replies.Board called.reply) _ left made
+      called.good (subst (StandsAsReplied machine.bus.object (slot_at config board)) (sym reported_same) stands) granted refl in
       let settled_by = λ (reply : EventReply). settled c.ended (reply ∷ c.replies) (line_next config board line (reply ∷ c.replies)) in
       record {
         orderly = subst IsOrderly (sym same) orderly;
         own = subst (λ (bus : Arbitration). ScriptStands config bus board (settled_by step.1)) (sym same)
             (subst (λ (reply : EventReply). ScriptStands config machine.bus.object board (settled_by reply)) (sym called.replied) own);
-        others = λ slot last apart was. subst (λ (bus : Arbitration). StandsAsTold bus slot last) (sym same) was;
+        others = λ slot last apart was. subst (λ (bus : Arbitration). StandsAsReplied bus slot last) (sym same) was;
       }
 
   -- a command of the next line to the arbiter
   turn_stays : (machine : Machine) (c : ScriptState) (line : Line) (rest : List Line) (cmd : ArbCmd) → lines_left config board c ≡ line ∷ rest
       → IsOrderly machine.bus.object → All IsGranted c.ended
-      → StandsAsTold machine.bus.object (slot_at config board) (line_told config board line c.replies)
+      → StandsAsReplied machine.bus.object (slot_at config board) (line_reported config board line c.replies)
       → line_next config board line c.replies ≡ Invokes (OnBus cmd)
       → Stays config board machine.bus.object (call_made config board line machine c (OnBus cmd))
   turn_stays machine c line rest cmd left orderly granted stands made =
       let bus = machine.bus.object in
       let may = line_turns config board line c.replies cmd (lawful_level config board lawful there) made in
-      let called = bus_called bus (slot_at config board) (line_told config board line c.replies) cmd orderly
+      let called = bus_called bus (slot_at config board) (line_reported config board line c.replies) cmd orderly
       (lawful_slot config board lawful there) stands may in
       record {
         orderly = called.orderly;
-        own = settled_stands config (turn_step bus cmd).0 board c.ended c.replies line rest (OnBus cmd) (told.Bus (turn_step bus cmd).1) _ left
+        own = settled_stands config (turn_step bus cmd).0 board c.ended c.replies line rest (OnBus cmd) (event_replies.Bus (turn_step bus cmd).1) _ left
             made called.good
             (line_turn config board line c.replies cmd (turn_step bus cmd).1 (turn_step bus cmd).0 (slot_at config board) made called.good
             called.stands) granted refl;
@@ -83,7 +83,7 @@ module _ (config : Configuration) (lawful : IsLawful config) (board : ℕ) (ther
 
   call_stays : (machine : Machine) (c : ScriptState) (line : Line) (rest : List Line) (call : Call) → lines_left config board c ≡ line ∷ rest
       → IsOrderly machine.bus.object → All IsGranted c.ended
-      → StandsAsTold machine.bus.object (slot_at config board) (line_told config board line c.replies)
+      → StandsAsReplied machine.bus.object (slot_at config board) (line_reported config board line c.replies)
       → line_next config board line c.replies ≡ Invokes call → Stays config board machine.bus.object (call_made config board line machine c call)
   call_stays machine c line rest (OnBoard x command) left orderly granted stands made =
       data_stay machine c line rest x command left orderly granted stands made
@@ -97,9 +97,9 @@ module _ (config : Configuration) (lawful : IsLawful config) (board : ℕ) (ther
   refused_stands bus c line rest answer left stands ends =
       let opens : IsOpen config board (line ∷ rest) c.replies = subst (λ (ls : List Line). IsOpen config board ls c.replies) left stands.opens in
       let none = ended_begins config board line rest c.replies answer opens ends in
-      let free : StandsAsTold bus (slot_at config board) None =
-      subst (StandsAsTold bus (slot_at config board))
-      (ap (told_left config board (lines_left config board c)) none ∙ told_begins config board (lines_left config board c)) stands.stands in
+      let free : StandsAsReplied bus (slot_at config board) None =
+      subst (StandsAsReplied bus (slot_at config board))
+      (ap (reported_left config board (lines_left config board c)) none ∙ reported_begins config board (lines_left config board c)) stands.stands in
       rests_standing config bus board (c.ended ++ answer ∷ []) free
       (All-push IsGranted c.ended answer stands.granted
       (line_first config board line answer (ap (line_next config board line) (sym none) ∙ ends)))
@@ -113,7 +113,7 @@ module _ (config : Configuration) (lawful : IsLawful config) (board : ℕ) (ther
       → Stays config board machine.bus.object (turn_by config board line machine c next after)
   by_next machine c line rest (Invokes call) after left orderly stands is then =
       call_stays machine c line rest call left orderly stands.granted
-      (subst (λ (ls : List Line). StandsAsTold machine.bus.object (slot_at config board) (told_left config board ls c.replies)) left stands.stands) is
+      (subst (λ (ls : List Line). StandsAsReplied machine.bus.object (slot_at config board) (reported_left config board ls c.replies)) left stands.stands) is
   by_next machine c line rest (Returns answer) after left orderly stands is then =
       then (script_state (c.ended ++ answer ∷ []) []) (left_after config board c.ended answer line rest left)
       (refused_stands machine.bus.object c line rest answer left stands is)
@@ -129,16 +129,16 @@ module _ (config : Configuration) (lawful : IsLawful config) (board : ℕ) (ther
 
   -- what holds of the call of a line whose slot stands as the line was told holds of the next call
   by_first : (Q : Call → Type 0) (bus : Arbitration) (line : Line) (rest : List Line) (replies : List EventReply) (call : Call) (next : LineNext)
-      → StandsAsTold bus (slot_at config board) (line_told config board line replies) → IsOpen config board (line ∷ rest) replies
+      → StandsAsReplied bus (slot_at config board) (line_reported config board line replies) → IsOpen config board (line ∷ rest) replies
       → line_next config board line replies ≡ next → call_or next (first_call config board rest []) ≡ Some call
       → ((made : Call) → line_next config board line replies ≡ Invokes made → Q made)
-      → (first_call config board rest [] ≡ Some call → StandsAsTold bus (slot_at config board) None → Q call) → Q call
+      → (first_call config board rest [] ≡ Some call → StandsAsReplied bus (slot_at config board) None → Q call) → Q call
   by_first Q bus line rest replies call (Invokes made) stands opens is first now later =
       let same : made ≡ call = cc in
       subst Q same (now made is)
   by_first Q bus line rest replies call (Returns answer) stands opens is first now later =
       let none = ended_begins config board line rest replies answer opens is in
-      later first (subst (StandsAsTold bus (slot_at config board)) (ap (line_told config board line) none ∙ told_begins config board (line ∷ rest)) stands)
+      later first (subst (StandsAsReplied bus (slot_at config board)) (ap (line_reported config board line) none ∙ reported_begins config board (line ∷ rest)) stands)
   by_first Q bus line rest replies call NotStarted stands opens is first now later = absurd cc
 
   begins_open : (lines : List Line) → IsOpen config board lines []
@@ -147,16 +147,16 @@ module _ (config : Configuration) (lawful : IsLawful config) (board : ℕ) (ther
 
   pub first_is : (Q : Call → Type 0) (bus : Arbitration)
       → ((line : Line) (replies : List EventReply) (made : Call) → IsOwnLine line
-      → StandsAsTold bus (slot_at config board) (line_told config board line replies) → line_next config board line replies ≡ Invokes made → Q made)
+      → StandsAsReplied bus (slot_at config board) (line_reported config board line replies) → line_next config board line replies ≡ Invokes made → Q made)
       → (lines : List Line) (replies : List EventReply) (call : Call) → AllOwn lines
-      → StandsAsTold bus (slot_at config board) (told_left config board lines replies) → IsOpen config board lines replies
+      → StandsAsReplied bus (slot_at config board) (reported_left config board lines replies) → IsOpen config board lines replies
       → first_call config board lines replies ≡ Some call → Q call
   first_is Q bus each [] replies call own stands opens first = absurd cc
   first_is Q bus each (line ∷ rest) replies call own stands opens first =
       by_first Q bus line rest replies call (line_next config board line replies) stands opens refl first
       (λ made is. each line replies made own.0 stands is)
       (λ later free. first_is Q bus each rest [] call own.1
-      (subst (StandsAsTold bus (slot_at config board)) (sym (told_begins config board rest)) free) (begins_open rest) later)
+      (subst (StandsAsReplied bus (slot_at config board)) (sym (reported_begins config board rest)) free) (begins_open rest) later)
 
   -- a call on a board is one of its local port, or the slot holds the bus
   abbrev pub HoldsFor : Arbitration → Call → Type 0
@@ -164,22 +164,22 @@ module _ (config : Configuration) (lawful : IsLawful config) (board : ℕ) (ther
   HoldsFor bus (OnBus cmd) = Unit {0}
 
   pub call_holds : (bus : Arbitration) (line : Line) (replies : List EventReply) (call : Call) → IsOwnLine line
-      → StandsAsTold bus (slot_at config board) (line_told config board line replies) → line_next config board line replies ≡ Invokes call
+      → StandsAsReplied bus (slot_at config board) (line_reported config board line replies) → line_next config board line replies ≡ Invokes call
       → HoldsFor bus call
   call_holds bus line replies (OnBus cmd) own stands made = tt
   call_holds bus line replies (OnBoard x command) own stands made =
       elim (line_holds config board line replies x command own made) [
         | inl local ↦ inl local
         | inr held ↦ inr (holds-holder bus (slot_at config board)
-            (subst (StandsAsTold bus (slot_at config board)) held stands))
+            (subst (StandsAsReplied bus (slot_at config board)) held stands))
       ]
 
   -- and its reply is no denial
   pub replied_granted : (machine : Machine) → IsOrderly machine.bus.object → (line : Line) (replies : List EventReply) (call : Call)
-      → IsOwnLine line → StandsAsTold machine.bus.object (slot_at config board) (line_told config board line replies)
-      → line_next config board line replies ≡ Invokes call → (machine_step machine board call).1 ≢ told.Bus turned.Denied
+      → IsOwnLine line → StandsAsReplied machine.bus.object (slot_at config board) (line_reported config board line replies)
+      → line_next config board line replies ≡ Invokes call → (machine_step machine board call).1 ≢ event_replies.Bus turned.Denied
   replied_granted machine orderly line replies call own stands made =
-      call_granted machine board (slot_at config board) (line_told config board line replies) call orderly
+      call_granted machine board (slot_at config board) (line_reported config board line replies) call orderly
       (lawful_slot config board lawful there) stands
       (λ cmd same. line_turns config board line replies cmd (lawful_level config board lawful there) (made ∙ ap Invokes same))
 

@@ -11,20 +11,20 @@ use Rattle.vme_arbiter.specs.Requests.{is_slot}
 use Rattle.vme_arbiter.specs.declared.kind.ArbiterKind.{ArbiterKind}
 use Rattle.vme_arbiter.specs.Arbitration.{Arbitration, turn_step, opening_bus}
 use Rattle.vme_arbiter.specs.Orderly.{IsOrderly}
-use Rattle.vme_arbiter.specs.Turns.{may_give, StandsAsTold}
+use Rattle.vme_arbiter.specs.Turns.{may_give, StandsAsReplied}
 use Rattle.vme_arbiter.proofs.lemmas.Turns.{other-turn}
 use Rattle.vme_arbiter.proofs.lemmas.Orderly.{orderly-opening}
-use Rattle.vme_core.specs.declared.event.EventReply.TheVariants as told
+use Rattle.vme_core.specs.declared.event.EventReply.TheVariants as replies
 use Rattle.vme_core.specs.Calls.{OnBus}
 use Rattle.vme_line_task.specs.Tenures.{IsGood}
 use Rattle.vme_run_laws.proofs.Called.{BusCalled, bus_called}
 
 -- a slot that stands by one last reply stands by another
 abbrev pub Leads : ℕ → Option ArbReply → Option ArbReply → Type 0
-Leads slot last now = (bus : Arbitration) → StandsAsTold bus slot last → StandsAsTold bus slot now
+Leads slot last now = (bus : Arbitration) → StandsAsReplied bus slot last → StandsAsReplied bus slot now
 
 abbrev pub GoodTurn : Entry ArbCmd ArbReply → Type 0
-GoodTurn e = IsGood (OnBus e.cmd) (told.Bus e.reply)
+GoodTurn e = IsGood (OnBus e.cmd) (replies.Bus e.reply)
 
 -- each command may be given, and so may those after it if the reply to it is good
 abbrev pub GoesWhile : ℕ → Option ArbReply → List (Entry ArbCmd ArbReply) → Type 0
@@ -32,15 +32,15 @@ GoesWhile slot last [] = Unit {0}
 GoesWhile slot last (e ∷ h) = ((now : Option ArbReply) × Leads slot last now × (may_give slot now e.cmd ≡ true))
     × (GoodTurn e → GoesWhile slot (Some e.reply) h)
 
-told_last : (ℕ → Option ArbReply) → Entry ArbCmd ArbReply → ℕ → Option ArbReply
-told_last last e who = cond (eqb e.who who) (Some e.reply) (last who)
+reported_last : (ℕ → Option ArbReply) → Entry ArbCmd ArbReply → ℕ → Option ArbReply
+reported_last last e who = cond (eqb e.who who) (Some e.reply) (last who)
 
 pub record AreMasters (k : ℕ) (slots : ℕ → ℕ) : Type 0 where
   pub in_range : (who : ℕ) → who < k → is_slot (slots who) ≡ true
   pub apart : (v w : ℕ) → v < k → w < k → slots v ≡ slots w → v ≡ w
 
 record AreFit (k : ℕ) (slots : ℕ → ℕ) (bus : Arbitration) (last : ℕ → Option ArbReply) (h : List (Entry ArbCmd ArbReply)) : Type 0 where
-  fits : (who : ℕ) → who < k → StandsAsTold bus (slots who) (last who)
+  fits : (who : ℕ) → who < k → StandsAsReplied bus (slots who) (last who)
   goes : (who : ℕ) → who < k → GoesWhile (slots who) (last who) (own who h)
 
 goes_own : (slot : ℕ) (last : Option ArbReply) (e : Entry ArbCmd ArbReply) (h : List (Entry ArbCmd ArbReply))
@@ -51,22 +51,22 @@ goes_own slot last e h goes = let same : eqb e.who e.who ≡ true = eq-eqb e.who
 fit_after : (k : ℕ) (slots : ℕ → ℕ) (bus : Arbitration) (last : ℕ → Option ArbReply) (e : Entry ArbCmd ArbReply)
     (h : List (Entry ArbCmd ArbReply)) → AreMasters k slots → IsOrderly bus → e.who < k → e.reply ≡ (turn_step bus e.cmd).1
     → AreFit k slots bus last (e ∷ h)
-    → IsOrderly (turn_step bus e.cmd).0 × GoodTurn e × AreFit k slots (turn_step bus e.cmd).0 (told_last last e) h
-unfolding told_last
+    → IsOrderly (turn_step bus e.cmd).0 × GoodTurn e × AreFit k slots (turn_step bus e.cmd).0 (reported_last last e) h
+unfolding reported_last
 fit_after k slots bus last e h masters orderly within reply fit =
     let goes = goes_own (slots e.who) (last e.who) e h (fit.goes e.who within) in
     let called : BusCalled bus (slots e.who) e.cmd =
     bus_called bus (slots e.who) goes.0.0 e.cmd orderly (masters.in_range e.who within) (goes.0.1 bus (fit.fits e.who within)) goes.0.2 in
-    let good : GoodTurn e = subst (λ (r : ArbReply). IsGood (OnBus e.cmd) (told.Bus r)) (sym reply) called.good in
-    let own_fits : StandsAsTold (turn_step bus e.cmd).0 (slots e.who) (Some e.reply) =
-    subst (λ (r : ArbReply). StandsAsTold (turn_step bus e.cmd).0 (slots e.who) (Some r)) (sym reply) called.stands in (
+    let good : GoodTurn e = subst (λ (r : ArbReply). IsGood (OnBus e.cmd) (replies.Bus r)) (sym reply) called.good in
+    let own_fits : StandsAsReplied (turn_step bus e.cmd).0 (slots e.who) (Some e.reply) =
+    subst (λ (r : ArbReply). StandsAsReplied (turn_step bus e.cmd).0 (slots e.who) (Some r)) (sym reply) called.stands in (
       called.orderly,
       good,
       record {
         fits = λ who below. elim (cases_Bool (eqb e.who who)) [
           | inl same ↦
               let at : e.who ≡ who = eqb-true e.who who same in
-              rw same (subst (λ (w : ℕ). StandsAsTold (turn_step bus e.cmd).0 (slots w) (Some e.reply)) at own_fits)
+              rw same (subst (λ (w : ℕ). StandsAsReplied (turn_step bus e.cmd).0 (slots w) (Some e.reply)) at own_fits)
           | inr other ↦
               rw other (other-turn bus (slots who) (last who) e.cmd
               (λ one. eqb-false e.who who other (masters.apart e.who who within below (sym called.own ∙ one))) (fit.fits who below))
@@ -87,7 +87,7 @@ all_good k slots bus last [] masters orderly known legal fit = All-nil GoodTurn
 all_good k slots bus last (e ∷ h) masters orderly known legal fit =
     let after = fit_after k slots bus last e h masters orderly (All-head (λ e. e.who < k) e h known) legal.0 fit in
     All-cons GoodTurn e h after.1
-    (all_good k slots (turn_step bus e.cmd).0 (told_last last e) h masters after.0 (All-tail (λ e. e.who < k) e h known) legal.1 after.2)
+    (all_good k slots (turn_step bus e.cmd).0 (reported_last last e) h masters after.0 (All-tail (λ e. e.who < k) e h known) legal.1 after.2)
 
 pub turns_good : (kind : ArbiterKind) (k : ℕ) (slots : ℕ → ℕ) (h : List (Entry ArbCmd ArbReply)) → AreMasters k slots → All (λ e. e.who < k) h
     → IsLegal turn_step (opening_bus kind) h → ((who : ℕ) → who < k → GoesWhile (slots who) None (own who h)) → All GoodTurn h

@@ -5,8 +5,8 @@ use Rattle.vme_memory.specs.declared.command.BoardCmd.{BoardCmd}
 use Rattle.vme_memory.specs.declared.reply.Reply.{Reply}
 use Rattle.vme_shared.specs.MailboxSteps.{BoardMailbox}
 use Rattle.vme_shared.specs.declared.mailbox.Mailbox.{Mailbox}
-use Rattle.vme_script.specs.declared.place.Place.{Place}
-use Rattle.vme_script.specs.Places.{place_of}
+use Rattle.vme_script.specs.declared.board_range.BoardRange.{BoardRange}
+use Rattle.vme_script.specs.BoardRanges.{range_of}
 use Rattle.vme_script.specs.declared.board.BoardConfig.{BoardConfig}
 use Rattle.vme_script.specs.Boards.{entries_of}
 use Rattle.vme_script.specs.Configurations.{Configuration}
@@ -23,8 +23,8 @@ pub record IsDeclaredIn (config : Configuration) (report : Report) (is : IsRepor
   pub number : box ≡ index + 1
   pub mailbox : Mailbox
   pub declared : slice_get config.mailboxes index ≡ Some mailbox
-  pub place : Place
-  pub placed : place_of (entries_of config.boards) mailbox ≡ Some place
+  pub place : BoardRange
+  pub placed : range_of (entries_of config.boards) mailbox ≡ Some place
   pub bytes : m ≡ on_board mailbox place
   pub own : BoardConfig
   pub end : BoardReport

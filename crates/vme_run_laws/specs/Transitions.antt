@@ -5,7 +5,7 @@ use Rattle.std.specs.Option.{option_to_list}
 use Rattle.vme_object.specs.Each.{AllAt}
 use Rattle.vme_memory.specs.Locals.{board_step}
 use Rattle.vme_arbiter.specs.Arbitration.{opening_bus, turn_step}
-use Rattle.vme_core.specs.Tallies.{Tells}
+use Rattle.vme_core.specs.CountedStates.{IsCountedReplay}
 use Rattle.vme_core.specs.Runs.{Transition, board_part, bus_part}
 use Rattle.vme_core.specs.Calls.{Call, call_of}
 use Rattle.vme_script.specs.Configurations.{Configuration, opening_memory}
@@ -34,10 +34,10 @@ moves_of who run = filter (λ m. m.who == who) run
 pub record AreRun (config : Configuration) (slots : List ℕ) (run : List Transition) : Type 0 where
   pub calls : calls_in run ≡ calls_from config (initial_state config) slots
   pub boards :
-      AllAt (λ x memory board. Tells board_step memory (board_part x run) (length config.boards) board)
+      AllAt (λ x memory board. IsCountedReplay board_step memory (board_part x run) (length config.boards) board)
       (map opening_memory config.boards) (state_after config slots).machine.boards
   pub bus :
-      Tells turn_step (opening_bus config.arbiter) (bus_part run) (length config.boards)
+      IsCountedReplay turn_step (opening_bus config.arbiter) (bus_part run) (length config.boards)
       (state_after config slots).machine.bus
   pub script_states :
       (b : ℕ) (c : ScriptState) → slice_get (state_after config slots).script_states b ≡ Some c → IsTracePrefix config b (moves_of b run) c

@@ -6,7 +6,7 @@ mod queue_laws;
 mod thread_laws;
 mod turn_laws;
 
-pub use queue_laws::{declared_mailboxes_are_queues, texts_tell_of_queues};
+pub use queue_laws::{declared_mailboxes_are_queues, texts_show_queues};
 pub use thread_laws::{each_line_comes_to_its_end, no_line_is_denied, the_arbiter_denies_nobody};
 pub use turn_laws::{
     a_turn_makes_its_call_alone, commands_are_the_holders, turns_are_a_run_of_moves,

@@ -1,6 +1,6 @@
 ghost use Rattle.std.specs.Prelude.{◌≡◌, ◌+◌, ◌≤◌, ◌<◌, ℕ, List, length};
 ghost use Rattle.vme_object.specs.declared.history.Entry.{Entry};
-ghost use Rattle.vme_object.specs.History.{Begins};
+ghost use Rattle.vme_object.specs.History.{IsPrefix};
 ghost use Rattle.vme_object.specs.Each.{Each};
 ghost use Rattle.vme_memory.specs.declared.command.BoardCmd.{BoardCmd};
 ghost use Rattle.vme_memory.specs.declared.reply.Reply.{Reply};
@@ -16,7 +16,7 @@ ghost use Rattle.vme_mailbox_laws.specs.Groups.{own_words_put, own_words_taken};
 ghost use Rattle.vme_threads.specs.declared.report.Report.{Report};
 ghost use Rattle.vme_threads.specs.Rans.{answers_in};
 ghost use Rattle.vme_threads.specs.Reports.{IsReportOf};
-ghost use Rattle.vme_engines.specs.Tellings.{TellsRun};
+ghost use Rattle.vme_engines.specs.RunTexts.{IsRunText};
 ghost use Rattle.vme_run_laws.specs.Declared.{IsDeclaredIn};
 
 /// However the processors' threads ran, each mailbox that a lawful configuration declares is a
@@ -32,7 +32,7 @@ pub fn declared_mailboxes_are_queues()
         IsProper m h }
     ensures order { (config : Configuration) (report : Report) (is : IsReportOf config report) (box : ℕ)
         (m : BoardMailbox) (h : List (Entry BoardCmd Reply)) → IsLawful config → IsDeclaredIn config report is box m h →
-        Begins (words_taken m h) (words_put m h) }
+        IsPrefix (words_taken m h) (words_put m h) }
     ensures capacity { (config : Configuration) (report : Report) (is : IsReportOf config report) (box : ℕ)
         (m : BoardMailbox) (h : List (Entry BoardCmd Reply)) → IsLawful config → IsDeclaredIn config report is box m h →
         length (words_put m h) ≤ length (words_taken m h) + m.slots }
@@ -47,29 +47,29 @@ pub fn declared_mailboxes_are_queues()
 {}
 
 /// What `run_engine` writes at `Ok` is the text of a report of the configuration that its input is
-/// (`TellsRun`). That configuration is lawful, so each mailbox that its input declares is such a
+/// (`IsRunText`). That configuration is lawful, so each mailbox that its input declares is such a
 /// queue in that report.
-pub fn texts_tell_of_queues()
-    ensures lawful { (input text : List ℕ) (status : Status) → (told : TellsRun input text status) →
-        IsLawful told.config }
-    ensures each { (input text : List ℕ) (status : Status) (told : TellsRun input text status) (k : ℕ) →
-        k < length told.config.mailboxes →
-        (m : BoardMailbox) × (h : List (Entry BoardCmd Reply)) × IsDeclaredIn told.config told.report told.run (k + 1) m h }
-    ensures proper { (input text : List ℕ) (status : Status) (told : TellsRun input text status) (box : ℕ)
-        (m : BoardMailbox) (h : List (Entry BoardCmd Reply)) → IsDeclaredIn told.config told.report told.run box m h →
+pub fn texts_show_queues()
+    ensures lawful { (input text : List ℕ) (status : Status) → (reported : IsRunText input text status) →
+        IsLawful reported.config }
+    ensures each { (input text : List ℕ) (status : Status) (reported : IsRunText input text status) (k : ℕ) →
+        k < length reported.config.mailboxes →
+        (m : BoardMailbox) × (h : List (Entry BoardCmd Reply)) × IsDeclaredIn reported.config reported.report reported.run (k + 1) m h }
+    ensures proper { (input text : List ℕ) (status : Status) (reported : IsRunText input text status) (box : ℕ)
+        (m : BoardMailbox) (h : List (Entry BoardCmd Reply)) → IsDeclaredIn reported.config reported.report reported.run box m h →
         IsProper m h }
-    ensures order { (input text : List ℕ) (status : Status) (told : TellsRun input text status) (box : ℕ)
-        (m : BoardMailbox) (h : List (Entry BoardCmd Reply)) → IsDeclaredIn told.config told.report told.run box m h →
-        Begins (words_taken m h) (words_put m h) }
-    ensures capacity { (input text : List ℕ) (status : Status) (told : TellsRun input text status) (box : ℕ)
-        (m : BoardMailbox) (h : List (Entry BoardCmd Reply)) → IsDeclaredIn told.config told.report told.run box m h →
+    ensures order { (input text : List ℕ) (status : Status) (reported : IsRunText input text status) (box : ℕ)
+        (m : BoardMailbox) (h : List (Entry BoardCmd Reply)) → IsDeclaredIn reported.config reported.report reported.run box m h →
+        IsPrefix (words_taken m h) (words_put m h) }
+    ensures capacity { (input text : List ℕ) (status : Status) (reported : IsRunText input text status) (box : ℕ)
+        (m : BoardMailbox) (h : List (Entry BoardCmd Reply)) → IsDeclaredIn reported.config reported.report reported.run box m h →
         length (words_put m h) ≤ length (words_taken m h) + m.slots }
-    ensures put { (input text : List ℕ) (status : Status) (told : TellsRun input text status) (box : ℕ)
-        (m : BoardMailbox) (h : List (Entry BoardCmd Reply)) → IsDeclaredIn told.config told.report told.run box m h →
-        Each (λ who lines. own_words_put who m h ≡ lines_put box (lines_at told.config who) (answers_in lines.items))
-        told.report.lines.items }
-    ensures taken { (input text : List ℕ) (status : Status) (told : TellsRun input text status) (box : ℕ)
-        (m : BoardMailbox) (h : List (Entry BoardCmd Reply)) → IsDeclaredIn told.config told.report told.run box m h →
-        Each (λ who lines. own_words_taken who m h ≡ lines_taken box (lines_at told.config who) (answers_in lines.items))
-        told.report.lines.items }
+    ensures put { (input text : List ℕ) (status : Status) (reported : IsRunText input text status) (box : ℕ)
+        (m : BoardMailbox) (h : List (Entry BoardCmd Reply)) → IsDeclaredIn reported.config reported.report reported.run box m h →
+        Each (λ who lines. own_words_put who m h ≡ lines_put box (lines_at reported.config who) (answers_in lines.items))
+        reported.report.lines.items }
+    ensures taken { (input text : List ℕ) (status : Status) (reported : IsRunText input text status) (box : ℕ)
+        (m : BoardMailbox) (h : List (Entry BoardCmd Reply)) → IsDeclaredIn reported.config reported.report reported.run box m h →
+        Each (λ who lines. own_words_taken who m h ≡ lines_taken box (lines_at reported.config who) (answers_in lines.items))
+        reported.report.lines.items }
 {}

@@ -4,5 +4,5 @@ use Rattle.vme_script.specs.declared.fault.ConfigFault.{ConfigFault}
 
 -- what was answered, and then what the rest is answered
 abbrev pub with_answers : {A : Type 0} → List A → Result (List A) ConfigFault → Result (List A) ConfigFault
-with_answers front (Ok xs) = Ok (front ++ xs)
-with_answers front (Err fault) = Err fault
+with_answers prefix (Ok xs) = Ok (prefix ++ xs)
+with_answers prefix (Err fault) = Err fault

@@ -5,7 +5,7 @@ use Rattle.std.proofs.lemmas.Bool.{and_parts, leb-true, eqb-true}
 use Rattle.vme_config_toml.specs.declared.file.MailboxTable.{MailboxTable}
 use Rattle.vme_config_toml.specs.Keys.{◌>>=◌, when}
 use Rattle.vme_shared.specs.declared.mailbox.Mailbox.{Mailbox}
-use Rattle.vme_script.specs.Mailboxes.{is_mailbox_code, mailbox_of, HasNumbers}
+use Rattle.vme_script.specs.MailboxTables.{is_mailbox_code, mailbox_from_table, HasNumbers}
 
 -- what passes three tests passes each
 three_tests :
@@ -17,11 +17,11 @@ three_tests true true false made found e = cc
 three_tests true true true made found e = (refl, refl, refl, cc)
 
 -- a mailbox that a table tells has the numbers of one
-pub numbers_known : (table : MailboxTable) (mailbox : Mailbox) → mailbox_of table ≡ Some mailbox → HasNumbers mailbox
-unfolding mailbox_of
-numbers_known table mailbox told =
+pub numbers_known : (table : MailboxTable) (mailbox : Mailbox) → mailbox_from_table table ≡ Some mailbox → HasNumbers mailbox
+unfolding mailbox_from_table
+numbers_known table mailbox reported =
     let parts = three_tests (is_mailbox_code table.am) (table.addr % 4 == 0) (nat_le 1 table.slots && nat_le table.slots 64)
-    (record { am = table.am; addr = table.addr; slots = table.slots }) mailbox told in
+    (record { am = table.am; addr = table.addr; slots = table.slots }) mailbox reported in
     let slots = and_parts (nat_le 1 table.slots) (nat_le table.slots 64) parts.2 in
     subst HasNumbers parts.3 (record {
       code = parts.0;

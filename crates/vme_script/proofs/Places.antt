@@ -12,11 +12,11 @@ use Rattle.vme_decode.specs.declared.entry.Entry.{Entry}
 use Rattle.vme_decode.specs.Entries.{end_of}
 use Rattle.vme_decode.specs.Select.{selection_at, FallsTo}
 use Rattle.vme_decode.proofs.lemmas.Selection.{place_falls}
-use Rattle.vme_script.specs.declared.place.Place.{Place}
-use Rattle.vme_script.specs.Places.{place_by, place_at, share}
+use Rattle.vme_script.specs.declared.board_range.BoardRange.{BoardRange}
+use Rattle.vme_script.specs.BoardRanges.{range_by, range_at, share}
 
 -- bytes share one with others as those share one with them
-pub shared_both_ways : (a b : Place) → share a b ≡ share b a
+pub shared_both_ways : (a b : BoardRange) → share a b ≡ share b a
 shared_both_ways a b =
     ap (λ same. same && nat_lt (max a.offset b.offset) (min (a.offset + a.len) (b.offset + b.len))) (same_board a.board b.board)
     ∙ ap (λ start. (b.board == a.board) && nat_lt start (min (a.offset + a.len) (b.offset + b.len))) (max_comm a.offset b.offset)
@@ -32,7 +32,7 @@ most_addresses A24 = omega arith
 most_addresses A32 = omega arith
 
 selected :
-    (entries : List Entry) (code : CodeRow) (addr len : ℕ) (place : Place) (found : Option (ℕ × ℕ)) → selection_at entries code addr ≡ found
+    (entries : List Entry) (code : CodeRow) (addr len : ℕ) (place : BoardRange) (found : Option (ℕ × ℕ)) → selection_at entries code addr ≡ found
     → option_map (λ at. record { board = at.0; offset = at.1; len = len }) found ≡ Some place
     → FallsTo entries code addr place.board place.offset × (place.len ≡ len)
 selected entries code addr len place None is e = cc
@@ -41,7 +41,7 @@ selected entries code addr len place (Some at) is e =
     rw (← same) (place_falls entries code addr at.0 at.1 is, refl)
 
 by_code :
-    (entries : List Entry) (read : Result CodeRow AmFault) (addr len : ℕ) (place : Place) → place_by entries read addr len ≡ Some place
+    (entries : List Entry) (read : Result CodeRow AmFault) (addr len : ℕ) (place : BoardRange) → range_by entries read addr len ≡ Some place
     → (code : CodeRow) × FallsTo entries code addr place.board place.offset × (place.len ≡ len)
 by_code entries (Err fault) addr len place e = cc
 by_code entries (Ok code) addr len place e =
@@ -50,10 +50,10 @@ by_code entries (Ok code) addr len place e =
 
 -- bytes that end within an entry which itself ends within its space end within the addresses
 pub ends_within :
-    (entries : List Entry) (am addr len : ℕ) (place : Place) (entry : Entry) → place_at entries am addr len ≡ Some place
+    (entries : List Entry) (am addr len : ℕ) (place : BoardRange) (entry : Entry) → range_at entries am addr len ≡ Some place
     → slice_get entries place.board ≡ Some entry → end_of entry ≤ addresses_of entry.space → place.offset + place.len ≤ entry.size
     → addr + len ≤ 2 ^ 32
-unfolding place_at
+unfolding range_at
 ends_within entries am addr len place entry placed there lawful inside =
     let by = by_code entries (read_code am) addr len place placed in
     let falls = by.1 in

@@ -10,10 +10,10 @@ use Rattle.vme_grammar.specs.Grammar.{line_of, IsOwnLine}
 use Rattle.vme_grammar.proofs.lemmas.Spelling.{line_is_own}
 use Rattle.vme_decode.specs.declared.entry.Entry.{Entry}
 use Rattle.vme_shared.specs.declared.mailbox.Mailbox.{Mailbox}
-use Rattle.vme_script.specs.declared.boxes.Boxes.TheVariants.{Declared}
-use Rattle.vme_script.specs.declared.rules.Rules.{Rules}
-use Rattle.vme_script.specs.Names.{may_ask}
-use Rattle.vme_script.specs.Rules.{boxes_of, touches, asked_within, line_within}
+use Rattle.vme_script.specs.declared.mailbox_numbers.MailboxNumbers.TheVariants.{Declared}
+use Rattle.vme_script.specs.declared.context.ScriptContext.{ScriptContext}
+use Rattle.vme_script.specs.MailboxNumbers.{may_ask}
+use Rattle.vme_script.specs.ScriptContext.{boxes_of, touches, asked_within, line_within}
 use Rattle.vme_script.specs.declared.fault.ConfigFault.{ConfigFault}
 use Rattle.vme_script.specs.declared.fault.ScriptRefusal.{ScriptRefusal}
 use Rattle.vme_script.specs.declared.script.ScriptLine.{ScriptLine}
@@ -36,18 +36,18 @@ one_line number count (Ok (Some line)) (Ok rest) script within e =
     let same : record { number = number; line = line } ∷ rest ≡ script = cc in omega (arith, within rest refl, ap length same)
 
 lines_count :
-    (rules : Rules) (number : ℕ) (text : List (List ℕ)) (script : List ScriptLine) → lines_from rules number text ≡ Ok script → length script ≤ length text
+    (rules : ScriptContext) (number : ℕ) (text : List (List ℕ)) (script : List ScriptLine) → lines_from rules number text ≡ Ok script → length script ≤ length text
 lines_count rules number [] script e = let none : [] ≡ script = cc in omega (arith, ap length none)
 lines_count rules number (line ∷ more) script e =
     one_line number (length more) (asked_at number (line_within rules line)) (lines_from rules (number + 1) more) script
     (λ rest f. lines_count rules (number + 1) more rest f) e
 
 script_short :
-    (rules : Rules) (text : List ℕ) (script : List ScriptLine) → script_within rules text ≡ Ok script → is_short script ≡ true
+    (rules : ScriptContext) (text : List ℕ) (script : List ScriptLine) → script_within rules text ≡ Ok script → is_short script ≡ true
 unfolding script_within
 script_short rules text script e =
     elim (cases_lt 1000 (length (lines text))) [
-      | inl many ↦ absurd (let told = rw (lt-ltb 1000 (length (lines text)) many) at e in cc)
+      | inl many ↦ absurd (let reported = rw (lt-ltb 1000 (length (lines text)) many) at e in cc)
       | inr few ↦
           let read = rw (le-ltb 1000 (length (lines text)) few) at e in
           le-leb (length script) 1000 (omega (arith, lines_count rules 1 (lines text) script read, few))
@@ -82,7 +82,7 @@ abbrev AllOf : (Line → Type 0) → List ScriptLine → Type 0
 AllOf P script = (j : ℕ) (line : ScriptLine) → slice_get script j ≡ Some line → P line.line
 
 -- what is read of a line has it
-abbrev AllRead : (Line → Type 0) → Rules → Type 0
+abbrev AllRead : (Line → Type 0) → ScriptContext → Type 0
 AllRead P rules = (text : List ℕ) (line : Line) → line_within rules text ≡ Ok (Some line) → P line
 
 all_first : (P : Line → Type 0) (first : ScriptLine) (others : List ScriptLine) → P first.line → AllOf P others → AllOf P (first ∷ others)
@@ -102,7 +102,7 @@ all_line P number (Ok (Some line)) (Ok others) script own rest e =
     subst (AllOf P) same (all_first P (record { number = number; line = line }) others (own line refl) (rest others refl))
 
 all_lines :
-    (P : Line → Type 0) (rules : Rules) (number : ℕ) (text : List (List ℕ)) (script : List ScriptLine) → AllRead P rules
+    (P : Line → Type 0) (rules : ScriptContext) (number : ℕ) (text : List (List ℕ)) (script : List ScriptLine) → AllRead P rules
     → lines_from rules number text ≡ Ok script → AllOf P script
 all_lines P rules number [] script own e =
     let none : [] ≡ script = cc in subst (AllOf P) none (λ j line there. cc)
@@ -111,12 +111,12 @@ all_lines P rules number (line ∷ more) script own e =
     (λ rest f. all_lines P rules (number + 1) more rest own f) e
 
 all_script :
-    (P : Line → Type 0) (rules : Rules) (text : List ℕ) (script : List ScriptLine) → AllRead P rules
+    (P : Line → Type 0) (rules : ScriptContext) (text : List ℕ) (script : List ScriptLine) → AllRead P rules
     → script_within rules text ≡ Ok script → AllOf P script
 unfolding script_within
 all_script P rules text script own e =
     elim (cases_lt 1000 (length (lines text))) [
-      | inl many ↦ absurd (let told = rw (lt-ltb 1000 (length (lines text)) many) at e in cc)
+      | inl many ↦ absurd (let reported = rw (lt-ltb 1000 (length (lines text)) many) at e in cc)
       | inr few ↦ all_lines P rules 1 (lines text) script own (rw (le-ltb 1000 (length (lines text)) few) at e)
     ]
 
@@ -150,30 +150,30 @@ all_scripts P entries mailboxes place (board ∷ more) scripts own e =
 
 -- a line that is read is asked by the rules
 read_within :
-    (rules : Rules) (read : Result (Option Line) LineFault) (line : Line) → asked_within rules read ≡ Ok (Some line)
+    (rules : ScriptContext) (read : Result (Option Line) LineFault) (line : Line) → asked_within rules read ≡ Ok (Some line)
     → (read ≡ Ok (Some line)) × (may_ask (boxes_of rules) line ≡ true) × (touches rules line ≡ false)
 read_within rules (Ok None) line e = cc
 read_within rules (Err fault) line e = cc
 read_within rules (Ok (Some own)) line e =
     elim (cases_Bool (may_ask (boxes_of rules) own)) [
-      | inr not_there ↦ absurd (let told = rw not_there at e in cc)
+      | inr not_there ↦ absurd (let reported = rw not_there at e in cc)
       | inl may ↦ elim (cases_Bool (touches rules own)) [
-        | inl bytes ↦ absurd (let told = rw (may, bytes) at e in cc)
+        | inl bytes ↦ absurd (let reported = rw (may, bytes) at e in cc)
         | inr free ↦
             let same : own ≡ line = cc (rw (may, free) at e) in
             (rw same refl, rw (← same) may, rw (← same) free)
       ]
     ]
 
-line_own : (rules : Rules) → AllRead IsOwnLine rules
+line_own : (rules : ScriptContext) → AllRead IsOwnLine rules
 unfolding line_within
 line_own rules text line e = line_is_own text line (read_within rules (line_of text) line e).0
 
-line_may : (rules : Rules) → AllRead (λ line. may_ask (boxes_of rules) line ≡ true) rules
+line_may : (rules : ScriptContext) → AllRead (λ line. may_ask (boxes_of rules) line ≡ true) rules
 unfolding line_within
 line_may rules text line e = (read_within rules (line_of text) line e).1
 
-line_free : (rules : Rules) → AllRead (λ line. touches rules line ≡ false) rules
+line_free : (rules : ScriptContext) → AllRead (λ line. touches rules line ≡ false) rules
 unfolding line_within
 line_free rules text line e = (read_within rules (line_of text) line e).2
 

@@ -8,10 +8,10 @@ use Rattle.std.proofs.lemmas.List.Folds.{list_any-append}
 use Rattle.std.proofs.lemmas.Option.{slice_get-map}
 use Rattle.vme_config_toml.specs.declared.file.MailboxTable.{MailboxTable}
 use Rattle.vme_shared.specs.declared.mailbox.Mailbox.{Mailbox}
-use Rattle.vme_script.specs.declared.place.Place.{Place}
+use Rattle.vme_script.specs.declared.board_range.BoardRange.{BoardRange}
 use Rattle.vme_shared.specs.Layout.{mailbox_len}
-use Rattle.vme_script.specs.Mailboxes.{mailbox_of, holds_mailboxes}
-use Rattle.vme_script.specs.Places.{place_of, is_within, share}
+use Rattle.vme_script.specs.MailboxTables.{mailbox_from_table, supports_mailboxes}
+use Rattle.vme_script.specs.BoardRanges.{range_of, is_within, share}
 use Rattle.vme_script.proofs.Numbers.{numbers_known}
 use Rattle.vme_script.proofs.Places.{shared_both_ways, ends_within}
 use Rattle.vme_script.specs.declared.board.BoardConfig.{BoardConfig}
@@ -35,42 +35,42 @@ kept true rest c e = cc
 kept false rest c e = (refl, e)
 
 -- the last tests of a mailbox, where its place and its board are known
-abbrev with_board : List Place → Mailbox → Place → BoardConfig → Result (Mailbox × Place) ConfigFault
+abbrev with_board : List BoardRange → Mailbox → BoardRange → BoardConfig → Result (Mailbox × BoardRange) ConfigFault
 with_board earlier mailbox place board =
-    refuse (not (is_within place board.entry.size)) BadMailbox >>= (λ _. refuse (not (holds_mailboxes board.class)) BadMailbox >>= (λ _.
+    refuse (not (is_within place board.entry.size)) BadMailbox >>= (λ _. refuse (not (supports_mailboxes board.class)) BadMailbox >>= (λ _.
     refuse (list_any (share place) earlier) BadMailbox >>= (λ _. Ok (mailbox, place))))
 
-abbrev with_place : List BoardConfig → List Place → Mailbox → Place → Result (Mailbox × Place) ConfigFault
+abbrev with_place : List BoardConfig → List BoardRange → Mailbox → BoardRange → Result (Mailbox × BoardRange) ConfigFault
 with_place boards earlier mailbox place = ok_or (slice_get boards place.board) BadMailbox >>= with_board earlier mailbox place
 
-abbrev with_mailbox : List BoardConfig → List Place → Mailbox → Result (Mailbox × Place) ConfigFault
-with_mailbox boards earlier mailbox = ok_or (place_of (entries_of boards) mailbox) BadMailbox >>= with_place boards earlier mailbox
+abbrev with_mailbox : List BoardConfig → List BoardRange → Mailbox → Result (Mailbox × BoardRange) ConfigFault
+with_mailbox boards earlier mailbox = ok_or (range_of (entries_of boards) mailbox) BadMailbox >>= with_place boards earlier mailbox
 
 -- what is known of a mailbox that is declared
-record Sited (boards : List BoardConfig) (earlier : List Place) (table : MailboxTable) (mailbox : Mailbox) (place : Place) : Type 0 where
-  told : mailbox_of table ≡ Some mailbox
-  placed : place_of (entries_of boards) mailbox ≡ Some place
+record Sited (boards : List BoardConfig) (earlier : List BoardRange) (table : MailboxTable) (mailbox : Mailbox) (place : BoardRange) : Type 0 where
+  reported : mailbox_from_table table ≡ Some mailbox
+  placed : range_of (entries_of boards) mailbox ≡ Some place
   board : BoardConfig
   there : slice_get boards place.board ≡ Some board
   inside : is_within place board.entry.size ≡ true
-  able : holds_mailboxes board.class ≡ true
+  able : supports_mailboxes board.class ≡ true
   apart : list_any (share place) earlier ≡ false
 
 sited :
-    (boards : List BoardConfig) (earlier : List Place) (table : MailboxTable) (found : Mailbox × Place)
+    (boards : List BoardConfig) (earlier : List BoardRange) (table : MailboxTable) (found : Mailbox × BoardRange)
     → declared_mailbox boards earlier table ≡ Ok found → Sited boards earlier table found.0 found.1
 unfolding declared_mailbox
 sited boards earlier table found e =
-    let a = got (mailbox_of table) (with_mailbox boards earlier) found e in
-    let b = got (place_of (entries_of boards) a.0) (with_place boards earlier a.0) found a.2 in
+    let a = got (mailbox_from_table table) (with_mailbox boards earlier) found e in
+    let b = got (range_of (entries_of boards) a.0) (with_place boards earlier a.0) found a.2 in
     let c = got (slice_get boards b.0.board) (with_board earlier a.0 b.0) found b.2 in
-    let inside = kept (not (is_within b.0 c.0.entry.size)) (refuse (not (holds_mailboxes c.0.class)) BadMailbox >>= (λ _.
+    let inside = kept (not (is_within b.0 c.0.entry.size)) (refuse (not (supports_mailboxes c.0.class)) BadMailbox >>= (λ _.
     refuse (list_any (share b.0) earlier) BadMailbox >>= (λ _. Ok (a.0, b.0)))) found c.2 in
-    let able = kept (not (holds_mailboxes c.0.class)) (refuse (list_any (share b.0) earlier) BadMailbox >>= (λ _. Ok (a.0, b.0))) found inside.1 in
+    let able = kept (not (supports_mailboxes c.0.class)) (refuse (list_any (share b.0) earlier) BadMailbox >>= (λ _. Ok (a.0, b.0))) found inside.1 in
     let apart = kept (list_any (share b.0) earlier) (Ok (a.0, b.0)) found able.1 in
     let same : (a.0, b.0) ≡ found = cc (apart.1) in
     subst (λ f. Sited boards earlier table f.0 f.1) same (record {
-      told = a.1;
+      reported = a.1;
       placed = b.1;
       board = c.0;
       there = c.1;
@@ -92,10 +92,10 @@ range_at (first ∷ more) (suc i) board lawful there =
     range_at more i board (and_parts (is_lawful first) (list_all is_lawful more) lawful).1 there
 
 lawful_mailbox :
-    (boards : List BoardConfig) (earlier : List Place) (table : MailboxTable) (mailbox : Mailbox) (place : Place) → list_all is_lawful boards ≡ true
+    (boards : List BoardConfig) (earlier : List BoardRange) (table : MailboxTable) (mailbox : Mailbox) (place : BoardRange) → list_all is_lawful boards ≡ true
     → Sited boards earlier table mailbox place → IsLawfulMailbox boards mailbox
 lawful_mailbox boards earlier table mailbox place lawful s =
-    let numbers = numbers_known table mailbox s.told in
+    let numbers = numbers_known table mailbox s.reported in
     let inside : place.offset + place.len ≤ s.board.entry.size = leb-true _ _ s.inside in
     let entry : slice_get (entries_of boards) place.board ≡ Some s.board.entry
     = slice_get-map (λ board. board.entry) boards place.board ∙ rw s.there refl in
@@ -120,35 +120,35 @@ lawful_mailbox boards earlier table mailbox place lawful s =
 -- ---- one after another
 
 rest_parts :
-    (x : Mailbox × Place) (answer : Result (List Mailbox) ConfigFault) (mailboxes : List Mailbox) → (answer >>= (λ xs. Ok (x.0 ∷ xs))) ≡ Ok mailboxes
+    (x : Mailbox × BoardRange) (answer : Result (List Mailbox) ConfigFault) (mailboxes : List Mailbox) → (answer >>= (λ xs. Ok (x.0 ∷ xs))) ≡ Ok mailboxes
     → (xs : List Mailbox) × (answer ≡ Ok xs) × (x.0 ∷ xs ≡ mailboxes)
 rest_parts x (Err fault) mailboxes e = cc
 rest_parts x (Ok xs) mailboxes e = (xs, refl, cc)
 
 -- a mailbox before others
 more_parts :
-    (first : Result (Mailbox × Place) ConfigFault) (others : Place → Result (List Mailbox) ConfigFault) (mailboxes : List Mailbox)
+    (first : Result (Mailbox × BoardRange) ConfigFault) (others : BoardRange → Result (List Mailbox) ConfigFault) (mailboxes : List Mailbox)
     → (first >>= (λ x. others x.1 >>= (λ xs. Ok (x.0 ∷ xs)))) ≡ Ok mailboxes
-    → (x : Mailbox × Place) × (xs : List Mailbox) × (first ≡ Ok x) × (others x.1 ≡ Ok xs) × (x.0 ∷ xs ≡ mailboxes)
+    → (x : Mailbox × BoardRange) × (xs : List Mailbox) × (first ≡ Ok x) × (others x.1 ≡ Ok xs) × (x.0 ∷ xs ≡ mailboxes)
 more_parts (Err fault) others mailboxes e = cc
 more_parts (Ok x) others mailboxes e =
     let p = rest_parts x (others x.1) mailboxes e in
     (x, p.0, refl, p.1, p.2)
 
 -- where a mailbox lies on the boards
-abbrev LiesAt : List BoardConfig → Mailbox → Place → Type 0
-LiesAt boards mailbox place = place_of (entries_of boards) mailbox ≡ Some place
+abbrev LiesAt : List BoardConfig → Mailbox → BoardRange → Type 0
+LiesAt boards mailbox place = range_of (entries_of boards) mailbox ≡ Some place
 
 -- each mailbox is lawful, and shares no byte with those before all of them
-record Each (boards : List BoardConfig) (earlier : List Place) (mailboxes : List Mailbox) : Type 0 where
+record Each (boards : List BoardConfig) (earlier : List BoardRange) (mailboxes : List Mailbox) : Type 0 where
   lawful : (k : ℕ) (m : Mailbox) → slice_get mailboxes k ≡ Some m → IsLawfulMailbox boards m
-  new : (k : ℕ) (m : Mailbox) (p : Place) → slice_get mailboxes k ≡ Some m → LiesAt boards m p → list_any (share p) earlier ≡ false
+  new : (k : ℕ) (m : Mailbox) (p : BoardRange) → slice_get mailboxes k ≡ Some m → LiesAt boards m p → list_any (share p) earlier ≡ false
   apart :
-      (j k : ℕ) (a b : Mailbox) (p q : Place) → slice_get mailboxes j ≡ Some a → slice_get mailboxes k ≡ Some b
+      (j k : ℕ) (a b : Mailbox) (p q : BoardRange) → slice_get mailboxes j ≡ Some a → slice_get mailboxes k ≡ Some b
       → LiesAt boards a p → LiesAt boards b q → share p q ≡ true → j ≡ k
 
 -- what is new among more is new among fewer
-new_among : (p first : Place) (earlier : List Place) → list_any (share p) (earlier ++ first ∷ []) ≡ false → (list_any (share p) earlier ≡ false) × (share p first ≡ false)
+new_among : (p first : BoardRange) (earlier : List BoardRange) → list_any (share p) (earlier ++ first ∷ []) ≡ false → (list_any (share p) earlier ≡ false) × (share p first ≡ false)
 new_among p first earlier none =
     let split : (list_any (share p) earlier || (share p first || false)) ≡ false = rw (← list_any-append (share p) earlier (first ∷ [])) none in
     neither (list_any (share p) earlier) (share p first) split
@@ -158,12 +158,12 @@ new_among p first earlier none =
     neither false true e = cc
     neither false false e = (refl, refl)
 
-one_place : (boards : List BoardConfig) (m : Mailbox) (p q : Place) → LiesAt boards m p → LiesAt boards m q → p ≡ q
+one_place : (boards : List BoardConfig) (m : Mailbox) (p q : BoardRange) → LiesAt boards m p → LiesAt boards m q → p ≡ q
 one_place boards m p q here there = let same : Some p ≡ Some q = sym here ∙ there in cc
 
 -- the first one, and those after it
 one_more :
-    (boards : List BoardConfig) (earlier : List Place) (table : MailboxTable) (m : Mailbox) (p : Place) (ms : List Mailbox)
+    (boards : List BoardConfig) (earlier : List BoardRange) (table : MailboxTable) (m : Mailbox) (p : BoardRange) (ms : List Mailbox)
     → list_all is_lawful boards ≡ true → Sited boards earlier table m p → Each boards (earlier ++ p ∷ []) ms → Each boards earlier (m ∷ ms)
 one_more boards earlier table m p ms lawful first others = record {
   lawful = each;
@@ -175,18 +175,18 @@ one_more boards earlier table m p ms lawful first others = record {
     each zero n there = let same : m ≡ n = cc in rw (← same) (lawful_mailbox boards earlier table m p lawful first)
     each (suc k) n there = others.lawful k n there
 
-    fresh : (k : ℕ) (n : Mailbox) (q : Place) → slice_get (m ∷ ms) k ≡ Some n → LiesAt boards n q → list_any (share q) earlier ≡ false
+    fresh : (k : ℕ) (n : Mailbox) (q : BoardRange) → slice_get (m ∷ ms) k ≡ Some n → LiesAt boards n q → list_any (share q) earlier ≡ false
     fresh zero n q there at =
         let same : m ≡ n = cc in
         rw (one_place boards m q p (rw same at) first.placed) first.apart
     fresh (suc k) n q there at = (new_among q p earlier (others.new k n q there at)).0
 
-    later : (k : ℕ) (n : Mailbox) (o q : Place) → slice_get ms k ≡ Some n → LiesAt boards m o → LiesAt boards n q → share q o ≡ false
+    later : (k : ℕ) (n : Mailbox) (o q : BoardRange) → slice_get ms k ≡ Some n → LiesAt boards m o → LiesAt boards n q → share q o ≡ false
     later k n o q there here at =
         rw (one_place boards m o p here first.placed) ((new_among q p earlier (others.new k n q there at)).1)
 
     alone :
-        (j k : ℕ) (a b : Mailbox) (o q : Place) → slice_get (m ∷ ms) j ≡ Some a → slice_get (m ∷ ms) k ≡ Some b
+        (j k : ℕ) (a b : Mailbox) (o q : BoardRange) → slice_get (m ∷ ms) j ≡ Some a → slice_get (m ∷ ms) k ≡ Some b
         → LiesAt boards a o → LiesAt boards b q → share o q ≡ true → j ≡ k
     alone zero zero a b o q here there at_a at_b shared = refl
     alone zero (suc k) a b o q here there at_a at_b shared =
@@ -198,7 +198,7 @@ one_more boards earlier table m p ms lawful first others = record {
     alone (suc j) (suc k) a b o q here there at_a at_b shared = ap suc (others.apart j k a b o q here there at_a at_b shared)
 
 each_known :
-    (boards : List BoardConfig) (earlier : List Place) (tables : List MailboxTable) (mailboxes : List Mailbox) → list_all is_lawful boards ≡ true
+    (boards : List BoardConfig) (earlier : List BoardRange) (tables : List MailboxTable) (mailboxes : List Mailbox) → list_all is_lawful boards ≡ true
     → mailboxes_after boards earlier tables ≡ Ok mailboxes → Each boards earlier mailboxes
 each_known boards earlier [] mailboxes lawful e =
     let none : [] ≡ mailboxes = cc in
@@ -215,7 +215,7 @@ each_known boards earlier (table ∷ more) mailboxes lawful e =
 
 -- there are as many mailboxes as tables
 count_known :
-    (boards : List BoardConfig) (earlier : List Place) (tables : List MailboxTable) (mailboxes : List Mailbox)
+    (boards : List BoardConfig) (earlier : List BoardRange) (tables : List MailboxTable) (mailboxes : List Mailbox)
     → mailboxes_after boards earlier tables ≡ Ok mailboxes → length mailboxes ≡ length tables
 count_known boards earlier [] mailboxes e = let none : [] ≡ mailboxes = cc in sym (ap length none)
 count_known boards earlier (table ∷ more) mailboxes e =
@@ -227,8 +227,8 @@ pub record Known (boards : List BoardConfig) (mailboxes : List Mailbox) : Type 0
   pub few : length mailboxes ≤ 16
   pub lawful : (k : ℕ) (m : Mailbox) → slice_get mailboxes k ≡ Some m → IsLawfulMailbox boards m
   pub apart :
-      (j k : ℕ) (a b : Mailbox) (p q : Place) → slice_get mailboxes j ≡ Some a → slice_get mailboxes k ≡ Some b
-      → place_of (entries_of boards) a ≡ Some p → place_of (entries_of boards) b ≡ Some q → share p q ≡ true → j ≡ k
+      (j k : ℕ) (a b : Mailbox) (p q : BoardRange) → slice_get mailboxes j ≡ Some a → slice_get mailboxes k ≡ Some b
+      → range_of (entries_of boards) a ≡ Some p → range_of (entries_of boards) b ≡ Some q → share p q ≡ true → j ≡ k
 
 -- at most sixteen lawful mailboxes, which share no byte
 pub mailboxes_known :

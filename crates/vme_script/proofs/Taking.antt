@@ -4,8 +4,8 @@ use Rattle.std.proofs.lemmas.List.{append-nil}
 use Rattle.vme_grammar.specs.declared.line.Line.{Line}
 use Rattle.vme_grammar.specs.declared.fault.LineFault.{LineFault}
 use Rattle.vme_grammar.specs.Grammar.{line_of}
-use Rattle.vme_script.specs.declared.rules.Rules.{Rules}
-use Rattle.vme_script.specs.Rules.{refusal_of, line_within}
+use Rattle.vme_script.specs.declared.context.ScriptContext.{ScriptContext}
+use Rattle.vme_script.specs.ScriptContext.{refusal_of, line_within}
 use Rattle.vme_script.proofs.Asked.{empty, forbidden, allowed}
 use Rattle.vme_script.specs.declared.fault.ScriptRefusal.{ScriptRefusal}
 use Rattle.vme_script.specs.declared.fault.ScriptRefusal.TheVariants.{BadLine}
@@ -14,7 +14,7 @@ use Rattle.vme_script.specs.Scripts.{numbered, with_line, lines_from, IsTaken}
 
 -- a line that was read and added, with its refusal if it has one
 pub kept :
-    (rules : Rules) (number : ℕ) (text : List ℕ) (line : Line) (before after : List ScriptLine) (refusal : Option LineFault)
+    (rules : ScriptContext) (number : ℕ) (text : List ℕ) (line : Line) (before after : List ScriptLine) (refusal : Option LineFault)
     → line_of text ≡ Ok (Some line) → after ≡ before ++ record { number = number; line = line } ∷ [] → refusal ≡ refusal_of rules line
     → IsTaken rules number text before after refusal
 kept rules number text line before after None read added is = (Some line, allowed rules text line read (sym is), added)
@@ -22,7 +22,7 @@ kept rules number text line before after (Some fault) read added is = forbidden 
 
 -- a line that asks for nothing
 pub passed_over :
-    (rules : Rules) (number : ℕ) (text : List ℕ) (before after : List ScriptLine) → line_of text ≡ Ok None → after ≡ before
+    (rules : ScriptContext) (number : ℕ) (text : List ℕ) (before after : List ScriptLine) → line_of text ≡ Ok None → after ≡ before
     → IsTaken rules number text before after None
 passed_over rules number text before after read same = (None, empty rules text read, same ∙ sym (append-nil before))
 
@@ -35,7 +35,7 @@ with_line-append first second (Err refusal) = refl
 
 -- a line more that was taken
 pub taken :
-    (rules : Rules) (number : ℕ) (text : List ℕ) (more : List (List ℕ)) (before after : List ScriptLine) (refusal : Option LineFault)
+    (rules : ScriptContext) (number : ℕ) (text : List ℕ) (more : List (List ℕ)) (before after : List ScriptLine) (refusal : Option LineFault)
     → refusal ≡ None → IsTaken rules number text before after refusal
     → with_line after (lines_from rules (number + 1) more) ≡ with_line before (lines_from rules number (text ∷ more))
 taken rules number text more before after None none (asked, read, added) =
@@ -44,7 +44,7 @@ taken rules number text more before after (Some fault) none is = absurd (cc)
 
 -- a line that is refused
 pub untaken :
-    (rules : Rules) (number : ℕ) (text : List ℕ) (more : List (List ℕ)) (before after : List ScriptLine) (fault : LineFault)
+    (rules : ScriptContext) (number : ℕ) (text : List ℕ) (more : List (List ℕ)) (before after : List ScriptLine) (fault : LineFault)
     → IsTaken rules number text before after (Some fault)
     → with_line before (lines_from rules number (text ∷ more)) ≡ Err (BadLine number fault)
 untaken rules number text more before after fault is = rw is refl

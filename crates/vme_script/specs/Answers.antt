@@ -22,7 +22,7 @@ Gives view (Ok x) expected = expected ≡ Ok (view x)
 Gives view (Err fault) expected = fault ≢ config.OutOfMemory → expected ≡ Err fault
 
 -- a fault of a document is the configuration's of the same name (this project's own)
-abbrev pub told_as : DocumentFault → ConfigFault
-told_as NotToml = config.NotToml
-told_as BadKey = config.BadKey
-told_as OutOfMemory = config.OutOfMemory
+abbrev pub reported_as : DocumentFault → ConfigFault
+reported_as NotToml = config.NotToml
+reported_as BadKey = config.BadKey
+reported_as OutOfMemory = config.OutOfMemory

@@ -6,12 +6,12 @@ use Rattle.vme_grammar.specs.Grammar.{IsOwnLine}
 use Rattle.vme_memory.specs.Boards.{is_board_size}
 use Rattle.vme_shared.specs.declared.mailbox.Mailbox.{Mailbox}
 use Rattle.vme_shared.specs.Mailboxes.{IsMailbox}
-use Rattle.vme_script.specs.declared.boxes.Boxes.TheVariants.{Declared}
-use Rattle.vme_script.specs.declared.place.Place.{Place}
-use Rattle.vme_script.specs.Mailboxes.{is_mailbox_code, holds_mailboxes}
-use Rattle.vme_script.specs.Names.{may_ask}
-use Rattle.vme_script.specs.Places.{place_of, share}
-use Rattle.vme_script.specs.Rules.{touches}
+use Rattle.vme_script.specs.declared.mailbox_numbers.MailboxNumbers.TheVariants.{Declared}
+use Rattle.vme_script.specs.declared.board_range.BoardRange.{BoardRange}
+use Rattle.vme_script.specs.MailboxTables.{is_mailbox_code, supports_mailboxes}
+use Rattle.vme_script.specs.MailboxNumbers.{may_ask}
+use Rattle.vme_script.specs.BoardRanges.{range_of, share}
+use Rattle.vme_script.specs.ScriptContext.{touches}
 use Rattle.vme_script.specs.declared.board.BoardConfig.{BoardConfig}
 use Rattle.vme_script.specs.declared.script.ScriptLine.{ScriptLine}
 use Rattle.vme_script.specs.Boards.{entries_of}
@@ -32,12 +32,12 @@ pub record IsLawfulBoard (board : BoardConfig) : Type 0 where
 pub record IsLawfulMailbox (boards : List BoardConfig) (mailbox : Mailbox) : Type 0 where
   pub code : is_mailbox_code mailbox.am ≡ true
   pub numbers : IsMailbox mailbox
-  pub place : Place
-  pub placed : place_of (entries_of boards) mailbox ≡ Some place
+  pub place : BoardRange
+  pub placed : range_of (entries_of boards) mailbox ≡ Some place
   pub board : BoardConfig
   pub there : slice_get boards place.board ≡ Some board
   pub inside : place.offset + place.len ≤ board.entry.size
-  pub able : holds_mailboxes board.class ≡ true
+  pub able : supports_mailboxes board.class ≡ true
 
 -- one to 21 lawful boards, each in a slot of its own; ranges that share no address; a script for each board, of at most 1,000
 -- lines, none of which asks the local port for a cycle of the bus, names a mailbox that is not there, or a byte of one that is
@@ -64,8 +64,8 @@ pub record IsLawful (config : Configuration) : Type 0 where
   pub mailboxes :
       (k : ℕ) (mailbox : Mailbox) → slice_get config.mailboxes k ≡ Some mailbox → IsLawfulMailbox config.boards mailbox
   pub own_bytes :
-      (j k : ℕ) (a b : Mailbox) (p q : Place) → slice_get config.mailboxes j ≡ Some a → slice_get config.mailboxes k ≡ Some b
-      → place_of (entries_of config.boards) a ≡ Some p → place_of (entries_of config.boards) b ≡ Some q
+      (j k : ℕ) (a b : Mailbox) (p q : BoardRange) → slice_get config.mailboxes j ≡ Some a → slice_get config.mailboxes k ≡ Some b
+      → range_of (entries_of config.boards) a ≡ Some p → range_of (entries_of config.boards) b ≡ Some q
       → share p q ≡ true → j ≡ k
   pub named :
       (i j : ℕ) (script : List ScriptLine) (line : ScriptLine) → slice_get config.scripts i ≡ Some script

@@ -1,9 +1,9 @@
-pub mod Mailboxes
-pub mod Places
-pub mod Names
+pub mod MailboxTables
+pub mod BoardRanges
+pub mod MailboxNumbers
 pub mod Bytes
 pub mod Declarations
-pub mod Rules
+pub mod ScriptContext
 pub mod Answers
 pub mod Boards
 pub mod Arbiters

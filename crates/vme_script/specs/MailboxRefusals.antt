@@ -4,9 +4,9 @@ use Rattle.std.specs.List.{list_any}
 use Rattle.std.specs.Option.{ok_or}
 use Rattle.vme_config_toml.specs.declared.file.MailboxTable.{MailboxTable}
 use Rattle.vme_shared.specs.declared.mailbox.Mailbox.{Mailbox}
-use Rattle.vme_script.specs.declared.place.Place.{Place}
-use Rattle.vme_script.specs.Mailboxes.{mailbox_of, holds_mailboxes}
-use Rattle.vme_script.specs.Places.{place_of, is_within, share}
+use Rattle.vme_script.specs.declared.board_range.BoardRange.{BoardRange}
+use Rattle.vme_script.specs.MailboxTables.{mailbox_from_table, supports_mailboxes}
+use Rattle.vme_script.specs.BoardRanges.{range_of, is_within, share}
 use Rattle.vme_script.specs.declared.board.BoardConfig.{BoardConfig}
 use Rattle.vme_script.specs.declared.fault.ConfigFault.{ConfigFault}
 use Rattle.vme_script.specs.declared.fault.ConfigFault.TheVariants.{BadMailbox}
@@ -16,18 +16,18 @@ use Rattle.vme_script.specs.Boards.{entries_of}
 -- the mailbox that a table declares beside some bytes that others have, with its own bytes. It is refused for its code, its
 -- address and its slots; where its bytes do not lie wholly within one board that its code selects; where that board is not able
 -- to hold it; and where it shares a byte with an earlier one (this project's own)
-unfoldable pub declared_mailbox : List BoardConfig → List Place → MailboxTable → Result (Mailbox × Place) ConfigFault
+unfoldable pub declared_mailbox : List BoardConfig → List BoardRange → MailboxTable → Result (Mailbox × BoardRange) ConfigFault
 declared_mailbox boards earlier table = do
-  mailbox ← ok_or (mailbox_of table) BadMailbox
-  place ← ok_or (place_of (entries_of boards) mailbox) BadMailbox
+  mailbox ← ok_or (mailbox_from_table table) BadMailbox
+  place ← ok_or (range_of (entries_of boards) mailbox) BadMailbox
   board ← ok_or (slice_get boards place.board) BadMailbox
   _ ← refuse (not (is_within place board.entry.size)) BadMailbox
-  _ ← refuse (not (holds_mailboxes board.class)) BadMailbox
+  _ ← refuse (not (supports_mailboxes board.class)) BadMailbox
   _ ← refuse (list_any (share place) earlier) BadMailbox
   Ok (mailbox, place)
 
 -- the mailboxes that tables declare, each beside those before it (this project's own)
-abbrev pub mailboxes_after : List BoardConfig → List Place → List MailboxTable → Result (List Mailbox) ConfigFault
+abbrev pub mailboxes_after : List BoardConfig → List BoardRange → List MailboxTable → Result (List Mailbox) ConfigFault
 mailboxes_after boards earlier [] = Ok []
 mailboxes_after boards earlier (table ∷ more) = do
   first ← declared_mailbox boards earlier table

@@ -6,9 +6,9 @@ use Rattle.vme_grammar.specs.declared.line.Line.{Line}
 use Rattle.vme_grammar.specs.declared.fault.LineFault.{LineFault}
 use Rattle.vme_decode.specs.declared.entry.Entry.{Entry}
 use Rattle.vme_shared.specs.declared.mailbox.Mailbox.{Mailbox}
-use Rattle.vme_script.specs.declared.rules.Rules.{Rules}
-use Rattle.vme_script.specs.declared.rules.Rules.TheVariants.{ByItself, InFile}
-use Rattle.vme_script.specs.Rules.{line_within}
+use Rattle.vme_script.specs.declared.context.ScriptContext.{ScriptContext}
+use Rattle.vme_script.specs.declared.context.ScriptContext.TheVariants.{Alone, InFile}
+use Rattle.vme_script.specs.ScriptContext.{line_within}
 use Rattle.vme_script.specs.declared.fault.ConfigFault.{ConfigFault}
 use Rattle.vme_script.specs.declared.fault.ConfigFault.TheVariants.{BadScript}
 use Rattle.vme_script.specs.declared.fault.ScriptFault.{ScriptFault}
@@ -41,25 +41,25 @@ line_before number (Ok line) others = with_line (numbered number line) others
 line_before number (Err refusal) others = Err refusal
 
 -- the lines that ask for something, with numbers from this one on, or the first line that is refused (this project's own)
-abbrev pub lines_from : Rules → ℕ → List (List ℕ) → Result (List ScriptLine) ScriptRefusal
+abbrev pub lines_from : ScriptContext → ℕ → List (List ℕ) → Result (List ScriptLine) ScriptRefusal
 lines_from rules number [] = Ok []
 lines_from rules number (line ∷ more) =
     line_before number (asked_at number (line_within rules line)) (lines_from rules (number + 1) more)
 
 -- a line by rules was taken among others: what it asks for stands behind them under its number, or it has this refusal
 -- (this project's own)
-abbrev pub IsTaken : Rules → ℕ → List ℕ → List ScriptLine → List ScriptLine → Option LineFault → Type 0
+abbrev pub IsTaken : ScriptContext → ℕ → List ℕ → List ScriptLine → List ScriptLine → Option LineFault → Type 0
 IsTaken rules number text before after None =
     (asked : Option Line) × (line_within rules text ≡ Ok asked) × (after ≡ before ++ numbered number asked)
 IsTaken rules number text before after (Some fault) = line_within rules text ≡ Err fault
 
 -- the script that a text is, whose lines go by rules: it has at most 1,000 lines, whatever they are (this project's own)
-unfoldable pub script_within : Rules → List ℕ → Result (List ScriptLine) ScriptRefusal
+unfoldable pub script_within : ScriptContext → List ℕ → Result (List ScriptLine) ScriptRefusal
 script_within rules text = if nat_lt 1000 (length (lines text)) then Err TooManyLines else lines_from rules 1 (lines text)
 
 -- the script that a text is by itself: of the mailboxes that it names nothing is known (this project's own)
 abbrev pub script_of : List ℕ → Result (List ScriptLine) ScriptRefusal
-script_of text = script_within ByItself text
+script_of text = script_within Alone text
 
 -- a fault is the refusal of a script; where memory was refused nothing is said (this project's own)
 abbrev pub IsRefusalOf : Result (List ScriptLine) ScriptRefusal → ScriptFault → Type 0
@@ -72,7 +72,7 @@ script_in slot (Ok script) = Ok script
 script_in slot (Err refusal) = Err (BadScript slot refusal)
 
 -- the rules of the script of a board, where these ranges and mailboxes are declared (this project's own)
-abbrev pub rules_of : List Entry → List Mailbox → ℕ → Rules
+abbrev pub rules_of : List Entry → List Mailbox → ℕ → ScriptContext
 rules_of entries mailboxes board = InFile (record { entries = entries; mailboxes = mailboxes; board = board })
 
 -- the scripts of boards from a place on, in order of slots, each by the rules of its board (this project's own)

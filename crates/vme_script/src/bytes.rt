@@ -4,7 +4,7 @@ ghost use Rattle.vme_cycle.specs.declared.request.Request.TheVariants.{Read};
 ghost use Rattle.vme_shared.specs.Mailboxes.{set_lock, clear_lock};
 ghost use Rattle.vme_script.specs.Bytes.{request_bytes, local_bytes};
 
-use crate::place::Place;
+use crate::board_range::BoardRange;
 use vme_cycle::{Modify, Plan, Request};
 use vme_decode::AddressMap;
 use vme_lanes::Datum;
@@ -12,7 +12,7 @@ use vme_memory::BoardCmd;
 
 /// The bytes of a request over the bus.
 #[tactic(auto, unfolding(crate::specs::Bytes::request_bytes))]
-pub(crate) fn request_bytes(map: &AddressMap, request: &Request) -> Option<Place>
+pub(crate) fn request_bytes(map: &AddressMap, request: &Request) -> Option<BoardRange>
     ensures { result ≡ request_bytes map.now request.now }
 {
     let Ok(plan) = Plan::of(request) else {
@@ -20,11 +20,11 @@ pub(crate) fn request_bytes(map: &AddressMap, request: &Request) -> Option<Place
     };
     let (board, offset) = map.select_at(plan.am(), plan.addr())?;
     let len = u32::from(plan.datum_len()) * u32::from(plan.len());
-    Some(Place { board, offset, len })
+    Some(BoardRange { board, offset, len })
 }
 
 /// The bytes of a read that waits for these.
-pub(crate) fn await_bytes(map: &AddressMap, am: u8, addr: u32, bytes: &Datum) -> Option<Place>
+pub(crate) fn await_bytes(map: &AddressMap, am: u8, addr: u32, bytes: &Datum) -> Option<BoardRange>
     ensures { result ≡ request_bytes map.now (Read am addr (length bytes.now.items)) }
 {
     let n = bytes.as_slice().len() as u8;
@@ -32,7 +32,7 @@ pub(crate) fn await_bytes(map: &AddressMap, am: u8, addr: u32, bytes: &Datum) ->
 }
 
 /// The byte of a lock that is taken.
-pub(crate) fn lock_bytes(map: &AddressMap, am: u8, addr: u32) -> Option<Place>
+pub(crate) fn lock_bytes(map: &AddressMap, am: u8, addr: u32) -> Option<BoardRange>
     ensures { result ≡ request_bytes map.now (set_lock am addr) }
 {
     let f = Modify::Set;
@@ -40,7 +40,7 @@ pub(crate) fn lock_bytes(map: &AddressMap, am: u8, addr: u32) -> Option<Place>
 }
 
 /// The byte of a lock that is given back.
-pub(crate) fn unlock_bytes(map: &AddressMap, am: u8, addr: u32) -> Option<Place>
+pub(crate) fn unlock_bytes(map: &AddressMap, am: u8, addr: u32) -> Option<BoardRange>
     ensures { result ≡ request_bytes map.now (clear_lock am addr) }
 {
     let bytes = Datum::try_from(&[0][..]).unwrap();
@@ -48,7 +48,7 @@ pub(crate) fn unlock_bytes(map: &AddressMap, am: u8, addr: u32) -> Option<Place>
 }
 
 /// The bytes of a command to the local port of a board.
-pub(crate) fn local_bytes(board: usize, command: &BoardCmd) -> Option<Place>
+pub(crate) fn local_bytes(board: usize, command: &BoardCmd) -> Option<BoardRange>
     ensures { result ≡ local_bytes board command.now }
 {
     let (offset, len) = match command {
@@ -58,5 +58,5 @@ pub(crate) fn local_bytes(board: usize, command: &BoardCmd) -> Option<Place>
         BoardCmd::LocalWrite { offset, bytes } => (*offset, bytes.as_slice().len() as u32),
         BoardCmd::Cycle { .. } => return None,
     };
-    Some(Place { board, offset, len })
+    Some(BoardRange { board, offset, len })
 }

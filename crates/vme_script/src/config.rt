@@ -8,9 +8,9 @@ ghost use Rattle.vme_script.specs.Lawful.{IsLawful};
 
 use crate::arbiter::kind_named;
 use crate::board::{BoardConfig, board_configs, map_of};
+use crate::context::{MailboxDeclarations, ScriptContext};
 use crate::fault::{ConfigFault, ScriptFault};
 use crate::mailboxes::mailboxes_of;
-use crate::rules::{Declared, Rules};
 use crate::schedule::schedule_of;
 use crate::script::Script;
 use std::alloc::Global;
@@ -190,7 +190,12 @@ impl Config {
 }
 
 /// The script of the processor in a slot.
-fn script_in(alloc: Global, slot: u16, text: &str, rules: &Rules<'_>) -> Result<Script, ConfigFault>
+fn script_in(
+    alloc: Global,
+    slot: u16,
+    text: &str,
+    rules: &ScriptContext<'_>,
+) -> Result<Script, ConfigFault>
     ensures { Gives (λ script. script) result (script_in slot (script_within rules.now text.now)) }
 {
     match Script::within(alloc, text.as_bytes(), rules) {
@@ -212,7 +217,7 @@ fn scripts_of(
 {
     let mut scripts = Vec::with_capacity(alloc, boards.len())?;
     for board in boards {
-        let rules = Rules::InFile(Declared {
+        let rules = ScriptContext::InFile(MailboxDeclarations {
             map,
             mailboxes,
             board: scripts.len(),

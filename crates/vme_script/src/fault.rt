@@ -1,7 +1,7 @@
 ghost use Rattle.std.specs.Prelude.{◌≡◌};
 ghost use Rattle.vme_script.specs.declared.fault.ConfigFault.TheVariants.{OutOfMemory};
 ghost use Rattle.vme_script.specs.declared.fault.ScriptFault.TheVariants as script;
-ghost use Rattle.vme_script.specs.Answers.{told_as};
+ghost use Rattle.vme_script.specs.Answers.{reported_as};
 
 use std::alloc::{AllocError, AllocFailed};
 use thiserror::Error;
@@ -80,7 +80,7 @@ impl<T: Drop> From<AllocFailed<T>> for ConfigFault {
 }
 
 impl From<DocumentFault> for ConfigFault {
-    ghost from_gives = { λ fault refusal. refusal ≡ told_as fault };
+    ghost from_gives = { λ fault refusal. refusal ≡ reported_as fault };
 
     fn from(fault: DocumentFault) -> ConfigFault {
         match fault {

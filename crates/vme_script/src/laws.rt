@@ -5,23 +5,23 @@ ghost use Rattle.vme_decode.specs.declared.entry.Entry.{Entry};
 ghost use Rattle.vme_decode.specs.Entries.{end_of};
 ghost use Rattle.vme_config_toml.specs.declared.file.MailboxTable.{MailboxTable};
 ghost use Rattle.vme_shared.specs.declared.mailbox.Mailbox.{Mailbox};
-ghost use Rattle.vme_script.specs.declared.place.Place.{Place};
-ghost use Rattle.vme_script.specs.Mailboxes.{mailbox_of, HasNumbers};
-ghost use Rattle.vme_script.specs.Places.{place_at, share};
+ghost use Rattle.vme_script.specs.declared.board_range.BoardRange.{BoardRange};
+ghost use Rattle.vme_script.specs.MailboxTables.{mailbox_from_table, HasNumbers};
+ghost use Rattle.vme_script.specs.BoardRanges.{range_at, share};
 
 /// A mailbox that a table tells has the numbers of one.
-pub fn tables_tell_lawful_numbers()
+pub fn tables_give_lawful_numbers()
     ensures { (table : MailboxTable) (mailbox : Mailbox) →
-        mailbox_of table ≡ Some mailbox → HasNumbers mailbox }
+        mailbox_from_table table ≡ Some mailbox → HasNumbers mailbox }
 {}
 
 /// Bytes share one with others as those share one with them. Bytes that end within a board that
 /// ends within its space have addresses below 2^32.
 #[tactic(auto, using(crate::proofs::Places::shared_both_ways, crate::proofs::Places::ends_within))]
-pub fn places_are_told_by_addresses()
-    ensures both_ways { (a b : Place) → share a b ≡ share b a }
-    ensures within { (entries : List Entry) (am addr len : ℕ) (place : Place) (entry : Entry) →
-        place_at entries am addr len ≡ Some place → slice_get entries place.board ≡ Some entry →
+pub fn addresses_select_ranges()
+    ensures both_ways { (a b : BoardRange) → share a b ≡ share b a }
+    ensures within { (entries : List Entry) (am addr len : ℕ) (place : BoardRange) (entry : Entry) →
+        range_at entries am addr len ≡ Some place → slice_get entries place.board ≡ Some entry →
         end_of entry ≤ addresses_of entry.space → place.offset + place.len ≤ entry.size →
         addr + len ≤ 2 ^ 32 }
 {}

@@ -5,26 +5,26 @@
 
 mod arbiter;
 mod board;
-mod boxes;
+mod board_range;
 mod bytes;
 mod config;
+mod context;
 mod fault;
 mod laws;
 mod mailbox;
+mod mailbox_numbers;
 mod mailboxes;
-mod place;
 mod read;
-mod rules;
 mod schedule;
 mod script;
 
 pub use board::BoardConfig;
+pub use board_range::BoardRange;
 pub use config::Config;
+pub use context::{MailboxDeclarations, ScriptContext};
 pub use fault::{ConfigFault, ScriptFault, ScriptRefusal};
-pub use laws::{places_are_told_by_addresses, tables_tell_lawful_numbers};
-pub use mailbox::{holds_mailboxes, mailbox_of};
-pub use place::Place;
-pub use rules::{Declared, Rules};
+pub use laws::{addresses_select_ranges, tables_give_lawful_numbers};
+pub use mailbox::{mailbox_from_table, supports_mailboxes};
 pub use script::{Script, ScriptLine};
 pub use vme_core::OutOfMemory;
 pub use vme_grammar::{Line, LineFault, parse_line};

@@ -1,6 +1,6 @@
 //! Which numbers are a mailbox's.
 ghost use Rattle.std.specs.Prelude.{◌≡◌};
-ghost use Rattle.vme_script.specs.Mailboxes.{mailbox_of, holds_mailboxes};
+ghost use Rattle.vme_script.specs.MailboxTables.{mailbox_from_table, supports_mailboxes};
 
 use vme_config_toml::MailboxTable;
 use vme_memory::{Class, Width8To32};
@@ -10,9 +10,9 @@ use vme_shared::Mailbox;
 const MOST_SLOTS: u32 = 64;
 
 /// The mailbox that a table tells, if its numbers are a mailbox's.
-#[tactic(auto, unfolding(crate::specs::Mailboxes::mailbox_of))]
-pub fn mailbox_of(table: MailboxTable) -> Option<Mailbox>
-    ensures mailbox { result ≡ mailbox_of table }
+#[tactic(auto, unfolding(crate::specs::MailboxTables::mailbox_from_table))]
+pub fn mailbox_from_table(table: MailboxTable) -> Option<Mailbox>
+    ensures mailbox { result ≡ mailbox_from_table table }
 {
     if !matches!(table.am, 0x09 | 0x0d | 0x29 | 0x2d | 0x39 | 0x3d) {
         return None;
@@ -31,8 +31,8 @@ pub fn mailbox_of(table: MailboxTable) -> Option<Mailbox>
 }
 
 /// Whether a board is able to hold mailboxes.
-pub fn holds_mailboxes(class: Class) -> bool
-    ensures able { result ≡ holds_mailboxes class }
+pub fn supports_mailboxes(class: Class) -> bool
+    ensures able { result ≡ supports_mailboxes class }
 {
     class.width == Width8To32::D32 && class.rmw
 }

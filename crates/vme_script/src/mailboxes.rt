@@ -5,9 +5,9 @@ ghost use Rattle.vme_script.specs.Boards.{entries_of};
 ghost use Rattle.vme_script.specs.MailboxRefusals.{declared_mailbox, mailboxes_of};
 
 use crate::board::BoardConfig;
+use crate::board_range::BoardRange;
 use crate::fault::ConfigFault;
-use crate::mailbox::{holds_mailboxes, mailbox_of};
-use crate::place::Place;
+use crate::mailbox::{mailbox_from_table, supports_mailboxes};
 use std::alloc::Global;
 use vme_config_toml::MailboxTable;
 use vme_decode::AddressMap;
@@ -21,19 +21,19 @@ const MOST_MAILBOXES: usize = 16;
 fn declared_mailbox(
     boards: &[BoardConfig],
     map: &AddressMap,
-    earlier: &[Place],
+    earlier: &[BoardRange],
     table: MailboxTable,
-) -> Result<(Mailbox, Place), ConfigFault>
+) -> Result<(Mailbox, BoardRange), ConfigFault>
     requires { map.now ≡ entries_of boards.now }
     ensures { result ≡ declared_mailbox boards.now earlier.now table }
 {
-    let mailbox = mailbox_of(table).ok_or(ConfigFault::BadMailbox)?;
-    let place = Place::of(map, mailbox).ok_or(ConfigFault::BadMailbox)?;
+    let mailbox = mailbox_from_table(table).ok_or(ConfigFault::BadMailbox)?;
+    let place = BoardRange::of(map, mailbox).ok_or(ConfigFault::BadMailbox)?;
     let board = boards.get(place.board).ok_or(ConfigFault::BadMailbox)?;
     if !place.is_within(board.entry.size) {
         return Err(ConfigFault::BadMailbox);
     }
-    if !holds_mailboxes(board.class) {
+    if !supports_mailboxes(board.class) {
         return Err(ConfigFault::BadMailbox);
     }
     if place.shares_any(earlier) {

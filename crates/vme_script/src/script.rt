@@ -1,11 +1,11 @@
 //! Scripts: what the lines of a text ask for.
 ghost use Rattle.std.specs.Prelude.{◌≡◌, ◌<◌, ◌≤◌, ◌∷◌, ◌++◌, [], nat_lt, length, slice_get, Some, Ok, Err, IfOk, IfErr, map};
 ghost use Rattle.std.specs.Str.Lines.{lines};
-ghost use Rattle.vme_script.specs.Rules.{refusal_of};
+ghost use Rattle.vme_script.specs.ScriptContext.{refusal_of};
 ghost use Rattle.vme_script.specs.Scripts.{script_of, script_within, lines_from, IsRefusalOf, IsTaken};
 
+use crate::context::ScriptContext;
 use crate::fault::{ScriptFault, ScriptRefusal};
-use crate::rules::Rules;
 use std::alloc::{AllocError, Global};
 use std::marker::Model;
 use vme_grammar::{Line, LineFault, parse_canonical, parse_words};
@@ -49,7 +49,7 @@ impl Script {
         ensures script { IfOk result (λ script. script_of text.now ≡ Ok script) }
         ensures refused { IfErr result (IsRefusalOf (script_of text.now)) }
     {
-        Script::within(alloc, text, &Rules::ByItself)
+        Script::within(alloc, text, &ScriptContext::Alone)
     }
 
     /// The script that a text is, whose lines go by rules.
@@ -57,7 +57,7 @@ impl Script {
     pub(crate) fn within(
         alloc: Global,
         text: &[u8],
-        rules: &Rules<'_>,
+        rules: &ScriptContext<'_>,
     ) -> Result<Script, ScriptFault>
         ensures script { IfOk result (λ script. script_within rules.now text.now ≡ Ok script) }
         ensures refused { IfErr result (IsRefusalOf (script_within rules.now text.now)) }
@@ -108,7 +108,7 @@ fn take_line(
     lines: &mut Vec<ScriptLine>,
     number: u16,
     text: &[u8],
-    rules: &Rules<'_>,
+    rules: &ScriptContext<'_>,
 ) -> Result<Option<LineFault>, AllocError>
     ensures { IfOk result (IsTaken rules.now number text.now lines.old.items lines.new.items) }
 {
@@ -126,7 +126,7 @@ fn take_any(
     lines: &mut Vec<ScriptLine>,
     number: u16,
     text: &[u8],
-    rules: &Rules<'_>,
+    rules: &ScriptContext<'_>,
 ) -> Result<Option<LineFault>, AllocError>
     ensures { IfOk result (IsTaken rules.now number text.now lines.old.items lines.new.items) }
 {
@@ -143,7 +143,7 @@ fn take_any(
 fn keep(
     lines: &mut Vec<ScriptLine>,
     line: ScriptLine,
-    rules: &Rules<'_>,
+    rules: &ScriptContext<'_>,
 ) -> Result<Option<LineFault>, AllocError>
     ensures kept { IfOk result (λ _. lines.new.items ≡ lines.old.items ++ line ∷ []) }
     ensures refusal { IfOk result (λ refusal. refusal ≡ refusal_of rules.now line.line) }
@@ -155,7 +155,7 @@ fn keep(
 
 /// What a text is told of which a line is refused: that it has too many lines, or else that line.
 #[tactic(auto, unfolding(crate::specs::Scripts::script_within))]
-fn fault_of(text: &[u8], rules: &Rules<'_>, refusal: ScriptRefusal) -> ScriptFault
+fn fault_of(text: &[u8], rules: &ScriptContext<'_>, refusal: ScriptRefusal) -> ScriptFault
     requires { lines_from rules.now 1 (lines text.now) ≡ Err refusal }
     ensures { IsRefusalOf (script_within rules.now text.now) result }
 {

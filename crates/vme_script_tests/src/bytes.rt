@@ -57,7 +57,7 @@ fn check_lines(
     alloc: Global,
     own: &str,
     other: &str,
-    told: &str,
+    reported: &str,
 ) -> Result<(), AllocError> {
     let file = format!(in alloc;
         "tries = 1
@@ -77,17 +77,17 @@ addr = 0
 slots = 2
 "
     )?;
-    check(rt, alloc, file.as_bytes(), told)
+    check(rt, alloc, file.as_bytes(), reported)
 }
 
 #[test]
-fn tells_of_bytes_of_a_mailbox(rt: HostRuntime) -> Result<(), Fail> {
+fn reports_of_bytes_of_a_mailbox(rt: HostRuntime) -> Result<(), Fail> {
     check_lines(&rt, rt.alloc(), "", "", "lawful")?;
-    for (line, told) in &OWN_LINES {
-        check_lines(&rt, rt.alloc(), line, "", told)?;
+    for (line, reported) in &OWN_LINES {
+        check_lines(&rt, rt.alloc(), line, "", reported)?;
     }
-    for (line, told) in &OTHER_LINES {
-        check_lines(&rt, rt.alloc(), "", line, told)?;
+    for (line, reported) in &OTHER_LINES {
+        check_lines(&rt, rt.alloc(), "", line, reported)?;
     }
     Ok(())
 }

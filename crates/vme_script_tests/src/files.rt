@@ -47,13 +47,13 @@ fn number_of(end: &Result<Config, ConfigFault>) -> usize
 static FRONTS: [u32; 16] = [4, 0, 0, 0, 0, 2, 151, 16, 0, 0, 0, 3, 4, 0, 0, 0];
 
 #[test]
-fn reads_or_refuses_each_front(rt: HostRuntime) {
-    let mut told = [0_u32; 16];
+fn reads_or_refuses_each_prefix(rt: HostRuntime) {
+    let mut reported = [0_u32; 16];
     for end in 0..=TWO_BOARDS.len() {
         let number = number_of(&Config::read(rt.alloc(), &TWO_BOARDS.as_bytes()[..end]));
-        told[number] = told[number].wrapping_add(1);
+        reported[number] = reported[number].wrapping_add(1);
     }
-    assert_eq!(rt; told, FRONTS);
+    assert_eq!(rt; reported, FRONTS);
 }
 
 /// A byte, and how many of the files in which it stands for another are told each number. Another
@@ -69,15 +69,15 @@ static CHANGES: [(u8, [u32; 16]); 4] = [
 fn reads_or_refuses_with_each_byte_changed(rt: HostRuntime) -> Result<(), Fail> {
     let mut file = Vec::from_slice(rt.alloc(), TWO_BOARDS.as_bytes())?;
     for (byte, numbers) in &CHANGES {
-        let mut told = [0_u32; 16];
+        let mut reported = [0_u32; 16];
         for at in 0..file.len() {
             let kept = file[at];
             file[at] = *byte;
             let number = number_of(&Config::read(rt.alloc(), &file));
-            told[number] = told[number].wrapping_add(1);
+            reported[number] = reported[number].wrapping_add(1);
             file[at] = kept;
         }
-        assert_eq!(rt; told, *numbers, "{byte}");
+        assert_eq!(rt; reported, *numbers, "{byte}");
     }
     Ok(())
 }

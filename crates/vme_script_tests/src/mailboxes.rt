@@ -96,16 +96,16 @@ fn mailboxes(alloc: Global, tables: &str, boards: &str) -> Result<String, AllocE
 }
 
 #[test]
-fn tells_of_mailboxes(rt: HostRuntime) -> Result<(), Fail> {
-    for (tables, told) in &MAILBOXES {
+fn reports_of_mailboxes(rt: HostRuntime) -> Result<(), Fail> {
+    for (tables, reported) in &MAILBOXES {
         let file = mailboxes(rt.alloc(), tables, BOARDS)?;
-        check(&rt, rt.alloc(), file.as_bytes(), told)?;
+        check(&rt, rt.alloc(), file.as_bytes(), reported)?;
     }
     Ok(())
 }
 
 #[test]
-fn tells_of_a_board_that_can_hold_none(rt: HostRuntime) -> Result<(), Fail> {
+fn reports_of_a_board_that_can_hold_none(rt: HostRuntime) -> Result<(), Fail> {
     let file = "board = [{ slot = 1, base = 0, size = 32, rmw = false }]
 mailbox = [{ am = 9, addr = 0, slots = 1 }]";
     check(&rt, rt.alloc(), file.as_bytes(), "C13")?;
@@ -117,7 +117,7 @@ static COUNTS: [(u16, &str); 3] = [(1, "lawful"), (16, "lawful"), (17, "C13")];
 
 #[test]
 fn has_sixteen_mailboxes_at_most(rt: HostRuntime) -> Result<(), Fail> {
-    for (count, told) in &COUNTS {
+    for (count, reported) in &COUNTS {
         let mut file = format!(in rt.alloc(); "board = [{{ slot = 1, base = 0, size = 512 }}]\n")?;
         for k in 0..*count {
             write!(
@@ -126,7 +126,7 @@ fn has_sixteen_mailboxes_at_most(rt: HostRuntime) -> Result<(), Fail> {
                 20 * u32::from(k)
             )?;
         }
-        check(&rt, rt.alloc(), file.as_bytes(), told)?;
+        check(&rt, rt.alloc(), file.as_bytes(), reported)?;
     }
     Ok(())
 }
@@ -145,14 +145,14 @@ static SCRIPTS: [(&str, &str); 9] = [
 ];
 
 #[test]
-fn tells_of_a_mailbox_that_is_not_declared(rt: HostRuntime) -> Result<(), Fail> {
+fn reports_of_a_mailbox_that_is_not_declared(rt: HostRuntime) -> Result<(), Fail> {
     let tables = "{ am = 9, addr = 0, slots = 1 }, { am = 9, addr = 20, slots = 1 }";
-    for (script, told) in &SCRIPTS {
+    for (script, reported) in &SCRIPTS {
         let boards = format!(in rt.alloc();
             "board = [{{ slot = 1, base = 0, size = 64, script = \"{script}\" }}]"
         )?;
         let file = mailboxes(rt.alloc(), tables, boards.as_str())?;
-        check(&rt, rt.alloc(), file.as_bytes(), told)?;
+        check(&rt, rt.alloc(), file.as_bytes(), reported)?;
     }
     Ok(())
 }
@@ -172,9 +172,9 @@ board = [{ slot = 1, base = 0, size = 32, script = \"x\" }]",
 ];
 
 #[test]
-fn tells_mailboxes_between_schedule_and_scripts(rt: HostRuntime) -> Result<(), Fail> {
-    for (file, told) in &ORDERS {
-        check(&rt, rt.alloc(), file.as_bytes(), told)?;
+fn reports_mailboxes_between_schedule_and_scripts(rt: HostRuntime) -> Result<(), Fail> {
+    for (file, reported) in &ORDERS {
+        check(&rt, rt.alloc(), file.as_bytes(), reported)?;
     }
     Ok(())
 }

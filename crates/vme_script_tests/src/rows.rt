@@ -165,19 +165,19 @@ pub(crate) fn check(
     rt: &impl Abort,
     alloc: Global,
     file: &[u8],
-    told: &str,
+    reported: &str,
 ) -> Result<(), AllocError> {
     match Config::read(alloc, file) {
-        Ok(_) => assert_eq!(rt; "lawful", told),
-        Err(fault) => assert_eq!(rt; fault.to_string(alloc)?.as_str(), told),
+        Ok(_) => assert_eq!(rt; "lawful", reported),
+        Err(fault) => assert_eq!(rt; fault.to_string(alloc)?.as_str(), reported),
     }
     Ok(())
 }
 
 #[test]
-fn tells_the_first_refusal(rt: HostRuntime) -> Result<(), Fail> {
-    for (file, told) in &TOLD {
-        check(&rt, rt.alloc(), file.as_bytes(), told)?;
+fn reports_the_first_refusal(rt: HostRuntime) -> Result<(), Fail> {
+    for (file, reported) in &TOLD {
+        check(&rt, rt.alloc(), file.as_bytes(), reported)?;
     }
     check(&rt, rt.alloc(), b"# \xff\n", "C6")?;
     Ok(())
@@ -186,12 +186,12 @@ fn tells_the_first_refusal(rt: HostRuntime) -> Result<(), Fail> {
 /// So many of a part between a front and an end.
 fn repeated(
     alloc: Global,
-    front: &str,
+    prefix: &str,
     part: &str,
     count: usize,
     end: &str,
 ) -> Result<Vec<u8>, AllocError> {
-    let mut file = Vec::from_slice(alloc, front.as_bytes())?;
+    let mut file = Vec::from_slice(alloc, prefix.as_bytes())?;
     for _ in 0..count {
         file.extend_from_slice(part.as_bytes())?;
     }
@@ -226,10 +226,10 @@ static LIMITS: [(&str, &str, usize, &str, &str); 6] = [
 ];
 
 #[test]
-fn tells_what_is_past_a_limit(rt: HostRuntime) -> Result<(), Fail> {
-    for (front, part, count, end, told) in &LIMITS {
-        let file = repeated(rt.alloc(), front, part, *count, end)?;
-        check(&rt, rt.alloc(), file.as_slice(), told)?;
+fn reports_what_is_past_a_limit(rt: HostRuntime) -> Result<(), Fail> {
+    for (prefix, part, count, end, reported) in &LIMITS {
+        let file = repeated(rt.alloc(), prefix, part, *count, end)?;
+        check(&rt, rt.alloc(), file.as_slice(), reported)?;
     }
     Ok(())
 }

@@ -13,7 +13,7 @@ use Rattle.vme_memory.specs.Data.{reply_len, has_form}
 use Rattle.vme_arbiter.specs.declared.command.ArbCmd.TheVariants as turns
 use Rattle.vme_arbiter.specs.declared.command.ArbReply.TheVariants as turned
 use Rattle.vme_core.specs.declared.event.EventReply.{EventReply}
-use Rattle.vme_core.specs.declared.event.EventReply.TheVariants as told
+use Rattle.vme_core.specs.declared.event.EventReply.TheVariants as replies
 use Rattle.vme_core.specs.Calls.{Call, OnBoard, OnBus}
 use Rattle.vme_master.specs.declared.expected.ExpectedReply.{ExpectedReply}
 use Rattle.vme_master.specs.declared.expected.ExpectedReply.TheVariants as expected_replies
@@ -36,28 +36,28 @@ outcome_granted : (j : BusJob) (place : Option (ℕ × ℕ)) (g : Given) → out
 outcome_granted j None g = λ same. absurd cc
 outcome_granted j (Some place) [] = expected_granted _ _
 outcome_granted j (Some place) (None ∷ before) = expected_granted _ _
-outcome_granted j (Some place) (Some (told.Bus reply) ∷ before) = expected_granted _ _
-outcome_granted j (Some place) (Some (told.Board (Bytes datum)) ∷ before) = expected_granted _ _
-outcome_granted j (Some place) (Some (told.Board Done) ∷ before) = expected_granted _ _
-outcome_granted j (Some place) (Some (told.Board Berr) ∷ before) = λ same. absurd cc
+outcome_granted j (Some place) (Some (replies.Bus reply) ∷ before) = expected_granted _ _
+outcome_granted j (Some place) (Some (replies.Board (Bytes datum)) ∷ before) = expected_granted _ _
+outcome_granted j (Some place) (Some (replies.Board Done) ∷ before) = expected_granted _ _
+outcome_granted j (Some place) (Some (replies.Board Berr) ∷ before) = λ same. absurd cc
 
 same_end : (a b : Outcome) → Returns a ≡ Returns b → a ≡ b
 same_end a b same = cc
 
-row_granted : (j : BusJob) (g : Given) (reply : EventReply) (outcome : Outcome) → reply ≢ told.Bus turned.Denied
+row_granted : (j : BusJob) (g : Given) (reply : EventReply) (outcome : Outcome) → reply ≢ replies.Bus turned.Denied
     → bus_row j reply g ≡ Returns outcome → outcome ≢ outcomes.Denied
-row_granted j g (told.Bus turned.Waiting) outcome good row = λ denied. absurd cc
-row_granted j g (told.Bus turned.Granted) outcome good row = λ denied. absurd cc
-row_granted j g (told.Bus turned.Freed) outcome good row = λ denied.
+row_granted j g (replies.Bus turned.Waiting) outcome good row = λ denied. absurd cc
+row_granted j g (replies.Bus turned.Granted) outcome good row = λ denied. absurd cc
+row_granted j g (replies.Bus turned.Freed) outcome good row = λ denied.
     outcome_granted j j.place g (same_end (outcome_by j j.place g) outcome row ∙ denied)
-row_granted j g (told.Bus turned.Denied) outcome good row = λ denied. good refl
-row_granted j g (told.Board (Bytes datum)) outcome good row = λ denied. absurd cc
-row_granted j g (told.Board Done) outcome good row = λ denied. absurd cc
-row_granted j g (told.Board Berr) outcome good row = λ denied. absurd cc
+row_granted j g (replies.Bus turned.Denied) outcome good row = λ denied. good refl
+row_granted j g (replies.Board (Bytes datum)) outcome good row = λ denied. absurd cc
+row_granted j g (replies.Board Done) outcome good row = λ denied. absurd cc
+row_granted j g (replies.Board Berr) outcome good row = λ denied. absurd cc
 
 -- after a reply that fits and is no denial, an end is none
 pub good_end : (j : BusJob) (g : Given) (call : Call) (reply : EventReply) (outcome : Outcome) → next_of (Bus j) g ≡ Invokes call
-    → fits call reply ≡ true → reply ≢ told.Bus turned.Denied → next_of (Bus j) (Some reply ∷ g) ≡ Returns outcome → outcome ≢ outcomes.Denied
+    → fits call reply ≡ true → reply ≢ replies.Bus turned.Denied → next_of (Bus j) (Some reply ∷ g) ≡ Returns outcome → outcome ≢ outcomes.Denied
 good_end j g call reply outcome made fit good ends = row_granted j g reply outcome good (let after = rw (made, fit) at ends in after)
 
 -- an outcome has as many bytes as are wanted
@@ -127,25 +127,25 @@ done_formed expected (Some n) same form = absurd cc
 -- a board's reply
 board_formed : (j : BusJob) (g : Given) (board : ℕ) (command : Option Command) (reply : Reply) → count_of j.transfer.request ≡ 1
     → Formed j g (Invokes (OnBoard board command)) → has_form (option_and_then reply_len command) reply ≡ true
-    → Formed j (Some (told.Board reply) ∷ g) (bus_row j (told.Board reply) g)
+    → Formed j (Some (replies.Board reply) ∷ g) (bus_row j (replies.Board reply) g)
 board_formed j g board command (Bytes datum) single ((none, empty), some, wanted) form =
-    last_formed j (Some (told.Board (Bytes datum)) ∷ g) (data_in g) single none (by_place j.place some)
+    last_formed j (Some (replies.Board (Bytes datum)) ∷ g) (data_in g) single none (by_place j.place some)
   where
     by_place : (place : Option (ℕ × ℕ)) → is_some place ≡ true
-        → IsFormed (request_expected j.transfer.request) (outcome_by j place (Some (told.Board (Bytes datum)) ∷ g))
+        → IsFormed (request_expected j.transfer.request) (outcome_by j place (Some (replies.Board (Bytes datum)) ∷ g))
     by_place None some = absurd cc
     by_place (Some p) some = rw empty (bytes_formed (request_expected j.transfer.request) (option_and_then reply_len command) datum wanted form)
 board_formed j g board command Done single ((none, empty), some, wanted) form =
-    last_formed j (Some (told.Board Done) ∷ g) (data_in g) single none (by_place j.place some)
+    last_formed j (Some (replies.Board Done) ∷ g) (data_in g) single none (by_place j.place some)
   where
     by_place : (place : Option (ℕ × ℕ)) → is_some place ≡ true
-        → IsFormed (request_expected j.transfer.request) (outcome_by j place (Some (told.Board Done) ∷ g))
+        → IsFormed (request_expected j.transfer.request) (outcome_by j place (Some (replies.Board Done) ∷ g))
     by_place None some = absurd cc
     by_place (Some p) some = rw empty (done_formed (request_expected j.transfer.request) (option_and_then reply_len command) wanted form)
 board_formed j g board command Berr single ((none, empty), some, wanted) form = by_place j.place some
   where
     by_place : (place : Option (ℕ × ℕ)) → is_some place ≡ true
-        → IsFormed (request_expected j.transfer.request) (outcome_by j place (Some (told.Board Berr) ∷ g))
+        → IsFormed (request_expected j.transfer.request) (outcome_by j place (Some (replies.Board Berr) ∷ g))
     by_place None some = absurd cc
     by_place (Some p) some = berr_formed (request_expected j.transfer.request) (data_in g) (bytes_in g)
 
@@ -155,24 +155,24 @@ step_formed : (j : BusJob) (g : Given) (next : Next) (last : Option EventReply) 
 step_formed j g NotStarted None single formed = (ap data_in formed, ap bytes_in formed)
 step_formed j g NotStarted (Some reply) single formed = denied_formed (request_expected j.transfer.request)
 step_formed j g (Invokes call) None single formed = denied_formed (request_expected j.transfer.request)
-step_formed j g (Invokes (OnBus (turns.Ask slot level))) (Some (told.Bus turned.Granted)) single formed =
-    first_formed j (Some (told.Bus turned.Granted) ∷ g) single formed
-step_formed j g (Invokes (OnBus (turns.Ask slot level))) (Some (told.Bus turned.Waiting)) single formed = formed
-step_formed j g (Invokes (OnBus (turns.Ask slot level))) (Some (told.Bus turned.Freed)) single formed = denied_formed (request_expected j.transfer.request)
-step_formed j g (Invokes (OnBus (turns.Ask slot level))) (Some (told.Bus turned.Denied)) single formed = denied_formed (request_expected j.transfer.request)
-step_formed j g (Invokes (OnBus (turns.Look slot))) (Some (told.Bus turned.Granted)) single formed =
-    first_formed j (Some (told.Bus turned.Granted) ∷ g) single formed
-step_formed j g (Invokes (OnBus (turns.Look slot))) (Some (told.Bus turned.Waiting)) single formed = formed
-step_formed j g (Invokes (OnBus (turns.Look slot))) (Some (told.Bus turned.Freed)) single formed = denied_formed (request_expected j.transfer.request)
-step_formed j g (Invokes (OnBus (turns.Look slot))) (Some (told.Bus turned.Denied)) single formed = denied_formed (request_expected j.transfer.request)
-step_formed j g (Invokes (OnBus (turns.Done slot))) (Some (told.Bus turned.Freed)) single formed = formed
-step_formed j g (Invokes (OnBus (turns.Done slot))) (Some (told.Bus turned.Granted)) single formed = denied_formed (request_expected j.transfer.request)
-step_formed j g (Invokes (OnBus (turns.Done slot))) (Some (told.Bus turned.Waiting)) single formed = denied_formed (request_expected j.transfer.request)
-step_formed j g (Invokes (OnBus (turns.Done slot))) (Some (told.Bus turned.Denied)) single formed = denied_formed (request_expected j.transfer.request)
-step_formed j g (Invokes (OnBus cmd)) (Some (told.Board reply)) single formed = denied_formed (request_expected j.transfer.request)
-step_formed j g (Invokes (OnBoard board command)) (Some (told.Bus reply)) single formed = denied_formed (request_expected j.transfer.request)
-step_formed j g (Invokes (OnBoard board command)) (Some (told.Board reply)) single formed =
-    elim (cases_Bool (fits (OnBoard board command) (told.Board reply))) [
+step_formed j g (Invokes (OnBus (turns.Ask slot level))) (Some (replies.Bus turned.Granted)) single formed =
+    first_formed j (Some (replies.Bus turned.Granted) ∷ g) single formed
+step_formed j g (Invokes (OnBus (turns.Ask slot level))) (Some (replies.Bus turned.Waiting)) single formed = formed
+step_formed j g (Invokes (OnBus (turns.Ask slot level))) (Some (replies.Bus turned.Freed)) single formed = denied_formed (request_expected j.transfer.request)
+step_formed j g (Invokes (OnBus (turns.Ask slot level))) (Some (replies.Bus turned.Denied)) single formed = denied_formed (request_expected j.transfer.request)
+step_formed j g (Invokes (OnBus (turns.Look slot))) (Some (replies.Bus turned.Granted)) single formed =
+    first_formed j (Some (replies.Bus turned.Granted) ∷ g) single formed
+step_formed j g (Invokes (OnBus (turns.Look slot))) (Some (replies.Bus turned.Waiting)) single formed = formed
+step_formed j g (Invokes (OnBus (turns.Look slot))) (Some (replies.Bus turned.Freed)) single formed = denied_formed (request_expected j.transfer.request)
+step_formed j g (Invokes (OnBus (turns.Look slot))) (Some (replies.Bus turned.Denied)) single formed = denied_formed (request_expected j.transfer.request)
+step_formed j g (Invokes (OnBus (turns.Done slot))) (Some (replies.Bus turned.Freed)) single formed = formed
+step_formed j g (Invokes (OnBus (turns.Done slot))) (Some (replies.Bus turned.Granted)) single formed = denied_formed (request_expected j.transfer.request)
+step_formed j g (Invokes (OnBus (turns.Done slot))) (Some (replies.Bus turned.Waiting)) single formed = denied_formed (request_expected j.transfer.request)
+step_formed j g (Invokes (OnBus (turns.Done slot))) (Some (replies.Bus turned.Denied)) single formed = denied_formed (request_expected j.transfer.request)
+step_formed j g (Invokes (OnBus cmd)) (Some (replies.Board reply)) single formed = denied_formed (request_expected j.transfer.request)
+step_formed j g (Invokes (OnBoard board command)) (Some (replies.Bus reply)) single formed = denied_formed (request_expected j.transfer.request)
+step_formed j g (Invokes (OnBoard board command)) (Some (replies.Board reply)) single formed =
+    elim (cases_Bool (fits (OnBoard board command) (replies.Board reply))) [
       | inl fit ↦ rw fit (board_formed j g board command reply single formed fit)
       | inr misfit ↦ rw misfit (denied_formed (request_expected j.transfer.request))
     ]

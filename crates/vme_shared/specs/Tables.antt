@@ -91,10 +91,10 @@ abbrev pub shared_next : SharedJob → Given → SharedNext
 shared_next s given = next_at (progress_of s given)
 
 -- what the arbiter told the bus task at work last, if there is one and it was told (this project's own)
-abbrev pub told_at : Progress → Option ArbReply
-told_at (At stage job given) = last_turn given
-told_at (Over end) = None
+abbrev pub reported_at : Progress → Option ArbReply
+reported_at (At stage job given) = last_turn given
+reported_at (Over end) = None
 
 -- the same by what was given so far (this project's own)
-abbrev pub shared_told : SharedJob → Given → Option ArbReply
-shared_told s given = told_at (progress_of s given)
+abbrev pub shared_reported : SharedJob → Given → Option ArbReply
+shared_reported s given = reported_at (progress_of s given)

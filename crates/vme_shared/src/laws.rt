@@ -7,9 +7,9 @@ ghost use Rattle.vme_arbiter.specs.declared.command.ArbReply.{ArbReply};
 ghost use Rattle.vme_arbiter.specs.declared.command.ArbReply.TheVariants as turned;
 ghost use Rattle.vme_arbiter.specs.Requests.{is_level};
 ghost use Rattle.vme_arbiter.specs.Arbitration.{Arbitration};
-ghost use Rattle.vme_arbiter.specs.Turns.{may_give, StandsAsTold};
+ghost use Rattle.vme_arbiter.specs.Turns.{may_give, StandsAsReplied};
 ghost use Rattle.vme_core.specs.declared.event.EventReply.{EventReply};
-ghost use Rattle.vme_core.specs.declared.event.EventReply.TheVariants as told;
+ghost use Rattle.vme_core.specs.declared.event.EventReply.TheVariants as replies;
 ghost use Rattle.vme_core.specs.Calls.{Call, OnBoard, OnBus};
 ghost use Rattle.vme_master.specs.declared.job.Job.{Job};
 ghost use Rattle.vme_master.specs.Jobs.{fits};
@@ -18,7 +18,7 @@ ghost use Rattle.vme_shared.specs.declared.outcome.SharedOutcome.{SharedOutcome}
 ghost use Rattle.vme_shared.specs.declared.outcome.SharedOutcome.TheVariants.{Denied};
 ghost use Rattle.vme_shared.specs.declared.stage.Stage.{Stage};
 ghost use Rattle.vme_shared.specs.Mailboxes.{IsAsked, shared_refusal};
-ghost use Rattle.vme_shared.specs.Tables.{SharedJob, NotStarted, Invokes, Returns, stage_job, shared_next, shared_told};
+ghost use Rattle.vme_shared.specs.Tables.{SharedJob, NotStarted, Invokes, Returns, stage_job, shared_next, shared_reported};
 ghost use Rattle.vme_shared.specs.Machine.{shared_given, shared_to_do};
 
 /// What is asked of a lock or a mailbox goes by the table: after calls with any replies, fitting or
@@ -61,26 +61,26 @@ pub fn shared_tasks_call_boards_of_the_map()
 /// what the slot was told; and where it ends by such a reply, it ends without a denial, and the slot
 /// is free.
 pub fn shared_tasks_keep_their_tenure()
-    ensures begin { (s : SharedJob) → shared_told s (None ∷ []) ≡ None }
+    ensures begin { (s : SharedJob) → shared_reported s (None ∷ []) ≡ None }
     ensures turns { (s : SharedJob) (given : Given) (cmd : ArbCmd) → IsTrue (is_level s.level) →
         shared_next s given ≡ Invokes (OnBus cmd) →
-        IsTrue (may_give s.slot (shared_told s given) cmd) }
+        IsTrue (may_give s.slot (shared_reported s given) cmd) }
     ensures holds { (s : SharedJob) (given : Given) (board : ℕ) (command : Option Command) →
         shared_next s given ≡ Invokes (OnBoard board command) →
-        shared_told s given ≡ Some turned.Granted }
+        shared_reported s given ≡ Some turned.Granted }
     ensures turn { (s : SharedJob) (given : Given) (cmd : ArbCmd) (reply : ArbReply)
         (bus : Arbitration) (slot : ℕ) → shared_next s given ≡ Invokes (OnBus cmd) →
-        IsTrue (fits (OnBus cmd) (told.Bus reply)) → told.Bus reply ≢ told.Bus turned.Denied →
-        StandsAsTold bus slot (Some reply) →
-        StandsAsTold bus slot (shared_told s (Some (told.Bus reply) ∷ given)) }
+        IsTrue (fits (OnBus cmd) (replies.Bus reply)) → replies.Bus reply ≢ replies.Bus turned.Denied →
+        StandsAsReplied bus slot (Some reply) →
+        StandsAsReplied bus slot (shared_reported s (Some (replies.Bus reply) ∷ given)) }
     ensures datum { (s : SharedJob) (given : Given) (call : Call) (reply : Reply) →
-        shared_next s given ≡ Invokes call → IsTrue (fits call (told.Board reply)) →
-        shared_told s (Some (told.Board reply) ∷ given) ≡ shared_told s given }
+        shared_next s given ≡ Invokes call → IsTrue (fits call (replies.Board reply)) →
+        shared_reported s (Some (replies.Board reply) ∷ given) ≡ shared_reported s given }
     ensures granted { (s : SharedJob) (given : Given) (call : Call) (reply : EventReply) →
         shared_next s given ≡ Invokes call → IsTrue (fits call reply) →
-        reply ≢ told.Bus turned.Denied → shared_next s (Some reply ∷ given) ≢ Returns Denied }
+        reply ≢ replies.Bus turned.Denied → shared_next s (Some reply ∷ given) ≢ Returns Denied }
     ensures freed { (s : SharedJob) (given : Given) (call : Call) (reply : EventReply)
         (end : SharedOutcome) → shared_next s given ≡ Invokes call → IsTrue (fits call reply) →
-        reply ≢ told.Bus turned.Denied → shared_next s (Some reply ∷ given) ≡ Returns end →
-        (reply ≡ told.Bus turned.Freed) × (shared_told s (Some reply ∷ given) ≡ None) }
+        reply ≢ replies.Bus turned.Denied → shared_next s (Some reply ∷ given) ≡ Returns end →
+        (reply ≡ replies.Bus turned.Freed) × (shared_reported s (Some reply ∷ given) ≡ None) }
 {}

@@ -1,6 +1,6 @@
 ghost use Rattle.std.specs.Prelude.{◌≡◌, ◌+◌, ◌≤◌, List, [], ◌∷◌, length};
 ghost use Rattle.vme_object.specs.declared.history.Entry.{Entry};
-ghost use Rattle.vme_object.specs.History.{IsLegal, Begins};
+ghost use Rattle.vme_object.specs.History.{IsLegal, IsPrefix};
 ghost use Rattle.vme_memory.specs.declared.command.BoardCmd.{BoardCmd};
 ghost use Rattle.vme_memory.specs.declared.reply.Reply.{Reply};
 ghost use Rattle.vme_memory.specs.Boards.{Board};
@@ -16,7 +16,7 @@ ghost use Rattle.vme_shared.specs.Example.{example_board, example_mailbox, examp
 pub fn mailboxes_are_queues()
     ensures order { (board : Board) (m : BoardMailbox) (h : List (Entry BoardCmd Reply)) →
         IsNewMailbox board m → IsLegal board_step board h → IsProper m h →
-        Begins (words_taken m h) (words_put m h) }
+        IsPrefix (words_taken m h) (words_put m h) }
     ensures capacity { (board : Board) (m : BoardMailbox) (h : List (Entry BoardCmd Reply)) →
         IsNewMailbox board m → IsLegal board_step board h → IsProper m h →
         length (words_put m h) ≤ length (words_taken m h) + m.slots }

@@ -109,7 +109,9 @@ impl SharedRequest {
     {
         match stage {
             Stage::ReadsPutCount => Step::Continue(Stage::ReadsTakeCount { put_count: word }),
-            Stage::ReadsTakeCount { put_count } => Step::Continue(self.counted_stage(put_count, word)),
+            Stage::ReadsTakeCount { put_count } => Step::Continue(self.counted_stage(
+                put_count, word,
+            )),
             Stage::ReadsWord { take_count } => {
                 Step::Continue(Stage::RaisesTakeCount { take_count, word })
             }

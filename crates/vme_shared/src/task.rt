@@ -14,7 +14,7 @@ use crate::request::SharedRequest;
 use crate::todo::SharedTodo;
 use crate::work::Work;
 use std::marker::Model;
-use vme_core::{EventRef, Event, EventReply};
+use vme_core::{Event, EventRef, EventReply};
 use vme_cycle::CycleFault;
 use vme_decode::AddressMap;
 

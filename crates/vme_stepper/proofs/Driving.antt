@@ -4,7 +4,7 @@ use Rattle.std.specs.Prelude.{slice_get, slice_set}
 use Rattle.std.proofs.lemmas.List.{length-set}
 use Rattle.std.proofs.lemmas.Option.{slice_get_read}
 use Rattle.vme_core.specs.Runs.{Machine}
-use Rattle.vme_core.specs.Machines.{whos}
+use Rattle.vme_core.specs.Machines.{process_count}
 use Rattle.vme_script.specs.Configurations.{Configuration}
 use Rattle.vme_stepper.specs.Steppers.{ProcessorView, StepperView, processor_turn, stepper_turn, IsProcessorOf, IsStepperOf}
 use Rattle.vme_stepper.proofs.Steps.{set_each}
@@ -30,11 +30,11 @@ module _ (config : Configuration) (self : StepperView) (machine : Machine) (proc
       rw processor_there
       (rw (own, ← same) (ap (λ (p : Machine × ProcessorView). record { machine = p.0; processors = slice_set self.processors board p.1 }) turn))
 
-  pub turned_sound : (after : Machine) (new : ProcessorView) → IsProcessorOf config board new → whos after ≡ whos machine → length after.boards ≡ length machine.boards
+  pub turned_sound : (after : Machine) (new : ProcessorView) → IsProcessorOf config board new → process_count after ≡ process_count machine → length after.boards ≡ length machine.boards
       → IsStepperOf config (record { machine = after; processors = slice_set processors board new })
-  turned_sound after new good same_whos same_boards = record {
+  turned_sound after new good same_process_count same_boards = record {
     boards = same_boards ∙ ap (λ (d : StepperView). length d.machine.boards) is ∙ sound.boards;
-    whos = same_whos ∙ ap (λ (d : StepperView). whos d.machine) is ∙ sound.whos;
+    process_count = same_process_count ∙ ap (λ (d : StepperView). process_count d.machine) is ∙ sound.process_count;
     count = length-set processors board new ∙ ap (λ (d : StepperView). length d.processors) is ∙ sound.count;
     each = λ b other found.
         set_each (IsProcessorOf config) processors board b new other

@@ -1,4 +1,4 @@
-pub mod Told
+pub mod Reported
 pub mod Processors
 pub mod Turning
 pub mod Drawing
@@ -9,4 +9,4 @@ pub mod Places
 pub mod Runs
 pub mod Driving
 pub mod Opening
-pub mod Telling
+pub mod Reporting

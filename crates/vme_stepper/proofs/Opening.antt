@@ -5,7 +5,7 @@ use Rattle.std.proofs.lemmas.List.{length-map, length-replicate, length-take-le}
 use Rattle.std.proofs.lemmas.Option.{same_Some, slice_get_within, get_or_from_slice_get}
 use Rattle.vme_memory.specs.Boards.{Board}
 use Rattle.vme_core.specs.Runs.{Machine}
-use Rattle.vme_core.specs.Tallies.{fresh_tally}
+use Rattle.vme_core.specs.CountedStates.{fresh_count}
 use Rattle.vme_arbiter.specs.Arbitration.{Arbitration, opening_bus}
 use Rattle.vme_core.specs.Machines.{opening}
 use Rattle.vme_script.specs.declared.script.ScriptLine.{ScriptLine}
@@ -13,10 +13,10 @@ use Rattle.vme_script.specs.Configurations.{Configuration, opening_memory}
 use Rattle.vme_script.specs.Lawful.{IsLawful}
 use Rattle.vme_line_task.specs.Scripts.{script_at}
 use Rattle.vme_line_task.specs.Traces.{ScriptState}
-use Rattle.vme_stepper.specs.Reports.{told_lines}
+use Rattle.vme_stepper.specs.Reports.{reported_lines}
 use Rattle.vme_stepper.specs.Turns.{script_state, initial_state}
 use Rattle.vme_stepper.specs.Steppers.{ProcessorView, processor_of, processors_from, stepper_of, IsProcessorOf, IsStepperOf}
-use Rattle.vme_stepper.proofs.Told.{told_length, told_none, unfinished, get_map, map_next}
+use Rattle.vme_stepper.proofs.Reported.{reported_length, reported_none, unfinished, get_map, map_next}
 use Rattle.vme_stepper.proofs.SystemStates.{processors_get}
 
 -- no line of a script has an answer
@@ -38,9 +38,9 @@ module _ (config : Configuration) where
   fresh_processor : (board : ℕ) (script : List ScriptLine) → slice_get config.scripts board ≡ Some script
       → record { script = script; lines = map unfinished script; ended = 0; at = None } ≡ processor_of config board (script_state [] [])
   fresh_processor board script found =
-      let processor : List ScriptLine → ProcessorView = λ s. record { script = s; lines = told_lines s []; ended = 0; at = None } in
-      let untold : ProcessorView = record { script = script; lines = map unfinished script; ended = 0; at = None } in
-      let at_none : untold ≡ processor script = rw (told_none script) refl in
+      let processor : List ScriptLine → ProcessorView = λ s. record { script = s; lines = reported_lines s []; ended = 0; at = None } in
+      let unreported : ProcessorView = record { script = script; lines = map unfinished script; ended = 0; at = None } in
+      let at_none : unreported ≡ processor script = rw (reported_none script) refl in
       at_none ∙ ap processor (sym (get_or_from_slice_get config.scripts board script [] found))
 
   pub processors_next : (board : ℕ) (script : List ScriptLine) → slice_get config.scripts board ≡ Some script
@@ -58,7 +58,7 @@ module _ (config : Configuration) where
   pub opens : (machine : Machine) (processors : List ProcessorView) (memories : List Board) (bus : Arbitration) (k : ℕ) → machine ≡ opening memories bus k
       → memories ≡ map opening_memory config.boards → bus ≡ opening_bus config.arbiter → k ≡ length config.boards → processors ≡ processors_from config 0 (initial_state config).script_states
       → record { machine = machine; processors = processors } ≡ stepper_of config (initial_state config)
-  opens machine processors memories bus k is zeros kind whos own = rw (is, zeros, kind, whos, own) refl
+  opens machine processors memories bus k is zeros kind process_count own = rw (is, zeros, kind, process_count, own) refl
 
   by_script : (b : ℕ) (processor : ProcessorView) (found : Option (List ScriptLine)) → slice_get config.scripts b ≡ found
       → option_map (processor_of config b) (option_map fresh_script_state found) ≡ Some processor → IsProcessorOf config b processor
@@ -67,14 +67,14 @@ module _ (config : Configuration) where
       subst (IsProcessorOf config b) (same_Some _ _ at)
       (record {
         script = refl;
-        lines = told_length (script_at config b) [] ∙ sym (length-map (script_at config b) (λ (one : ScriptLine). one.line));
+        lines = reported_length (script_at config b) [] ∙ sym (length-map (script_at config b) (λ (one : ScriptLine). one.line));
         below = tt;
       })
 
   pub opens_soundly : IsLawful config → IsStepperOf config (stepper_of config (initial_state config))
   opens_soundly lawful = record {
-    boards = length-map (map opening_memory config.boards) (fresh_tally (length config.boards)) ∙ length-map config.boards opening_memory;
-    whos = length-replicate (length config.boards) 0;
+    boards = length-map (map opening_memory config.boards) (fresh_count (length config.boards)) ∙ length-map config.boards opening_memory;
+    process_count = length-replicate (length config.boards) 0;
     count = processors_length 0 (map fresh_script_state config.scripts) ∙ length-map config.scripts fresh_script_state ∙ lawful.scripts;
     each = λ b processor found.
         by_script b processor (slice_get config.scripts b) refl

@@ -9,15 +9,15 @@ use Rattle.std.proofs.lemmas.Iterator.Adapters.{position_from-zero}
 use Rattle.vme_script.specs.declared.board.BoardConfig.{BoardConfig}
 use Rattle.vme_script.specs.Configurations.{Configuration}
 use Rattle.vme_script.specs.Lawful.{IsLawful}
-use Rattle.vme_stepper.specs.Turns.{place_of}
-use Rattle.vme_stepper.proofs.Told.{get_map}
+use Rattle.vme_stepper.specs.Turns.{board_in_slot}
+use Rattle.vme_stepper.proofs.Reported.{get_map}
 use Rattle.vme_stepper.proofs.Turning.{next_first}
 
 -- the place among boards from this one on
 abbrev pub place_from : ℕ → ℕ → List BoardConfig → Option ℕ
 place_from slot i boards = position_from (λ board. board.slot == slot) i boards
 
-pub place_is : (config : Configuration) (slot : ℕ) → place_of config slot ≡ place_from slot 0 config.boards
+pub place_is : (config : Configuration) (slot : ℕ) → board_in_slot config slot ≡ place_from slot 0 config.boards
 place_is config slot = position_from-zero (λ (board : BoardConfig). board.slot == slot) config.boards
 
 -- a slot is that of a board
@@ -55,7 +55,7 @@ place_own (first ∷ boards) board (suc i) from found apart =
     (place_own boards board i (from + 1) found (λ j b at same. let eq : suc j ≡ suc i = apart (suc j) b at same in omega arith) ∙ ap Some there)
 
 pub own_place : (config : Configuration) (i slot : ℕ) → IsLawful config → slice_get (map (λ board. board.slot) config.boards) i ≡ Some slot
-    → place_of config slot ≡ Some i
+    → board_in_slot config slot ≡ Some i
 own_place config i slot lawful found =
     let at = slot_found config.boards i slot found in
     let there : 0 + i ≡ i = omega arith in

@@ -6,7 +6,7 @@ use Rattle.std.proofs.lemmas.List.Sums.{sum_by-cons, sum_by_push, sum_by-take-le
 use Rattle.vme_script.specs.Configurations.{Configuration}
 use Rattle.vme_script.specs.Schedules.{turns_of}
 use Rattle.vme_script.specs.Lawful.{IsLawful}
-use Rattle.vme_stepper.specs.Turns.{place_of, state_after}
+use Rattle.vme_stepper.specs.Turns.{board_in_slot, state_after}
 use Rattle.vme_stepper.specs.Schedules.{schedule_turns, round_turns}
 use Rattle.vme_stepper.specs.Steppers.{StepperView, stepper_turn_at, stepper_of, StepsWithin}
 use Rattle.vme_stepper.proofs.SystemStates.{system_more}
@@ -14,7 +14,7 @@ use Rattle.vme_stepper.proofs.Steps.{steps_after}
 
 -- one turn more
 pub turn_more : (config : Configuration) (stepper : StepperView) (before : List ℕ) (slot : ℕ) (place : Option ℕ) → stepper ≡ stepper_of config (state_after config before)
-    → place ≡ place_of config slot → stepper_turn_at config stepper place ≡ stepper_of config (state_after config (before ++ slot ∷ []))
+    → place ≡ board_in_slot config slot → stepper_turn_at config stepper place ≡ stepper_of config (state_after config (before ++ slot ∷ []))
 turn_more config stepper before slot place is at = rw (is, at) (sym (system_more config before slot))
 
 -- few turns leave room for steps
@@ -23,7 +23,7 @@ pub few_steps : (config : Configuration) (stepper : StepperView) (before : List 
 few_steps config stepper before is few = subst (λ (d : StepperView). StepsWithin (2 ^ 64 - 2) d.machine) (sym is) (steps_after config (2 ^ 64 - 2) before few)
 
 -- turns of a slot without a board do nothing
-pub none_more : (config : Configuration) (before : List ℕ) (slot n : ℕ) → None ≡ place_of config slot
+pub none_more : (config : Configuration) (before : List ℕ) (slot n : ℕ) → None ≡ board_in_slot config slot
     → stepper_of config (state_after config before) ≡ stepper_of config (state_after config (before ++ replicate n slot))
 none_more config before slot zero none = ap (λ slots. stepper_of config (state_after config slots)) (sym (append-nil before))
 none_more config before slot (suc n) none =

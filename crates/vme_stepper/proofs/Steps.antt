@@ -5,7 +5,7 @@ use Rattle.std.proofs.lemmas.Option.{same_Some}
 use Rattle.vme_memory.specs.Boards.{Board}
 use Rattle.vme_core.specs.declared.event.Target.{Target}
 use Rattle.vme_core.specs.declared.event.Target.TheVariants as at
-use Rattle.vme_core.specs.Tallies.{Tally, fresh_tally}
+use Rattle.vme_core.specs.CountedStates.{CountedState, fresh_count}
 use Rattle.vme_core.specs.Runs.{Machine}
 use Rattle.vme_core.specs.Calls.{Call, OnBoard, OnBus, board_after, machine_step, command_step, counted_step}
 use Rattle.vme_core.specs.Machines.{steps_of}
@@ -14,9 +14,9 @@ use Rattle.vme_grammar.specs.declared.line.Line.{Line}
 use Rattle.vme_script.specs.Configurations.{Configuration, opening_memory}
 use Rattle.vme_line_task.specs.Tables.{LineNext, NotStarted, Invokes, Returns, line_next}
 use Rattle.vme_line_task.specs.Traces.{ScriptState}
-use Rattle.vme_stepper.specs.Turns.{SystemState, script_state, turn_by, script_state_turn, lines_left, turn_in, turn_at, turn, place_of, run, initial_state, state_after}
+use Rattle.vme_stepper.specs.Turns.{SystemState, script_state, turn_by, script_state_turn, lines_left, turn_in, turn_at, turn, board_in_slot, run, initial_state, state_after}
 use Rattle.vme_stepper.specs.Steppers.{StepsWithin}
-use Rattle.vme_stepper.proofs.Told.{get_map}
+use Rattle.vme_stepper.proofs.Reported.{get_map}
 
 -- what holds of each element holds after one of them is another
 pub set_each : {A : Type 0} (P : ℕ → A → Type 0) (xs : List A) (i k : ℕ) (new x : A) → ((j : ℕ) (y : A) → slice_get xs j ≡ Some y → P j y) → P i new
@@ -30,16 +30,16 @@ set_each P (y ∷ ys) (suc i) (suc k) new x each is found = set_each (λ j z. P 
 -- more is more
 pub steps_weaker : (n m : ℕ) (machine : Machine) → n ≤ m → StepsWithin n machine → StepsWithin m machine
 steps_weaker n m machine more steps = record {
-  boards = λ b tally found. let few = steps.boards b tally found in omega arith;
+  boards = λ b counted found. let few = steps.boards b counted found in omega arith;
   bus = let few = steps.bus in omega arith;
 }
 
-board_steps : (n : ℕ) (machine : Machine) (who x : ℕ) (command : Option Command) (found : Option (Tally Board)) → slice_get machine.boards x ≡ found
+board_steps : (n : ℕ) (machine : Machine) (who x : ℕ) (command : Option Command) (found : Option (CountedState Board)) → slice_get machine.boards x ≡ found
     → StepsWithin n machine → StepsWithin (n + 1) (board_after machine who x command found).0
 board_steps n machine who x command None there steps = steps_weaker n (n + 1) machine (omega arith) steps
 board_steps n machine who x command (Some board) there steps = record {
-  boards = λ b tally found.
-      set_each (λ j t. t.steps ≤ n + 1) machine.boards x b (counted_step command_step board who command).0 tally
+  boards = λ b counted found.
+      set_each (λ j t. t.steps ≤ n + 1) machine.boards x b (counted_step command_step board who command).0 counted
       (λ j t at. let few = steps.boards j t at in omega arith)
       (let few = steps.boards x board there in omega arith) found;
   bus = let few = steps.bus in omega arith;
@@ -49,7 +49,7 @@ board_steps n machine who x command (Some board) there steps = record {
 machine_steps : (n : ℕ) (machine : Machine) (who : ℕ) (call : Call) → StepsWithin n machine → StepsWithin (n + 1) (machine_step machine who call).0
 machine_steps n machine who (OnBoard x command) steps = board_steps n machine who x command (slice_get machine.boards x) refl steps
 machine_steps n machine who (OnBus cmd) steps = record {
-  boards = λ b tally found. let few = steps.boards b tally found in omega arith;
+  boards = λ b counted found. let few = steps.boards b counted found in omega arith;
   bus = let few = steps.bus in omega arith;
 }
 
@@ -79,7 +79,7 @@ module _ (config : Configuration) where
 
   turn_steps : (n : ℕ) (system : SystemState) (slot : ℕ) → StepsWithin n system.machine → StepsWithin (n + 1) (turn config system slot).machine
   unfolding turn
-  turn_steps n system slot steps = at_steps n system (place_of config slot) steps
+  turn_steps n system slot steps = at_steps n system (board_in_slot config slot) steps
 
   run_steps : (n : ℕ) (system : SystemState) (slots : List ℕ) → StepsWithin n system.machine → StepsWithin (length slots + n) (run config system slots).machine
   run_steps n system [] steps = steps_weaker n (0 + n) system.machine (omega arith) steps
@@ -88,10 +88,10 @@ module _ (config : Configuration) where
       (run_steps (n + 1) (turn config system slot) slots (turn_steps n system slot steps))
 
   -- before the first turn there is no step
-  fresh_steps : (memories : List Board) (b : ℕ) (tally : Tally Board) (k : ℕ) → slice_get (map (fresh_tally k) memories) b ≡ Some tally → tally.steps ≤ 0
-  fresh_steps [] b tally k found = absurd (cc found)
-  fresh_steps (memory ∷ memories) zero tally k found = let same = same_Some _ _ found in omega (arith, sym (ap (λ t. t.steps) same))
-  fresh_steps (memory ∷ memories) (suc b) tally k found = fresh_steps memories b tally k found
+  fresh_steps : (memories : List Board) (b : ℕ) (counted : CountedState Board) (k : ℕ) → slice_get (map (fresh_count k) memories) b ≡ Some counted → counted.steps ≤ 0
+  fresh_steps [] b counted k found = absurd (cc found)
+  fresh_steps (memory ∷ memories) zero counted k found = let same = same_Some _ _ found in omega (arith, sym (ap (λ t. t.steps) same))
+  fresh_steps (memory ∷ memories) (suc b) counted k found = fresh_steps memories b counted k found
 
   -- after so many turns no object has made more steps
   pub steps_after : (most : ℕ) (slots : List ℕ) → length slots ≤ most → StepsWithin most (state_after config slots).machine
@@ -99,9 +99,9 @@ module _ (config : Configuration) where
   steps_after most slots few =
       steps_weaker (length slots + 0) most (run config (initial_state config) slots).machine (omega arith)
       (run_steps 0 (initial_state config) slots
-      (record { boards = λ b tally found. fresh_steps (map opening_memory config.boards) b tally (length config.boards) found; bus = omega arith }))
+      (record { boards = λ b counted found. fresh_steps (map opening_memory config.boards) b counted (length config.boards) found; bus = omega arith }))
 
-board_unspent : (machine : Machine) (board : ℕ) (found : Option (Tally Board)) → slice_get machine.boards board ≡ found
+board_unspent : (machine : Machine) (board : ℕ) (found : Option (CountedState Board)) → slice_get machine.boards board ≡ found
     → StepsWithin (2 ^ 64 - 2) machine → option_map (λ t. t.steps) found ≡ Some (2 ^ 64 - 1) → ⊥
 board_unspent machine board None is steps spent = cc
 board_unspent machine board (Some t) is steps spent = let few = steps.boards board t is in let all = same_Some _ _ spent in omega arith

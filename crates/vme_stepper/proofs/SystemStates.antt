@@ -3,7 +3,7 @@ use Rattle.std.proofs.Common.{◌≡◌, ℕ, zero, suc, ◌+◌, List, [], ◌�
 use Rattle.std.specs.Prelude.{slice_get, slice_set, option_map}
 use Rattle.vme_script.specs.Configurations.{Configuration}
 use Rattle.vme_line_task.specs.Traces.{ScriptState}
-use Rattle.vme_stepper.specs.Turns.{SystemState, turn_in, turn_at, turn, place_of, run, initial_state, state_after}
+use Rattle.vme_stepper.specs.Turns.{SystemState, turn_in, turn_at, turn, board_in_slot, run, initial_state, state_after}
 use Rattle.vme_stepper.specs.Steppers.{stepper_turned, stepper_turn_at, processor_of, processors_from, stepper_of}
 use Rattle.vme_stepper.proofs.Processors.{turn_is as processor_turn_is}
 
@@ -43,10 +43,10 @@ module _ (config : Configuration) where
   run_more system (first ∷ slots) slot = run_more (turn config system first) slots slot
 
   pub system_more : (slots : List ℕ) (slot : ℕ)
-      → stepper_of config (state_after config (slots ++ slot ∷ [])) ≡ stepper_turn_at config (stepper_of config (state_after config slots)) (place_of config slot)
+      → stepper_of config (state_after config (slots ++ slot ∷ [])) ≡ stepper_turn_at config (stepper_of config (state_after config slots)) (board_in_slot config slot)
   unfolding state_after turn
   system_more slots slot =
-      ap (stepper_of config) (run_more (initial_state config) slots slot) ∙ sym (turn_at_is (run config (initial_state config) slots) (place_of config slot))
+      ap (stepper_of config) (run_more (initial_state config) slots slot) ∙ sym (turn_at_is (run config (initial_state config) slots) (board_in_slot config slot))
 
   -- no turn yet
   pub system_none : state_after config [] ≡ initial_state config

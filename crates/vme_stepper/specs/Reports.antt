@@ -1,7 +1,7 @@
 -- What a run on one thread is told as.
 use Rattle.std.specs.Prelude.{ℕ, List, [], ◌∷◌}
 use Rattle.vme_memory.specs.Boards.{Board}
-use Rattle.vme_core.specs.Tallies.{Tally}
+use Rattle.vme_core.specs.CountedStates.{CountedState}
 use Rattle.vme_shared.specs.declared.reply.LineReply.{LineReply}
 use Rattle.vme_shared.specs.declared.reply.LineReply.TheVariants.{Unfinished}
 use Rattle.vme_shared.specs.declared.status.Status.{Status}
@@ -14,30 +14,30 @@ use Rattle.vme_line_task.specs.Traces.{ScriptState}
 use Rattle.vme_stepper.specs.Turns.{SystemState, state_after}
 
 -- the numbers of a script's lines, each with its answer; a line without one is unfinished (this project's own)
-abbrev pub told_lines : List ScriptLine → List LineReply → List (ℕ × LineReply)
-told_lines [] ended = []
-told_lines (line ∷ script) [] = (line.number, Unfinished) ∷ told_lines script []
-told_lines (line ∷ script) (answer ∷ ended) = (line.number, answer) ∷ told_lines script ended
+abbrev pub reported_lines : List ScriptLine → List LineReply → List (ℕ × LineReply)
+reported_lines [] ended = []
+reported_lines (line ∷ script) [] = (line.number, Unfinished) ∷ reported_lines script []
+reported_lines (line ∷ script) (answer ∷ ended) = (line.number, answer) ∷ reported_lines script ended
 
 -- what is told of a board (this project's own)
-abbrev pub told_board : BoardConfig → List ScriptLine → ScriptState → Tally Board → BoardText
-told_board board script c tally = record {
+abbrev pub reported_board : BoardConfig → List ScriptLine → ScriptState → CountedState Board → BoardText
+reported_board board script c counted = record {
   slot = board.slot;
-  lines = told_lines script c.ended;
-  bytes = tally.object.bytes;
-  steps = tally.steps;
-  made = tally.made;
+  lines = reported_lines script c.ended;
+  bytes = counted.object.bytes;
+  steps = counted.steps;
+  made = counted.made;
 }
 
 -- what is told of boards, in order of slots (this project's own)
-abbrev pub told_boards : List BoardConfig → List (List ScriptLine) → List ScriptState → List (Tally Board) → List BoardText
-told_boards (board ∷ boards) (script ∷ scripts) (c ∷ script_states) (tally ∷ tallies) =
-    told_board board script c tally ∷ told_boards boards scripts script_states tallies
-told_boards boards scripts script_states tallies = []
+abbrev pub reported_boards : List BoardConfig → List (List ScriptLine) → List ScriptState → List (CountedState Board) → List BoardText
+reported_boards (board ∷ boards) (script ∷ scripts) (c ∷ script_states) (counted ∷ counted_states) =
+    reported_board board script c counted ∷ reported_boards boards scripts script_states counted_states
+reported_boards boards scripts script_states counted_states = []
 
 -- what is told of a system (this project's own)
 abbrev pub reported_system : Configuration → SystemState → List BoardText
-reported_system config system = told_boards config.boards config.scripts system.script_states system.machine.boards
+reported_system config system = reported_boards config.boards config.scripts system.script_states system.machine.boards
 
 -- the text of a run of these slots' turns (this project's own)
 abbrev pub run_text : Configuration → List ℕ → List ℕ

@@ -3,10 +3,10 @@ use Rattle.std.specs.Prelude.{ℕ, ◌≡◌, ◌+◌, ◌<◌, ◌≤◌, List,
 use Rattle.vme_cycle.specs.BlockBuffers.{BufferView}
 use Rattle.vme_memory.specs.Boards.{Board}
 use Rattle.vme_core.specs.declared.event.EventReply.{EventReply}
-use Rattle.vme_core.specs.Tallies.{Tally}
+use Rattle.vme_core.specs.CountedStates.{CountedState}
 use Rattle.vme_core.specs.Runs.{Machine}
 use Rattle.vme_core.specs.Calls.{Call, machine_step}
-use Rattle.vme_core.specs.Machines.{whos}
+use Rattle.vme_core.specs.Machines.{process_count}
 use Rattle.vme_shared.specs.declared.reply.LineReply.{LineReply}
 use Rattle.vme_grammar.specs.declared.line.Line.{Line}
 use Rattle.vme_report.specs.Boards.{BoardText}
@@ -20,7 +20,7 @@ use Rattle.vme_line_task.specs.Tables.{LineNext, Invokes, Returns}
 use Rattle.vme_line_task.specs.Machine.{line_started, line_advance, line_to_do, line_after, IsLineBelow}
 use Rattle.vme_line_task.specs.Events.{MakesCall}
 use Rattle.vme_line_task.specs.Traces.{ScriptState}
-use Rattle.vme_stepper.specs.Reports.{told_lines}
+use Rattle.vme_stepper.specs.Reports.{reported_lines}
 use Rattle.vme_stepper.specs.Turns.{SystemState, lines_left}
 
 -- a script, its lines as they are told, how many have ended, and the task of the one at work, if one is
@@ -112,11 +112,11 @@ stepper_turn_at config stepper None = stepper
 stepper_turn_at config stepper (Some board) = stepper_turn config stepper board
 
 -- what is told of boards, by their processors (this project's own)
-abbrev pub processors_told : List BoardConfig → List ProcessorView → List (Tally Board) → List BoardText
-processors_told (board ∷ boards) (processor ∷ processors) (tally ∷ tallies) =
-    record { slot = board.slot; lines = processor.lines; bytes = tally.object.bytes; steps = tally.steps; made = tally.made }
-    ∷ processors_told boards processors tallies
-processors_told boards processors tallies = []
+abbrev pub processors_reported : List BoardConfig → List ProcessorView → List (CountedState Board) → List BoardText
+processors_reported (board ∷ boards) (processor ∷ processors) (counted ∷ counted_states) =
+    record { slot = board.slot; lines = processor.lines; bytes = counted.object.bytes; steps = counted.steps; made = counted.made }
+    ∷ processors_reported boards processors counted_states
+processors_reported boards processors counted_states = []
 
 -- the task of the line at work, which has some reply (this project's own)
 abbrev pub task_at : Configuration → ℕ → List EventReply → List Line → Option LineTask
@@ -128,7 +128,7 @@ task_at config board (reply ∷ replies) (line ∷ lines) = Some (line_after con
 abbrev pub processor_of : Configuration → ℕ → ScriptState → ProcessorView
 processor_of config board c = record {
   script = script_at config board;
-  lines = told_lines (script_at config board) c.ended;
+  lines = reported_lines (script_at config board) c.ended;
   ended = length c.ended;
   at = task_at config board c.replies (lines_left config board c);
 }
@@ -152,11 +152,11 @@ pub record IsProcessorOf (config : Configuration) (board : ℕ) (processor : Pro
 -- a stepper of a configuration: a board, a who and a processor for each of its boards (this project's own)
 pub record IsStepperOf (config : Configuration) (stepper : StepperView) : Type 0 where
   pub boards : length stepper.machine.boards ≡ length config.boards
-  pub whos : whos stepper.machine ≡ length config.boards
+  pub process_count : process_count stepper.machine ≡ length config.boards
   pub count : length stepper.processors ≡ length config.boards
   pub each : (b : ℕ) (processor : ProcessorView) → slice_get stepper.processors b ≡ Some processor → IsProcessorOf config b processor
 
 -- no object has made more than n steps (this project's own)
 pub record StepsWithin (n : ℕ) (machine : Machine) : Type 0 where
-  pub boards : (b : ℕ) (tally : Tally Board) → slice_get machine.boards b ≡ Some tally → tally.steps ≤ n
+  pub boards : (b : ℕ) (counted : CountedState Board) → slice_get machine.boards b ≡ Some counted → counted.steps ≤ n
   pub bus : machine.bus.steps ≤ n

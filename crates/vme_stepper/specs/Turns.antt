@@ -66,12 +66,12 @@ turn_at config system None = system
 turn_at config system (Some board) = turn_in config system board (slice_get system.script_states board)
 
 -- the place of the board in a slot, if there is one (this project's own)
-abbrev pub place_of : Configuration → ℕ → Option ℕ
-place_of config slot = position (λ board. board.slot == slot) config.boards
+abbrev pub board_in_slot : Configuration → ℕ → Option ℕ
+board_in_slot config slot = position (λ board. board.slot == slot) config.boards
 
 -- a turn of a slot; one without a board does nothing (this project's own)
 unfoldable pub turn : Configuration → SystemState → ℕ → SystemState
-turn config system slot = turn_at config system (place_of config slot)
+turn config system slot = turn_at config system (board_in_slot config slot)
 
 -- turns of slots, one after another (this project's own)
 abbrev pub run : Configuration → SystemState → List ℕ → SystemState

@@ -3,8 +3,8 @@
 //! to the arbiter of the data transfer bus (ANSI/IEEE Std 1014-1987, chapters 2 and 3).
 #![tactic(auto)]
 
-mod stepper;
 mod processor;
 mod run;
+mod stepper;
 
-pub use run::{run_file, run_steps};
+pub use run::{run_configured, run_steps};

@@ -2,7 +2,7 @@
 ghost use Rattle.std.specs.Prelude.{◌≡◌, ℕ, ◌<◌, ◌≤◌, ◌-◌, ◌^◌, length, map, slice_set, slice_index_or, is_some, true, Some, None, IfOk, IfSome, IsTrue};
 ghost use Rattle.vme_shared.specs.declared.reply.LineReply.TheVariants.{Unfinished};
 ghost use Rattle.vme_core.specs.Runs.{Machine};
-ghost use Rattle.vme_core.specs.Machines.{whos};
+ghost use Rattle.vme_core.specs.Machines.{process_count};
 ghost use Rattle.vme_script.specs.Configurations.{Configuration};
 ghost use Rattle.vme_line_task.specs.Tables.{Returns};
 ghost use Rattle.vme_line_task.specs.Events.{answer_in};
@@ -79,12 +79,12 @@ impl<'a> Processor<'a> {
     pub(crate) fn turn(&mut self, config: &'a Config, core: &mut Core, board: usize)
         requires board { board < length config.now.boards }
         requires processor { IsProcessorOf config.now board self.old }
-        requires whos { whos core.old ≡ length config.now.boards }
+        requires process_count { process_count core.old ≡ length config.now.boards }
         requires boards { length core.old.boards ≡ length config.now.boards }
         requires capacity { StepsWithin (2 ^ 64 - 2) core.old }
         ensures turn { (core.new, self.new) ≡ processor_turn config.now board core.old self.old }
         ensures processor { IsProcessorOf config.now board self.new }
-        ensures whos { whos core.new ≡ whos core.old }
+        ensures process_count { process_count core.new ≡ process_count core.old }
         ensures boards { length core.new.boards ≡ length core.old.boards }
     {
         if self.is_finished() {
@@ -132,7 +132,7 @@ impl<'a> Processor<'a> {
     #[inline(always)]
     #[tactic(auto, using(crate::proofs::Calls::can_make))]
     fn make(&mut self, core: &mut Core, board: usize)
-        requires who { board < whos core.old }
+        requires who { board < process_count core.old }
         requires below { IfSome self.old.at (IsLineBelow (length core.old.boards)) }
         requires capacity { StepsWithin (2 ^ 64 - 2) core.old }
         ensures turn { (config : Configuration) → IsProcessorOf config board self.old →
@@ -141,7 +141,7 @@ impl<'a> Processor<'a> {
         ensures below { IfSome self.new.at (IsLineBelow (length core.old.boards)) }
         ensures script { self.new.script ≡ self.old.script }
         ensures lines { length self.new.lines ≡ length self.old.lines }
-        ensures whos { whos core.new ≡ whos core.old }
+        ensures process_count { process_count core.new ≡ process_count core.old }
         ensures boards { length core.new.boards ≡ length core.old.boards }
     {
         let Some(task) = &mut self.task else {

@@ -1,7 +1,7 @@
 //! Runs of scripts, and their reports.
 ghost use Rattle.std.specs.Prelude.{◌≡◌, ◌≢◌, false, IfOk, IfErr, OnOk, OnErr};
 ghost use Rattle.std.specs.Io.KnownBytes.{Appends};
-ghost use Rattle.vme_io.specs.Fronts.{AppendsFront};
+ghost use Rattle.vme_io.specs.Prefixes.{AppendsPrefix};
 ghost use Rattle.vme_report.specs.Ends.{is_write_end};
 ghost use Rattle.vme_stepper.specs.Schedules.{file_turns};
 ghost use Rattle.vme_stepper.specs.Reports.{run_text, run_status};
@@ -26,8 +26,8 @@ pub fn run_steps<W: Sink>(
     requires { W.is_marked sink.old ≡ false }
     ensures text { OnOk result
         (Appends (W.contents sink.old) (W.contents sink.new) (run_text config.now slots.now)) }
-    ensures front { OnErr result
-        (AppendsFront (W.contents sink.old) (W.contents sink.new) (run_text config.now slots.now)) }
+    ensures prefix { OnErr result
+        (AppendsPrefix (W.contents sink.old) (W.contents sink.new) (run_text config.now slots.now)) }
     ensures status { IfOk result (λ status. status ≡ run_status config.now slots.now) }
     ensures write { W.is_marked sink.new ≡ is_write_end result }
     ensures faults { IfErr result (λ fault. (fault ≢ RunFault.Thread) × (fault ≢ RunFault.Spent)) }
@@ -42,11 +42,15 @@ pub fn run_steps<W: Sink>(
 /// Runs the scripts by the turns of the configuration's file: those of its schedule, and then its
 /// rounds over all slots in order. These are laid out nowhere, so that the memory is the same
 /// however many they are.
-pub fn run_file<W: Sink>(alloc: Global, config: &Config, sink: &mut W) -> Result<Status, RunFault>
+pub fn run_configured<W: Sink>(
+    alloc: Global,
+    config: &Config,
+    sink: &mut W,
+) -> Result<Status, RunFault>
     requires { W.is_marked sink.old ≡ false }
     ensures text { OnOk result (Appends (W.contents sink.old) (W.contents sink.new)
         (run_text config.now (file_turns config.now))) }
-    ensures front { OnErr result (AppendsFront (W.contents sink.old) (W.contents sink.new)
+    ensures prefix { OnErr result (AppendsPrefix (W.contents sink.old) (W.contents sink.new)
         (run_text config.now (file_turns config.now))) }
     ensures status { IfOk result (λ status. status ≡ run_status config.now (file_turns config.now)) }
     ensures write { W.is_marked sink.new ≡ is_write_end result }
@@ -55,6 +59,6 @@ pub fn run_file<W: Sink>(alloc: Global, config: &Config, sink: &mut W) -> Result
     let Ok(mut stepper) = Stepper::new(alloc, config) else {
         return Err(RunFault::Memory);
     };
-    stepper.run_file(config);
+    stepper.run_configured(config);
     stepper.report(alloc, config, sink)
 }

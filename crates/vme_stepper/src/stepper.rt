@@ -1,14 +1,14 @@
 //! Boards and arbiter, and the processors on them, turn by turn.
 ghost use Rattle.std.specs.Prelude.{◌≡◌, ◌≢◌, ◌<◌, ◌-◌, ◌^◌, length, map, false, IfOk, IfErr, IfSome, OnOk, OnErr};
 ghost use Rattle.std.specs.Io.KnownBytes.{Appends};
-ghost use Rattle.vme_io.specs.Fronts.{AppendsFront};
+ghost use Rattle.vme_io.specs.Prefixes.{AppendsPrefix};
 ghost use Rattle.vme_report.specs.Reports.{report_text, report_status};
 ghost use Rattle.vme_report.specs.Ends.{is_write_end};
 ghost use Rattle.vme_script.specs.Configurations.{opening_memory};
 ghost use Rattle.vme_script.specs.Lawful.{IsLawful};
-ghost use Rattle.vme_stepper.specs.Turns.{place_of, initial_state, state_after};
+ghost use Rattle.vme_stepper.specs.Turns.{board_in_slot, initial_state, state_after};
 ghost use Rattle.vme_stepper.specs.Schedules.{schedule_turns, file_turns};
-ghost use Rattle.vme_stepper.specs.Steppers.{stepper_turn, stepper_of, processors_told, processors_from, IsStepperOf, StepsWithin};
+ghost use Rattle.vme_stepper.specs.Steppers.{stepper_turn, stepper_of, processors_reported, processors_from, IsStepperOf, StepsWithin};
 
 use crate::processor::Processor;
 use std::alloc::{AllocError, Global};
@@ -72,7 +72,7 @@ impl<'a> Stepper<'a> {
         ensures sound { IsStepperOf config.now self.new }
     {
         for slot in slots {
-            if let Some(board) = place_of(config, *slot) {
+            if let Some(board) = board_in_slot(config, *slot) {
                 self.turn(config, board);
             }
         }
@@ -80,7 +80,7 @@ impl<'a> Stepper<'a> {
 
     /// Makes the turns of the file, which are laid out nowhere: those of its schedule, and then its
     /// rounds.
-    pub(crate) fn run_file(&mut self, config: &'a Config)
+    pub(crate) fn run_configured(&mut self, config: &'a Config)
         requires lawful { IsLawful config.now }
         requires opening { self.old ≡ stepper_of config.now (initial_state config.now) }
         requires stepper { IsStepperOf config.now self.old }
@@ -101,7 +101,7 @@ impl<'a> Stepper<'a> {
         ensures sound { IsStepperOf config.now self.new }
     {
         for turns in config.schedule() {
-            if let Some(board) = place_of(config, turns.0) {
+            if let Some(board) = board_in_slot(config, turns.0) {
                 for _turn in 0..turns.1 {
                     self.turn(config, board);
                 }
@@ -136,11 +136,11 @@ impl<'a> Stepper<'a> {
         requires stepper { IsStepperOf config.now self.now }
         requires unmarked { W.is_marked sink.old ≡ false }
         ensures text { OnOk result (Appends (W.contents sink.old) (W.contents sink.new)
-            (report_text (processors_told config.now.boards self.now.processors self.now.machine.boards))) }
-        ensures front { OnErr result (AppendsFront (W.contents sink.old) (W.contents sink.new)
-            (report_text (processors_told config.now.boards self.now.processors self.now.machine.boards))) }
+            (report_text (processors_reported config.now.boards self.now.processors self.now.machine.boards))) }
+        ensures prefix { OnErr result (AppendsPrefix (W.contents sink.old) (W.contents sink.new)
+            (report_text (processors_reported config.now.boards self.now.processors self.now.machine.boards))) }
         ensures status { IfOk result (λ status. status
-            ≡ report_status (processors_told config.now.boards self.now.processors self.now.machine.boards)) }
+            ≡ report_status (processors_reported config.now.boards self.now.processors self.now.machine.boards)) }
         ensures write { W.is_marked sink.new ≡ is_write_end result }
         ensures faults { IfErr result (λ fault. (fault ≢ RunFault.Thread) × (fault ≢ RunFault.Spent)) }
     {
@@ -157,7 +157,7 @@ impl<'a> Stepper<'a> {
     ) -> Result<Vec<BoardReportRef<'b>>, AllocError>
         requires { IsStepperOf config.now self.now }
         ensures { IfOk result (λ reports. reports.items
-            ≡ processors_told config.now.boards self.now.processors self.now.machine.boards) }
+            ≡ processors_reported config.now.boards self.now.processors self.now.machine.boards) }
     {
         let mut reports = Vec::with_capacity(alloc, config.boards())?;
         for (board, processor) in self.processors.iter().enumerate() {
@@ -174,8 +174,8 @@ impl<'a> Stepper<'a> {
 }
 
 /// The place of the board in a slot, if there is one.
-fn place_of(config: &Config, slot: u16) -> Option<usize>
-    ensures place { result ≡ place_of config.now slot }
+fn board_in_slot(config: &Config, slot: u16) -> Option<usize>
+    ensures place { result ≡ board_in_slot config.now slot }
     ensures there { IfSome result (λ board. board < length config.now.boards) }
 {
     for board in 0..config.boards() {

@@ -9,7 +9,7 @@ use Rattle.vme_cycle.specs.Lawful.{Transfer as LawfulRequest, transfer_of}
 use Rattle.vme_decode.specs.declared.entry.Entry.{Entry}
 use Rattle.vme_core.specs.declared.event.Event.TheVariants as asked
 use Rattle.vme_core.specs.declared.event.EventReply.{EventReply}
-use Rattle.vme_core.specs.declared.event.EventReply.TheVariants as told
+use Rattle.vme_core.specs.declared.event.EventReply.TheVariants as event_replies
 use Rattle.vme_core.specs.Calls.{Call, call_of}
 use Rattle.vme_core.specs.Runs.{Transition, move}
 use Rattle.vme_master.specs.declared.job.Job.{Job}
@@ -62,17 +62,17 @@ once_next config board line job replies is =
 
 -- a command to the local port was its line's one call
 pub local_answered :
-    (cmd : BoardCmd) (reply : Reply) (outcome : Outcome) (d e : PassSet) → AddsTransitions (move d.who (asked.Board d.who cmd) (told.Board reply) ∷ []) d e
-    → ((board : ℕ) → next_of (local_job board cmd) (Some (told.Board reply) ∷ None ∷ []) ≡ tasks.Returns outcome)
+    (cmd : BoardCmd) (reply : Reply) (outcome : Outcome) (d e : PassSet) → AddsTransitions (move d.who (asked.Board d.who cmd) (event_replies.Board reply) ∷ []) d e
+    → ((board : ℕ) → next_of (local_job board cmd) (Some (event_replies.Board reply) ∷ None ∷ []) ≡ tasks.Returns outcome)
     → (config : Configuration) → IsAnsweredBy config (lines.Local cmd) (Transfer outcome) d e
 local_answered cmd reply outcome d e made ends = λ config. record {
-  run = move d.who (asked.Board d.who cmd) (told.Board reply) ∷ [];
+  run = move d.who (asked.Board d.who cmd) (event_replies.Board reply) ∷ [];
   made = made;
   trace = record {
-    replies = told.Board reply ∷ [];
+    replies = event_replies.Board reply ∷ [];
     goes = (once_next config d.who (lines.Local cmd) (local_job d.who cmd) [] refl, refl);
     ends =
-        once_next config d.who (lines.Local cmd) (local_job d.who cmd) (told.Board reply ∷ []) refl
+        once_next config d.who (lines.Local cmd) (local_job d.who cmd) (event_replies.Board reply ∷ []) refl
         ∙ ap moves_next (ends d.who);
   };
 }

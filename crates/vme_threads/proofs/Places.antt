@@ -5,10 +5,10 @@ use Rattle.std.proofs.lemmas.Option.{none-some, same_Some}
 use Rattle.vme_object.specs.Each.{Each}
 
 -- what is told of an element
-pub told_at : {A B : Type 0} (f : A → B) (xs : List A) (i : ℕ) (y : B) (d : A) → slice_get (map f xs) i ≡ Some y → f (slice_index_or xs i d) ≡ y
-told_at f [] i y d told = absurd (none-some y told)
-told_at f (x ∷ xs) zero y d told = same_Some (f x) y told
-told_at f (x ∷ xs) (suc i) y d told = told_at f xs i y d told
+pub reported_at : {A B : Type 0} (f : A → B) (xs : List A) (i : ℕ) (y : B) (d : A) → slice_get (map f xs) i ≡ Some y → f (slice_index_or xs i d) ≡ y
+reported_at f [] i y d reported = absurd (none-some y reported)
+reported_at f (x ∷ xs) zero y d reported = same_Some (f x) y reported
+reported_at f (x ∷ xs) (suc i) y d reported = reported_at f xs i y d reported
 
 -- the first element
 pub first_of_each :

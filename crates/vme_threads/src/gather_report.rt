@@ -107,7 +107,7 @@ fn collect_passes(
             who: _,
             boards,
             bus: pass,
-            patience: _patience,
+            wait_state: _patience,
         } = pass_set;
         sort_passes(columns, boards);
         bus.push_reserved(pass);
@@ -143,7 +143,7 @@ pub fn gather(ports: Ports, rans: Vec<Ran>) -> Report
     let Ports {
         boards,
         bus,
-        waits: _waits,
+        waiters: _waits,
         report_buffers,
         buffers,
         stop: _stop,

@@ -3,21 +3,21 @@
 //! all of them through passes of its own.
 #![tactic(auto)]
 
-mod pass_set;
 mod gate;
 mod gather_report;
-mod workers;
 mod line;
 mod open;
+mod pass_set;
 mod ports;
 mod report;
 mod run_buffers;
 mod threads;
 mod worker;
+mod workers;
 
-pub use pass_set::PassSet;
 pub use gate::Gate;
 pub use gather_report::gather;
+pub use pass_set::PassSet;
 pub use ports::{BoardPort, Ports};
 pub use report::{BoardReport, Report};
 pub use threads::run_threads;

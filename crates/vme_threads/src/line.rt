@@ -2,7 +2,7 @@
 //! is a task alone, and what may be attempted again is a line's task.
 ghost use Rattle.std.specs.Prelude.{◌≡◌, ◌≢◌, ◌<◌, ◌≤◌, ◌∷◌, [], ℕ, false, length, slice_get, Some, None, IfOk};
 ghost use Rattle.vme_core.specs.Calls.{Call};
-ghost use Rattle.vme_core.specs.declared.event.EventReply.TheVariants as told;
+ghost use Rattle.vme_core.specs.declared.event.EventReply.TheVariants as replies;
 ghost use Rattle.vme_cycle.specs.Lawful.{transfer_of};
 ghost use Rattle.vme_grammar.specs.Grammar.{IsOwnLine};
 ghost use Rattle.vme_grammar.specs.declared.line.Line.{Line as AnyLine};
@@ -23,7 +23,7 @@ use crate::pass_set::PassSet;
 use crate::ports::Ports;
 use std::sync::Wait;
 use std::sync::atomic::Ordering;
-use vme_cycle::{Block, Request, BlockBuffer};
+use vme_cycle::{Block, BlockBuffer, Request};
 use vme_grammar::Line;
 use vme_master::{Outcome, Task};
 use vme_memory::{BoardCmd, Reply};
@@ -67,7 +67,12 @@ impl PassSet {
     ///
     /// # Errors
     /// `Spent` as for a line.
-    fn run_local<R: Wait>(&mut self, rt: &R, ports: &Ports, cmd: &BoardCmd) -> Result<LineReply, Spent>
+    fn run_local<R: Wait>(
+        &mut self,
+        rt: &R,
+        ports: &Ports,
+        cmd: &BoardCmd,
+    ) -> Result<LineReply, Spent>
         requires fits { MatchesPorts ports.now self.old }
         requires there { self.old.who < length self.old.boards.items }
         requires local { IsOwnLine (lines.Local cmd.now) }
@@ -133,7 +138,7 @@ fn is_cycle(cmd: &BoardCmd) -> bool
 fn local_outcome(cmd: &BoardCmd, reply: Reply) -> Outcome
     requires { IsOwnLine (lines.Local cmd.now) }
     ensures { (board : ℕ) →
-        next_of (local_job board cmd.now) (Some (told.Board reply) ∷ None ∷ []) ≡ Returns result }
+        next_of (local_job board cmd.now) (Some (replies.Board reply) ∷ None ∷ []) ≡ Returns result }
 {
     match (cmd, reply) {
         (_, Reply::Berr) => Outcome::Berr {

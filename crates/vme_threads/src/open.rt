@@ -7,9 +7,9 @@ ghost use Rattle.vme_port.specs.Ports.{port_id, opening, passes_of};
 ghost use Rattle.vme_script.specs.declared.board.BoardConfig.{BoardConfig};
 ghost use Rattle.vme_threads.specs.Ports.{IsPortOf, AreNewWorkers};
 
-use crate::workers::distribute_passes;
 use crate::ports::BoardPort;
 use crate::worker::Worker;
+use crate::workers::distribute_passes;
 use std::alloc::{AllocError, Global};
 use vme_arbiter::Arbiter;
 use vme_memory::ByteMemory;

@@ -1,6 +1,6 @@
 ghost use Rattle.std.specs.Prelude.{◌≡◌, ◌<◌, ◌≤◌, ◌∷◌, [], length, slice_get, Some, IfOk};
 ghost use Rattle.vme_core.specs.declared.event.Event.TheVariants as asked;
-ghost use Rattle.vme_core.specs.declared.event.EventReply.TheVariants as told;
+ghost use Rattle.vme_core.specs.declared.event.EventReply.TheVariants as replies;
 ghost use Rattle.vme_core.specs.Runs.{move};
 ghost use Rattle.vme_grammar.specs.declared.line.Line.{Line};
 ghost use Rattle.vme_core.specs.EventRefs.{call_asked};
@@ -15,12 +15,12 @@ use crossbeam_utils::Backoff;
 use std::sync::Wait;
 use std::sync::atomic::Ordering;
 use vme_arbiter::{ArbCmd, ArbReply, Arbiter};
-use vme_bus_wait::Patience;
+use vme_bus_wait::WaitState;
 use vme_core::{EventRef, EventReply};
 use vme_cycle::BlockBuffer;
 use vme_line_task::LineTask;
 use vme_memory::{ByteMemory, Reply};
-use vme_object::{Operation, CommandRef};
+use vme_object::{CommandRef, Operation};
 use vme_port::{Pass, Spent};
 use vme_script::Config;
 use vme_shared::LineReply;
@@ -32,7 +32,7 @@ pub struct PassSet {
     pub(crate) who: usize,
     pub(crate) boards: Vec<Pass<ByteMemory>>,
     pub(crate) bus: Pass<Arbiter>,
-    pub(crate) patience: Patience,
+    pub(crate) wait_state: WaitState,
 }
 
 impl PassSet {
@@ -50,14 +50,16 @@ impl PassSet {
     ) -> Result<ArbReply, Spent>
         requires { MatchesPorts ports.now self.old }
         ensures { IfOk result (λ reply.
-            AddsTransitions (move self.old.who (asked.Bus cmd.now) (told.Bus reply) ∷ []) self.old self.new) }
+            AddsTransitions (move self.old.who (asked.Bus cmd.now) (replies.Bus reply) ∷ []) self.old self.new) }
     {
-        let releases = ports.waits.releases();
+        let releases = ports.waiters.releases();
         let reply = ports.bus.call(rt, &mut self.bus, cmd)?;
         match reply {
-            ArbReply::Waiting => ports.waits.wait(rt, self.who, releases, &mut self.patience),
-            ArbReply::Granted => ports.waits.leave(&mut self.patience),
-            ArbReply::Freed => ports.waits.release(&mut self.patience),
+            ArbReply::Waiting => ports
+                .waiters
+                .wait(rt, self.who, releases, &mut self.wait_state),
+            ArbReply::Granted => ports.waiters.leave(&mut self.wait_state),
+            ArbReply::Freed => ports.waiters.release(&mut self.wait_state),
             ArbReply::Denied => {}
         }
         Ok(reply)
@@ -78,7 +80,7 @@ impl PassSet {
         requires fits { MatchesPorts ports.now self.old }
         requires there { board < length self.old.boards.items }
         ensures { IfOk result (λ reply.
-            AddsTransitions (move self.old.who (asked.Board board (A.command cmd.now)) (told.Board reply) ∷ []) self.old self.new) }
+            AddsTransitions (move self.old.who (asked.Board board (A.command cmd.now)) (replies.Board reply) ∷ []) self.old self.new) }
     {
         let port = &ports.boards[board].port;
         let pass = &mut self.boards[board];
@@ -104,7 +106,12 @@ impl PassSet {
         match event_ref {
             EventRef::Bus(cmd) => Ok(EventReply::Bus(self.call_bus(rt, ports, cmd)?)),
             EventRef::Board { board, cmd } => {
-                Ok(EventReply::Board(self.call_board(rt, ports, *board, &CommandRef { cmd: *cmd })?))
+                Ok(EventReply::Board(self.call_board(
+                    rt,
+                    ports,
+                    *board,
+                    &CommandRef { cmd: *cmd },
+                )?))
             }
             EventRef::Datum { board, cycle } => {
                 Ok(EventReply::Board(self.call_board(rt, ports, *board, cycle)?))

@@ -1,15 +1,15 @@
 ghost use Rattle.std.specs.Prelude.{IfOk};
 ghost use Rattle.vme_threads.specs.Ports.{IsBuilt, AreWorkers};
 
-use crate::workers::new_workers;
 use crate::open::{open_boards, open_bus};
 use crate::run_buffers::{PassBuffers, ReportBuffers};
 use crate::worker::Worker;
+use crate::workers::new_workers;
 use std::alloc::{AllocError, Global};
 use std::sync::Mutex;
 use std::sync::atomic::AtomicBool;
 use vme_arbiter::Arbiter;
-use vme_bus_wait::Waits;
+use vme_bus_wait::BusWaiters;
 use vme_memory::ByteMemory;
 use vme_port::Port;
 use vme_script::{Config, OutOfMemory};
@@ -28,7 +28,7 @@ pub struct BoardPort {
 pub struct Ports {
     pub(crate) boards: Vec<BoardPort>,
     pub(crate) bus: Port<Arbiter>,
-    pub(crate) waits: Waits,
+    pub(crate) waiters: BusWaiters,
     pub(crate) report_buffers: ReportBuffers,
     pub(crate) buffers: Mutex<PassBuffers>,
     pub(crate) stop: AtomicBool,
@@ -60,7 +60,7 @@ impl Ports {
         let ports = Ports {
             boards,
             bus,
-            waits: Waits::new(alloc, count)?,
+            waiters: BusWaiters::new(alloc, count)?,
             report_buffers: ReportBuffers::new(alloc, count)?,
             buffers: Mutex::new(PassBuffers::new(alloc)?),
             stop: AtomicBool::new(false),

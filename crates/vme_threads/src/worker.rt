@@ -1,14 +1,14 @@
 ghost use Rattle.std.specs.Prelude.{◌≡◌, ◌<◌, ◌≤◌, IfOk, [], length, vec_len, vec_capacity};
 ghost use Rattle.vme_line_task.specs.ReadBuffers.{buffers_of};
 
-use crate::pass_set::PassSet;
 use crate::gate::Gate;
+use crate::pass_set::PassSet;
 use crate::ports::Ports;
 use std::alloc::{AllocError, Global};
 use std::sync::Wait;
 use std::sync::atomic::Ordering;
 use vme_arbiter::Arbiter;
-use vme_bus_wait::Patience;
+use vme_bus_wait::WaitState;
 use vme_line_task::{ReadBuffers, line_count};
 use vme_port::Pass;
 use vme_report::RunFault;
@@ -59,9 +59,13 @@ impl Worker {
             who: bus.who(),
             boards,
             bus,
-            patience: Patience::new(),
+            wait_state: WaitState::new(),
         };
-        Ok(Worker { pass_set, buffers, lines })
+        Ok(Worker {
+            pass_set,
+            buffers,
+            lines,
+        })
     }
 
     /// Goes through the script of the processor on the caller's own thread, line by line, and calls

@@ -15,7 +15,7 @@ use Rattle.vme_arbiter.specs.Levels.{level_order}
 use Rattle.vme_arbiter.specs.Requests.{BusRequest, bus_request, is_slot, with_request, is_level}
 use Rattle.vme_arbiter.specs.Arbitration.{Arbitration, opening_bus, holds, pends, can_ask, ask_step, lawful_ask, bus_after_release, next_of, turn_step}
 use Rattle.vme_arbiter.specs.Orderly.{IsLawfulHolder, IsOrderly}
-use Rattle.vme_arbiter.specs.Turns.{slot_of, may_give, IsAsTold, StandsAsTold, GoesByReplies, TakeTurns}
+use Rattle.vme_arbiter.specs.Turns.{slot_of, may_give, IsAsReplied, StandsAsReplied, GoesByReplies, TakeTurns}
 use Rattle.vme_arbiter.proofs.Pending.{has_slot, has_slot-with, has_slot-without_other, granted-has_slot}
 use Rattle.vme_arbiter.proofs.lemmas.Orderly.{orderly-step, orderly-opening}
 
@@ -41,13 +41,13 @@ may_give-slot slot last cmd may = cc
 
 -- a slot that stands nowhere and asks holds or pends after that
 taken-fits : (holder : Option ℕ) (bus : Arbitration) (slot level : ℕ)
-    → StandsAsTold (lawful_ask holder bus (bus_request level slot)).0 slot (Some (lawful_ask holder bus (bus_request level slot)).1)
+    → StandsAsReplied (lawful_ask holder bus (bus_request level slot)).0 slot (Some (lawful_ask holder bus (bus_request level slot)).1)
 taken-fits None bus slot level = eq-eqb slot slot refl
 taken-fits (Some h) bus slot level =
     inr (has_slot-with slot (bus_request level slot) bus.pending ∙ or_left _ _ (eq-eqb slot slot refl))
 
 ask-fits : (bus : Arbitration) (slot level : ℕ) → is_slot slot ≡ true → is_level level ≡ true → holds bus slot ≡ false
-    → pends bus slot ≡ false → StandsAsTold (ask_step bus slot level).0 slot (Some (ask_step bus slot level).1)
+    → pends bus slot ≡ false → StandsAsReplied (ask_step bus slot level).0 slot (Some (ask_step bus slot level).1)
 ask-fits bus slot level slot_ok level_ok not_holds not_pends =
     let can : can_ask bus slot level ≡ true =
     and_from _ _ (and_from _ _ (and_from _ _ slot_ok level_ok) (not_from_false _ not_holds)) (not_from_false _ not_pends) in
@@ -55,7 +55,7 @@ ask-fits bus slot level slot_ok level_ok not_holds not_pends =
 
 -- a slot that does not pend stands nowhere when the bus is handed on
 handed-nowhere : (bus : Arbitration) (slot : ℕ) (next : Option BusRequest) → next_of bus ≡ next → has_slot slot bus.pending ≡ false
-    → StandsAsTold (bus_after_release next bus) slot (Some Freed)
+    → StandsAsReplied (bus_after_release next bus) slot (Some Freed)
 handed-nowhere bus slot None is_next none = (refl, none)
 handed-nowhere bus slot (Some next) is_next none =
     let other : next.slot ≢ slot =
@@ -63,7 +63,7 @@ handed-nowhere bus slot (Some next) is_next none =
     (ne_eqb next.slot slot other, has_slot-without_other slot next.slot bus.pending (λ same. other (sym same)) ∙ none)
 
 -- a slot that held nothing, and is granted now, fits what was told it
-promoted : (pending : Bool) (last : Option ArbReply) → pending ≡ true → IsAsTold false pending last → (left : Bool) → IsAsTold true left last
+promoted : (pending : Bool) (last : Option ArbReply) → pending ≡ true → IsAsReplied false pending last → (left : Bool) → IsAsReplied true left last
 promoted pending None one fits left = absurd (false≢true (sym fits.1 ∙ one))
 promoted pending (Some Freed) one fits left = absurd (false≢true (sym fits.1 ∙ one))
 promoted pending (Some Waiting) one fits left = inl refl
@@ -72,7 +72,7 @@ promoted pending (Some Denied) one fits left = fits
 
 -- another slot than the holder fits what was told it when the bus is handed on
 handed-other : (bus : Arbitration) (slot : ℕ) (last : Option ArbReply) (next : Option BusRequest) → next_of bus ≡ next
-    → IsAsTold false (has_slot slot bus.pending) last → StandsAsTold (bus_after_release next bus) slot last
+    → IsAsReplied false (has_slot slot bus.pending) last → StandsAsReplied (bus_after_release next bus) slot last
 handed-other bus slot last None is_next fits = fits
 handed-other bus slot last (Some next) is_next fits =
     elim (cases_eq next.slot slot) [
@@ -89,7 +89,7 @@ handed-other bus slot last (Some next) is_next fits =
 
 -- another slot fits what was told it when a request is taken up
 taken-other : (holder : Option ℕ) (bus : Arbitration) (asks level slot : ℕ) (last : Option ArbReply) → bus.holder ≡ holder → asks ≢ slot
-    → StandsAsTold bus slot last → StandsAsTold (lawful_ask holder bus (bus_request level asks)).0 slot last
+    → StandsAsReplied bus slot last → StandsAsReplied (lawful_ask holder bus (bus_request level asks)).0 slot last
 taken-other None bus asks level slot last is other fits =
     let not_held : eqb asks slot ≡ false = ne_eqb asks slot other in
     rw not_held (rw is at fits)
@@ -113,7 +113,7 @@ holder-not_pends (Some h) bus slot is lawful held =
 
 -- a slot that holds or pends and looks is told so
 look-fits : (bus : Arbitration) (slot : ℕ) → (holds bus slot ≡ true) ⊎ (pends bus slot ≡ true)
-    → StandsAsTold (turn_step bus (Look slot)).0 slot (Some (turn_step bus (Look slot)).1)
+    → StandsAsReplied (turn_step bus (Look slot)).0 slot (Some (turn_step bus (Look slot)).1)
 look-fits bus slot fits =
     elim (cases_Bool (holds bus slot)) [
       | inl held ↦ rw held refl
@@ -126,13 +126,13 @@ look-fits bus slot fits =
 
 -- a slot that holds and is done stands nowhere after that
 done-fits : (bus : Arbitration) (slot : ℕ) → IsOrderly bus → holds bus slot ≡ true
-    → StandsAsTold (turn_step bus (Done slot)).0 slot (Some (turn_step bus (Done slot)).1)
+    → StandsAsReplied (turn_step bus (Done slot)).0 slot (Some (turn_step bus (Done slot)).1)
 done-fits bus slot orderly held =
     rw held (handed-nowhere bus slot (next_of bus) refl (holder-not_pends bus.holder bus slot refl orderly.holder held))
 
 -- a command that a slot may give leaves it where the reply says
 pub own-turn : (bus : Arbitration) (slot : ℕ) (last : Option ArbReply) (cmd : ArbCmd) → IsOrderly bus → is_slot slot ≡ true
-    → StandsAsTold bus slot last → may_give slot last cmd ≡ true → StandsAsTold (turn_step bus cmd).0 slot (Some (turn_step bus cmd).1)
+    → StandsAsReplied bus slot last → may_give slot last cmd ≡ true → StandsAsReplied (turn_step bus cmd).0 slot (Some (turn_step bus cmd).1)
 own-turn bus slot None (Ask s level) orderly slot_ok fits may =
     let parts = and_parts _ _ may in
     rw (eqb-true s slot parts.0) (ask-fits bus slot level slot_ok parts.1 fits.0 fits.1)
@@ -144,8 +144,8 @@ own-turn bus slot (Some Granted) (Done s) orderly slot_ok fits may = rw (eqb-tru
 own-turn bus slot last cmd orderly slot_ok fits may = cc
 
 -- a command of another slot leaves it where the last reply said
-pub other-turn : (bus : Arbitration) (slot : ℕ) (last : Option ArbReply) (cmd : ArbCmd) → slot_of cmd ≢ slot → StandsAsTold bus slot last
-    → StandsAsTold (turn_step bus cmd).0 slot last
+pub other-turn : (bus : Arbitration) (slot : ℕ) (last : Option ArbReply) (cmd : ArbCmd) → slot_of cmd ≢ slot → StandsAsReplied bus slot last
+    → StandsAsReplied (turn_step bus cmd).0 slot last
 other-turn bus slot last (Ask asks level) other fits =
     elim (cases_Bool (can_ask bus asks level)) [
       | inl can ↦ rw can (taken-other bus.holder bus asks level slot last refl other fits)
@@ -161,8 +161,8 @@ other-turn bus slot last (Done done) other fits =
     ]
 
 -- the last reply to each who, after an entry
-told_last : (ℕ → Option ArbReply) → Entry ArbCmd ArbReply → ℕ → Option ArbReply
-told_last last e who = cond (eqb e.who who) (Some e.reply) (last who)
+reported_last : (ℕ → Option ArbReply) → Entry ArbCmd ArbReply → ℕ → Option ArbReply
+reported_last last e who = cond (eqb e.who who) (Some e.reply) (last who)
 
 -- the first k who are masters of slots of their own
 record AreMasters (k : ℕ) (slots : ℕ → ℕ) : Type 0 where
@@ -171,7 +171,7 @@ record AreMasters (k : ℕ) (slots : ℕ → ℕ) : Type 0 where
 
 -- each of them stands where the last reply says, and goes by the replies from there on
 record AreFit (k : ℕ) (slots : ℕ → ℕ) (bus : Arbitration) (last : ℕ → Option ArbReply) (h : List (Entry ArbCmd ArbReply)) : Type 0 where
-  fits : (who : ℕ) → who < k → StandsAsTold bus (slots who) (last who)
+  fits : (who : ℕ) → who < k → StandsAsReplied bus (slots who) (last who)
   goes : (who : ℕ) → who < k → GoesByReplies (slots who) (last who) (own who h)
 
 -- what one goes by before an entry of its own, and before one of another
@@ -184,19 +184,19 @@ goes_own slot last e h goes = let same : eqb e.who e.who ≡ true = eq-eqb e.who
 fit_after : (k : ℕ) (slots : ℕ → ℕ) (bus : Arbitration) (last : ℕ → Option ArbReply) (e : Entry ArbCmd ArbReply)
     (h : List (Entry ArbCmd ArbReply)) → AreMasters k slots → IsOrderly bus → e.who < k → e.reply ≡ (turn_step bus e.cmd).1
     → AreFit k slots bus last (e ∷ h)
-    → StandsAsTold (turn_step bus e.cmd).0 (slots e.who) (Some e.reply) × AreFit k slots (turn_step bus e.cmd).0 (told_last last e) h
-unfolding told_last
+    → StandsAsReplied (turn_step bus e.cmd).0 (slots e.who) (Some e.reply) × AreFit k slots (turn_step bus e.cmd).0 (reported_last last e) h
+unfolding reported_last
 fit_after k slots bus last e h masters orderly within reply fit =
     let goes = goes_own (slots e.who) (last e.who) e h (fit.goes e.who within) in
     let names = may_give-slot (slots e.who) (last e.who) e.cmd goes.0 in
-    let own_fits : StandsAsTold (turn_step bus e.cmd).0 (slots e.who) (Some e.reply) =
+    let own_fits : StandsAsReplied (turn_step bus e.cmd).0 (slots e.who) (Some e.reply) =
     rw reply (own-turn bus (slots e.who) (last e.who) e.cmd orderly (masters.in_range e.who within) (fit.fits e.who within) goes.0) in (
       own_fits,
       record {
         fits = λ who below. elim (cases_Bool (eqb e.who who)) [
           | inl same ↦
               let at : e.who ≡ who = eqb-true e.who who same in
-              rw same (subst (λ (w : ℕ). StandsAsTold (turn_step bus e.cmd).0 (slots w) (Some e.reply)) at own_fits)
+              rw same (subst (λ (w : ℕ). StandsAsReplied (turn_step bus e.cmd).0 (slots w) (Some e.reply)) at own_fits)
           | inr other ↦
               rw other (other-turn bus (slots who) (last who) e.cmd
               (λ one. eqb-false e.who who other (masters.apart e.who who within below (sym names ∙ one))) (fit.fits who below))
@@ -219,8 +219,8 @@ none_denied k slots bus last (e ∷ h) masters orderly known legal fit =
     let within = All-head (λ e. e.who < k) e h known in
     let after = fit_after k slots bus last e h masters orderly within legal.0 fit in
     All-cons (λ e. e.reply ≢ Denied) e h
-    (λ denied. subst (λ (r : ArbReply). StandsAsTold (turn_step bus e.cmd).0 (slots e.who) (Some r)) denied after.0)
-    (none_denied k slots (turn_step bus e.cmd).0 (told_last last e) h masters (orderly-step bus e.cmd orderly)
+    (λ denied. subst (λ (r : ArbReply). StandsAsReplied (turn_step bus e.cmd).0 (slots e.who) (Some r)) denied after.0)
+    (none_denied k slots (turn_step bus e.cmd).0 (reported_last last e) h masters (orderly-step bus e.cmd orderly)
     (All-tail (λ e. e.who < k) e h known) legal.1 after.1)
 
 -- from the opening state too

@@ -14,22 +14,22 @@ use Rattle.vme_arbiter.specs.declared.command.ArbCmd.{ArbCmd}
 use Rattle.vme_arbiter.specs.Arbitration.{turn_step}
 use Rattle.vme_core.specs.declared.event.Event.{Event}
 use Rattle.vme_core.specs.declared.event.Event.TheVariants as asked
-use Rattle.vme_core.specs.declared.event.EventReply.TheVariants as told
+use Rattle.vme_core.specs.declared.event.EventReply.TheVariants as replies
 use Rattle.vme_memory.specs.declared.reply.Reply.{Reply}
-use Rattle.vme_core.specs.Tallies.{Tally, Went}
-use Rattle.vme_core.specs.Runs.{Machine, Transition, Did, IsReplyTo, move, target_of, board_part}
+use Rattle.vme_core.specs.CountedStates.{CountedState, IsObjectRun}
+use Rattle.vme_core.specs.Runs.{Machine, Transition, IsRun, IsReplyTo, move, target_of, board_part}
 use Rattle.vme_core.specs.Calls.{call_of, counted_step, board_after, bus_after, machine_step}
 use Rattle.vme_core.specs.Machines.{IsThere}
-use Rattle.vme_core.proofs.lemmas.Tallies.{went_nil}
+use Rattle.vme_core.proofs.lemmas.CountedStates.{went_nil}
 
 -- a command that is counted is a history of one entry
-pub counted_went : {S C R : Type 0} (step : S → C → S × R) (t : Tally S) (who : ℕ) (cmd : C)
-    → Went step (entry who cmd (step t.object cmd).1 ∷ []) t (counted_step step t who cmd).0
+pub counted_went : {S C R : Type 0} (step : S → C → S × R) (t : CountedState S) (who : ℕ) (cmd : C)
+    → IsObjectRun step (entry who cmd (step t.object cmd).1 ∷ []) t (counted_step step t who cmd).0
 counted_went step t who cmd = record {
   legal = (refl, tt);
   object = refl;
   steps = refl;
-  whos = length-set t.made who (slice_index_or t.made who 0 + 1);
+  process_count = length-set t.made who (slice_index_or t.made who 0 + 1);
   made = λ w w<. elim (cases_eq who w) [
     | inl same ↦
         let own_one : eqb who w ≡ true = eq-eqb who w same in
@@ -41,8 +41,8 @@ counted_went step t who cmd = record {
 }
 
 -- a command to a board that is there
-did_board : (m : Machine) (who x : ℕ) (cmd : BoardCmd) (b : Tally Board) → slice_get m.boards x ≡ Some b
-    → Did (move who (asked.Board x cmd) (board_after m who x (command_given cmd) (Some b)).1 ∷ []) m
+did_board : (m : Machine) (who x : ℕ) (cmd : BoardCmd) (b : CountedState Board) → slice_get m.boards x ≡ Some b
+    → IsRun (move who (asked.Board x cmd) (board_after m who x (command_given cmd) (Some b)).1 ∷ []) m
     (board_after m who x (command_given cmd) (Some b)).0
 unfolding answer_given
 did_board m who x cmd b there =
@@ -52,7 +52,7 @@ did_board m who x cmd b there =
     let one : eqb x x ≡ true = eq-eqb x x refl in
     record {
       fitting = All-cons (λ m. IsReplyTo m.event m.reply) _ [] tt (All-nil (λ m. IsReplyTo m.event m.reply));
-      boards = AllAt-set (λ k p q. Went board_step (board_part k run) p q) m.boards x b _ within
+      boards = AllAt-set (λ k p q. IsObjectRun board_step (board_part k run) p q) m.boards x b _ within
           (rw at (rw one (counted_went board_step b who cmd)))
           (λ k p off. let none : eqb x k ≡ false = ne_eqb x k (λ same. off (sym same)) in rw none (went_nil board_step p));
       bus = went_nil turn_step m.bus;
@@ -60,16 +60,16 @@ did_board m who x cmd b there =
 
 -- a command to the arbiter
 did_bus : (m : Machine) (who : ℕ) (cmd : ArbCmd)
-    → Did (move who (asked.Bus cmd) (bus_after m who cmd).1 ∷ []) m (bus_after m who cmd).0
+    → IsRun (move who (asked.Bus cmd) (bus_after m who cmd).1 ∷ []) m (bus_after m who cmd).0
 did_bus m who cmd = record {
   fitting = All-cons (λ m. IsReplyTo m.event m.reply) _ [] tt (All-nil (λ m. IsReplyTo m.event m.reply));
-  boards = AllAt-same (λ x b a. Went board_step [] b a) m.boards (λ x b. went_nil board_step b);
+  boards = AllAt-same (λ x b a. IsObjectRun board_step [] b a) m.boards (λ x b. went_nil board_step b);
   bus = counted_went turn_step m.bus who cmd;
 }
 
 -- a call for an event is a run of one move
 pub did_call : (m : Machine) (who : ℕ) (event : Event) → IsThere m (target_of event)
-    → Did (move who event (machine_step m who (call_of event)).1 ∷ []) m (machine_step m who (call_of event)).0
+    → IsRun (move who event (machine_step m who (call_of event)).1 ∷ []) m (machine_step m who (call_of event)).0
 did_call m who (asked.Board x cmd) there =
     elim (slice_get_cases m.boards x).1 [
       | inl at ↦ rw at.2 (did_board m who x cmd at.0 at.2)
@@ -78,13 +78,13 @@ did_call m who (asked.Board x cmd) there =
 did_call m who (asked.Bus cmd) there = did_bus m who cmd
 
 -- a board that took a command is put back in its place
-pub board_applied : (m self : Machine) (event : Event) (who x : ℕ) (cmd : BoardCmd) (b new : Tally Board) (reply : Reply) → m ≡ self
+pub board_applied : (m self : Machine) (event : Event) (who x : ℕ) (cmd : BoardCmd) (b new : CountedState Board) (reply : Reply) → m ≡ self
     → event ≡ asked.Board x cmd → IsThere self (target_of event) → b ≡ slice_index_or m.boards x b
     → (new, reply) ≡ counted_step board_step b who cmd
-    → (record { boards = set m.boards x new; bus = m.bus }, told.Board reply) ≡ machine_step self who (call_of event)
+    → (record { boards = set m.boards x new; bus = m.bus }, replies.Board reply) ≡ machine_step self who (call_of event)
 unfolding answer_given
 board_applied m self event who x cmd b new reply same is there at did =
     let within : x < length m.boards =
     subst (λ (e : Event). IsThere m (target_of e)) is (subst (λ (n : Machine). IsThere n (target_of event)) (sym same) there) in
     let found : slice_get m.boards x ≡ Some b = slice_get_read m.boards (length m.boards) x b refl within at in
-    rw (← same, is, found) (ap (λ (r : Tally Board × Reply). (record m { boards = set m.boards x r.0 }, told.Board r.1)) did)
+    rw (← same, is, found) (ap (λ (r : CountedState Board × Reply). (record m { boards = set m.boards x r.0 }, replies.Board r.1)) did)

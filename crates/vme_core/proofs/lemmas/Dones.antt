@@ -11,46 +11,46 @@ use Rattle.vme_memory.specs.Locals.{board_step}
 use Rattle.vme_arbiter.specs.Arbitration.{Arbitration, turn_step}
 use Rattle.vme_core.specs.declared.event.Event.{Event}
 use Rattle.vme_core.specs.declared.event.EventReply.{EventReply}
-use Rattle.vme_core.specs.Tallies.{Went, Tells, fresh_tally}
-use Rattle.vme_core.specs.Runs.{Machine, Transition, target_of, Did, IsReplyTo, move, board_entry, bus_entry, board_part, bus_part, replies_in}
-use Rattle.vme_core.specs.Machines.{HasDone, HasRun, steps_of, opening}
+use Rattle.vme_core.specs.CountedStates.{IsObjectRun, IsCountedReplay, fresh_count}
+use Rattle.vme_core.specs.Runs.{Machine, Transition, target_of, IsRun, IsReplyTo, move, board_entry, bus_entry, board_part, bus_part, replies_in}
+use Rattle.vme_core.specs.Machines.{HasApplied, HasRun, steps_of, opening}
 use Rattle.vme_core.specs.declared.fault.RunStop.TheVariants as stops
-use Rattle.vme_core.proofs.lemmas.Tallies.{went_nil, went_trans, went_tells}
+use Rattle.vme_core.proofs.lemmas.CountedStates.{went_nil, went_trans, run_replays}
 
 -- nothing was done
-pub did_nil : (m : Machine) → Did [] m m
+pub did_nil : (m : Machine) → IsRun [] m m
 did_nil m = record {
   fitting = All-nil (λ m. IsReplyTo m.event m.reply);
-  boards = AllAt-same (λ x b a. Went board_step [] b a) m.boards (λ x b. went_nil board_step b);
+  boards = AllAt-same (λ x b a. IsObjectRun board_step [] b a) m.boards (λ x b. went_nil board_step b);
   bus = went_nil turn_step m.bus;
 }
 
 -- one run was done, and then another
-pub did_trans : (r s : List Transition) (a b c : Machine) → Did r a b → Did s b c → Did (r ++ s) a c
+pub did_trans : (r s : List Transition) (a b c : Machine) → IsRun r a b → IsRun s b c → IsRun (r ++ s) a c
 did_trans r s a b c first then = record {
   fitting = All-append (λ m. IsReplyTo m.event m.reply) r s first.fitting then.fitting;
-  boards = AllAt-trans _ _ (λ x p q. Went board_step (board_part x (r ++ s)) p q) a.boards b.boards c.boards
+  boards = AllAt-trans _ _ (λ x p q. IsObjectRun board_step (board_part x (r ++ s)) p q) a.boards b.boards c.boards
       (λ x p q z one two. rw (filter_map-append (λ m. board_entry x m.who m.event m.reply) r s) (went_trans board_step (board_part x r) (board_part x s) p q z one two))
       first.boards then.boards;
   bus = rw (filter_map-append (λ m. bus_entry m.who m.event m.reply) r s) (went_trans turn_step (bus_part r) (bus_part s) a.bus b.bus c.bus first.bus then.bus);
 }
 
 -- no event was done
-pub done_nothing : (m : Machine) (old : List EventReply) → HasDone [] m m old old
-done_nothing m old = record { run = []; asked = refl; told = sym (append-nil old); did = did_nil m }
+pub done_nothing : (m : Machine) (old : List EventReply) → HasApplied [] m m old old
+done_nothing m old = record { run = []; asked = refl; reported = sym (append-nil old); did = did_nil m }
 
 -- one event more was done
 pub done_more :
     (events : List (ℕ × Event)) (i : ℕ) (a b c : Machine) (old new : List EventReply) (who : ℕ) (event : Event) (reply : EventReply)
-    → i < length events → slice_index_or events i (who, event) ≡ (who, event) → HasDone (take i events) a b old new
-    → Did (move who event reply ∷ []) b c → HasDone (take (i + 1) events) a c old (new ++ reply ∷ [])
+    → i < length events → slice_index_or events i (who, event) ≡ (who, event) → HasApplied (take i events) a b old new
+    → IsRun (move who event reply ∷ []) b c → HasApplied (take (i + 1) events) a c old (new ++ reply ∷ [])
 done_more events i a b c old new who event reply i< here done one = record {
   run = done.run ++ move who event reply ∷ [];
   asked = map-append (λ m. (m.who, m.event)) done.run (move who event reply ∷ [])
       ∙ ap (λ es. es ++ (who, event) ∷ []) done.asked
       ∙ ap (λ e. take i events ++ e ∷ []) (sym here)
       ∙ sym (take_more events i (who, event) i<);
-  told = ap (λ rs. rs ++ reply ∷ []) done.told
+  reported = ap (λ rs. rs ++ reply ∷ []) done.reported
       ∙ append_assoc old (replies_in done.run) (reply ∷ [])
       ∙ ap (λ rs. old ++ rs) (sym (map-append (λ m. m.reply) done.run (move who event reply ∷ [])));
   did = did_trans done.run (move who event reply ∷ []) a b c done.did one;
@@ -59,14 +59,14 @@ done_more events i a b c old new who event reply i< here done one = record {
 -- all events were done
 pub run_all :
     (events : List (ℕ × Event)) (n : ℕ) (a b : Machine) (old new : List EventReply) (all : Unit {0}) → n ≡ length events
-    → HasDone (take n events) a b old new → HasRun events a b old new (Ok all)
+    → HasApplied (take n events) a b old new → HasRun events a b old new (Ok all)
 run_all events n a b old new all end done = record { done = n; has = done; ends = end }
 
 -- the event after those that were done has an object that can count no further step
 pub run_spent :
     (events : List (ℕ × Event)) (n : ℕ) (a b : Machine) (old new : List EventReply) (who : ℕ) (event : Event) → n < length events
     → slice_index_or events n (who, event) ≡ (who, event) → steps_of b (target_of event) ≡ Some (2 ^ 64 - 1)
-    → HasDone (take n events) a b old new → HasRun events a b old new (Err stops.Spent)
+    → HasApplied (take n events) a b old new → HasRun events a b old new (Err stops.Spent)
 run_spent events n a b old new who event n< here spent done = record {
   done = n;
   has = done;
@@ -80,12 +80,12 @@ run_none events m old new same = record { done = 0; has = rw same (done_nothing 
 
 -- each board's part of a run from the opening
 pub opened_boards :
-    (memories : List Board) (bus : Arbitration) (k : ℕ) (run : List Transition) (after : Machine) → Did run (opening memories bus k) after
-    → AllAt (λ x memory b. Tells board_step memory (board_part x run) k b) memories after.boards
+    (memories : List Board) (bus : Arbitration) (k : ℕ) (run : List Transition) (after : Machine) → IsRun run (opening memories bus k) after
+    → AllAt (λ x memory b. IsCountedReplay board_step memory (board_part x run) k b) memories after.boards
 opened_boards memories bus k run after did = record {
-  count = did.boards.count ∙ length-map memories (fresh_tally k);
+  count = did.boards.count ∙ length-map memories (fresh_count k);
   each = λ x memory b x<.
-      went_tells board_step (slice_index_or memories x memory) (board_part x run) k (slice_index_or after.boards x b)
-      (subst (λ t. Went board_step (board_part x run) t (slice_index_or after.boards x b)) (get_or-map (fresh_tally k) memories x memory)
-      (did.boards.each x (fresh_tally k memory) b (rw (length-map memories (fresh_tally k)) x<)));
+      run_replays board_step (slice_index_or memories x memory) (board_part x run) k (slice_index_or after.boards x b)
+      (subst (λ t. IsObjectRun board_step (board_part x run) t (slice_index_or after.boards x b)) (get_or-map (fresh_count k) memories x memory)
+      (did.boards.each x (fresh_count k memory) b (rw (length-map memories (fresh_count k)) x<)));
 }

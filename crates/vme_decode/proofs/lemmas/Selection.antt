@@ -44,14 +44,14 @@ place_falls entries code addr place offset chosen =
     let test = λ (entry : Entry). responds entry code addr in
     let from = found_from (first_from test 0 entries) addr place offset chosen in
     let at = found_at test entries place from.0 from.1 in
-    let tells = responding from.0 code addr at.1 in
+    let shows = responding from.0 code addr at.1 in
     record {
       entry = from.0;
       there = at.0;
-      space = tells.0.space_is;
-      admits = tells.1;
-      distance = omega (arith, from.2, tells.0.from);
-      within = omega (arith, tells.0.below, from.2, tells.0.from);
+      space = shows.0.space_is;
+      admits = shows.1;
+      distance = omega (arith, from.2, shows.0.from);
+      within = omega (arith, shows.0.below, from.2, shows.0.from);
     }
 
 -- what falls to an entry makes it respond

@@ -5,8 +5,8 @@ use Rattle.std.specs.List.{list_any}
 use Rattle.std.specs.Str.{bytes_eq}
 use Rattle.std.proofs.lemmas.Bool.{cases_Bool, eqb-true, eq-eqb, ltb-false, le-ltb}
 use Rattle.std.proofs.lemmas.Slice.Eq.{bytes_eq-Decides}
-use Rattle.vme_grammar.specs.declared.form.Form.{Form}
-use Rattle.vme_grammar.specs.declared.form.Form.TheVariants.{Read, Write, BlockRead, BlockWrite, BlockFill, Modify, LocalRead, LocalWrite, LocalModify, Await, Lock, Unlock, Put, Take}
+use Rattle.vme_grammar.specs.declared.form.LineForm.{LineForm}
+use Rattle.vme_grammar.specs.declared.form.LineForm.TheVariants.{Read, Write, BlockRead, BlockWrite, BlockFill, Modify, LocalRead, LocalWrite, LocalModify, Await, Lock, Unlock, Put, Take}
 use Rattle.vme_grammar.specs.declared.function.Function.{Function}
 use Rattle.vme_grammar.specs.declared.function.Function.TheVariants.{Set, Exchange, Add, Compare}
 use Rattle.vme_grammar.specs.declared.line.Line.{Line}
@@ -48,7 +48,7 @@ own_name Add = refl
 own_name Compare = refl
 
 -- the form whose places the words fill is theirs
-found : (form : Form) {words : List (List ℕ)} {o given : Operands} → Fill (places form) words o given → form_of words ≡ Ok form
+found : (form : LineForm) {words : List (List ℕ)} {o given : Operands} → Fill (places form) words o given → form_of words ≡ Ok form
 found Read (word rest) = own_word Read _
 found Write (word rest) = own_word Write _
 found BlockRead (word rest) = own_word BlockRead _
@@ -92,7 +92,7 @@ fills (Of kind ∷ more) (text ∷ words) o given agree count read =
     ]
 
 -- words go by the certain words of their form
-form_agrees : (words : List (List ℕ)) (form : Form) → form_of words ≡ Ok form → go_by false (places form) words ≡ true
+form_agrees : (words : List (List ℕ)) (form : LineForm) → form_of words ≡ Ok form → go_by false (places form) words ≡ true
 unfolding form_of
 form_agrees words form is =
     elim (cases_Bool (list_any (λ form. go_by true (places form) words) forms)) [
@@ -107,7 +107,7 @@ form_agrees words form is =
 
 -- words that give operands fill the places
 operands_fill :
-    (words : List (List ℕ)) (form : Form) (given : Operands) → form_of words ≡ Ok form → operands_of (fields_of form) words ≡ Ok given
+    (words : List (List ℕ)) (form : LineForm) (given : Operands) → form_of words ≡ Ok form → operands_of (fields_of form) words ≡ Ok given
     → Fill (places form) words no_operands given
 unfolding operands_of
 operands_fill words form given is gives =
@@ -175,7 +175,7 @@ unfolding line_of
 spelled_line_is_read text line short spelled =
     rw (le-ltb _ _ short, read_if_any (words_of text) line (spelled_read (words_of text) line spelled)) refl
 
-own_at : (form : Form) (o : Operands) → IsOwnLine (line_at form o)
+own_at : (form : LineForm) (o : Operands) → IsOwnLine (line_at form o)
 own_at Read o = tt
 own_at Write o = tt
 own_at BlockRead o = tt

@@ -2,7 +2,7 @@
 use Rattle.std.proofs.Common.{◌≡◌, ℕ, List, [], ◌++◌, take, drop, Option, None, Some, append_assoc, take-append-drop, sym, ap, ◌∙◌}
 use Rattle.std.proofs.lemmas.List.{append-nil}
 use Rattle.std.specs.Io.KnownBytes.{Keeps, Appends}
-use Rattle.vme_io.specs.Fronts.{AppendsFront}
+use Rattle.vme_io.specs.Prefixes.{AppendsPrefix}
 
 -- nothing was appended
 pub Appends-none : (a : Option (List ℕ)) → Appends a a []
@@ -24,17 +24,17 @@ Appends-kept (Some s) (Some t) None x first kept = absurd kept
 Appends-kept (Some s) (Some t) (Some u) x first kept = kept ∙ first
 
 -- one front of some bytes was appended, and the front of their rest
-pub split_more : (bytes front rest : List ℕ) (n : ℕ) → bytes ≡ front ++ rest → bytes ≡ (front ++ take n rest) ++ drop n rest
-split_more bytes front rest n split =
-    split ∙ ap (λ r. front ++ r) (sym (take-append-drop n rest)) ∙ sym (append_assoc front (take n rest) (drop n rest))
+pub split_more : (bytes prefix rest : List ℕ) (n : ℕ) → bytes ≡ prefix ++ rest → bytes ≡ (prefix ++ take n rest) ++ drop n rest
+split_more bytes prefix rest n split =
+    split ∙ ap (λ r. prefix ++ r) (sym (take-append-drop n rest)) ∙ sym (append_assoc prefix (take n rest) (drop n rest))
 
 -- bytes were appended, and then a front of those that come next
-pub AppendsFront-more :
-    (a b c : Option (List ℕ)) (front bytes rest all : List ℕ) → Appends a b front → AppendsFront b c bytes → (front ++ bytes) ++ rest ≡ all
-    → AppendsFront a c all
-AppendsFront-more a b c front bytes rest all first next whole = record {
-  front = front ++ next.front;
+pub AppendsPrefix-more :
+    (a b c : Option (List ℕ)) (prefix bytes rest all : List ℕ) → Appends a b prefix → AppendsPrefix b c bytes → (prefix ++ bytes) ++ rest ≡ all
+    → AppendsPrefix a c all
+AppendsPrefix-more a b c prefix bytes rest all first next whole = record {
+  prefix = prefix ++ next.prefix;
   rest = next.rest ++ rest;
-  split = sym whole ∙ ap (λ bs. (front ++ bs) ++ rest) next.split ∙ simp append_assoc;
-  appends = Appends-more a b c front next.front first next.appends;
+  split = sym whole ∙ ap (λ bs. (prefix ++ bs) ++ rest) next.split ∙ simp append_assoc;
+  appends = Appends-more a b c prefix next.prefix first next.appends;
 }

@@ -17,8 +17,8 @@ use Rattle.vme_shared.specs.MailboxSteps.{LiesIn}
 use Rattle.vme_shared.specs.declared.mailbox.Mailbox.{Mailbox}
 use Rattle.vme_shared.specs.Mailboxes.{mailbox_refusal}
 use Rattle.vme_mailbox_laws.specs.Along.{LiesAt}
-use Rattle.vme_script.specs.declared.place.Place.{Place}
-use Rattle.vme_script.specs.Places.{place_by, place_at, place_of}
+use Rattle.vme_script.specs.declared.board_range.BoardRange.{BoardRange}
+use Rattle.vme_script.specs.BoardRanges.{range_by, range_at, range_of}
 use Rattle.vme_mailbox_laws.specs.Places.{on_board}
 use Rattle.vme_mailbox_laws.proofs.Refusals.{not_refused}
 use Rattle.vme_script.specs.declared.board.BoardConfig.{BoardConfig}
@@ -31,19 +31,19 @@ unfolding zeros
 zeros_len size = length-replicate size 0
 
 -- the place of a mailbox is where its first byte is selected
-placed : (entries : List Entry) (mailbox : Mailbox) (place : Place) (code : CodeRow) → place_of entries mailbox ≡ Some place
+placed : (entries : List Entry) (mailbox : Mailbox) (place : BoardRange) (code : CodeRow) → range_of entries mailbox ≡ Some place
     → read_code mailbox.am ≡ Ok code → selection_at entries code mailbox.addr ≡ Some (place.board, place.offset)
-unfolding place_at
+unfolding range_at
 placed entries mailbox place code is row =
     by_found (selection_at entries code mailbox.addr) (16 + 4 * mailbox.slots) place
-    (ap (λ r. place_by entries r mailbox.addr (16 + 4 * mailbox.slots)) (sym row) ∙ is)
+    (ap (λ r. range_by entries r mailbox.addr (16 + 4 * mailbox.slots)) (sym row) ∙ is)
   where
-    by_found : (found : Option (ℕ × ℕ)) (len : ℕ) (place : Place)
+    by_found : (found : Option (ℕ × ℕ)) (len : ℕ) (place : BoardRange)
         → option_map (λ one. record { board = one.0; offset = one.1; len = len }) found ≡ Some place → found ≡ Some (place.board, place.offset)
     by_found None len place is = absurd cc
     by_found (Some one) len place is =
         let same : record { board = one.0; offset = one.1; len = len } ≡ place = cc in
-        ap (λ (p : Place). Some (p.board, p.offset)) same
+        ap (λ (p : BoardRange). Some (p.board, p.offset)) same
 
 -- an entry of the map is its board's
 own_entry : (boards : List BoardConfig) (k : ℕ) (board : BoardConfig) (entry : Entry) → slice_get boards k ≡ Some board
@@ -60,10 +60,10 @@ quads D32 able = refl
 
 module _ (config : Configuration) (lawful : IsLawful config) (mailbox : Mailbox) (fine : IsLawfulMailbox config.boards mailbox) where
   len_is : fine.place.len ≡ 16 + 4 * mailbox.slots
-  unfolding place_at
+  unfolding range_at
   len_is = by_found (read_code mailbox.am) fine.placed
     where
-      by_found : (row : Result CodeRow AmFault) → place_by (entries_of config.boards) row mailbox.addr (16 + 4 * mailbox.slots) ≡ Some fine.place
+      by_found : (row : Result CodeRow AmFault) → range_by (entries_of config.boards) row mailbox.addr (16 + 4 * mailbox.slots) ≡ Some fine.place
           → fine.place.len ≡ 16 + 4 * mailbox.slots
       by_found (Ok code) is = by_one (selection_at (entries_of config.boards) code mailbox.addr) is
         where
@@ -73,7 +73,7 @@ module _ (config : Configuration) (lawful : IsLawful config) (mailbox : Mailbox)
           by_one None is = absurd cc
           by_one (Some one) is =
               let same : record { board = one.0; offset = one.1; len = 16 + 4 * mailbox.slots } ≡ fine.place = cc in
-              ap (λ (p : Place). p.len) (sym same)
+              ap (λ (p : BoardRange). p.len) (sym same)
       by_found (Err fault) is = absurd cc
 
   pub lies_at : LiesAt (entries_of config.boards) mailbox fine.place.board (on_board mailbox fine.place)
@@ -100,11 +100,11 @@ module _ (config : Configuration) (lawful : IsLawful config) (mailbox : Mailbox)
 
   -- its offset is a multiple of four, as its address is
   offset_is : fine.place.offset % 4 ≡ 0
-  unfolding place_at
+  unfolding range_at
   offset_is = by_row (read_code mailbox.am) refl fine.placed
     where
       by_row : (row : Result CodeRow AmFault) → read_code mailbox.am ≡ row
-          → place_by (entries_of config.boards) row mailbox.addr (16 + 4 * mailbox.slots) ≡ Some fine.place → fine.place.offset % 4 ≡ 0
+          → range_by (entries_of config.boards) row mailbox.addr (16 + 4 * mailbox.slots) ≡ Some fine.place → fine.place.offset % 4 ≡ 0
       by_row (Ok code) is found =
           place_remainder (entries_of config.boards) code mailbox.addr fine.place.board fine.place.offset lawful.map
           (placed (entries_of config.boards) mailbox fine.place code fine.placed is)

@@ -20,14 +20,14 @@ use Rattle.vme_mailbox_laws.specs.Along.{mailbox_in}
 use Rattle.vme_grammar.specs.Grammar.{IsOwnLine}
 use Rattle.vme_grammar.specs.declared.line.Line.{Line}
 use Rattle.vme_grammar.specs.declared.line.Line.TheVariants as lines
-use Rattle.vme_script.specs.declared.boxes.Boxes.TheVariants.{Declared}
-use Rattle.vme_script.specs.declared.place.Place.{Place}
+use Rattle.vme_script.specs.declared.mailbox_numbers.MailboxNumbers.TheVariants.{Declared}
+use Rattle.vme_script.specs.declared.board_range.BoardRange.{BoardRange}
 use Rattle.vme_script.specs.Bytes.{request_bytes, local_bytes}
 use Rattle.vme_script.specs.Declarations.{Declaration}
-use Rattle.vme_script.specs.Names.{has_box, may_ask}
-use Rattle.vme_script.specs.Places.{share}
-use Rattle.vme_script.specs.Rules as rules
-use Rattle.vme_script.specs.Rules.{is_of_mailbox, are_of_mailboxes}
+use Rattle.vme_script.specs.MailboxNumbers.{has_box, may_ask}
+use Rattle.vme_script.specs.BoardRanges.{share}
+use Rattle.vme_script.specs.ScriptContext as rules
+use Rattle.vme_script.specs.ScriptContext.{is_of_mailbox, are_of_mailboxes}
 use Rattle.vme_script.specs.declared.script.ScriptLine.{ScriptLine}
 use Rattle.vme_script.specs.Boards.{entries_of}
 use Rattle.vme_script.specs.Configurations.{Configuration}
@@ -57,14 +57,14 @@ module _ (config : Configuration) (k who : ℕ) (mailbox : Mailbox) (lawful : Is
   file = record { entries = entries; mailboxes = config.mailboxes; board = who }
 
   -- a command among bytes that share none with the mailbox's
-  aside : (bytes : Place) (c : Command) → IsAmong bytes fine.place.board c → share bytes fine.place ≡ false
+  aside : (bytes : BoardRange) (c : Command) → IsAmong bytes fine.place.board c → share bytes fine.place ≡ false
       → touches (on_board mailbox fine.place) c ≡ false
   aside bytes c among apart =
       let len = place_len entries mailbox fine.place fine.placed in
       beside bytes fine.place (on_board mailbox fine.place) c among refl len apart
 
   -- a command among the bytes that a line names, which are none of a declared mailbox
-  by_bytes : (named : Option Place) (c : Command) → option_map_or (are_of_mailboxes file) named false ≡ false
+  by_bytes : (named : Option BoardRange) (c : Command) → option_map_or (are_of_mailboxes file) named false ≡ false
       → Among named fine.place.board c → touches (on_board mailbox fine.place) c ≡ false
   by_bytes named c free among =
       let none : are_of_mailboxes file among.0 ≡ false =

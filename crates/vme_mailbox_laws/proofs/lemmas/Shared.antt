@@ -47,34 +47,34 @@ module _ (config : Configuration) (box board : ℕ) (m : BoardMailbox) (memory :
     (answers : List (List LineReply)) (is : IsMailboxOf config box board m) (new : IsNewMailbox memory m) (legal : IsLegal board_step memory h)
     (share : ShareHistory config board h runs answers) where
   -- what is wanted of each
-  abbrev Told : ℕ → Wanted
-  Told who = λ p ps ts.
+  abbrev Reported : ℕ → Wanted
+  Reported who = λ p ps ts.
       (ps ≡ lines_put box (lines_at config who) (slice_index_or answers who []))
       × (ts ≡ lines_taken box (lines_at config who) (slice_index_or answers who []))
 
-  through : (who : ℕ) → Through m (Some Idle) (own who h) (Told who)
+  through : (who : ℕ) → Through m (Some Idle) (own who h) (Reported who)
   through who =
       elim (cases_lt who (length runs)) [
         | inl below ↦
-            subst (λ es. Through m (Some Idle) es (Told who)) (sym (share.owns who [] below))
-            (script config who box board m is (lines_at config who) (slice_index_or runs who []) (slice_index_or answers who []) (Told who) (is.others who)
+            subst (λ es. Through m (Some Idle) es (Reported who)) (sym (share.owns who [] below))
+            (script config who box board m is (lines_at config who) (slice_index_or runs who []) (slice_index_or answers who []) (Reported who) (is.others who)
             (share.trace.each who [] [] below) (share.turned who [] below) (refl, refl))
         | inr past ↦
             let no_answers : slice_index_or answers who [] ≡ [] = get_or_past answers who [] (let count = share.trace.count in omega arith) in
             rw (none_own (length runs) who h past share.known) (rw no_answers (sym (none_put box (lines_at config who)), sym (none_taken box (lines_at config who))))
       ]
 
-  each_led : (who : ℕ) → Led m (Some Idle) (own who h) (Told who)
+  each_led : (who : ℕ) → Led m (Some Idle) (own who h) (Reported who)
   each_led who =
-      led m new.lies.some_slot memory [] [] all_idle h (λ w. Told w) new.lies (opening memory m new) legal (λ w. through w) who
+      led m new.lies.some_slot memory [] [] all_idle h (λ w. Reported w) new.lies (opening memory m new) legal (λ w. through w) who
 
   pub proper : IsProper m h
   proper who = (each_led who).goes
 
-  pub put_told : Each (λ who told. words_along put_by m (Some Idle) (own who h) ≡ lines_put box (lines_at config who) told) answers
-  put_told who d below =
+  pub put_reported : Each (λ who reported. words_along put_by m (Some Idle) (own who h) ≡ lines_put box (lines_at config who) reported) answers
+  put_reported who d below =
       (each_led who).done.0 ∙ ap (lines_put box (lines_at config who)) (get_or_default answers who [] d below)
 
-  pub taken_told : Each (λ who told. words_along taken_by m (Some Idle) (own who h) ≡ lines_taken box (lines_at config who) told) answers
-  taken_told who d below =
+  pub taken_reported : Each (λ who reported. words_along taken_by m (Some Idle) (own who h) ≡ lines_taken box (lines_at config who) reported) answers
+  taken_reported who d below =
       (each_led who).done.1 ∙ ap (lines_taken box (lines_at config who)) (get_or_default answers who [] d below)

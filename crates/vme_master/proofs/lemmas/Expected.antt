@@ -9,7 +9,7 @@ use Rattle.vme_memory.specs.declared.reply.Reply.{Reply}
 use Rattle.vme_memory.specs.Steps.{Command, LocalRead, LocalWrite, LocalModify, Read, Write, Modify, BlockRead, BlockWrite}
 use Rattle.vme_memory.specs.Locals.{command_given}
 use Rattle.vme_memory.specs.Data.{datum_command, reply_len, has_form}
-use Rattle.vme_core.specs.declared.event.EventReply.TheVariants as told
+use Rattle.vme_core.specs.declared.event.EventReply.TheVariants as replies
 use Rattle.vme_master.specs.declared.expected.ExpectedReply.TheVariants as expected_replies
 use Rattle.vme_master.specs.declared.job.LocalJob.{LocalJob}
 use Rattle.vme_master.specs.declared.job.Job.TheVariants.{Local}
@@ -48,5 +48,5 @@ command_len_wanted (Some (Modify at n f)) = refl
 command_len_wanted (Some (BlockRead at n)) = refl
 command_len_wanted (Some (BlockWrite at new)) = refl
 
-pub local_len_wanted : (j : LocalJob) (reply : Reply) → fits (local_call j) (told.Board reply) ≡ has_form (expected_len (job_expected (Local j))) reply
+pub local_len_wanted : (j : LocalJob) (reply : Reply) → fits (local_call j) (replies.Board reply) ≡ has_form (expected_len (job_expected (Local j))) reply
 local_len_wanted j reply = ap (λ wanted. has_form wanted reply) (command_len_wanted (command_given j.cmd))

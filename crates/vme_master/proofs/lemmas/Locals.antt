@@ -14,7 +14,7 @@ use Rattle.vme_arbiter.specs.declared.command.ArbCmd.TheVariants as turns
 use Rattle.vme_arbiter.specs.Requests.{bus_request}
 use Rattle.vme_arbiter.specs.Arbitration.{Arbitration, holds, pends, can_ask, lawful_ask, turn_step}
 use Rattle.vme_core.specs.declared.event.EventReply.{EventReply}
-use Rattle.vme_core.specs.declared.event.EventReply.TheVariants as told
+use Rattle.vme_core.specs.declared.event.EventReply.TheVariants as replies
 use Rattle.vme_core.specs.Calls.{Call, OnBoard, OnBus, command_step}
 use Rattle.vme_master.specs.declared.job.LocalJob.{LocalJob}
 use Rattle.vme_master.specs.declared.job.Job.{Job}
@@ -30,11 +30,11 @@ MakesOwn j (Invokes call) = call ≡ local_call j
 MakesOwn j next = Unit {0}
 
 own_row : (j : LocalJob) (call : Call) (reply : EventReply) (g : Given) → MakesOwn j (next_after (Local j) (Invokes call) (Some reply) g)
-own_row j call (told.Board (Bytes datum)) g =
-    elim (cases_Bool (fits call (told.Board (Bytes datum)))) [ inl fit ↦ rw fit tt | inr misfit ↦ rw misfit tt ]
-own_row j call (told.Board Done) g = elim (cases_Bool (fits call (told.Board Done))) [ inl fit ↦ rw fit tt | inr misfit ↦ rw misfit tt ]
-own_row j call (told.Board Berr) g = elim (cases_Bool (fits call (told.Board Berr))) [ inl fit ↦ rw fit tt | inr misfit ↦ rw misfit tt ]
-own_row j call (told.Bus reply) g = elim (cases_Bool (fits call (told.Bus reply))) [ inl fit ↦ rw fit tt | inr misfit ↦ rw misfit tt ]
+own_row j call (replies.Board (Bytes datum)) g =
+    elim (cases_Bool (fits call (replies.Board (Bytes datum)))) [ inl fit ↦ rw fit tt | inr misfit ↦ rw misfit tt ]
+own_row j call (replies.Board Done) g = elim (cases_Bool (fits call (replies.Board Done))) [ inl fit ↦ rw fit tt | inr misfit ↦ rw misfit tt ]
+own_row j call (replies.Board Berr) g = elim (cases_Bool (fits call (replies.Board Berr))) [ inl fit ↦ rw fit tt | inr misfit ↦ rw misfit tt ]
+own_row j call (replies.Bus reply) g = elim (cases_Bool (fits call (replies.Bus reply))) [ inl fit ↦ rw fit tt | inr misfit ↦ rw misfit tt ]
 
 own_step : (j : LocalJob) (next : Next) (last : Option EventReply) (g : Given) → MakesOwn j (next_after (Local j) next last g)
 own_step j NotStarted None g = refl
@@ -64,7 +64,7 @@ pub bus_below : (map : List Entry) (slot level : ℕ) (t : Transfer) → IsBelow
 bus_below map slot level t board offset placed = result_place (Some (board, offset)) map t.am (addr_of t.request) (sym placed)
 
 -- a board's reply fits whatever it was told
-pub board_fits : (m : Board) (board : ℕ) (command : Option Command) → fits (OnBoard board command) (told.Board (command_step m command).1) ≡ true
+pub board_fits : (m : Board) (board : ℕ) (command : Option Command) → fits (OnBoard board command) (replies.Board (command_step m command).1) ≡ true
 board_fits m board None = refl
 board_fits m board (Some command) = reply_form m command
 
@@ -74,7 +74,7 @@ ask_fits None bus slot level = refl
 ask_fits (Some h) bus slot level = refl
 
 -- and so does the arbiter's
-pub turn_fits : (bus : Arbitration) (cmd : ArbCmd) → fits (OnBus cmd) (told.Bus (turn_step bus cmd).1) ≡ true
+pub turn_fits : (bus : Arbitration) (cmd : ArbCmd) → fits (OnBus cmd) (replies.Bus (turn_step bus cmd).1) ≡ true
 turn_fits bus (turns.Ask slot level) =
     elim (cases_Bool (can_ask bus slot level)) [ inl can ↦ rw can (ask_fits bus.holder bus slot level) | inr cannot ↦ rw cannot refl ]
 turn_fits bus (turns.Look slot) =

@@ -10,7 +10,7 @@ use Rattle.vme_memory.specs.Data.{has_form}
 use Rattle.vme_arbiter.specs.declared.command.ArbReply.{ArbReply}
 use Rattle.vme_arbiter.specs.declared.command.ArbReply.TheVariants as turned
 use Rattle.vme_core.specs.declared.event.EventReply.{EventReply}
-use Rattle.vme_core.specs.declared.event.EventReply.TheVariants as told
+use Rattle.vme_core.specs.declared.event.EventReply.TheVariants as replies
 use Rattle.vme_master.specs.declared.job.BusJob.{BusJob}
 use Rattle.vme_master.specs.declared.job.LocalJob.{LocalJob}
 use Rattle.vme_master.specs.declared.job.Job.{Job}
@@ -20,7 +20,7 @@ use Rattle.vme_master.specs.declared.phase.Phase.TheVariants.{New, Requesting, P
 use Rattle.vme_master.specs.declared.outcome.Outcome.TheVariants as outcomes
 use Rattle.vme_master.specs.Jobs.{ask_call, look_call, done_call, datum_call, local_call, fits, request_expected, expected_outcome, error_outcome}
 use Rattle.vme_master.specs.Tables.{Given, Invokes, Returns, data_in, bytes_in, datum_or_done, outcome_by, next_of}
-use Rattle.vme_master.specs.Machine.{TaskView, job_expected, expected_len, end_outcome, datum_phase, phase_told, phase_replied, bytes_of, task_after, task_given, job_next, to_do}
+use Rattle.vme_master.specs.Machine.{TaskView, job_expected, expected_len, end_outcome, datum_phase, phase_answered, phase_replied, bytes_of, task_after, task_given, job_next, to_do}
 use Rattle.vme_master.proofs.lemmas.Expected.{datum_len_wanted, local_len_wanted}
 
 -- nothing was moved yet
@@ -97,50 +97,50 @@ leads_on j None i read g placed (inr empty) leads = leads_nowhere j i read g pla
 
 -- the bus is granted
 granted : (j : BusJob) (read : List ℕ) (g : Given) → Idle read g
-    → next_of (Bus j) (Some (told.Bus turned.Granted) ∷ g) ≡ Invokes (datum_or_done j 0)
-    → BusFacts j (datum_phase j j.place 0) read (Some (told.Bus turned.Granted) ∷ g)
+    → next_of (Bus j) (Some (replies.Bus turned.Granted) ∷ g) ≡ Invokes (datum_or_done j 0)
+    → BusFacts j (datum_phase j j.place 0) read (Some (replies.Bus turned.Granted) ∷ g)
 granted j read g idle next =
-    leads_on j j.place 0 read (Some (told.Bus turned.Granted) ∷ g) refl (inr idle.empty)
+    leads_on j j.place 0 read (Some (replies.Bus turned.Granted) ∷ g) refl (inr idle.empty)
     (record { next = next; count = sym idle.none; bytes = idle.empty ∙ sym idle.bytes; whole = λ p. refl })
 
 -- a reply of the arbiter to an ask or a look
-bus_told : (j : BusJob) (read : List ℕ) (g : Given) (reply : ArbReply) → Idle read g
+bus_reported : (j : BusJob) (read : List ℕ) (g : Given) (reply : ArbReply) → Idle read g
     → ((next_of (Bus j) g ≡ Invokes (ask_call j)) ⊎ (next_of (Bus j) g ≡ Invokes (look_call j)))
-    → BusFacts j (phase_told (Bus j) reply) read (Some (told.Bus reply) ∷ g)
-bus_told j read g turned.Granted idle (inl asks) = granted j read g idle (rw asks refl)
-bus_told j read g turned.Granted idle (inr looks) = granted j read g idle (rw looks refl)
-bus_told j read g turned.Waiting idle (inl asks) = (rw asks refl, record { none = idle.none; empty = idle.empty; bytes = idle.bytes })
-bus_told j read g turned.Waiting idle (inr looks) = (rw looks refl, record { none = idle.none; empty = idle.empty; bytes = idle.bytes })
-bus_told j read g turned.Freed idle (inl asks) = rw asks refl
-bus_told j read g turned.Freed idle (inr looks) = rw looks refl
-bus_told j read g turned.Denied idle (inl asks) = rw asks refl
-bus_told j read g turned.Denied idle (inr looks) = rw looks refl
+    → BusFacts j (phase_answered (Bus j) reply) read (Some (replies.Bus reply) ∷ g)
+bus_reported j read g turned.Granted idle (inl asks) = granted j read g idle (rw asks refl)
+bus_reported j read g turned.Granted idle (inr looks) = granted j read g idle (rw looks refl)
+bus_reported j read g turned.Waiting idle (inl asks) = (rw asks refl, record { none = idle.none; empty = idle.empty; bytes = idle.bytes })
+bus_reported j read g turned.Waiting idle (inr looks) = (rw looks refl, record { none = idle.none; empty = idle.empty; bytes = idle.bytes })
+bus_reported j read g turned.Freed idle (inl asks) = rw asks refl
+bus_reported j read g turned.Freed idle (inr looks) = rw looks refl
+bus_reported j read g turned.Denied idle (inl asks) = rw asks refl
+bus_reported j read g turned.Denied idle (inr looks) = rw looks refl
 
 -- a datum's call is answered by a board, by its form
 datum_fits : (j : BusJob) (place : Option (ℕ × ℕ)) (i : ℕ) (reply : Reply) → is_some place ≡ true
-    → fits (datum_call j place i) (told.Board reply) ≡ has_form (expected_len (job_expected (Bus j))) reply
+    → fits (datum_call j place i) (replies.Board reply) ≡ has_form (expected_len (job_expected (Bus j))) reply
 datum_fits j None i reply some = absurd cc
 datum_fits j (Some p) i reply some = ap (λ wanted. has_form wanted reply) (datum_len_wanted j.transfer.request i _)
 
 -- and not by the arbiter
-datum_untold : (j : BusJob) (place : Option (ℕ × ℕ)) (i : ℕ) (reply : ArbReply) → is_some place ≡ true
-    → fits (datum_call j place i) (told.Bus reply) ≡ false
-datum_untold j None i reply some = absurd cc
-datum_untold j (Some p) i reply some = refl
+datum_unreported : (j : BusJob) (place : Option (ℕ × ℕ)) (i : ℕ) (reply : ArbReply) → is_some place ≡ true
+    → fits (datum_call j place i) (replies.Bus reply) ≡ false
+datum_unreported j None i reply some = absurd cc
+datum_unreported j (Some p) i reply some = refl
 
 -- what comes of a bus error
 broken : (j : BusJob) (place : Option (ℕ × ℕ)) (i : ℕ) (read : List ℕ) (g : Given) → is_some place ≡ true → i ≡ data_in g
-    → read ≡ bytes_in g → error_outcome i read ≡ outcome_by j place (Some (told.Board Berr) ∷ g)
+    → read ≡ bytes_in g → error_outcome i read ≡ outcome_by j place (Some (replies.Board Berr) ∷ g)
 broken j None i read g some count bytes = absurd cc
 broken j (Some p) i read g some count bytes = rw (count, bytes) refl
 
 -- a reply that fits a datum
 bus_replied : (j : BusJob) (i : ℕ) (read : List ℕ) (g : Given) (reply : Reply) → BusFacts j (Transferring i) read g
     → has_form (expected_len (job_expected (Bus j))) reply ≡ true
-    → BusFacts j (phase_replied (Bus j) i reply) (read ++ bytes_of reply) (Some (told.Board reply) ∷ g)
+    → BusFacts j (phase_replied (Bus j) i reply) (read ++ bytes_of reply) (Some (replies.Board reply) ∷ g)
 bus_replied j i read g (Bytes datum) facts form =
-    let fit : fits (datum_call j j.place i) (told.Board (Bytes datum)) ≡ true = datum_fits j j.place i (Bytes datum) facts.1 ∙ form in
-    leads_on j j.place (i + 1) (read ++ datum.items) (Some (told.Board (Bytes datum)) ∷ g) refl (inl facts.1)
+    let fit : fits (datum_call j j.place i) (replies.Board (Bytes datum)) ≡ true = datum_fits j j.place i (Bytes datum) facts.1 ∙ form in
+    leads_on j j.place (i + 1) (read ++ datum.items) (Some (replies.Board (Bytes datum)) ∷ g) refl (inl facts.1)
     (record {
       next = rw (facts.0, fit) (ap (λ n. Invokes (datum_or_done j (n + 1))) (sym facts.2));
       count = ap (λ n. n + 1) facts.2;
@@ -148,8 +148,8 @@ bus_replied j i read g (Bytes datum) facts form =
       whole = λ p. refl;
     })
 bus_replied j i read g Done facts form =
-    let fit : fits (datum_call j j.place i) (told.Board Done) ≡ true = datum_fits j j.place i Done facts.1 ∙ form in
-    leads_on j j.place (i + 1) (read ++ []) (Some (told.Board Done) ∷ g) refl (inl facts.1)
+    let fit : fits (datum_call j j.place i) (replies.Board Done) ≡ true = datum_fits j j.place i Done facts.1 ∙ form in
+    leads_on j j.place (i + 1) (read ++ []) (Some (replies.Board Done) ∷ g) refl (inl facts.1)
     (record {
       next = rw (facts.0, fit) (ap (λ n. Invokes (datum_or_done j (n + 1))) (sym facts.2));
       count = ap (λ n. n + 1) facts.2;
@@ -157,18 +157,18 @@ bus_replied j i read g Done facts form =
       whole = λ p. refl;
     })
 bus_replied j i read g Berr facts form =
-    let fit : fits (datum_call j j.place i) (told.Board Berr) ≡ true = datum_fits j j.place i Berr facts.1 ∙ form in
+    let fit : fits (datum_call j j.place i) (replies.Board Berr) ≡ true = datum_fits j j.place i Berr facts.1 ∙ form in
     (rw (facts.0, fit) refl, broken j j.place i (read ++ []) g facts.1 facts.2 (append-nil read ∙ facts.3))
 
 -- a transfer at a datum that a board replied to
 bus_answered : (j : BusJob) (i : ℕ) (read : List ℕ) (g : Given) (reply : Reply) → BusFacts j (Transferring i) read g
-    → BusFacts j (task_after (task (Bus j) (Transferring i) read) (Transferring i) (Some (told.Board reply))).phase
-    (task_after (task (Bus j) (Transferring i) read) (Transferring i) (Some (told.Board reply))).read (Some (told.Board reply) ∷ g)
+    → BusFacts j (task_after (task (Bus j) (Transferring i) read) (Transferring i) (Some (replies.Board reply))).phase
+    (task_after (task (Bus j) (Transferring i) read) (Transferring i) (Some (replies.Board reply))).read (Some (replies.Board reply) ∷ g)
 bus_answered j i read g reply facts =
     elim (cases_Bool (has_form (expected_len (job_expected (Bus j))) reply)) [
       | inl form ↦ rw form (bus_replied j i read g reply facts form)
       | inr misfit ↦
-          let unfit : fits (datum_call j j.place i) (told.Board reply) ≡ false = datum_fits j j.place i reply facts.1 ∙ misfit in
+          let unfit : fits (datum_call j j.place i) (replies.Board reply) ≡ false = datum_fits j j.place i reply facts.1 ∙ misfit in
           rw misfit (rw (facts.0, unfit) refl)
     ]
 
@@ -178,45 +178,45 @@ bus_step : (j : BusJob) (phase : Phase) (read : List ℕ) (g : Given) (last : Op
 bus_step j New read g None facts = (rw facts.0 refl, record { none = ap data_in facts.0; empty = facts.1; bytes = ap bytes_in facts.0 })
 bus_step j New read g (Some reply) facts = rw facts.0 refl
 bus_step j Requesting read g None facts = rw facts.0 refl
-bus_step j Requesting read g (Some (told.Bus reply)) facts = bus_told j read g reply facts.1 (inl facts.0)
-bus_step j Requesting read g (Some (told.Board reply)) facts = rw facts.0 refl
+bus_step j Requesting read g (Some (replies.Bus reply)) facts = bus_reported j read g reply facts.1 (inl facts.0)
+bus_step j Requesting read g (Some (replies.Board reply)) facts = rw facts.0 refl
 bus_step j Polling read g None facts = rw facts.0 refl
-bus_step j Polling read g (Some (told.Bus reply)) facts = bus_told j read g reply facts.1 (inr facts.0)
-bus_step j Polling read g (Some (told.Board reply)) facts = rw facts.0 refl
+bus_step j Polling read g (Some (replies.Bus reply)) facts = bus_reported j read g reply facts.1 (inr facts.0)
+bus_step j Polling read g (Some (replies.Board reply)) facts = rw facts.0 refl
 bus_step j (Transferring i) read g None facts = rw facts.0 refl
-bus_step j (Transferring i) read g (Some (told.Bus reply)) facts =
-    let unfit : fits (datum_call j j.place i) (told.Bus reply) ≡ false = datum_untold j j.place i reply facts.1 in
+bus_step j (Transferring i) read g (Some (replies.Bus reply)) facts =
+    let unfit : fits (datum_call j j.place i) (replies.Bus reply) ≡ false = datum_unreported j j.place i reply facts.1 in
     rw (facts.0, unfit) refl
-bus_step j (Transferring i) read g (Some (told.Board reply)) facts = bus_answered j i read g reply facts
+bus_step j (Transferring i) read g (Some (replies.Board reply)) facts = bus_answered j i read g reply facts
 bus_step j (Releasing berr) read g None facts = rw facts.0 refl
-bus_step j (Releasing berr) read g (Some (told.Bus turned.Freed)) facts = rw facts.0 (ap Returns (sym facts.1))
-bus_step j (Releasing berr) read g (Some (told.Bus turned.Granted)) facts = rw facts.0 refl
-bus_step j (Releasing berr) read g (Some (told.Bus turned.Waiting)) facts = rw facts.0 refl
-bus_step j (Releasing berr) read g (Some (told.Bus turned.Denied)) facts = rw facts.0 refl
-bus_step j (Releasing berr) read g (Some (told.Board reply)) facts = rw facts.0 refl
+bus_step j (Releasing berr) read g (Some (replies.Bus turned.Freed)) facts = rw facts.0 (ap Returns (sym facts.1))
+bus_step j (Releasing berr) read g (Some (replies.Bus turned.Granted)) facts = rw facts.0 refl
+bus_step j (Releasing berr) read g (Some (replies.Bus turned.Waiting)) facts = rw facts.0 refl
+bus_step j (Releasing berr) read g (Some (replies.Bus turned.Denied)) facts = rw facts.0 refl
+bus_step j (Releasing berr) read g (Some (replies.Board reply)) facts = rw facts.0 refl
 bus_step j (Finished berr) read g last facts = rw facts refl
 bus_step j Denied read g last facts = rw facts refl
 
 -- a local command that a board replied to, as it fits
 local_replied : (j : LocalJob) (read : List ℕ) (g : Given) (reply : Reply) → LocalFacts j (Transferring 0) read g
     → has_form (expected_len (job_expected (Local j))) reply ≡ true
-    → LocalFacts j (phase_replied (Local j) 0 reply) (read ++ bytes_of reply) (Some (told.Board reply) ∷ g)
+    → LocalFacts j (phase_replied (Local j) 0 reply) (read ++ bytes_of reply) (Some (replies.Board reply) ∷ g)
 local_replied j read g (Bytes datum) facts form =
-    let fit : fits (local_call j) (told.Board (Bytes datum)) ≡ true = local_len_wanted j (Bytes datum) ∙ form in
+    let fit : fits (local_call j) (replies.Board (Bytes datum)) ≡ true = local_len_wanted j (Bytes datum) ∙ form in
     rw (facts.0, fit) (ap (λ bytes. Returns (expected_outcome (job_expected (Local j)) (bytes ++ datum.items))) (sym facts.2))
 local_replied j read g Done facts form =
-    let fit : fits (local_call j) (told.Board Done) ≡ true = local_len_wanted j Done ∙ form in
+    let fit : fits (local_call j) (replies.Board Done) ≡ true = local_len_wanted j Done ∙ form in
     rw (facts.0, fit) (ap (λ bytes. Returns (expected_outcome (job_expected (Local j)) (bytes ++ []))) (sym facts.2))
 local_replied j read g Berr facts form = rw facts.0 (ap (λ bytes. Returns (error_outcome 0 (bytes ++ []))) (sym facts.2))
 
 local_answered : (j : LocalJob) (read : List ℕ) (g : Given) (reply : Reply) → LocalFacts j (Transferring 0) read g
-    → LocalFacts j (task_after (task (Local j) (Transferring 0) read) (Transferring 0) (Some (told.Board reply))).phase
-    (task_after (task (Local j) (Transferring 0) read) (Transferring 0) (Some (told.Board reply))).read (Some (told.Board reply) ∷ g)
+    → LocalFacts j (task_after (task (Local j) (Transferring 0) read) (Transferring 0) (Some (replies.Board reply))).phase
+    (task_after (task (Local j) (Transferring 0) read) (Transferring 0) (Some (replies.Board reply))).read (Some (replies.Board reply) ∷ g)
 local_answered j read g reply facts =
     elim (cases_Bool (has_form (expected_len (job_expected (Local j))) reply)) [
       | inl form ↦ rw form (local_replied j read g reply facts form)
       | inr misfit ↦
-          let unfit : fits (local_call j) (told.Board reply) ≡ false = local_len_wanted j reply ∙ misfit in
+          let unfit : fits (local_call j) (replies.Board reply) ≡ false = local_len_wanted j reply ∙ misfit in
           rw misfit (rw (facts.0, unfit) refl)
     ]
 
@@ -226,9 +226,9 @@ local_step : (j : LocalJob) (phase : Phase) (read : List ℕ) (g : Given) (last 
 local_step j New read g None facts = (rw facts.0 refl, refl, facts.1)
 local_step j New read g (Some reply) facts = rw facts.0 refl
 local_step j (Transferring i) read g None facts = rw facts.0 refl
-local_step j (Transferring i) read g (Some (told.Bus reply)) facts = rw facts.0 refl
-local_step j (Transferring zero) read g (Some (told.Board reply)) facts = local_answered j read g reply facts
-local_step j (Transferring (suc i)) read g (Some (told.Board reply)) facts = absurd cc
+local_step j (Transferring i) read g (Some (replies.Bus reply)) facts = rw facts.0 refl
+local_step j (Transferring zero) read g (Some (replies.Board reply)) facts = local_answered j read g reply facts
+local_step j (Transferring (suc i)) read g (Some (replies.Board reply)) facts = absurd cc
 local_step j (Finished berr) read g last facts = rw facts refl
 local_step j Denied read g last facts = rw facts refl
 local_step j phase read g last facts = absurd facts
@@ -236,11 +236,11 @@ local_step j phase read g last facts = absurd facts
 -- a task keeps its job
 pub job_stays : (t : TaskView) (phase : Phase) (last : Option EventReply) → (task_after t phase last).job ≡ t.job
 job_stays t New None = refl
-job_stays t Requesting (Some (told.Bus reply)) = refl
-job_stays t Polling (Some (told.Bus reply)) = refl
-job_stays t (Transferring i) (Some (told.Board reply)) =
+job_stays t Requesting (Some (replies.Bus reply)) = refl
+job_stays t Polling (Some (replies.Bus reply)) = refl
+job_stays t (Transferring i) (Some (replies.Board reply)) =
     elim (cases_Bool (has_form (expected_len (job_expected t.job)) reply)) [ inl form ↦ rw form refl | inr misfit ↦ rw misfit refl ]
-job_stays t (Releasing berr) (Some (told.Bus turned.Freed)) = refl
+job_stays t (Releasing berr) (Some (replies.Bus turned.Freed)) = refl
 job_stays t (Finished berr) last = refl
 job_stays t phase last = refl
 

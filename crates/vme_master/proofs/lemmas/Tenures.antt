@@ -12,7 +12,7 @@ use Rattle.vme_arbiter.specs.declared.command.ArbReply.TheVariants as turned
 use Rattle.vme_arbiter.specs.Requests.{is_level}
 use Rattle.vme_arbiter.specs.Turns.{may_give}
 use Rattle.vme_core.specs.declared.event.EventReply.{EventReply}
-use Rattle.vme_core.specs.declared.event.EventReply.TheVariants as told
+use Rattle.vme_core.specs.declared.event.EventReply.TheVariants as replies
 use Rattle.vme_core.specs.Calls.{Call, OnBoard, OnBus}
 use Rattle.vme_master.specs.declared.job.BusJob.{BusJob}
 use Rattle.vme_master.specs.declared.job.Job.TheVariants.{Bus}
@@ -57,9 +57,9 @@ timer j g placed = rw placed refl
 -- a reply of a board leads on
 board_stands : (j : BusJob) (g : Given) (board : ℕ) (command : Option Command) (reply : Reply)
     → IsNextDatum j g board command × (last_turn g ≡ Some turned.Granted)
-    → Stands j (Some (told.Board reply) ∷ g) (bus_row j (told.Board reply) g)
-board_stands j g board command (Bytes datum) stands = on_stands j (Some (told.Board (Bytes datum)) ∷ g) (data_in g + 1) refl stands.1
-board_stands j g board command Done stands = on_stands j (Some (told.Board Done) ∷ g) (data_in g + 1) refl stands.1
+    → Stands j (Some (replies.Board reply) ∷ g) (bus_row j (replies.Board reply) g)
+board_stands j g board command (Bytes datum) stands = on_stands j (Some (replies.Board (Bytes datum)) ∷ g) (data_in g + 1) refl stands.1
+board_stands j g board command Done stands = on_stands j (Some (replies.Board Done) ∷ g) (data_in g + 1) refl stands.1
 board_stands j g board command Berr stands = (refl, stands.1)
 
 -- one call more
@@ -68,24 +68,24 @@ step_stands : (j : BusJob) (g : Given) (next : Next) (last : Option EventReply) 
 step_stands j g NotStarted None stands = (refl, refl, ap last_turn stands, ap data_in stands)
 step_stands j g NotStarted (Some reply) stands = inl refl
 step_stands j g (Invokes call) None stands = inl refl
-step_stands j g (Invokes (OnBus (turns.Ask slot level))) (Some (told.Bus turned.Granted)) stands =
-    on_stands j (Some (told.Bus turned.Granted) ∷ g) 0 (sym stands.3) refl
-step_stands j g (Invokes (OnBus (turns.Ask slot level))) (Some (told.Bus turned.Waiting)) stands = (refl, refl, stands.3)
-step_stands j g (Invokes (OnBus (turns.Ask slot level))) (Some (told.Bus turned.Freed)) stands = inl refl
-step_stands j g (Invokes (OnBus (turns.Ask slot level))) (Some (told.Bus turned.Denied)) stands = inl refl
-step_stands j g (Invokes (OnBus (turns.Look slot))) (Some (told.Bus turned.Granted)) stands =
-    on_stands j (Some (told.Bus turned.Granted) ∷ g) 0 (sym stands.2) refl
-step_stands j g (Invokes (OnBus (turns.Look slot))) (Some (told.Bus turned.Waiting)) stands = (refl, refl, stands.2)
-step_stands j g (Invokes (OnBus (turns.Look slot))) (Some (told.Bus turned.Freed)) stands = inl refl
-step_stands j g (Invokes (OnBus (turns.Look slot))) (Some (told.Bus turned.Denied)) stands = inl refl
-step_stands j g (Invokes (OnBus (turns.Done slot))) (Some (told.Bus turned.Freed)) stands = inr (timer j g)
-step_stands j g (Invokes (OnBus (turns.Done slot))) (Some (told.Bus turned.Granted)) stands = inl refl
-step_stands j g (Invokes (OnBus (turns.Done slot))) (Some (told.Bus turned.Waiting)) stands = inl refl
-step_stands j g (Invokes (OnBus (turns.Done slot))) (Some (told.Bus turned.Denied)) stands = inl refl
-step_stands j g (Invokes (OnBus cmd)) (Some (told.Board reply)) stands = inl refl
-step_stands j g (Invokes (OnBoard board command)) (Some (told.Bus reply)) stands = inl refl
-step_stands j g (Invokes (OnBoard board command)) (Some (told.Board reply)) stands =
-    elim (cases_Bool (fits (OnBoard board command) (told.Board reply))) [
+step_stands j g (Invokes (OnBus (turns.Ask slot level))) (Some (replies.Bus turned.Granted)) stands =
+    on_stands j (Some (replies.Bus turned.Granted) ∷ g) 0 (sym stands.3) refl
+step_stands j g (Invokes (OnBus (turns.Ask slot level))) (Some (replies.Bus turned.Waiting)) stands = (refl, refl, stands.3)
+step_stands j g (Invokes (OnBus (turns.Ask slot level))) (Some (replies.Bus turned.Freed)) stands = inl refl
+step_stands j g (Invokes (OnBus (turns.Ask slot level))) (Some (replies.Bus turned.Denied)) stands = inl refl
+step_stands j g (Invokes (OnBus (turns.Look slot))) (Some (replies.Bus turned.Granted)) stands =
+    on_stands j (Some (replies.Bus turned.Granted) ∷ g) 0 (sym stands.2) refl
+step_stands j g (Invokes (OnBus (turns.Look slot))) (Some (replies.Bus turned.Waiting)) stands = (refl, refl, stands.2)
+step_stands j g (Invokes (OnBus (turns.Look slot))) (Some (replies.Bus turned.Freed)) stands = inl refl
+step_stands j g (Invokes (OnBus (turns.Look slot))) (Some (replies.Bus turned.Denied)) stands = inl refl
+step_stands j g (Invokes (OnBus (turns.Done slot))) (Some (replies.Bus turned.Freed)) stands = inr (timer j g)
+step_stands j g (Invokes (OnBus (turns.Done slot))) (Some (replies.Bus turned.Granted)) stands = inl refl
+step_stands j g (Invokes (OnBus (turns.Done slot))) (Some (replies.Bus turned.Waiting)) stands = inl refl
+step_stands j g (Invokes (OnBus (turns.Done slot))) (Some (replies.Bus turned.Denied)) stands = inl refl
+step_stands j g (Invokes (OnBus cmd)) (Some (replies.Board reply)) stands = inl refl
+step_stands j g (Invokes (OnBoard board command)) (Some (replies.Bus reply)) stands = inl refl
+step_stands j g (Invokes (OnBoard board command)) (Some (replies.Board reply)) stands =
+    elim (cases_Bool (fits (OnBoard board command) (replies.Board reply))) [
       | inl fit ↦ rw fit (board_stands j g board command reply stands)
       | inr misfit ↦ rw misfit (inl refl)
     ]
@@ -136,17 +136,17 @@ same_end a b same = cc
 
 -- an end that is no denial comes when the arbiter replies that the bus is free again
 row_ends : (j : BusJob) (g : Given) (reply : EventReply) (outcome : Outcome) → bus_row j reply g ≡ Returns outcome
-    → outcome ≢ outcomes.Denied → reply ≡ told.Bus turned.Freed
-row_ends j g (told.Bus turned.Freed) outcome row good = refl
-row_ends j g (told.Bus turned.Denied) outcome row good = absurd (good (sym (same_end outcomes.Denied outcome row)))
-row_ends j g (told.Bus turned.Granted) outcome row good = absurd cc
-row_ends j g (told.Bus turned.Waiting) outcome row good = absurd cc
-row_ends j g (told.Board (Bytes datum)) outcome row good = absurd cc
-row_ends j g (told.Board Done) outcome row good = absurd cc
-row_ends j g (told.Board Berr) outcome row good = absurd cc
+    → outcome ≢ outcomes.Denied → reply ≡ replies.Bus turned.Freed
+row_ends j g (replies.Bus turned.Freed) outcome row good = refl
+row_ends j g (replies.Bus turned.Denied) outcome row good = absurd (good (sym (same_end outcomes.Denied outcome row)))
+row_ends j g (replies.Bus turned.Granted) outcome row good = absurd cc
+row_ends j g (replies.Bus turned.Waiting) outcome row good = absurd cc
+row_ends j g (replies.Board (Bytes datum)) outcome row good = absurd cc
+row_ends j g (replies.Board Done) outcome row good = absurd cc
+row_ends j g (replies.Board Berr) outcome row good = absurd cc
 
 pub ends_freed : (j : BusJob) (g : Given) (call : Call) (reply : EventReply) (outcome : Outcome) → next_of (Bus j) g ≡ Invokes call
-    → next_of (Bus j) (Some reply ∷ g) ≡ Returns outcome → outcome ≢ outcomes.Denied → reply ≡ told.Bus turned.Freed
+    → next_of (Bus j) (Some reply ∷ g) ≡ Returns outcome → outcome ≢ outcomes.Denied → reply ≡ replies.Bus turned.Freed
 ends_freed j g call reply outcome made next good =
     let after = rw made at next in
     elim (cases_Bool (fits call reply)) [

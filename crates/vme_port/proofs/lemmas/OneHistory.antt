@@ -4,7 +4,7 @@ use Rattle.std.proofs.lemmas.List.{append-nil, append_cancel_right}
 use Rattle.std.specs.List.{sum_by}
 use Rattle.std.proofs.lemmas.List.Elements.{All-contains, Contains-get_or}
 use Rattle.vme_object.specs.declared.history.Entry.{Entry}
-use Rattle.vme_object.specs.History.{own, Begins}
+use Rattle.vme_object.specs.History.{own, IsPrefix}
 use Rattle.vme_object.specs.Each.{Each}
 use Rattle.vme_object.proofs.lemmas.Histories.{own-append, reply_at}
 use Rattle.vme_port.specs.Passes.{PassView, IsUnused}
@@ -55,26 +55,26 @@ module _ {S C R : Type 0} (step : S → C → S × R) (start : S) where
     made = added.made;
   }
 
-  module _ (k : ℕ) (passes : List (PassView C R)) (object : S) (n : ℕ) (told : Settles step start k passes object n) where
+  module _ (k : ℕ) (passes : List (PassView C R)) (object : S) (n : ℕ) (reported : Settles step start k passes object n) where
     module _ (es : List (Entry C R)) (p q : PassView C R) (there : Contains passes q) (made : Makes es p q) where
-      begins : Begins q.seen told.history
-      begins = All-contains (λ (p : PassView C R). Begins p.seen told.history) passes q told.seen there
+      begins : IsPrefix q.seen reported.history
+      begins = All-contains (λ (p : PassView C R). IsPrefix p.seen reported.history) passes q reported.seen there
 
       -- what the pass had seen has of it just what it had made
       sound_before : own p.who p.seen ≡ p.mine
       sound_before =
-          let sound : own q.who q.seen ≡ q.mine = All-contains (λ (p : PassView C R). own p.who p.seen ≡ p.mine) passes q told.sound there in
+          let sound : own q.who q.seen ≡ q.mine = All-contains (λ (p : PassView C R). own p.who p.seen ≡ p.mine) passes q reported.sound there in
           let both : own p.who p.seen ++ es ≡ p.mine ++ es =
           ap (λ l. own p.who p.seen ++ l) (sym made.its) ∙ sym (own-append p.who p.seen made.since) ∙ ap (own p.who) (sym made.seen)
           ∙ ap (λ w. own w q.seen) (sym made.who) ∙ sound ∙ made.mine in
           append_cancel_right (own p.who p.seen) p.mine es both
 
       -- an entry at a place in what the pass has seen since has its place in the history
-      stands : (mine : List (Entry C R)) (e : Entry C R) → IsPlaceOf p.who made.since mine e → StandsIn step start told.history p.seen (p.mine ++ mine) e
+      stands : (mine : List (Entry C R)) (e : Entry C R) → IsPlaceOf p.who made.since mine e → StandsIn step start reported.history p.seen (p.mine ++ mine) e
       stands mine e at =
           let before : List (Entry C R) = p.seen ++ at.before in
           let after : List (Entry C R) = at.after ++ begins.0 in
-          let place : told.history ≡ before ++ e ∷ after =
+          let place : reported.history ≡ before ++ e ∷ after =
           begins.1 ∙ ap (λ l. l ++ begins.0) (made.seen ∙ ap (λ l. p.seen ++ l) at.place ∙ sym (append_assoc p.seen at.before (e ∷ at.after)))
           ∙ append_assoc before (e ∷ at.after) begins.0 in record {
             before = before;
@@ -82,41 +82,41 @@ module _ {S C R : Type 0} (step : S → C → S × R) (start : S) where
             place = place;
             behind = (at.before, refl);
             only = ap (λ w. own w before) at.whose ∙ own-append p.who p.seen at.before ∙ (λ i. sound_before i ++ at.only i);
-            reply = reply_at step start told.history before after e told.legal place;
+            reply = reply_at step start reported.history before after e reported.legal place;
           }
 
       -- each entry that a pass made since has its place in the history
-      pub placed : Each (λ i e. StandsIn step start told.history p.seen (p.mine ++ take i es) e) es
+      pub placed : Each (λ i e. StandsIn step start reported.history p.seen (p.mine ++ take i es) e) es
       placed i d less =
-          subst (λ l. i < length l → StandsIn step start told.history p.seen (p.mine ++ take i l) (slice_index_or l i d)) made.its
+          subst (λ l. i < length l → StandsIn step start reported.history p.seen (p.mine ++ take i l) (slice_index_or l i d)) made.its
           (λ within. stands (take i (own p.who made.since)) (slice_index_or (own p.who made.since) i d) (place_of p.who made.since i d within)) less
 
       -- a pass that had made no call made just its who's part of the history
-      pub part_of_unused : (port : TableId) (who : ℕ) → IsUnused port who p → own who told.history ≡ es
+      pub part_of_unused : (port : TableId) (who : ℕ) → IsUnused port who p → own who reported.history ≡ es
       part_of_unused port who unused =
-          ap (λ w. own w told.history) (sym unused.who ∙ sym made.who)
-          ∙ All-contains (λ (p : PassView C R). own p.who told.history ≡ p.mine) passes q told.mine there
+          ap (λ w. own w reported.history) (sym unused.who ∙ sym made.who)
+          ∙ All-contains (λ (p : PassView C R). own p.who reported.history ≡ p.mine) passes q reported.mine there
           ∙ made.mine ∙ ap (λ l. l ++ es) unused.mine
 
     -- the history has as many entries as the passes made
-    pub entries_counted : length told.history ≡ sum_by (λ p. length p.mine) passes
-    entries_counted = sym told.counted ∙ told.summed ∙ sym (sum_same (λ (p : PassView C R). length p.mine) (λ (p : PassView C R). p.made) passes told.made)
+    pub entries_counted : length reported.history ≡ sum_by (λ p. length p.mine) passes
+    entries_counted = sym reported.counted ∙ reported.summed ∙ sym (sum_same (λ (p : PassView C R). length p.mine) (λ (p : PassView C R). p.made) passes reported.made)
 
     -- each entry of the history is one that a pass made
-    pub maker_of : (e : Entry C R) → Contains told.history e → (p : PassView C R) × Contains passes p × Contains p.mine e
+    pub maker_of : (e : Entry C R) → Contains reported.history e → (p : PassView C R) × Contains passes p × Contains p.mine e
     maker_of e there =
-        let below : e.who < k = All-contains (λ (e : Entry C R). e.who < k) told.history e told.known there in
-        let found = pass_of_who e.who passes (told.each_who e.who below) in
+        let below : e.who < k = All-contains (λ (e : Entry C R). e.who < k) reported.history e reported.known there in
+        let found = pass_of_who e.who passes (reported.each_who e.who below) in
         let p : PassView C R = found.0 in
-        let mine : own p.who told.history ≡ p.mine = All-contains (λ (p : PassView C R). own p.who told.history ≡ p.mine) passes p told.mine found.1 in
-        let its : own e.who told.history ≡ p.mine = ap (λ w. own w told.history) (sym found.2) ∙ mine in
-        (p, found.1, subst (λ l. Contains l e) its (own_contains told.history e there))
+        let mine : own p.who reported.history ≡ p.mine = All-contains (λ (p : PassView C R). own p.who reported.history ≡ p.mine) passes p reported.mine found.1 in
+        let its : own e.who reported.history ≡ p.mine = ap (λ w. own w reported.history) (sym found.2) ∙ mine in
+        (p, found.1, subst (λ l. Contains l e) its (own_contains reported.history e there))
 
     -- what holds of all entries that passes made holds of the whole history
-    pub all_made : (P : Entry C R → Type 0) → All (λ p. All P p.mine) passes → All P told.history
+    pub all_made : (P : Entry C R → Type 0) → All (λ p. All P p.mine) passes → All P reported.history
     all_made P each i d less =
-        let e : Entry C R = slice_index_or told.history i d in
-        let maker = maker_of e (Contains-get_or told.history i d less) in
+        let e : Entry C R = slice_index_or reported.history i d in
+        let maker = maker_of e (Contains-get_or reported.history i d less) in
         All-contains P maker.0.mine e (All-contains (λ (p : PassView C R). All P p.mine) passes maker.0 each maker.1) maker.2
 
   -- two entries of one who, behind as many of its own, have one place

@@ -33,14 +33,14 @@ ended :
     → (first >>= (λ x. second x >>= (λ y. Ok (make x y)))) ≡ Ok c → (x : A) × (y : B) × (first ≡ Ok x) × (second x ≡ Ok y) × (c ≡ make x y)
 ended (Err fault) second make c e = cc
 ended (Ok x) second make c e =
-    let last = told (second x) (make x) c e in
+    let last = reported (second x) (make x) c e in
     (x, last.0, refl, last.1, last.2)
   where
-    told :
+    reported :
         {B : Type 0} (answer : Result B ConfigFault) (make : B → Configuration) (c : Configuration) → (answer >>= (λ y. Ok (make y))) ≡ Ok c
         → (y : B) × (answer ≡ Ok y) × (c ≡ make y)
-    told (Err fault) make c e = cc
-    told (Ok y) make c e = (y, refl, cc)
+    reported (Err fault) make c e = cc
+    reported (Ok y) make c e = (y, refl, cc)
 
 passed :
     {A B C : Type 0} (first : Result A ConfigFault) (second : Result B ConfigFault) (rest : B → Result C ConfigFault) (c : C)

@@ -26,8 +26,8 @@ before bytes new at a len within apart = same_number_lists _ _ (grind (arith, co
 behind : (bytes new : List ℕ) (at a len : ℕ) → at + length new ≤ length bytes → at + length new ≤ a
     → slice_range (bytes_after_write bytes at new) a (a + len) ≡ slice_range bytes a (a + len)
 behind bytes new at a len within apart =
-    let front : length (take at bytes ++ new) ≡ at + length new = grind (arith, common_steps) in
-    ap (take (a + len - a)) (drop-append-drop (at + length new) bytes (take at bytes ++ new) a apart front)
+    let prefix : length (take at bytes ++ new) ≡ at + length new = grind (arith, common_steps) in
+    ap (take (a + len - a)) (drop-append-drop (at + length new) bytes (take at bytes ++ new) a apart prefix)
 
 -- numbers apart from what is written stay
 pub number_apart : (bytes new : List ℕ) (at a len : ℕ) → at + length new ≤ length bytes → (a + len ≤ at) ⊎ (at + length new ≤ a)

@@ -13,7 +13,7 @@ pub record Kept (m : BoardMailbox) (bytes put taken : List ℕ) : Type 0 where
   pub put_count : number_in bytes (put_count_at m) 4 ≡ length put
   pub take_count : number_in bytes (take_count_at m) 4 ≡ length taken
   pub small : length put < 2 ^ 32
-  pub front : take (length taken) put ≡ taken
+  pub prefix : take (length taken) put ≡ taken
   pub ahead : length taken ≤ length put
   pub few : length put ≤ length taken + m.slots
   pub words : (n d : ℕ) → length taken ≤ n → n < length put → number_in bytes (word_at m n) 4 ≡ get_or put n d
@@ -45,7 +45,7 @@ module _ (m : BoardMailbox) (bytes after put taken : List ℕ) where
     put_count = same.put_count ∙ kept.put_count;
     take_count = same.take_count ∙ kept.take_count;
     small = kept.small;
-    front = kept.front;
+    prefix = kept.prefix;
     ahead = kept.ahead;
     few = kept.few;
     words = λ n d from below. same.words n ∙ kept.words n d from below;

@@ -4,7 +4,7 @@ use Rattle.std.specs.Prelude.{is_some, IsTrue, ◌==◌, if◌then◌else◌}
 use Rattle.std.proofs.lemmas.Bool.{cases_Bool, cases_eq, eq-eqb, ne_eqb, cond-true, cond-false}
 use Rattle.std.proofs.lemmas.List.{append-nil, append_assoc, take-append-drop}
 use Rattle.vme_object.specs.declared.history.Entry.{Entry}
-use Rattle.vme_object.specs.History.{IsLegal, own, Begins}
+use Rattle.vme_object.specs.History.{IsLegal, own, IsPrefix}
 use Rattle.vme_memory.specs.declared.command.BoardCmd.{BoardCmd}
 use Rattle.vme_memory.specs.declared.reply.Reply.{Reply}
 use Rattle.vme_memory.specs.Boards.{Board}
@@ -206,12 +206,12 @@ rest_goes m phases e h goes who =
 
 -- the words are those of a queue
 pub record IsQueue (m : BoardMailbox) (put taken : List ℕ) : Type 0 where
-  pub order : Begins taken put
+  pub order : IsPrefix taken put
   pub capacity : length put ≤ length taken + m.slots
 
 kept_queue : (m : BoardMailbox) (bytes put taken : List ℕ) → Kept m bytes put taken → IsQueue m put taken
 kept_queue m bytes put taken kept = record {
-  order = (drop (length taken) put, sym (take-append-drop (length taken) put) ∙ ap (λ front. front ++ drop (length taken) put) kept.front);
+  order = (drop (length taken) put, sym (take-append-drop (length taken) put) ∙ ap (λ prefix. prefix ++ drop (length taken) put) kept.prefix);
   capacity = kept.few;
 }
 

@@ -78,7 +78,7 @@ module _ (m : BoardMailbox) (some : 1 ≤ m.slots) (bytes after put taken : List
         put_count = number_apart bytes new (word_at m p) (put_count_at m) 4 inside (inl (omega arith)) ∙ kept.put_count;
         take_count = number_apart bytes new (word_at m p) (take_count_at m) 4 inside (inl (omega arith)) ∙ kept.take_count;
         small = kept.small;
-        front = kept.front;
+        prefix = kept.prefix;
         ahead = kept.ahead;
         few = kept.few;
         words = λ n d from less.
@@ -109,7 +109,7 @@ module _ (m : BoardMailbox) (some : 1 ≤ m.slots) (bytes after put taken : List
         put_count = number_new bytes new (put_count_at m) 4 (omega arith) long_new ∙ number_is ∙ raised ∙ omega arith;
         take_count = number_apart bytes new (put_count_at m) (take_count_at m) 4 inside (inr (omega arith)) ∙ kept.take_count;
         small = omega arith;
-        front = take-append-le (length taken) put (x ∷ []) ahead ∙ kept.front;
+        prefix = take-append-le (length taken) put (x ∷ []) ahead ∙ kept.prefix;
         ahead = omega arith;
         few = omega arith;
         words = λ n d from less.
@@ -143,14 +143,14 @@ module _ (m : BoardMailbox) (some : 1 ≤ m.slots) (bytes after put taken : List
       let few = kept.few in
       let next : (t + 1) % 2 ^ 32 ≡ t + 1 = omega arith in
       let more : length (taken ++ x ∷ []) ≡ length taken + 1 = length_push taken x in
-      let front_more : take (length taken + 1) put ≡ taken ++ x ∷ [] =
-      take_more put (length taken) 0 (omega arith) ∙ ap (λ xs. xs ++ get_or put (length taken) 0 ∷ []) kept.front
+      let prefix_more : take (length taken + 1) put ≡ taken ++ x ∷ [] =
+      take_more put (length taken) 0 (omega arith) ∙ ap (λ xs. xs ++ get_or put (length taken) 0 ∷ []) kept.prefix
       ∙ ap (λ w. taken ++ w ∷ []) (ap (λ n. get_or put n 0) (sym t_is) ∙ word_is 0) in
       let kept_after : Kept m (bytes_after_write bytes (take_count_at m) new) put (taken ++ x ∷ []) = record {
         put_count = number_apart bytes new (take_count_at m) (put_count_at m) 4 inside (inl (omega arith)) ∙ kept.put_count;
         take_count = number_new bytes new (take_count_at m) 4 (omega arith) long_new ∙ number_is ∙ raised ∙ next ∙ omega arith;
         small = small;
-        front = ap (λ n. take n put) more ∙ front_more;
+        prefix = ap (λ n. take n put) more ∙ prefix_more;
         ahead = omega arith;
         few = omega arith;
         words = λ n d from less.

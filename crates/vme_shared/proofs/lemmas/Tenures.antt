@@ -13,9 +13,9 @@ use Rattle.vme_arbiter.specs.declared.command.ArbReply.{ArbReply}
 use Rattle.vme_arbiter.specs.declared.command.ArbReply.TheVariants as turned
 use Rattle.vme_arbiter.specs.Requests.{is_level}
 use Rattle.vme_arbiter.specs.Arbitration.{Arbitration}
-use Rattle.vme_arbiter.specs.Turns.{may_give, StandsAsTold}
+use Rattle.vme_arbiter.specs.Turns.{may_give, StandsAsReplied}
 use Rattle.vme_core.specs.declared.event.EventReply.{EventReply}
-use Rattle.vme_core.specs.declared.event.EventReply.TheVariants as told
+use Rattle.vme_core.specs.declared.event.EventReply.TheVariants as replies
 use Rattle.vme_core.specs.Calls.{Call, OnBoard, OnBus}
 use Rattle.vme_master.specs.declared.job.BusJob.{BusJob}
 use Rattle.vme_master.specs.declared.job.Job.{Job}
@@ -39,7 +39,7 @@ use Rattle.vme_shared.specs.declared.stage.Step.{Step}
 use Rattle.vme_shared.specs.declared.stage.Step.TheVariants.{Continue, Finish}
 use Rattle.vme_shared.specs.Mailboxes.{mailbox_request, stage_request}
 use Rattle.vme_shared.specs.Steps.{first_stage, step_after}
-use Rattle.vme_shared.specs.Tables.{SharedJob, Invokes, Returns, Progress, At, Over, transfer_job, stage_job, stage_begun, step_begun, progress_by, progress_given, progress_of, task_shown, next_at, shared_next, told_at, shared_told}
+use Rattle.vme_shared.specs.Tables.{SharedJob, Invokes, Returns, Progress, At, Over, transfer_job, stage_job, stage_begun, step_begun, progress_by, progress_given, progress_of, task_shown, next_at, shared_next, reported_at, shared_reported}
 use Rattle.vme_shared.proofs.Transfers.{IsFormed, good_end, ends_formed}
 use Rattle.vme_shared.proofs.Steps.{IsSound, IsGood, GoesSound, first_sound, step_goes, step_good}
 
@@ -140,7 +140,7 @@ shown_makes (tasks.Returns outcome) call made = absurd cc
 
 -- the commands to the arbiter go by what the slot was told
 turns_at : (s : SharedJob) (p : Progress) (cmd : ArbCmd) → Standing s p → is_level s.level ≡ true → next_at p ≡ Invokes (OnBus cmd)
-    → may_give s.slot (told_at p) cmd ≡ true
+    → may_give s.slot (reported_at p) cmd ≡ true
 turns_at s (At stage job given) cmd at lawful made =
     let own = own_task s stage job at.own in
     let task : next_of (Bus own.bus) given ≡ tasks.Invokes (OnBus cmd) =
@@ -150,12 +150,12 @@ turns_at s (At stage job given) cmd at lawful made =
 turns_at s (Over end) cmd at lawful made = absurd cc
 
 pub turns_go_by : (s : SharedJob) (g : Given) (cmd : ArbCmd) → is_level s.level ≡ true → shared_next s g ≡ Invokes (OnBus cmd)
-    → may_give s.slot (shared_told s g) cmd ≡ true
+    → may_give s.slot (shared_reported s g) cmd ≡ true
 turns_go_by s g cmd lawful made = turns_at s (progress_of s g) cmd (standing s g) lawful made
 
 -- data go to a board while the slot is told that it holds the bus
 holds_at : (s : SharedJob) (p : Progress) (board : ℕ) (command : Option Command) → Standing s p
-    → next_at p ≡ Invokes (OnBoard board command) → told_at p ≡ Some turned.Granted
+    → next_at p ≡ Invokes (OnBoard board command) → reported_at p ≡ Some turned.Granted
 holds_at s (At stage job given) board command at made =
     let own = own_task s stage job at.own in
     transfers.holds_for_data own.bus given board command
@@ -164,7 +164,7 @@ holds_at s (At stage job given) board command at made =
 holds_at s (Over end) board command at made = absurd cc
 
 pub holds_for_data : (s : SharedJob) (g : Given) (board : ℕ) (command : Option Command)
-    → shared_next s g ≡ Invokes (OnBoard board command) → shared_told s g ≡ Some turned.Granted
+    → shared_next s g ≡ Invokes (OnBoard board command) → shared_reported s g ≡ Some turned.Granted
 holds_for_data s g board command made = holds_at s (progress_of s g) board command (standing s g) made
 
 -- and to a board of the map
@@ -182,30 +182,30 @@ pub calls_below : (s : SharedJob) (g : Given) (board : ℕ) (command : Option Co
 calls_below s g board command made = below_at s (progress_of s g) board command (standing s g) made
 
 -- before the first reply nothing was told
-begun_told : (s : SharedJob) (stage : Stage) (job : Result Job CycleFault)
-    → told_at (progress_given s None (stage_begun stage [] job)) ≡ None
-begun_told s stage (Ok job) = refl
-begun_told s stage (Err fault) = refl
+begun_reported : (s : SharedJob) (stage : Stage) (job : Result Job CycleFault)
+    → reported_at (progress_given s None (stage_begun stage [] job)) ≡ None
+begun_reported s stage (Ok job) = refl
+begun_reported s stage (Err fault) = refl
 
-pub begin_told : (s : SharedJob) → shared_told s (None ∷ []) ≡ None
-begin_told s = begun_told s (first_stage s.request) (stage_job s (first_stage s.request))
+pub begin_reported : (s : SharedJob) → shared_reported s (None ∷ []) ≡ None
+begin_reported s = begun_reported s (first_stage s.request) (stage_job s (first_stage s.request))
 
 -- a transfer that begins was told nothing
-called_told : (stage : Stage) (job : Result Job CycleFault) → told_at (stage_begun stage (None ∷ []) job) ≡ None
-called_told stage (Ok job) = refl
-called_told stage (Err fault) = refl
+called_reported : (stage : Stage) (job : Result Job CycleFault) → reported_at (stage_begun stage (None ∷ []) job) ≡ None
+called_reported stage (Ok job) = refl
+called_reported stage (Err fault) = refl
 
-step_told : (s : SharedJob) (step : Step) → told_at (step_begun s step) ≡ None
-step_told s (Continue stage) = called_told stage (stage_job s stage)
-step_told s (Finish end) = refl
+step_reported : (s : SharedJob) (step : Step) → reported_at (step_begun s step) ≡ None
+step_reported s (Continue stage) = called_reported stage (stage_job s stage)
+step_reported s (Finish end) = refl
 
 -- what comes of a good reply to a transfer that has ended by it: the bus is free, and the step is good
 record EndsWell (s : SharedJob) (stage : Stage) (reply : EventReply) (outcome : Outcome) : Type 0 where
-  freed : reply ≡ told.Bus turned.Freed
+  freed : reply ≡ replies.Bus turned.Freed
   good : IsGood (step_after s.request stage outcome)
 
 task_ends : (s : SharedJob) (stage : Stage) (job : Job) (given : Given) (call : Call) (reply : EventReply) (outcome : Outcome)
-    → AtWork s stage job given → next_of job given ≡ tasks.Invokes call → fits call reply ≡ true → reply ≢ told.Bus turned.Denied
+    → AtWork s stage job given → next_of job given ≡ tasks.Invokes call → fits call reply ≡ true → reply ≢ replies.Bus turned.Denied
     → next_of job (Some reply ∷ given) ≡ tasks.Returns outcome → EndsWell s stage reply outcome
 task_ends s stage job given call reply outcome at made fit good ends =
     let own = own_task s stage job at.own in
@@ -224,56 +224,56 @@ task_ends s stage job given call reply outcome at made fit good ends =
 
 -- a good reply of the arbiter is what was told last, or it has freed the slot
 turn_by : (s : SharedJob) (stage : Stage) (job : Job) (given : Given) (reply : ArbReply) (bus : Arbitration) (slot : ℕ) (next : Next)
-    → ((outcome : Outcome) → next ≡ tasks.Returns outcome → told.Bus reply ≡ told.Bus turned.Freed) → StandsAsTold bus slot (Some reply)
-    → StandsAsTold bus slot (told_at (progress_by s stage job (Some (told.Bus reply) ∷ given) next))
+    → ((outcome : Outcome) → next ≡ tasks.Returns outcome → replies.Bus reply ≡ replies.Bus turned.Freed) → StandsAsReplied bus slot (Some reply)
+    → StandsAsReplied bus slot (reported_at (progress_by s stage job (Some (replies.Bus reply) ∷ given) next))
 turn_by s stage job given reply bus slot tasks.NotStarted freed stands = stands
 turn_by s stage job given reply bus slot (tasks.Invokes call) freed stands = stands
 turn_by s stage job given reply bus slot (tasks.Returns outcome) freed stands =
     let free : reply ≡ turned.Freed = let one = freed outcome refl in cc in
-    subst (StandsAsTold bus slot) (sym (step_told s (step_after s.request stage outcome)))
-    (subst (λ (r : ArbReply). StandsAsTold bus slot (Some r)) free stands)
+    subst (StandsAsReplied bus slot) (sym (step_reported s (step_after s.request stage outcome)))
+    (subst (λ (r : ArbReply). StandsAsReplied bus slot (Some r)) free stands)
 
 turn_at : (s : SharedJob) (p : Progress) (cmd : ArbCmd) (reply : ArbReply) (bus : Arbitration) (slot : ℕ) → Standing s p
-    → next_at p ≡ Invokes (OnBus cmd) → fits (OnBus cmd) (told.Bus reply) ≡ true → told.Bus reply ≢ told.Bus turned.Denied
-    → StandsAsTold bus slot (Some reply) → StandsAsTold bus slot (told_at (progress_given s (Some (told.Bus reply)) p))
+    → next_at p ≡ Invokes (OnBus cmd) → fits (OnBus cmd) (replies.Bus reply) ≡ true → replies.Bus reply ≢ replies.Bus turned.Denied
+    → StandsAsReplied bus slot (Some reply) → StandsAsReplied bus slot (reported_at (progress_given s (Some (replies.Bus reply)) p))
 turn_at s (At stage job given) cmd reply bus slot at made fit good stands =
-    turn_by s stage job given reply bus slot (next_of job (Some (told.Bus reply) ∷ given))
+    turn_by s stage job given reply bus slot (next_of job (Some (replies.Bus reply) ∷ given))
     (λ outcome ends.
-    let well = task_ends s stage job given (OnBus cmd) (told.Bus reply) outcome at (shown_makes (next_of job given) (OnBus cmd) made) fit good ends in
+    let well = task_ends s stage job given (OnBus cmd) (replies.Bus reply) outcome at (shown_makes (next_of job given) (OnBus cmd) made) fit good ends in
     well.freed)
     stands
 turn_at s (Over end) cmd reply bus slot at made fit good stands = absurd cc
 
-pub turn_told : (s : SharedJob) (g : Given) (cmd : ArbCmd) (reply : ArbReply) (bus : Arbitration) (slot : ℕ)
-    → shared_next s g ≡ Invokes (OnBus cmd) → fits (OnBus cmd) (told.Bus reply) ≡ true → told.Bus reply ≢ told.Bus turned.Denied
-    → StandsAsTold bus slot (Some reply) → StandsAsTold bus slot (shared_told s (Some (told.Bus reply) ∷ g))
-turn_told s g cmd reply bus slot made fit good stands = turn_at s (progress_of s g) cmd reply bus slot (standing s g) made fit good stands
+pub turn_reported : (s : SharedJob) (g : Given) (cmd : ArbCmd) (reply : ArbReply) (bus : Arbitration) (slot : ℕ)
+    → shared_next s g ≡ Invokes (OnBus cmd) → fits (OnBus cmd) (replies.Bus reply) ≡ true → replies.Bus reply ≢ replies.Bus turned.Denied
+    → StandsAsReplied bus slot (Some reply) → StandsAsReplied bus slot (shared_reported s (Some (replies.Bus reply) ∷ g))
+turn_reported s g cmd reply bus slot made fit good stands = turn_at s (progress_of s g) cmd reply bus slot (standing s g) made fit good stands
 
 -- a good reply of a board changes nothing of it
 datum_by : (s : SharedJob) (stage : Stage) (job : Job) (given : Given) (reply : Reply) (next : Next)
-    → ((outcome : Outcome) → next ≡ tasks.Returns outcome → told.Board reply ≡ told.Bus turned.Freed)
-    → told_at (progress_by s stage job (Some (told.Board reply) ∷ given) next) ≡ last_turn given
+    → ((outcome : Outcome) → next ≡ tasks.Returns outcome → replies.Board reply ≡ replies.Bus turned.Freed)
+    → reported_at (progress_by s stage job (Some (replies.Board reply) ∷ given) next) ≡ last_turn given
 datum_by s stage job given reply tasks.NotStarted freed = refl
 datum_by s stage job given reply (tasks.Invokes call) freed = refl
 datum_by s stage job given reply (tasks.Returns outcome) freed = let one = freed outcome refl in absurd cc
 
 datum_at : (s : SharedJob) (p : Progress) (call : Call) (reply : Reply) → Standing s p → next_at p ≡ Invokes call
-    → fits call (told.Board reply) ≡ true → told_at (progress_given s (Some (told.Board reply)) p) ≡ told_at p
+    → fits call (replies.Board reply) ≡ true → reported_at (progress_given s (Some (replies.Board reply)) p) ≡ reported_at p
 datum_at s (At stage job given) call reply at made fit =
-    datum_by s stage job given reply (next_of job (Some (told.Board reply) ∷ given))
+    datum_by s stage job given reply (next_of job (Some (replies.Board reply) ∷ given))
     (λ outcome ends.
-    let well = task_ends s stage job given call (told.Board reply) outcome at (shown_makes (next_of job given) call made) fit (λ same. absurd cc) ends in
+    let well = task_ends s stage job given call (replies.Board reply) outcome at (shown_makes (next_of job given) call made) fit (λ same. absurd cc) ends in
     well.freed)
 datum_at s (Over end) call reply at made fit = absurd cc
 
-pub datum_told : (s : SharedJob) (g : Given) (call : Call) (reply : Reply) → shared_next s g ≡ Invokes call
-    → fits call (told.Board reply) ≡ true → shared_told s (Some (told.Board reply) ∷ g) ≡ shared_told s g
-datum_told s g call reply made fit = datum_at s (progress_of s g) call reply (standing s g) made fit
+pub datum_reported : (s : SharedJob) (g : Given) (call : Call) (reply : Reply) → shared_next s g ≡ Invokes call
+    → fits call (replies.Board reply) ≡ true → shared_reported s (Some (replies.Board reply) ∷ g) ≡ shared_reported s g
+datum_reported s g call reply made fit = datum_at s (progress_of s g) call reply (standing s g) made fit
 
 -- an end after a good reply: the bus is free, and it is no denial
 pub record GoodEnd (reply : EventReply) (end : SharedOutcome) (last : Option ArbReply) : Type 0 where
   pub granted : end ≢ shared.Denied
-  pub freed : reply ≡ told.Bus turned.Freed
+  pub freed : reply ≡ replies.Bus turned.Freed
   pub nothing : last ≡ None
 
 called_ends : (stage : Stage) (job : Result Job CycleFault) (end : SharedOutcome) → next_at (stage_begun stage (None ∷ []) job) ≡ Returns end
@@ -289,7 +289,7 @@ step_ends s (Finish stop) end good ends = λ denied. let same : stop ≡ end = c
 ends_by : (s : SharedJob) (stage : Stage) (job : Job) (given : Given) (reply : EventReply) (end : SharedOutcome) (next : Next)
     → next_of job (Some reply ∷ given) ≡ next → ((outcome : Outcome) → next ≡ tasks.Returns outcome → EndsWell s stage reply outcome)
     → next_at (progress_by s stage job (Some reply ∷ given) next) ≡ Returns end
-    → GoodEnd reply end (told_at (progress_by s stage job (Some reply ∷ given) next))
+    → GoodEnd reply end (reported_at (progress_by s stage job (Some reply ∷ given) next))
 ends_by s stage job given reply end tasks.NotStarted is well ends =
     let same : task_shown tasks.NotStarted ≡ Returns end = ap task_shown (sym is) ∙ ends in absurd cc
 ends_by s stage job given reply end (tasks.Invokes call) is well ends =
@@ -299,20 +299,20 @@ ends_by s stage job given reply end (tasks.Returns outcome) is well ends =
     record {
       granted = step_ends s (step_after s.request stage outcome) end one.good ends;
       freed = one.freed;
-      nothing = step_told s (step_after s.request stage outcome);
+      nothing = step_reported s (step_after s.request stage outcome);
     }
 
 ends_at : (s : SharedJob) (p : Progress) (call : Call) (reply : EventReply) (end : SharedOutcome) → Standing s p → next_at p ≡ Invokes call
-    → fits call reply ≡ true → reply ≢ told.Bus turned.Denied → next_at (progress_given s (Some reply) p) ≡ Returns end
-    → GoodEnd reply end (told_at (progress_given s (Some reply) p))
+    → fits call reply ≡ true → reply ≢ replies.Bus turned.Denied → next_at (progress_given s (Some reply) p) ≡ Returns end
+    → GoodEnd reply end (reported_at (progress_given s (Some reply) p))
 ends_at s (At stage job given) call reply end at made fit good ends =
     ends_by s stage job given reply end (next_of job (Some reply ∷ given)) refl
     (λ outcome over. task_ends s stage job given call reply outcome at (shown_makes (next_of job given) call made) fit good over) ends
 ends_at s (Over stop) call reply end at made fit good ends = absurd cc
 
 pub ends_well : (s : SharedJob) (g : Given) (call : Call) (reply : EventReply) (end : SharedOutcome) → shared_next s g ≡ Invokes call
-    → fits call reply ≡ true → reply ≢ told.Bus turned.Denied → shared_next s (Some reply ∷ g) ≡ Returns end
-    → GoodEnd reply end (shared_told s (Some reply ∷ g))
+    → fits call reply ≡ true → reply ≢ replies.Bus turned.Denied → shared_next s (Some reply ∷ g) ≡ Returns end
+    → GoodEnd reply end (shared_reported s (Some reply ∷ g))
 ends_well s g call reply end made fit good ends = ends_at s (progress_of s g) call reply end (standing s g) made fit good ends
 
 -- an end is for good

@@ -79,18 +79,18 @@ module _ {S C R : Type 0} (step : S → C → S × R) (start : S) where
       (k : ℕ) (passes : List (PassView C R)) (parts : List (List (Entry C R))) (object : S) (n : ℕ) (made : List ℕ) → Settles step start k passes object n
       → length passes ≡ k → AllAt (λ who part (p : PassView C R). (p.who ≡ who) × (p.mine ≡ part)) parts passes
       → made ≡ map (λ (p : PassView C R). p.made) passes → HasHistory step start parts object n made
-  shared_history k passes parts object n made told count each made_is =
+  shared_history k passes parts object n made reported count each made_is =
       let same : k ≡ length parts = omega (arith, count, each.count) in
       record {
-        history = told.history;
-        legal = told.legal;
-        replayed = told.replayed;
-        counted = told.counted;
-        known = subst (λ m. All (λ (e : Entry C R). e.who < m) told.history) same told.known;
+        history = reported.history;
+        legal = reported.legal;
+        replayed = reported.replayed;
+        counted = reported.counted;
+        known = subst (λ m. All (λ (e : Entry C R). e.who < m) reported.history) same reported.known;
         owns = λ who part who<.
             let p = (line_there passes who (omega (arith, who<, each.count))).0 in
             let its = each.each who part p who< in
-            ap (λ w. own w told.history) (sym its.0) ∙ told.mine who p (omega (arith, who<, each.count)) ∙ its.1;
+            ap (λ w. own w reported.history) (sym its.0) ∙ reported.mine who p (omega (arith, who<, each.count)) ∙ its.1;
         makes =
             subst (λ ms. AllAt (λ who (part : List (Entry C R)) m. m ≡ length part) parts ms) (sym made_is) (record {
               count = same_count (λ (p : PassView C R). p.made) passes ∙ each.count;
@@ -98,7 +98,7 @@ module _ {S C R : Type 0} (step : S → C → S × R) (start : S) where
                   let there : who < length passes = omega (arith, who<, each.count) in
                   let p = (line_there passes who there).0 in
                   let its = each.each who part p who< in
-                  map_at (λ (p : PassView C R). p.made) passes who m p there ∙ sym (told.made who p there) ∙ ap length its.1;
+                  map_at (λ (p : PassView C R). p.made) passes who m p there ∙ sym (reported.made who p there) ∙ ap length its.1;
             });
       }
 
@@ -122,9 +122,9 @@ module _ (config : Configuration) (ports : Ports) (rans : List Ran) (can : CanGa
         (λ who run ran is. let its = is.fits.boards.each x o d x< in (its.0, its.1 ∙ is.same)) can.runs.each
 
     -- and each has its part
-    pub column_tells :
+    pub column_shows :
         AllAt (λ who part (p : PassView BoardCmd Reply). (p.who ≡ who) × (p.mine ≡ part)) (map (board_part x) can.runs.runs) (map (column_of x d) rans)
-    column_tells =
+    column_shows =
         all_at_maps (IsRanOf config ports) (λ who part (p : PassView BoardCmd Reply). (p.who ≡ who) × (p.mine ≡ part)) (board_part x) (column_of x d)
         can.runs.runs rans
         (λ who run ran is.
@@ -156,8 +156,8 @@ module _ (config : Configuration) (ports : Ports) (rans : List Ran) (can : CanGa
       can.runs.runs rans (λ who run ran is. (is.fits.bus, is.fits.bus_who ∙ is.same)) can.runs.each
 
   -- and each has its part
-  bus_tells : AllAt (λ who part (p : PassView ArbCmd ArbReply). (p.who ≡ who) × (p.mine ≡ part)) (map bus_part can.runs.runs) (map (λ (r : Ran). r.pass_set.bus) rans)
-  bus_tells =
+  bus_shows : AllAt (λ who part (p : PassView ArbCmd ArbReply). (p.who ≡ who) × (p.mine ≡ part)) (map bus_part can.runs.runs) (map (λ (r : Ran). r.pass_set.bus) rans)
+  bus_shows =
       all_at_maps (IsRanOf config ports) (λ who part (p : PassView ArbCmd ArbReply). (p.who ≡ who) × (p.mine ≡ part)) bus_part (λ (r : Ran). r.pass_set.bus)
       can.runs.runs rans (λ who run ran is. (is.fits.bus_who ∙ is.same, is.bus)) can.runs.each
 
@@ -186,7 +186,7 @@ module _ (config : Configuration) (ports : Ports) (rans : List Ran) (can : CanGa
         slot = is.slot ∙ port.slot;
         history =
             shared_history board_step (opening_memory (slice_index_or config.boards x own)) (length config.boards) passes (map (board_part x) can.runs.runs)
-            end.memory end.steps end.made.items settled (same_count (column_of x d) rans ∙ can.count) (column_tells x o x< d)
+            end.memory end.steps end.made.items settled (same_count (column_of x d) rans ∙ can.count) (column_shows x o x< d)
             (is.made ∙ ap (λ (ps : List (PassView BoardCmd Reply)). map (λ (p : PassView BoardCmd Reply). p.made) ps) its);
       }
 
@@ -222,7 +222,7 @@ module _ (config : Configuration) (ports : Ports) (rans : List Ran) (can : CanGa
         bus = (
           object,
           shared_history turn_step (opening_bus config.arbiter) (length config.boards) passes (map bus_part runs) object report.arbiter_steps report.arbiter_made.items free
-              (same_count (λ (r : Ran). r.pass_set.bus) rans ∙ can.count) bus_tells made,
+              (same_count (λ (r : Ran). r.pass_set.bus) rans ∙ can.count) bus_shows made,
         );
       }
     where

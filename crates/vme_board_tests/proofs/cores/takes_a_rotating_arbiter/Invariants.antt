@@ -1,7 +1,7 @@
 use Rattle.std.proofs.Common.{◌≡◌}
-use Rattle.vme_core.specs.Machines.{whos}
+use Rattle.vme_core.specs.Machines.{process_count}
 use Rattle.vme_board_tests.proofs.cores.takes_a_rotating_arbiter.Given as goal
 
--- the core goes on for two whos
+-- the core goes on for two process_count
 abbrev pub invariant-loop-cmd : goal.invariant-loop-cmd
-invariant-loop-cmd g l = whos l.core ≡ 2
+invariant-loop-cmd g l = process_count l.core ≡ 2

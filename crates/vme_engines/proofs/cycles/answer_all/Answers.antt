@@ -1,20 +1,20 @@
 -- Where a piece of text is written: a front of the whole on a fault, and else that much more.
 use Rattle.std.proofs.Common.{◌≡◌, [], ◌∷◌, ◌++◌, arith, rules}
 use Rattle.std.specs.Str.Lines.{lines}
-use Rattle.vme_io.specs.Fronts.{AppendsFront}
-use Rattle.vme_io.proofs.lemmas.Appending.{Appends-more, AppendsFront-more}
+use Rattle.vme_io.specs.Prefixes.{AppendsPrefix}
+use Rattle.vme_io.proofs.lemmas.Appending.{Appends-more, AppendsPrefix-more}
 use Rattle.vme_engines.specs.Cycles.{cycles_text}
 use Rattle.vme_engines.proofs.Texts.{text_more, text_written, text_done, status_more}
 use Rattle.vme_engines.proofs.cycles.answer_all.Goals as goal
 
-pub returns-in_err-write_text-clause-front : goal.returns-in_err-write_text-clause-front
-returns-in_err-write_text-clause-front g c =
+pub returns-in_err-write_text-clause-prefix : goal.returns-in_err-write_text-clause-prefix
+returns-in_err-write_text-clause-prefix g c =
     let sofar = c.loop-line.invariant.text in
     let first : lines c.loop-line.line-iterator.rest.now ≡ c.in-Some.line.now ∷ lines c.next.new.self.rest.now = search rules in
     let whole = text_more c.loop-line.bus c.answer_line.new.bus sofar.0 c.loop-line.text.items c.answer_line.new.text.items c.in-Some.line.now
     c.loop-line.line-iterator.rest.now c.next.new.self.rest.now (cycles_text c.args.input.now) sofar.2 first c.in_ok-answer_line.ensures.text c.in_ok-answer_line.ensures.board in
-    let front : AppendsFront (g.W.Sink.contents c.args.writer.now) (g.W.Sink.contents c.write_text.new.writer) (cycles_text c.args.input.now)
-    = AppendsFront-more _ _ _ sofar.0 _ _ _ sofar.1 (rw c.as_slice.ensures.value at c.in_err-write_text.ensures.front) whole in
+    let prefix : AppendsPrefix (g.W.Sink.contents c.args.writer.now) (g.W.Sink.contents c.write_text.new.writer) (cycles_text c.args.input.now)
+    = AppendsPrefix-more _ _ _ sofar.0 _ _ _ sofar.1 (rw c.as_slice.ensures.value at c.in_err-write_text.ensures.prefix) whole in
     search rules
 
 pub loop-line-preserved-then-len-ge-WRITE_SIZE : goal.loop-line-preserved-then-len-ge-WRITE_SIZE
@@ -35,11 +35,11 @@ loop-line-preserved-then-len-ge-WRITE_SIZE g c =
       mark = cc (c.in_ok-write_text.ensures.unmarked, c.loop-line.invariant.mark);
     }
 
-pub returns-in_err-write_text-2-clause-front : goal.returns-in_err-write_text-2-clause-front
-returns-in_err-write_text-2-clause-front g c =
+pub returns-in_err-write_text-2-clause-prefix : goal.returns-in_err-write_text-2-clause-prefix
+returns-in_err-write_text-2-clause-prefix g c =
     let sofar = c.loop-line.invariant.text in
-    let front : AppendsFront (g.W.Sink.contents c.args.writer.now) (g.W.Sink.contents c.write_text-2.new.writer) (cycles_text c.args.input.now)
-    = AppendsFront-more _ _ _ sofar.0 _ _ _ sofar.1 (rw c.as_slice-2.ensures.value at c.in_err-write_text-2.ensures.front) sofar.2 in
+    let prefix : AppendsPrefix (g.W.Sink.contents c.args.writer.now) (g.W.Sink.contents c.write_text-2.new.writer) (cycles_text c.args.input.now)
+    = AppendsPrefix-more _ _ _ sofar.0 _ _ _ sofar.1 (rw c.as_slice-2.ensures.value at c.in_err-write_text-2.ensures.prefix) sofar.2 in
     search rules
 
 pub returns-clause-text : goal.returns-clause-text

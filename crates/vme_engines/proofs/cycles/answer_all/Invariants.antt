@@ -9,8 +9,8 @@ use Rattle.vme_engines.proofs.cycles.answer_all.Given as goal
 -- what was written and what is gathered, with the answers to the lines that are left, is the whole text, and so is the status
 abbrev pub invariant-loop-line : goal.invariant-loop-line
 invariant-loop-line g l = record {
-  text : (front : List ℕ) × Appends (g.W.Sink.contents l.fn.writer) (g.W.Sink.contents l.writer) front
-      × ((front ++ l.text.items) ++ text_of l.bus (lines l.line-iterator.rest.now) ≡ cycles_text l.fn.input);
+  text : (prefix : List ℕ) × Appends (g.W.Sink.contents l.fn.writer) (g.W.Sink.contents l.writer) prefix
+      × ((prefix ++ l.text.items) ++ text_of l.bus (lines l.line-iterator.rest.now) ≡ cycles_text l.fn.input);
   status : worse_of l.status (status_after l.bus (lines l.line-iterator.rest.now)) ≡ cycles_status l.fn.input;
   capacity : block_limit ≤ l.replied.capacity;
   mark : g.W.Sink.is_marked l.writer ≡ g.W.Sink.is_marked l.fn.writer;

@@ -1,10 +1,10 @@
-use Rattle.vme_engines.proofs.Runs.{text_written, front_written}
+use Rattle.vme_engines.proofs.Runs.{text_written, prefix_written}
 use Rattle.vme_engines.proofs.run.run_engine.Goals as goal
 
-pub returns-in_err-status-clause-front : goal.returns-in_err-status-clause-front
-returns-in_err-status-clause-front g c =
-    front_written _ _ _ _ c.in_ok-config.config c.in_ok-report.report c.in_ok-config.ensures.config c.in_ok-report.ensures.report
-    c.in_err-status.ensures.front
+pub returns-in_err-status-clause-prefix : goal.returns-in_err-status-clause-prefix
+returns-in_err-status-clause-prefix g c =
+    prefix_written _ _ _ _ c.in_ok-config.config c.in_ok-report.report c.in_ok-config.ensures.config c.in_ok-report.ensures.report
+    c.in_err-status.ensures.prefix
 
 pub returns-clause-text : goal.returns-clause-text
 returns-clause-text g c =

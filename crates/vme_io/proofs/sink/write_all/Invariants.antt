@@ -5,7 +5,7 @@ use Rattle.vme_io.proofs.sink.write_all.Given as goal
 -- some front of the bytes was appended, and the rest of them is left
 abbrev pub invariant-loop-rest : goal.invariant-loop-rest
 invariant-loop-rest g l =
-    ((front : List ℕ) × (l.fn.bytes ≡ front ++ l.rest) × Appends (g.W.Sink.contents l.fn.writer) (g.W.Sink.contents l.writer) front)
+    ((prefix : List ℕ) × (l.fn.bytes ≡ prefix ++ l.rest) × Appends (g.W.Sink.contents l.fn.writer) (g.W.Sink.contents l.writer) prefix)
     × (g.W.Sink.is_marked l.writer ≡ g.W.Sink.is_marked l.fn.writer)
 
 abbrev pub decreases-loop-rest : goal.decreases-loop-rest

@@ -7,7 +7,7 @@ use Rattle.vme_report.proofs.gather.gather_memory.Given as goal
 -- the rows so far, with those that are left, are the whole text
 abbrev pub invariant-loop-i : goal.invariant-loop-i
 invariant-loop-i g l = record {
-  told : SoFar (g.W.Sink.contents l.fn.writer) (g.W.Sink.contents l.writer) l.text.items
+  reported : SoFar (g.W.Sink.contents l.fn.writer) (g.W.Sink.contents l.writer) l.text.items
       (flat_map (λ i. row_text l.fn.slot (16 * i) (row l.fn.memory.bytes i)) (range_with_len l.i (row_count l.fn.memory.bytes - l.i)))
       (l.fn.text.items ++ memory_text l.fn.slot l.fn.memory.bytes);
   mark : g.W.Sink.is_marked l.writer ≡ false;

@@ -1,9 +1,9 @@
 use Rattle.std.proofs.Common.{refl}
-use Rattle.vme_shared.proofs.lemmas.Tenures.{begin_told, turns_go_by, holds_for_data, turn_told, datum_told, ends_well}
+use Rattle.vme_shared.proofs.lemmas.Tenures.{begin_reported, turns_go_by, holds_for_data, turn_reported, datum_reported, ends_well}
 use Rattle.vme_shared.proofs.laws.shared_tasks_keep_their_tenure.Goals as goal
 
 pub returns-clause-begin : goal.returns-clause-begin
-returns-clause-begin c = begin_told
+returns-clause-begin c = begin_reported
 
 pub returns-clause-turns : goal.returns-clause-turns
 returns-clause-turns c = turns_go_by
@@ -12,10 +12,10 @@ pub returns-clause-holds : goal.returns-clause-holds
 returns-clause-holds c = holds_for_data
 
 pub returns-clause-turn : goal.returns-clause-turn
-returns-clause-turn c = turn_told
+returns-clause-turn c = turn_reported
 
 pub returns-clause-datum : goal.returns-clause-datum
-returns-clause-datum c = datum_told
+returns-clause-datum c = datum_reported
 
 pub returns-clause-granted : goal.returns-clause-granted
 returns-clause-granted c = λ s given call reply made fit good denied. (ends_well s given call reply _ made fit good denied).granted refl

@@ -1,6 +1,6 @@
 use Rattle.std.proofs.Common.{sym, ap, ◌∙◌, ◌++◌, ◌∷◌, [], arith}
 use Rattle.vme_script.specs.Configurations.{opening_memory}
-use Rattle.vme_stepper.proofs.Told.{map_next}
+use Rattle.vme_stepper.proofs.Reported.{map_next}
 use Rattle.vme_stepper.proofs.stepper.zero_memories.Goals as goal
 
 pub loop-board-preserved : goal.loop-board-preserved

@@ -30,7 +30,7 @@ loop-pass-preserved c =
     let now = c.loop-pass.workers.items in
     let pass = c.in-Some.pass in
     let d = c.index_mut.result.now in
-    let v : Worker = record { pass_set = record { who = d.pass_set.who; boards = c.push_reserved.new.self; bus = d.pass_set.bus; patience = d.pass_set.patience }; buffers = d.buffers; lines = d.lines } in
+    let v : Worker = record { pass_set = record { who = d.pass_set.who; boards = c.push_reserved.new.self; bus = d.pass_set.bus; wait_state = d.pass_set.wait_state }; buffers = d.buffers; lines = d.lines } in
     let at : c.len.result ≡ length left = c.len.ensures ∙ c.pop.new.self.ok.0 in
     let gets : Gets pass d v = record {
       who = refl;

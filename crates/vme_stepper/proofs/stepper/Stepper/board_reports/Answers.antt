@@ -1,7 +1,7 @@
 use Rattle.std.proofs.Common.{◌≡◌, ◌<◌, ◌+◌, ◌++◌, length, drop, ap, sym, subst, ◌∙◌, arith, append_assoc, get_or, List}
 use Rattle.vme_report.specs.Boards.{BoardText}
-use Rattle.vme_stepper.specs.Steppers.{ProcessorView, StepperView, processors_told}
-use Rattle.vme_stepper.proofs.Telling.{board_more}
+use Rattle.vme_stepper.specs.Steppers.{ProcessorView, StepperView, processors_reported}
+use Rattle.vme_stepper.proofs.Reporting.{board_more}
 use Rattle.vme_stepper.proofs.stepper.Stepper.board_reports.Goals as goal
 
 pub loop-board-preserved : goal.loop-board-preserved
@@ -21,11 +21,11 @@ loop-board-preserved c =
     let read : c.processor-item.result ≡ get_or processors i c.processor-item.result
     = c.processor-item.is ∙ ap (λ (xs : List ProcessorView). get_or xs i c.processor-item.result) items in
     record {
-      told = ap (λ (rs : List BoardText). rs ++ processors_told (drop (i + 1) c.args.config.now.boards) (drop (i + 1) processors) (drop (i + 1) c.self.inside.core.boards)) c.in_ok-push.ensures.items
+      reported = ap (λ (rs : List BoardText). rs ++ processors_reported (drop (i + 1) c.args.config.now.boards) (drop (i + 1) processors) (drop (i + 1) c.self.inside.core.boards)) c.in_ok-push.ensures.items
           ∙ append_assoc c.loop-board.reports.items _ _
           ∙ ap (λ (rs : List BoardText). c.loop-board.reports.items ++ rs)
           (sym (board_more c.args.config.now.boards processors c.self.inside.core.boards i c.slot.result c.steps.result c.processor-item.result c.lines.result.now
           c.memory.result.now c.counts.result.now c.slot.ensures there read c.lines.ensures within c.memory.ensures c.steps.ensures c.counts.ensures.value))
-          ∙ c.loop-board.invariant.told;
+          ∙ c.loop-board.invariant.reported;
       items = items;
     }

@@ -22,16 +22,16 @@ pub loop-slot-preserved : goal.loop-slot-preserved
 loop-slot-preserved c =
     let before : List ℕ = take c.loop-slot.slot-index c.args.slots.now in
     let slot : ℕ = get_or c.args.slots.now c.loop-slot.slot-index 0 in
-    let told = ap (λ slots. stepper_of c.args.config.now (state_after c.args.config.now slots)) (sym (take_more c.args.slots.now c.loop-slot.slot-index 0 c.loop-slot-test.true)) in
+    let reported = ap (λ slots. stepper_of c.args.config.now (state_after c.args.config.now slots)) (sym (take_more c.args.slots.now c.loop-slot.slot-index 0 c.loop-slot-test.true)) in
     elim c.match-place_of.branch [
       | in-Some w ↦ record {
         run = w.self-is ∙ w.turn.ensures.turn
-            ∙ turn_more c.args.config.now c.loop-slot.self before slot (Some w.in-Some.board) c.loop-slot.invariant.run w.in-Some.ensures.place ∙ told;
+            ∙ turn_more c.args.config.now c.loop-slot.self before slot (Some w.in-Some.board) c.loop-slot.invariant.run w.in-Some.ensures.place ∙ reported;
         sound = subst (IsStepperOf c.args.config.now) (sym w.self-is) w.turn.ensures.sound;
       }
       | in_default w ↦ record {
         run = w.self-is
-            ∙ turn_more c.args.config.now c.loop-slot.self before slot None c.loop-slot.invariant.run (sym w.in_default.is ∙ c.place_of.ensures.place) ∙ told;
+            ∙ turn_more c.args.config.now c.loop-slot.self before slot None c.loop-slot.invariant.run (sym w.in_default.is ∙ c.place_of.ensures.place) ∙ reported;
         sound = subst (IsStepperOf c.args.config.now) (sym w.self-is) c.loop-slot.invariant.sound;
       }
     ]

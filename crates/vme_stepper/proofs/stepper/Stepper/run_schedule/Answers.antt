@@ -62,19 +62,19 @@ loop-turns-preserved c =
     let more : before ++ replicate pair.1 pair.0 ≡ schedule_turns (take (c.loop-turns.turns-index + 1) c.args.config.now.schedule)
     = subst (λ (xs : List (ℕ × ℕ)). schedule_turns (take c.loop-turns.turns-index xs) ++ replicate pair.1 pair.0 ≡ schedule_turns (take (c.loop-turns.turns-index + 1) xs))
     pairs (schedule_more items c.loop-turns.turns-index c.loop-turns-test.true) in
-    let told = ap (λ slots. stepper_of c.args.config.now (state_after c.args.config.now slots)) more in
+    let reported = ap (λ slots. stepper_of c.args.config.now (state_after c.args.config.now slots)) more in
     elim c.match-place_of.branch [
       | in-Some+else-loop-turn-test w ↦
           let all : w.loop-turn._turn ≡ pair.1 = omega (arith, w.loop-turn-test.false, w.loop-turn.auto._turn-end) in
           record {
             run = w.self-is ∙ w.loop-turn.invariant.run
-                ∙ ap (λ n. stepper_of c.args.config.now (state_after c.args.config.now (before ++ replicate n pair.0))) all ∙ told;
+                ∙ ap (λ n. stepper_of c.args.config.now (state_after c.args.config.now (before ++ replicate n pair.0))) all ∙ reported;
             sound = subst (IsStepperOf c.args.config.now) (sym w.self-is) w.loop-turn.invariant.sound;
             pairs = pairs;
           }
       | in_default w ↦ record {
         run = w.self-is ∙ c.loop-turns.invariant.run
-            ∙ none_more c.args.config.now before pair.0 pair.1 (sym w.in_default.is ∙ c.place_of.ensures.place) ∙ told;
+            ∙ none_more c.args.config.now before pair.0 pair.1 (sym w.in_default.is ∙ c.place_of.ensures.place) ∙ reported;
         sound = subst (IsStepperOf c.args.config.now) (sym w.self-is) c.loop-turns.invariant.sound;
         pairs = pairs;
       }

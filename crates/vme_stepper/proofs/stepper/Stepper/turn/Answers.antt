@@ -14,4 +14,4 @@ returns-clause-turn c =
 pub returns-clause-sound : goal.returns-clause-sound
 returns-clause-sound c =
     turned_sound c.args.config.now c.args.self.now c.self.inside.core c.self.inside.processors.items c.args.board c.index_mut.result.now c.self.view_is
-    c.requires.stepper c.requires.board c.index_mut.ensures.value c.turn.new.core c.turn.new.self c.turn.ensures.processor c.turn.ensures.whos c.turn.ensures.boards
+    c.requires.stepper c.requires.board c.index_mut.ensures.value c.turn.new.core c.turn.new.self c.turn.ensures.processor c.turn.ensures.process_count c.turn.ensures.boards

@@ -4,32 +4,32 @@ use Rattle.std.proofs.lemmas.List.{length-replicate, get_or-replicate}
 use Rattle.vme_object.specs.declared.history.Entry.{Entry}
 use Rattle.vme_object.specs.History.{IsLegal, replay, own}
 use Rattle.vme_object.proofs.lemmas.Histories.{replay-append, legal-append, own-append}
-use Rattle.vme_core.specs.Tallies.{Tally, Went, Tells, fresh_tally}
+use Rattle.vme_core.specs.CountedStates.{CountedState, IsObjectRun, IsCountedReplay, fresh_count}
 
 -- nothing was done
-pub went_nil : {S C R : Type 0} (step : S → C → S × R) (t : Tally S) → Went step [] t t
-went_nil step t = record { legal = tt; object = refl; steps = omega arith; whos = refl; made = λ w w<. omega arith }
+pub went_nil : {S C R : Type 0} (step : S → C → S × R) (t : CountedState S) → IsObjectRun step [] t t
+went_nil step t = record { legal = tt; object = refl; steps = omega arith; process_count = refl; made = λ w w<. omega arith }
 
 -- one history was gone through, and then another
 pub went_trans :
-    {S C R : Type 0} (step : S → C → S × R) (g h : List (Entry C R)) (t u v : Tally S) → Went step g t u → Went step h u v
-    → Went step (g ++ h) t v
+    {S C R : Type 0} (step : S → C → S × R) (g h : List (Entry C R)) (t u v : CountedState S) → IsObjectRun step g t u → IsObjectRun step h u v
+    → IsObjectRun step (g ++ h) t v
 went_trans step g h t u v first then = record {
   legal = legal-append step t.object g h first.legal (subst (λ s. IsLegal step s h) first.object then.legal);
   object = then.object ∙ ap (λ s. replay step s h) first.object ∙ sym (replay-append step t.object g h);
   steps = let one = first.steps in let two = then.steps in rw (length-append g h) (omega arith);
-  whos = then.whos ∙ first.whos;
+  process_count = then.process_count ∙ first.process_count;
   made = λ w w<.
       let one = first.made w w< in
-      let two = then.made w (subst (λ n. w < n) (sym first.whos) w<) in
+      let two = then.made w (subst (λ n. w < n) (sym first.process_count) w<) in
       rw (own-append w g h) (rw (length-append (own w g) (own w h)) (omega arith));
 }
 
 -- what went through a history before any other step tells that history
-pub went_tells :
-    {S C R : Type 0} (step : S → C → S × R) (start : S) (h : List (Entry C R)) (k : ℕ) (t : Tally S) → Went step h (fresh_tally k start) t
-    → Tells step start h k t
-went_tells step start h k t went = record {
+pub run_replays :
+    {S C R : Type 0} (step : S → C → S × R) (start : S) (h : List (Entry C R)) (k : ℕ) (t : CountedState S) → IsObjectRun step h (fresh_count k start) t
+    → IsCountedReplay step start h k t
+run_replays step start h k t went = record {
   legal = went.legal;
   object = went.object;
   steps = let all = went.steps in omega arith;

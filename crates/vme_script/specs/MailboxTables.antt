@@ -13,8 +13,8 @@ is_mailbox_code am = list_any (λ code. code == am) (0x09 ∷ 0x0d ∷ 0x29 ∷ 
 
 -- the mailbox that a table tells: its code is one by which a mailbox is reached, its address a multiple of four, and it has 1
 -- to 64 slots (this project's own)
-unfoldable pub mailbox_of : MailboxTable → Option Mailbox
-mailbox_of table = do
+unfoldable pub mailbox_from_table : MailboxTable → Option Mailbox
+mailbox_from_table table = do
   _ ← when (is_mailbox_code table.am)
   _ ← when (table.addr % 4 == 0)
   _ ← when (nat_le 1 table.slots && nat_le table.slots 64)
@@ -28,5 +28,5 @@ pub record HasNumbers (mailbox : Mailbox) : Type 0 where
   pub few_slots : mailbox.slots ≤ 64
 
 -- whether a board is able to hold mailboxes: it answers quad bytes and read-modify-writes (this project's own)
-abbrev pub holds_mailboxes : Class → Bool
-holds_mailboxes class = answers_quads class.width && class.rmw
+abbrev pub supports_mailboxes : Class → Bool
+supports_mailboxes class = answers_quads class.width && class.rmw

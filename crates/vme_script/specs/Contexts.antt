@@ -8,37 +8,37 @@ use Rattle.vme_grammar.specs.declared.fault.LineFault.{LineFault}
 use Rattle.vme_grammar.specs.declared.fault.LineFault.TheVariants.{BadNumber, MailboxBytes}
 use Rattle.vme_grammar.specs.Grammar.{line_of}
 use Rattle.vme_shared.specs.declared.mailbox.Mailbox.{Mailbox}
-use Rattle.vme_script.specs.declared.boxes.Boxes.{Boxes}
-use Rattle.vme_script.specs.declared.boxes.Boxes.TheVariants as boxes
-use Rattle.vme_script.specs.declared.place.Place.{Place}
-use Rattle.vme_script.specs.declared.rules.Rules.{Rules}
-use Rattle.vme_script.specs.declared.rules.Rules.TheVariants.{ByItself, InFile}
+use Rattle.vme_script.specs.declared.mailbox_numbers.MailboxNumbers.{MailboxNumbers}
+use Rattle.vme_script.specs.declared.mailbox_numbers.MailboxNumbers.TheVariants as boxes
+use Rattle.vme_script.specs.declared.board_range.BoardRange.{BoardRange}
+use Rattle.vme_script.specs.declared.context.ScriptContext.{ScriptContext}
+use Rattle.vme_script.specs.declared.context.ScriptContext.TheVariants.{Alone, InFile}
 use Rattle.vme_script.specs.Declarations.{Declaration}
 use Rattle.vme_script.specs.Bytes.{line_bytes}
-use Rattle.vme_script.specs.Names.{may_ask}
-use Rattle.vme_script.specs.Places.{place_of, share}
+use Rattle.vme_script.specs.MailboxNumbers.{may_ask}
+use Rattle.vme_script.specs.BoardRanges.{range_of, share}
 
 -- the mailboxes that a script may name: in a file those that it declares (this project's own)
-abbrev pub boxes_of : Rules → Boxes
-boxes_of ByItself = boxes.Any
+abbrev pub boxes_of : ScriptContext → MailboxNumbers
+boxes_of Alone = boxes.Any
 boxes_of (InFile file) = boxes.Declared (length file.mailboxes)
 
 -- whether some byte is one of a mailbox (this project's own)
-abbrev pub is_of_mailbox : List Entry → Place → Mailbox → Bool
-is_of_mailbox entries bytes mailbox = option_map_or (share bytes) (place_of entries mailbox) false
+abbrev pub is_of_mailbox : List Entry → BoardRange → Mailbox → Bool
+is_of_mailbox entries bytes mailbox = option_map_or (share bytes) (range_of entries mailbox) false
 
 -- whether some byte is one of a declared mailbox (this project's own)
-abbrev pub are_of_mailboxes : Declaration → Place → Bool
+abbrev pub are_of_mailboxes : Declaration → BoardRange → Bool
 are_of_mailboxes file bytes = list_any (is_of_mailbox file.entries bytes) file.mailboxes
 
 -- whether a line names a byte of a declared mailbox, by either port (this project's own)
-abbrev pub touches : Rules → Line → Bool
-touches ByItself line = false
+abbrev pub touches : ScriptContext → Line → Bool
+touches Alone line = false
 touches (InFile file) line = option_map_or (are_of_mailboxes file) (line_bytes file.entries file.board line) false
 
 -- the refusal of a line that may not be asked: it is refused for a mailbox that is not there, and then for bytes of one that is
 -- (this project's own)
-abbrev pub refusal_of : Rules → Line → Option LineFault
+abbrev pub refusal_of : ScriptContext → Line → Option LineFault
 refusal_of rules line =
     if may_ask (boxes_of rules) line then (if touches rules line then Some MailboxBytes else None) else Some BadNumber
 
@@ -48,11 +48,11 @@ unless_refused None line = Ok (Some line)
 unless_refused (Some fault) line = Err fault
 
 -- what was read of a line, if it may be asked (this project's own)
-abbrev pub asked_within : Rules → Result (Option Line) LineFault → Result (Option Line) LineFault
+abbrev pub asked_within : ScriptContext → Result (Option Line) LineFault → Result (Option Line) LineFault
 asked_within rules (Ok None) = Ok None
 asked_within rules (Ok (Some line)) = unless_refused (refusal_of rules line) line
 asked_within rules (Err fault) = Err fault
 
 -- what a line asks for, if for anything: whether it may be asked is told last (this project's own)
-unfoldable pub line_within : Rules → List ℕ → Result (Option Line) LineFault
+unfoldable pub line_within : ScriptContext → List ℕ → Result (Option Line) LineFault
 line_within rules line = asked_within rules (line_of line)

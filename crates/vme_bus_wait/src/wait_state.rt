@@ -12,16 +12,16 @@ const LONG_STILL_ROUNDS: u32 = 64;
 
 /// How long a processor has waited for the bus, in rounds. After each it asks the arbiter again.
 #[derive(Clone, Copy, Debug)]
-pub struct Patience {
+pub struct WaitState {
     rounds: u32,
     still: u32,
     has_waited: bool,
 }
 
-impl Patience {
+impl WaitState {
     /// That of a processor that does not wait.
-    pub fn new() -> Patience {
-        Patience {
+    pub fn new() -> WaitState {
+        WaitState {
             rounds: 0,
             still: 0,
             has_waited: false,
@@ -30,7 +30,7 @@ impl Patience {
 
     /// The processor has the bus, for which it had to wait.
     pub(crate) fn end(&mut self) {
-        *self = Patience {
+        *self = WaitState {
             rounds: 0,
             still: 0,
             has_waited: true,

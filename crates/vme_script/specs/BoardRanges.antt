@@ -7,26 +7,26 @@ use Rattle.vme_decode.specs.declared.entry.Entry.{Entry}
 use Rattle.vme_decode.specs.Select.{selection_at}
 use Rattle.vme_shared.specs.Layout.{mailbox_len}
 use Rattle.vme_shared.specs.declared.mailbox.Mailbox.{Mailbox}
-use Rattle.vme_script.specs.declared.place.Place.{Place}
+use Rattle.vme_script.specs.declared.board_range.BoardRange.{BoardRange}
 
 -- so many bytes from an address on, on the board that a code and that address select (this project's own)
-abbrev pub place_by : List Entry → Result CodeRow AmFault → ℕ → ℕ → Option Place
-place_by entries (Ok code) addr len =
+abbrev pub range_by : List Entry → Result CodeRow AmFault → ℕ → ℕ → Option BoardRange
+range_by entries (Ok code) addr len =
     option_map (λ found. record { board = found.0; offset = found.1; len = len }) (selection_at entries code addr)
-place_by entries (Err fault) addr len = None
+range_by entries (Err fault) addr len = None
 
 -- so many bytes from an address on, on the board that the first of them selects (this project's own)
-unfoldable pub place_at : List Entry → ℕ → ℕ → ℕ → Option Place
-place_at entries am addr len = place_by entries (read_code am) addr len
+unfoldable pub range_at : List Entry → ℕ → ℕ → ℕ → Option BoardRange
+range_at entries am addr len = range_by entries (read_code am) addr len
 
 -- the bytes of a mailbox, on the board that the first of them selects (this project's own)
-abbrev pub place_of : List Entry → Mailbox → Option Place
-place_of entries mailbox = place_at entries mailbox.am mailbox.addr (mailbox_len mailbox.slots)
+abbrev pub range_of : List Entry → Mailbox → Option BoardRange
+range_of entries mailbox = range_at entries mailbox.am mailbox.addr (mailbox_len mailbox.slots)
 
 -- whether bytes end within a board of a size (this project's own)
-abbrev pub is_within : Place → ℕ → Bool
+abbrev pub is_within : BoardRange → ℕ → Bool
 is_within place size = nat_le (place.offset + place.len) size
 
 -- whether some byte is one of both: they lie on one board, and the greater offset is below the lesser end (this project's own)
-abbrev pub share : Place → Place → Bool
+abbrev pub share : BoardRange → BoardRange → Bool
 share a b = a.board == b.board && nat_lt (max a.offset b.offset) (min (a.offset + a.len) (b.offset + b.len))

@@ -2,11 +2,11 @@
 ghost use Rattle.std.specs.Prelude.{◌≡◌, false};
 ghost use Rattle.std.specs.Option.{option_map_or};
 ghost use Rattle.vme_script.specs.Bytes.{line_bytes};
-ghost use Rattle.vme_script.specs.Rules.{boxes_of, is_of_mailbox, are_of_mailboxes, touches, refusal_of};
+ghost use Rattle.vme_script.specs.ScriptContext.{boxes_of, is_of_mailbox, are_of_mailboxes, touches, refusal_of};
 
-use crate::boxes::Boxes;
+use crate::board_range::BoardRange;
 use crate::bytes::{await_bytes, local_bytes, lock_bytes, request_bytes, unlock_bytes};
-use crate::place::Place;
+use crate::mailbox_numbers::MailboxNumbers;
 use std::marker::Model;
 use vme_decode::AddressMap;
 use vme_grammar::{Line, LineFault};
@@ -14,7 +14,7 @@ use vme_shared::Mailbox;
 
 /// What a file declares, as a script in it sees it.
 #[derive(Drop)]
-pub struct Declared<'a> {
+pub struct MailboxDeclarations<'a> {
     /// The ranges of the boards.
     pub map: &'a AddressMap,
     /// The mailboxes on them.
@@ -23,7 +23,7 @@ pub struct Declared<'a> {
     pub board: usize,
 }
 
-impl<'a> Model for Declared<'a> {
+impl<'a> Model for MailboxDeclarations<'a> {
     ghost use Rattle.vme_script.specs.Declarations.{Declaration};
 
     ghost Value = { Declaration };
@@ -37,16 +37,16 @@ impl<'a> Model for Declared<'a> {
 
 /// The rules that the lines of a script go by.
 #[derive(Drop)]
-pub enum Rules<'a> {
+pub enum ScriptContext<'a> {
     /// A script by itself: nothing is known of the mailboxes that are there.
-    ByItself,
+    Alone,
     /// A script in a file.
-    InFile(Declared<'a>),
+    InFile(MailboxDeclarations<'a>),
 }
 
-impl<'a> Declared<'a> {
+impl<'a> MailboxDeclarations<'a> {
     /// The bytes that a line names.
-    fn line_bytes(&self, line: &Line) -> Option<Place>
+    fn line_bytes(&self, line: &Line) -> Option<BoardRange>
         ensures { result ≡ line_bytes self.now.entries self.now.board line.now }
     {
         match line {
@@ -60,17 +60,17 @@ impl<'a> Declared<'a> {
     }
 
     /// Whether some byte is one of a mailbox.
-    fn is_of_mailbox(&self, bytes: Place, mailbox: Mailbox) -> bool
+    fn is_of_mailbox(&self, bytes: BoardRange, mailbox: Mailbox) -> bool
         ensures { result ≡ is_of_mailbox self.now.entries bytes mailbox }
     {
-        match Place::of(self.map, mailbox) {
+        match BoardRange::of(self.map, mailbox) {
             Some(place) => bytes.shares(place),
             None => false,
         }
     }
 
     /// Whether some byte is one of a declared mailbox.
-    fn are_of_mailboxes(&self, bytes: Place) -> bool
+    fn are_of_mailboxes(&self, bytes: BoardRange) -> bool
         ensures { result ≡ are_of_mailboxes self.now bytes }
     {
         self.mailboxes
@@ -95,15 +95,15 @@ impl<'a> Declared<'a> {
     }
 }
 
-impl<'a> Rules<'a> {
+impl<'a> ScriptContext<'a> {
     /// The mailboxes that a script may name.
     #[inline(always)]
-    fn boxes(&self) -> Boxes
+    fn boxes(&self) -> MailboxNumbers
         ensures { result ≡ boxes_of self.now }
     {
         match self {
-            Rules::ByItself => Boxes::Any,
-            Rules::InFile(file) => Boxes::Declared(file.mailboxes.len()),
+            ScriptContext::Alone => MailboxNumbers::Any,
+            ScriptContext::InFile(file) => MailboxNumbers::Declared(file.mailboxes.len()),
         }
     }
 
@@ -113,8 +113,8 @@ impl<'a> Rules<'a> {
         ensures { result ≡ touches self.now line.now }
     {
         match self {
-            Rules::ByItself => false,
-            Rules::InFile(file) => file.touches(line),
+            ScriptContext::Alone => false,
+            ScriptContext::InFile(file) => file.touches(line),
         }
     }
 

@@ -6,27 +6,27 @@ use Rattle.std.proofs.lemmas.Option.{same_Some, slice_get_within, slice_get_case
 use Rattle.vme_shared.specs.declared.reply.LineReply.{LineReply}
 use Rattle.vme_shared.specs.declared.reply.LineReply.TheVariants.{Unfinished}
 use Rattle.vme_script.specs.declared.script.ScriptLine.{ScriptLine}
-use Rattle.vme_stepper.specs.Reports.{told_lines}
+use Rattle.vme_stepper.specs.Reports.{reported_lines}
 
 -- one answer more
-pub told_more :
+pub reported_more :
     (script : List ScriptLine) (ended : List LineReply) (answer : LineReply) → length ended < length script
-    → slice_set (told_lines script ended) (length ended) ((slice_index_or (told_lines script ended) (length ended) (0, answer)).0, answer)
-    ≡ told_lines script (ended ++ answer ∷ [])
-told_more [] ended answer more = absurd (omega arith)
-told_more (line ∷ script) [] answer more = refl
-told_more (line ∷ script) (first ∷ ended) answer more = ap (λ lines. (line.number, first) ∷ lines) (told_more script ended answer (omega arith))
+    → slice_set (reported_lines script ended) (length ended) ((slice_index_or (reported_lines script ended) (length ended) (0, answer)).0, answer)
+    ≡ reported_lines script (ended ++ answer ∷ [])
+reported_more [] ended answer more = absurd (omega arith)
+reported_more (line ∷ script) [] answer more = refl
+reported_more (line ∷ script) (first ∷ ended) answer more = ap (λ lines. (line.number, first) ∷ lines) (reported_more script ended answer (omega arith))
 
 -- no line is left out
-pub told_length : (script : List ScriptLine) (ended : List LineReply) → length (told_lines script ended) ≡ length script
-told_length [] ended = refl
-told_length (line ∷ script) [] = ap suc (told_length script [])
-told_length (line ∷ script) (first ∷ ended) = ap suc (told_length script ended)
+pub reported_length : (script : List ScriptLine) (ended : List LineReply) → length (reported_lines script ended) ≡ length script
+reported_length [] ended = refl
+reported_length (line ∷ script) [] = ap suc (reported_length script [])
+reported_length (line ∷ script) (first ∷ ended) = ap suc (reported_length script ended)
 
 -- before the first answer all are unfinished
-pub told_none : (script : List ScriptLine) → map (λ line. (line.number, Unfinished)) script ≡ told_lines script []
-told_none [] = refl
-told_none (line ∷ script) = ap (λ lines. (line.number, Unfinished) ∷ lines) (told_none script)
+pub reported_none : (script : List ScriptLine) → map (λ line. (line.number, Unfinished)) script ≡ reported_lines script []
+reported_none [] = refl
+reported_none (line ∷ script) = ap (λ lines. (line.number, Unfinished) ∷ lines) (reported_none script)
 
 -- the value at a place is that of the element there
 pub get_map : {A B : Type 0} (f : A → B) (xs : List A) (i : ℕ) → slice_get (map f xs) i ≡ option_map f (slice_get xs i)
@@ -51,13 +51,13 @@ abbrev pub unfinished : ScriptLine → ℕ × LineReply
 unfinished line = (line.number, Unfinished)
 
 -- the number of one line more
-pub told_next :
+pub reported_next :
     (script : List ScriptLine) (j number : ℕ) → slice_get (map (λ line. line.number) script) j ≡ Some number
     → map unfinished (take (j + 1) script) ≡ map unfinished (take j script) ++ (number, Unfinished) ∷ []
-told_next script j number found =
+reported_next script j number found =
     map_next unfinished script j (number, Unfinished)
     (get_map unfinished script j ∙ numbered (slice_get script j) (sym (get_map (λ (line : ScriptLine). line.number) script j) ∙ found))
   where
     numbered : (line : Option ScriptLine) → option_map (λ one. one.number) line ≡ Some number → option_map unfinished line ≡ Some (number, Unfinished)
     numbered None found = cc
-    numbered (Some one) found = let told : ℕ → Option (ℕ × LineReply) = λ n. Some (n, Unfinished) in ap told (same_Some _ _ found)
+    numbered (Some one) found = let reported : ℕ → Option (ℕ × LineReply) = λ n. Some (n, Unfinished) in ap reported (same_Some _ _ found)

@@ -1,7 +1,7 @@
 use Rattle.std.proofs.Common.{sym, ◌∙◌, arith, eq-eqb}
 use Rattle.std.proofs.lemmas.Bool.{ne_eqb}
 use Rattle.vme_stepper.proofs.Places.{place_is, place_next, place_over}
-use Rattle.vme_stepper.proofs.stepper.place_of.Goals as goal
+use Rattle.vme_stepper.proofs.stepper.board_in_slot.Goals as goal
 
 pub loop-board-init : goal.loop-board-init
 loop-board-init c = sym (place_is c.args.config.now c.args.slot)

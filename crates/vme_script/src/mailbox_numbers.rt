@@ -1,26 +1,26 @@
 //! Which mailboxes a line may name.
 ghost use Rattle.std.specs.Prelude.{◌≡◌};
-ghost use Rattle.vme_script.specs.Names.{has_box, may_ask};
+ghost use Rattle.vme_script.specs.MailboxNumbers.{has_box, may_ask};
 
 use vme_grammar::Line;
 
 /// The mailboxes that a script may name.
 #[derive(Clone, Copy, Debug, PartialEq, Eq)]
-pub enum Boxes {
+pub enum MailboxNumbers {
     /// Any: nothing is known of those that are there.
     Any,
     /// So many that a file declares, with the numbers from 1 on.
     Declared(usize),
 }
 
-impl Boxes {
+impl MailboxNumbers {
     /// Whether a mailbox may be named by this number.
     fn has(self, number: u8) -> bool
         ensures { result ≡ has_box self number }
     {
         match self {
-            Boxes::Any => true,
-            Boxes::Declared(count) => 1 <= number && usize::from(number) <= count,
+            MailboxNumbers::Any => true,
+            MailboxNumbers::Declared(count) => 1 <= number && usize::from(number) <= count,
         }
     }
 

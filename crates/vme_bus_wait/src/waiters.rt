@@ -1,5 +1,5 @@
-use crate::patience::Patience;
 use crate::sleeper::Sleeper;
+use crate::wait_state::WaitState;
 use crossbeam_utils::CachePadded;
 use std::alloc::{AllocError, Global};
 use std::sync::Wait;
@@ -39,14 +39,14 @@ struct Counts {
 /// where the bus is given back no more, and wakes the others, since it may be one of them who has it.
 /// Where it is long given back by nobody, the last one sleeps too.
 #[derive(Drop)]
-pub struct Waits {
+pub struct BusWaiters {
     counts: CachePadded<Counts>,
     sleepers: Vec<Sleeper>,
 }
 
-impl Waits {
+impl BusWaiters {
     /// For so many processors, none of which waits.
-    pub fn new(alloc: Global, count: usize) -> Result<Waits, AllocError> {
+    pub fn new(alloc: Global, count: usize) -> Result<BusWaiters, AllocError> {
         let mut sleepers = Vec::with_capacity(alloc, count)?;
         for _ in 0..count {
             sleepers.push(Sleeper::new())?;
@@ -57,7 +57,7 @@ impl Waits {
             asleep: AtomicU64::new(0),
             aside: AtomicBool::new(false),
         };
-        Ok(Waits {
+        Ok(BusWaiters {
             counts: CachePadded::new(counts),
             sleepers,
         })
@@ -72,7 +72,7 @@ impl Waits {
     /// The processor gave the bus back. Where all who wait for it sleep, one of them is woken. If it is
     /// one of two, and had to wait for the bus, it stands aside for a while.
     #[inline(always)]
-    pub fn release(&self, patience: &mut Patience) {
+    pub fn release(&self, wait_state: &mut WaitState) {
         if self.sleepers.len() < ALONE {
             return;
         }
@@ -82,7 +82,7 @@ impl Waits {
         {
             self.wake_first();
         }
-        if patience.take_has_waited() && !self.counts_awake() {
+        if wait_state.take_has_waited() && !self.counts_awake() {
             self.stand_aside();
         }
     }
@@ -91,27 +91,27 @@ impl Waits {
     /// more often than `seen`, but not for long.
     #[cold]
     #[inline(never)]
-    pub fn wait<R: Wait>(&self, rt: &R, who: usize, seen: u64, patience: &mut Patience) {
-        if !patience.has_begun() {
+    pub fn wait<R: Wait>(&self, rt: &R, who: usize, seen: u64, wait_state: &mut WaitState) {
+        if !wait_state.has_begun() {
             self.come_awake();
         }
-        patience.begin_round();
-        if patience.is_spent() || (patience.is_over() && self.counts_awake()) {
-            self.sleep(rt, who, seen, patience.is_spent());
+        wait_state.begin_round();
+        if wait_state.is_spent() || (wait_state.is_over() && self.counts_awake()) {
+            self.sleep(rt, who, seen, wait_state.is_spent());
         }
         if self.pause(seen) {
-            patience.note_release();
-        } else if patience.note_none() {
+            wait_state.note_release();
+        } else if wait_state.note_none() {
             self.wake_all();
         }
     }
 
     /// The processor has the bus, and waits no more.
     #[inline(always)]
-    pub fn leave(&self, patience: &mut Patience) {
-        if patience.has_begun() {
+    pub fn leave(&self, wait_state: &mut WaitState) {
+        if wait_state.has_begun() {
             self.leave_awake();
-            patience.end();
+            wait_state.end();
         }
     }
 

@@ -1,11 +1,11 @@
 use Rattle.std.proofs.Common.{◌≡◌, ◌++◌, length, map}
-use Rattle.vme_engines.specs.Tellings.{ends_told}
-use Rattle.vme_engines.proofs.text.told_ends.Given as goal
+use Rattle.vme_engines.specs.RunTexts.{ends_reported}
+use Rattle.vme_engines.proofs.text.reported_ends.Given as goal
 
 -- the boards so far, with those that are left, are all
 abbrev pub invariant-loop-end : goal.invariant-loop-end
 invariant-loop-end l = record {
-  told : l.boards.items ++ ends_told l.ends (map (λ one. one.items) l.lines) ≡ ends_told l.fn.ends (map (λ one. one.items) l.fn.lines);
+  reported : l.boards.items ++ ends_reported l.ends (map (λ one. one.items) l.lines) ≡ ends_reported l.fn.ends (map (λ one. one.items) l.fn.lines);
   same : length l.lines ≡ length l.ends;
 }
 
