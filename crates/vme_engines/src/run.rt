@@ -6,10 +6,10 @@ ghost use Rattle.vme_engines.specs.Faults.{IsReadingFault, ReadsPastLimit, is_re
 ghost use Rattle.vme_engines.specs.Files.{IsRefusedAs};
 ghost use Rattle.vme_engines.specs.RunTexts.{IsRunText, WritesPrefix};
 
-use crate::crate::ProgramFault;
+use crate::ProgramFault;
 use crate::file::{FILE_LIMIT, read_config};
 use crate::text::report_text;
-use crate::vme_shared::Status;
+use vme_shared::Status;
 use std::alloc::Global;
 use std::sync::Wait;
 use std::thread::Threads;

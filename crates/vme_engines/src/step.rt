@@ -10,9 +10,9 @@ ghost use Rattle.vme_stepper.specs.Reports.{run_text, run_status};
 ghost use Rattle.vme_engines.specs.Files.{Configures, IsRefusedAs};
 ghost use Rattle.vme_engines.specs.StepFaults.{IsStepFault};
 
-use crate::crate::ProgramFault;
+use crate::ProgramFault;
 use crate::file::{FILE_LIMIT, read_config};
-use crate::vme_shared::Status;
+use vme_shared::Status;
 use std::alloc::Global;
 use vme_io::{Sink, Source};
 use vme_stepper::run_configured;

@@ -47,7 +47,7 @@ impl<'a> AwaitTask<'a> {
 
     /// It is given nothing at first, and then the reply to each of its events.
     #[inline(never)]
-    #[tactic(auto, using(vme_master::proofs::Stands::job_stays))]
+    #[tactic(auto, using(vme_master::proofs::lemmas::Stands::job_stays))]
     pub(crate) fn advance(&mut self, given: Option<&EventReply>)
         ensures task { self.new ≡ record self.old { task = advance self.old.task (option_copied given.entry) } }
         ensures begun { waits_next self.new.want.items (to_do self.new.task) ≢ NotStarted }

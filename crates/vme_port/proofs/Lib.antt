@@ -2,7 +2,7 @@ pub mod lemmas
 pub mod Totals
 pub mod Accounts
 pub mod Keeps
-pub mod PutStep
+pub mod Puts
 pub mod Performs
 pub mod Attempts
 pub mod Opens

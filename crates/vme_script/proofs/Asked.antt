@@ -4,7 +4,7 @@ use Rattle.vme_grammar.specs.declared.line.Line.{Line}
 use Rattle.vme_grammar.specs.declared.fault.LineFault.{LineFault}
 use Rattle.vme_grammar.specs.Grammar.{line_of}
 use Rattle.vme_script.specs.declared.context.ScriptContext.{ScriptContext}
-use Rattle.vme_script.specs.ScriptContext.{refusal_of, line_within}
+use Rattle.vme_script.specs.Contexts.{refusal_of, line_within}
 
 -- a line that is refused by itself
 pub refused : (rules : ScriptContext) (text : List ℕ) (fault : LineFault) → line_of text ≡ Err fault → line_within rules text ≡ Err fault

@@ -13,7 +13,7 @@ use Rattle.vme_shared.specs.declared.mailbox.Mailbox.{Mailbox}
 use Rattle.vme_script.specs.declared.mailbox_numbers.MailboxNumbers.TheVariants.{Declared}
 use Rattle.vme_script.specs.declared.context.ScriptContext.{ScriptContext}
 use Rattle.vme_script.specs.MailboxNumbers.{may_ask}
-use Rattle.vme_script.specs.ScriptContext.{boxes_of, touches, asked_within, line_within}
+use Rattle.vme_script.specs.Contexts.{boxes_of, touches, asked_within, line_within}
 use Rattle.vme_script.specs.declared.fault.ConfigFault.{ConfigFault}
 use Rattle.vme_script.specs.declared.fault.ScriptRefusal.{ScriptRefusal}
 use Rattle.vme_script.specs.declared.script.ScriptLine.{ScriptLine}

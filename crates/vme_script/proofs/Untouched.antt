@@ -3,7 +3,7 @@ use Rattle.std.proofs.Common.{◌≡◌, false, [], Option, None, Some, refl}
 use Rattle.std.specs.Option.{option_map_or}
 use Rattle.vme_script.specs.declared.board_range.BoardRange.{BoardRange}
 use Rattle.vme_script.specs.Declarations.{Declaration}
-use Rattle.vme_script.specs.ScriptContext.{are_of_mailboxes}
+use Rattle.vme_script.specs.Contexts.{are_of_mailboxes}
 
 -- no byte is one of no mailbox
 pub none_touched : (file : Declaration) (bytes : Option BoardRange) → file.mailboxes ≡ [] → false ≡ option_map_or (are_of_mailboxes file) bytes false

@@ -11,7 +11,7 @@ use Rattle.vme_script.specs.declared.board_range.BoardRange.{BoardRange}
 use Rattle.vme_script.specs.MailboxTables.{is_mailbox_code, supports_mailboxes}
 use Rattle.vme_script.specs.MailboxNumbers.{may_ask}
 use Rattle.vme_script.specs.BoardRanges.{range_of, share}
-use Rattle.vme_script.specs.ScriptContext.{touches}
+use Rattle.vme_script.specs.Contexts.{touches}
 use Rattle.vme_script.specs.declared.board.BoardConfig.{BoardConfig}
 use Rattle.vme_script.specs.declared.script.ScriptLine.{ScriptLine}
 use Rattle.vme_script.specs.Boards.{entries_of}

@@ -3,7 +3,7 @@ pub mod BoardRanges
 pub mod MailboxNumbers
 pub mod Bytes
 pub mod Declarations
-pub mod ScriptContext
+pub mod Contexts
 pub mod Answers
 pub mod Boards
 pub mod Arbiters

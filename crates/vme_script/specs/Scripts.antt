@@ -8,7 +8,7 @@ use Rattle.vme_decode.specs.declared.entry.Entry.{Entry}
 use Rattle.vme_shared.specs.declared.mailbox.Mailbox.{Mailbox}
 use Rattle.vme_script.specs.declared.context.ScriptContext.{ScriptContext}
 use Rattle.vme_script.specs.declared.context.ScriptContext.TheVariants.{Alone, InFile}
-use Rattle.vme_script.specs.ScriptContext.{line_within}
+use Rattle.vme_script.specs.Contexts.{line_within}
 use Rattle.vme_script.specs.declared.fault.ConfigFault.{ConfigFault}
 use Rattle.vme_script.specs.declared.fault.ConfigFault.TheVariants.{BadScript}
 use Rattle.vme_script.specs.declared.fault.ScriptFault.{ScriptFault}

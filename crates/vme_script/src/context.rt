@@ -2,7 +2,7 @@
 ghost use Rattle.std.specs.Prelude.{◌≡◌, false};
 ghost use Rattle.std.specs.Option.{option_map_or};
 ghost use Rattle.vme_script.specs.Bytes.{line_bytes};
-ghost use Rattle.vme_script.specs.ScriptContext.{boxes_of, is_of_mailbox, are_of_mailboxes, touches, refusal_of};
+ghost use Rattle.vme_script.specs.Contexts.{boxes_of, is_of_mailbox, are_of_mailboxes, touches, refusal_of};
 
 use crate::board_range::BoardRange;
 use crate::bytes::{await_bytes, local_bytes, lock_bytes, request_bytes, unlock_bytes};

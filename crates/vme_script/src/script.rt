@@ -1,7 +1,7 @@
 //! Scripts: what the lines of a text ask for.
 ghost use Rattle.std.specs.Prelude.{◌≡◌, ◌<◌, ◌≤◌, ◌∷◌, ◌++◌, [], nat_lt, length, slice_get, Some, Ok, Err, IfOk, IfErr, map};
 ghost use Rattle.std.specs.Str.Lines.{lines};
-ghost use Rattle.vme_script.specs.ScriptContext.{refusal_of};
+ghost use Rattle.vme_script.specs.Contexts.{refusal_of};
 ghost use Rattle.vme_script.specs.Scripts.{script_of, script_within, lines_from, IsRefusalOf, IsTaken};
 
 use crate::context::ScriptContext;

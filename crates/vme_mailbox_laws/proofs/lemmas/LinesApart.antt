@@ -26,8 +26,8 @@ use Rattle.vme_script.specs.Bytes.{request_bytes, local_bytes}
 use Rattle.vme_script.specs.Declarations.{Declaration}
 use Rattle.vme_script.specs.MailboxNumbers.{has_box, may_ask}
 use Rattle.vme_script.specs.BoardRanges.{share}
-use Rattle.vme_script.specs.ScriptContext as rules
-use Rattle.vme_script.specs.ScriptContext.{is_of_mailbox, are_of_mailboxes}
+use Rattle.vme_script.specs.Contexts as rules
+use Rattle.vme_script.specs.Contexts.{is_of_mailbox, are_of_mailboxes}
 use Rattle.vme_script.specs.declared.script.ScriptLine.{ScriptLine}
 use Rattle.vme_script.specs.Boards.{entries_of}
 use Rattle.vme_script.specs.Configurations.{Configuration}

@@ -1,5 +1,5 @@
 use Rattle.std.proofs.Common.{rules}
-use Rattle.vme_port.proofs.PutStep.{puts}
+use Rattle.vme_port.proofs.Puts.{puts}
 use Rattle.vme_port.proofs.port.Port.put_entries.Goals as goal
 
 pub swap-requires : goal.swap-requires

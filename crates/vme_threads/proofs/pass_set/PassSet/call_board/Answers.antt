@@ -1,7 +1,7 @@
 use Rattle.std.proofs.Common.{refl}
 use Rattle.vme_port.proofs.lemmas.OneHistory.{makes_one}
 use Rattle.vme_threads.proofs.PassSets.{made_by_board}
-use Rattle.vme_threads.proofs.pass_set.PassSet.command.Goals as goal
+use Rattle.vme_threads.proofs.pass_set.PassSet.call_board.Goals as goal
 
 -- the board's port answers, and its pass is put back in its place
 pub returns : goal.returns

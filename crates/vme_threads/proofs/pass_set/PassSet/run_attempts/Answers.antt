@@ -3,7 +3,7 @@ use Rattle.vme_core.specs.EventRefs.{call_asked}
 use Rattle.vme_line_task.specs.Events.{IsCallBelow}
 use Rattle.vme_threads.proofs.PassSets.{fits_after}
 use Rattle.vme_threads.proofs.Lines.{at_start, at_more, at_end, call_there}
-use Rattle.vme_threads.proofs.pass_set.PassSet.attempts.Goals as goal
+use Rattle.vme_threads.proofs.pass_set.PassSet.run_attempts.Goals as goal
 
 pub loop-init : goal.loop-init
 loop-init g c =

@@ -1,5 +1,5 @@
 use Rattle.vme_threads.proofs.Lines.{IsAtWork}
-use Rattle.vme_threads.proofs.pass_set.PassSet.attempts.Given as goal
+use Rattle.vme_threads.proofs.pass_set.PassSet.run_attempts.Given as goal
 
 -- the line is at work
 abbrev pub invariant-loop : goal.invariant-loop

@@ -1,6 +1,6 @@
 use Rattle.vme_grammar.specs.declared.line.Line.TheVariants as lines
 use Rattle.vme_threads.proofs.Once.{line_found, answered_there}
-use Rattle.vme_threads.proofs.pass_set.PassSet.line.Goals as goal
+use Rattle.vme_threads.proofs.pass_set.PassSet.run_line.Goals as goal
 
 pub run_transfer-requires-clause-capacity : goal.run_transfer-requires-clause-capacity
 run_transfer-requires-clause-capacity g c =

@@ -1,5 +1,5 @@
 use Rattle.vme_threads.proofs.Once.{local_answered}
-use Rattle.vme_threads.proofs.pass_set.PassSet.local.Goals as goal
+use Rattle.vme_threads.proofs.pass_set.PassSet.run_local.Goals as goal
 
 pub returns : goal.returns
 returns g c =

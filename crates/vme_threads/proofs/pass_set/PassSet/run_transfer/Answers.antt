@@ -3,7 +3,7 @@ use Rattle.vme_core.specs.EventRefs.{call_asked}
 use Rattle.std.proofs.lemmas.Option.{get_or_from_slice_get}
 use Rattle.vme_threads.proofs.PassSets.{fits_after}
 use Rattle.vme_threads.proofs.Once.{refused_answered, moving_start, moving_below, moving_more, moving_end}
-use Rattle.vme_threads.proofs.pass_set.PassSet.transfer.Goals as goal
+use Rattle.vme_threads.proofs.pass_set.PassSet.run_transfer.Goals as goal
 
 pub returns-in-Err : goal.returns-in-Err
 returns-in-Err g c =

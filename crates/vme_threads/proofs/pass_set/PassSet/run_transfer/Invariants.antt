@@ -1,5 +1,5 @@
 use Rattle.vme_threads.proofs.Once.{IsMoving}
-use Rattle.vme_threads.proofs.pass_set.PassSet.transfer.Given as goal
+use Rattle.vme_threads.proofs.pass_set.PassSet.run_transfer.Given as goal
 
 -- the transfer is at work
 abbrev pub invariant-loop : goal.invariant-loop
