@@ -36,8 +36,8 @@ fn a_reader_fails_after_any_byte(rt: HostRuntime) -> Result<(), Fail> {
 }
 
 /// How a row ends where so much of its text can be written.
-fn end_of(row: &Row, buffer: usize) -> Result<Status, ProgramFault> {
-    if buffer < row.text.len() {
+fn end_of(row: &Row, capacity: usize) -> Result<Status, ProgramFault> {
+    if capacity < row.text.len() {
         Err(ProgramFault::Write)
     } else {
         Ok(Status::Clean)
@@ -50,12 +50,12 @@ fn expect_prefix<R: Threads + Wait + Abort + Sync>(
     rt: &R,
     alloc: Global,
     row: &Row,
-    buffer: usize,
+    capacity: usize,
 ) -> Result<(), AllocError> {
     let mut source = SliceSource::new(row.input.as_bytes(), 1, usize::MAX);
-    let mut sink = RoomSink::new(alloc, 1, buffer)?;
+    let mut sink = RoomSink::new(alloc, 1, capacity)?;
     let end = run(rt, alloc, row.engine, &mut source, &mut sink);
-    assert_eq!(rt; end, end_of(row, buffer), "{buffer}");
+    assert_eq!(rt; end, end_of(row, capacity), "{capacity}");
     assert_eq!(rt; Some(sink.bytes()), row.text.as_bytes().get(..capacity));
     Ok(())
 }
@@ -63,8 +63,8 @@ fn expect_prefix<R: Threads + Wait + Abort + Sync>(
 #[test]
 fn a_writer_fails_after_any_byte(rt: HostRuntime) -> Result<(), Fail> {
     for row in ROWS {
-        for buffer in 0..=row.text.len() {
-            expect_prefix(&rt, rt.alloc(), row, buffer)?;
+        for capacity in 0..=row.text.len() {
+            expect_prefix(&rt, rt.alloc(), row, capacity)?;
         }
     }
     Ok(())
@@ -74,7 +74,7 @@ fn a_writer_fails_after_any_byte(rt: HostRuntime) -> Result<(), Fail> {
 #[derive(Drop)]
 struct Narrow {
     taken: Vec<u8>,
-    buffer: usize,
+    capacity: usize,
 }
 
 impl io::Write for Narrow {
@@ -95,16 +95,16 @@ fn expect_narrow<R: Threads + Wait + Abort + Sync>(
     rt: &R,
     alloc: Global,
     row: &Row,
-    buffer: usize,
+    capacity: usize,
 ) -> Result<(), AllocError> {
     let mut narrow = Narrow {
         taken: Vec::new(alloc),
-        buffer,
+        capacity,
     };
     let mut reader = Io::new(row.input.as_bytes());
     let mut writer = Io::new(&mut narrow);
     let end = run(rt, alloc, row.engine, &mut reader, &mut writer);
-    assert_eq!(rt; end, end_of(row, buffer), "{buffer}");
+    assert_eq!(rt; end, end_of(row, capacity), "{capacity}");
     assert_eq!(rt;
         Some(narrow.taken.as_slice()),
         row.text.as_bytes().get(..capacity)
@@ -115,8 +115,8 @@ fn expect_narrow<R: Threads + Wait + Abort + Sync>(
 #[test]
 fn a_writer_takes_no_byte_after_any(rt: HostRuntime) -> Result<(), Fail> {
     for row in ROWS {
-        for buffer in 0..=row.text.len() {
-            expect_narrow(&rt, rt.alloc(), row, buffer)?;
+        for capacity in 0..=row.text.len() {
+            expect_narrow(&rt, rt.alloc(), row, capacity)?;
         }
     }
     Ok(())

@@ -31,7 +31,7 @@ pub fn read_input<R: Source>(
     let mut chunk = [0; READ_SIZE];
     loop {
         let most = READ_SIZE.min(limit + 1 - input.len());
-        let buffer = &mut chunk[..capacity];
+        let buffer = &mut chunk[..most];
         let Ok(count) = reader.read(buffer) else {
             return Err(ProgramFault::Read);
         };

@@ -99,8 +99,8 @@ fn is_marked_by_a_line_without_an_end(rt: HostRuntime) -> Result<(), Fail> {
 
 #[test]
 fn stops_where_the_sink_fails(rt: HostRuntime) -> Result<(), Fail> {
-    for buffer in 0..TEXT.len() {
-        let mut sink = RoomSink::new(rt.alloc(), 1, buffer)?;
+    for capacity in 0..TEXT.len() {
+        let mut sink = RoomSink::new(rt.alloc(), 1, capacity)?;
         let end = report(rt.alloc(), LineReply::Transfer(Outcome::Done), &mut sink)?;
         assert_eq!(rt; end, Err(ReportFault::Write));
         assert_eq!(rt; sink.bytes(), &TEXT.as_bytes()[..capacity]);

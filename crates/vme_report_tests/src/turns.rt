@@ -112,8 +112,8 @@ fn runs_the_turns_of_the_file(rt: HostRuntime) -> Result<(), Fail> {
 #[test]
 fn writes_a_prefix_where_the_sink_fails(rt: HostRuntime) -> Result<(), Fail> {
     let config = Config::read(rt.alloc(), FILE.as_bytes())?;
-    for buffer in 0..ALL.len() {
-        let mut sink = RoomSink::new(rt.alloc(), 7, buffer)?;
+    for capacity in 0..ALL.len() {
+        let mut sink = RoomSink::new(rt.alloc(), 7, capacity)?;
         let end = run_steps(rt.alloc(), &config, &ALL_SLOTS, &mut sink);
         assert_eq!(rt; end, Err(RunFault::Write));
         assert_eq!(rt; sink.bytes(), &ALL.as_bytes()[..capacity]);
