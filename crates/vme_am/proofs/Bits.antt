@@ -1,6 +1,6 @@
 -- What the bits of a code say is what the table says.
 use Rattle.std.proofs.Common.{◌≡◌, ℕ, ◌<◌, zero, suc, not, nat_eq, bit_and, Option, Some, Ok, ap, arith, rules, inl, inr, subst, ◌∙◌, sym}
-use Rattle.std.proofs.lemmas.Bool.Decides.{eqb_shows}
+use Rattle.std.proofs.lemmas.Bool.Decides.{eqb_tells}
 use Rattle.std.specs.Option.{option_map, option_and_then, ok_or}
 use Rattle.vme_am.specs.declared.code.Space.{Space}
 use Rattle.vme_am.specs.declared.code.Kind.{Kind}
@@ -15,7 +15,7 @@ AllBelow P (suc n) = P n × AllBelow P n
 at_below : (P : ℕ → Type 0) (n k : ℕ) → AllBelow P n → k < n → P k
 at_below P zero k all lt = absurd (omega arith)
 at_below P (suc n) k all lt =
-    elim (eqb_shows n k) [ inl same ↦ subst P same.1 all.0 | inr other ↦ at_below P n k all.1 (omega (arith, other.1)) ]
+    elim (eqb_tells n k) [ inl same ↦ subst P same.1 all.0 | inr other ↦ at_below P n k all.1 (omega (arith, other.1)) ]
 
 -- the row of a space and a kind, with the privilege that bit 2 shows, and eight bytes a datum where bits 1 and 0 are low
 abbrev row_with : ℕ → Space → Kind → CodeRow

@@ -3,7 +3,7 @@ use Rattle.std.proofs.Common.{◌≡◌, ◌∙◌, sym, ℕ, List, ◌∷◌, l
 use Rattle.std.specs.Bool.{beq}
 use Rattle.std.proofs.Math.Nat.{mul-le-mul_left}
 use Rattle.std.proofs.lemmas.Bool.{cases_Bool, and_parts, leb-true, eqb-true}
-use Rattle.std.proofs.lemmas.Bool.Decides.{leb_shows, eqb_shows}
+use Rattle.std.proofs.lemmas.Bool.Decides.{leb_tells, eqb_tells}
 use Rattle.vme_am.specs.Codes.{CodeRow, read_code}
 use Rattle.vme_am.specs.Kinds.{is_block}
 use Rattle.vme_am.specs.Spaces.{addresses_of}
@@ -43,9 +43,9 @@ single_lens n h = let parts = and_parts _ _ h in (leb-true 1 n parts.0, leb-true
 -- a block's datum has one, two or four
 pub block_lens : (n : ℕ) → is_block_len n ≡ true → (n ≡ 1) ⊎ ((n ≡ 2) ⊎ (n ≡ 4))
 block_lens n h =
-    elim (eqb_shows n 1) [
+    elim (eqb_tells n 1) [
       | inl one ↦ inl one.1
-      | inr more ↦ elim (eqb_shows n 2) [
+      | inr more ↦ elim (eqb_tells n 2) [
         | inl two ↦ inr (inl two.1)
         | inr other ↦ inr (inr (eqb-true n 4 (rw (more.0, other.0) at h)))
       ]
@@ -119,7 +119,7 @@ block_datum (Modify am addr n f) b h = absurd cc
 
 -- up to four bytes are not eight
 pub few_len : (n : ℕ) → n ≤ 4 → is_wide_len n ≡ false
-few_len n few = elim (eqb_shows n 8) [ inl eight ↦ absurd (omega (arith, eight.1, few)) | inr other ↦ other.0 ]
+few_len n few = elim (eqb_tells n 8) [ inl eight ↦ absurd (omega (arith, eight.1, few)) | inr other ↦ other.0 ]
 
 -- eight bytes are those of a code of such data
 len_of_code : (wide : Bool) (n : ℕ) → is_datum_len wide n ≡ true → is_wide_len n ≡ wide
@@ -166,7 +166,7 @@ lawful row request code none =
     }
   where
     le_of_not_lt : (a b : ℕ) → nat_lt a b ≡ false → b ≤ a
-    le_of_not_lt a b h = elim (leb_shows (suc a) b) [ inl less ↦ absurd cc | inr more ↦ omega (arith, more.1) ]
+    le_of_not_lt a b h = elim (leb_tells (suc a) b) [ inl less ↦ absurd cc | inr more ↦ omega (arith, more.1) ]
 
 same_unit : (n addr span : ℕ) → addr / boundary_of n ≡ (addr + span - 1) / boundary_of n → span ≤ 2048
 same_unit n addr span h =

@@ -5,7 +5,7 @@ use Rattle.std.specs.List.{list_any}
 use Rattle.std.proofs.Math.Nat.{mod-one, mod-eq_of_lt}
 use Rattle.std.proofs.lemmas.Bool.{cases_Bool, or_cases, eqb-true, eq-eqb, ltb-false}
 use Rattle.std.proofs.lemmas.Option.{same_Some}
-use Rattle.std.proofs.lemmas.Bool.Decides.{leb_shows}
+use Rattle.std.proofs.lemmas.Bool.Decides.{leb_tells}
 use Rattle.vme_am.specs.declared.code.Space.TheVariants.{A16, A24, A32}
 use Rattle.vme_am.specs.declared.code.Kind.TheVariants.{DataAccess, ShortAccess}
 use Rattle.vme_am.specs.Codes.{CodeRow, row, read_code}
@@ -79,7 +79,7 @@ unfolding transfer_of first_refusal
 none_refused row request code alone kind program counted within found = rw (code, kind, program, counted, within, found, alone) refl
 
 not_past : (limit last : ℕ) → last ≤ limit → nat_lt limit last ≡ false
-not_past limit last less = elim (leb_shows (suc limit) last) [ inl more ↦ absurd (omega (arith, more.1, less)) | inr is ↦ is.0 ]
+not_past limit last less = elim (leb_tells (suc limit) last) [ inl more ↦ absurd (omega (arith, more.1, less)) | inr is ↦ is.0 ]
 
 no_first : (a b : Option CycleFault) → a ≡ None → b ≡ None → first_of (a ∷ b ∷ []) ≡ None
 no_first a b first second = rw (first, second) refl

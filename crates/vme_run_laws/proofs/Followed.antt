@@ -2,7 +2,7 @@
 use Rattle.std.proofs.Common.{◌≡◌, ◌≢◌, ℕ, ◌<◌, List, [], ◌∷◌, ◌++◌, length, map, Option, Some, None, refl, ap, sym, subst, ◌∙◌, append_assoc, inl, inr}
 use Rattle.std.specs.Prelude.{slice_get, slice_set, ◌==◌}
 use Rattle.std.specs.Option.{option_to_list}
-use Rattle.std.proofs.lemmas.Bool.Decides.{eqb_shows}
+use Rattle.std.proofs.lemmas.Bool.Decides.{eqb_tells}
 use Rattle.std.proofs.lemmas.List.{append-nil, map-append, length-map}
 use Rattle.std.proofs.lemmas.List.Elements.{filter-append}
 use Rattle.vme_arbiter.specs.Arbitration.{opening_bus, turn_step}
@@ -72,7 +72,7 @@ by_script_state config before system board (Some c) lawful there count follow is
 
     each : (b : ℕ) (one : ScriptState) → slice_get (slice_set system.script_states board next.1) b ≡ Some one → IsTracePrefix config b (moves_of b (before ++ moved.more)) one
     each b one at =
-        elim (eqb_shows b board) [
+        elim (eqb_tells b board) [
           | inl same ↦
               let mine : next.1 ≡ one = set_same system.script_states board next.1 one
               (ap (slice_get (slice_set system.script_states board next.1)) (sym same.1) ∙ at) in

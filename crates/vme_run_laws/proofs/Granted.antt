@@ -2,7 +2,7 @@
 use Rattle.std.proofs.Common.{◌≡◌, ◌≢◌, ℕ, ◌<◌, List, [], ◌∷◌, ◌++◌, length, map, slice_index_or, Option, Some, None, ap, subst, sym, ◌∙◌, refl, eqb, inl, inr, arith}
 use Rattle.std.specs.Prelude.{All}
 use Rattle.std.proofs.lemmas.Bool.{cases_Bool, eqb-false}
-use Rattle.std.proofs.lemmas.Bool.Decides.{eqb_shows}
+use Rattle.std.proofs.lemmas.Bool.Decides.{eqb_tells}
 use Rattle.std.proofs.lemmas.List.{get_or-map, length-map}
 use Rattle.std.proofs.lemmas.List.Elements.{All-nil, All-cons, All-head, All-tail}
 use Rattle.vme_object.specs.declared.history.Entry.{Entry}
@@ -282,7 +282,7 @@ all_turns config lawful report is =
     turns_good config.arbiter (length config.boards) (slot_at config) is.bus.1.history
     (record {
       in_range = λ who below. lawful_slot config who lawful below;
-      apart = λ v w one two same. elim (eqb_shows v w) [
+      apart = λ v w one two same. elim (eqb_tells v w) [
         | inl equal ↦ equal.1
         | inr apart ↦ absurd (slots_apart config v w lawful one two apart.1 same)
       ];

@@ -3,7 +3,7 @@ use Rattle.std.proofs.Common.{◌≡◌, ◌≢◌, ℕ, zero, suc, ◌<◌, tru
 use Rattle.std.specs.Prelude.{slice_get, option_map, ◌==◌}
 use Rattle.std.specs.Option.{option_to_list}
 use Rattle.std.proofs.lemmas.Bool.{eq-eqb}
-use Rattle.std.proofs.lemmas.Bool.Decides.{eqb_shows}
+use Rattle.std.proofs.lemmas.Bool.Decides.{eqb_tells}
 use Rattle.std.proofs.lemmas.List.{append-nil, length-set}
 use Rattle.vme_memory.specs.Boards.{Board}
 use Rattle.vme_memory.specs.Steps.{Command}
@@ -53,7 +53,7 @@ own_move who event reply = let same : (who == who) ≡ true = eq-eqb who who ref
 
 pub other_move : (who other : ℕ) (event : Event) (reply : EventReply) → who ≢ other → moves_of other (move who event reply ∷ []) ≡ []
 other_move who other event reply apart =
-    elim (eqb_shows who other) [ inl same ↦ absurd (apart same.1) | inr not_same ↦ let no : (who == other) ≡ false = not_same.0 in rw no refl ]
+    elim (eqb_tells who other) [ inl same ↦ absurd (apart same.1) | inr not_same ↦ let no : (who == other) ≡ false = not_same.0 in rw no refl ]
 
 -- a turn of a board's processor is a move of it, or none
 pub record Moved (config : Configuration) (board : ℕ) (machine : Machine) (mine : List Transition) (call : Option Call) (after : Machine × ScriptState) : Type 0 where

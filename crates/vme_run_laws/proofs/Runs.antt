@@ -2,7 +2,7 @@
 use Rattle.std.proofs.Common.{◌≡◌, ◌≢◌, ℕ, ◌<◌, List, [], ◌∷◌, length, map, Option, Some, None, refl, ap, sym, subst, ◌∙◌, inl, inr, ◌⊎◌, arith}
 use Rattle.std.specs.Prelude.{slice_get, slice_set, option_map}
 use Rattle.std.specs.Option.{option_map_or}
-use Rattle.std.proofs.lemmas.Bool.Decides.{eqb_shows}
+use Rattle.std.proofs.lemmas.Bool.Decides.{eqb_tells}
 use Rattle.std.proofs.lemmas.List.{length-set, length-map}
 use Rattle.std.proofs.lemmas.Option.{slice_get_within, slice_get-map}
 use Rattle.vme_arbiter.specs.declared.command.ArbReply.TheVariants as turned
@@ -63,7 +63,7 @@ by_script_state config system board (Some c) lawful stand there is = record {
 
     each : (b : ℕ) (one : ScriptState) → slice_get (slice_set system.script_states board next.1) b ≡ Some one → ScriptStands config next.0.bus.object b one
     each b one at =
-        elim (eqb_shows b board) [
+        elim (eqb_tells b board) [
           | inl same ↦
               let own : next.1 ≡ one = set_same system.script_states board next.1 one
               (ap (slice_get (slice_set system.script_states board next.1)) (sym same.1) ∙ at) in

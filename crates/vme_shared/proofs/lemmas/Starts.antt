@@ -3,7 +3,7 @@ use Rattle.std.proofs.Common.{◌≡◌, ℕ, suc, ◌+◌, ◌-◌, ◌*◌, �
 use Rattle.std.specs.Prelude.{◌&&◌, is_none, is_some}
 use Rattle.std.proofs.Math.Nat.{mod-eq_of_lt}
 use Rattle.std.proofs.lemmas.Nat.{mod_below}
-use Rattle.std.proofs.lemmas.Bool.Decides.{leb_shows}
+use Rattle.std.proofs.lemmas.Bool.Decides.{leb_tells}
 use Rattle.vme_am.specs.Codes.{CodeRow, read_code}
 use Rattle.vme_am.specs.Kinds.{is_block, is_program}
 use Rattle.vme_am.specs.Spaces.{addresses_of}
@@ -62,7 +62,7 @@ lawful_by row request code alone kind program counted within found =
     (record { am = row; request = request }, rw (code, kind, program, counted, within, found, alone) refl)
 
 within_by : (limit last : ℕ) → last ≤ limit → nat_lt limit last ≡ false
-within_by limit last less = elim (leb_shows (suc limit) last) [ inl more ↦ absurd (omega (arith, more.1, less)) | inr is ↦ is.0 ]
+within_by limit last less = elim (leb_tells (suc limit) last) [ inl more ↦ absurd (omega (arith, more.1, less)) | inr is ↦ is.0 ]
 
 -- what the two tell of a mailbox: its code has a row, which is no block's, and it lies within the space
 record Placed (m : Mailbox) : Type 0 where
