@@ -1,6 +1,6 @@
-//! How processors on threads wait for the bus (ANSI/IEEE Std 1014-1987, chapter 3) until it is theirs:
-//! when each asks the arbiter again, and which of them sleep until then. It grants nothing and keeps
-//! nobody from asking, so nothing that is proved of the bus rests on it.
+//! How processors on threads wait for the bus (ANSI/IEEE Std 1014-1987, chapter 3): when each asks
+//! the arbiter again, and which of them sleep until then. The crate grants nothing and keeps no
+//! processor from asking, so no proof about the bus depends on it.
 #![tactic(auto)]
 
 mod sleeper;

@@ -3,16 +3,16 @@ use std::sync::Wait;
 use std::sync::atomic::{AtomicU64, Ordering};
 use std::time::Duration;
 
-/// The word where its processor is awake.
+/// The word of a processor that is awake.
 const AWAKE: u64 = 0;
 
-/// The word where it sleeps, or is about to.
+/// The word of a processor that sleeps or is about to sleep.
 const ASLEEP: u64 = 1;
 
-/// How long a sleep is at most, in milliseconds.
+/// The longest sleep, in milliseconds.
 const LONGEST: u64 = 10;
 
-/// Where a processor sleeps until another wakes it.
+/// The word that one processor sleeps on until another wakes it.
 #[derive(Drop)]
 pub(crate) struct Sleeper {
     word: CachePadded<AtomicU64>,
@@ -25,24 +25,24 @@ impl Sleeper {
         }
     }
 
-    /// Says that the processor is about to sleep. Whoever wakes it from now on is heard.
+    /// Marks the processor as asleep. It can be woken from now on.
     pub(crate) fn lie_down(&self) {
         self.word.store(ASLEEP, Ordering::SeqCst);
     }
 
-    /// Sleeps until it is woken, if it has not been since it lay down. No sleep is long, so that nobody
-    /// has to be woken.
+    /// Sleeps until the processor is woken, unless it was woken since `lie_down`. A sleep ends
+    /// after `LONGEST` milliseconds at the latest, so no wake is required.
     pub(crate) fn sleep<R: Wait>(&self, rt: &R) {
         self.word
             .park_timeout(rt, ASLEEP as u32, Duration::from_millis(LONGEST));
     }
 
-    /// Says that the processor is awake.
+    /// Marks the processor as awake.
     pub(crate) fn get_up(&self) {
         self.word.store(AWAKE, Ordering::SeqCst);
     }
 
-    /// Wakes the processor, where it sleeps or is about to, and answers whether it did.
+    /// Wakes the processor if it sleeps or is about to sleep, and returns whether it did.
     pub(crate) fn wake(&self) -> bool {
         if self.word.load(Ordering::SeqCst) == AWAKE {
             return false;

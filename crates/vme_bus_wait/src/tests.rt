@@ -1,4 +1,4 @@
-//! Processors that wait for one another, round and round, and one that waits long.
+//! Tests: three processors that wait for each other in rotation, and one that waits long.
 use crate::wait_state::WaitState;
 use crate::waiters::BusWaiters;
 use std::sync::Wait;
@@ -8,10 +8,10 @@ use std::thread;
 use std::thread::{Threads, join};
 use std::time::{Clock, Duration};
 
-/// How often each has its turn.
+/// The number of times that each processor proceeds.
 const TURNS: u64 = 1000;
 
-/// Has its turns: each is the one of three after the one that came before it.
+/// Proceeds `TURNS` times; among three processors, each proceeds after the previous one.
 fn take_turns<R: Wait>(rt: &R, waiters: &BusWaiters, turn: &AtomicU64, who: usize) {
     let mut wait_state = WaitState::new();
     for round in 0..TURNS {
@@ -55,7 +55,7 @@ fn three_take_turns(rt: HostRuntime) -> Result<(), Fail> {
 /// How long the bus is held, in milliseconds.
 const HELD: u64 = 300;
 
-/// Waits for a sign, and answers in how many rounds it came.
+/// Waits for a flag, and returns the number of rounds that it waited.
 fn rounds_until<R: Wait>(rt: &R, waiters: &BusWaiters, sign: &AtomicBool, who: usize) -> u64 {
     let mut wait_state = WaitState::new();
     let mut rounds = 0_u64;
@@ -71,14 +71,14 @@ fn rounds_until<R: Wait>(rt: &R, waiters: &BusWaiters, sign: &AtomicBool, who: u
     rounds
 }
 
-/// Holds the bus for long, and then gives it back under a sign.
+/// Holds the bus for `HELD` milliseconds, sets the flag, and releases the bus.
 fn hold<R: Clock>(rt: &R, waiters: &BusWaiters, sign: &AtomicBool) {
     thread::sleep(rt, Duration::from_millis(HELD));
     sign.store(true, Ordering::SeqCst);
     waiters.release(&mut WaitState::new());
 }
 
-/// The rounds of the one who waits while the other of two holds the bus.
+/// Returns the number of rounds that one processor waits while the other holds the bus.
 fn rounds_while_held<R: Threads + Wait + Clock + Sync>(
     rt: &R,
     waiters: &BusWaiters,
@@ -92,7 +92,8 @@ fn rounds_while_held<R: Threads + Wait + Clock + Sync>(
     .0
 }
 
-/// Who does not sleep goes through a round in a few microseconds, so through tens of thousands.
+/// A processor that does not sleep needs a few microseconds a round, so it would need tens of
+/// thousands of rounds.
 #[test]
 fn who_waits_long_sleeps(rt: HostRuntime) -> Result<(), Fail> {
     for count in 2..4 {

@@ -1,16 +1,17 @@
 use std::mem;
 
-/// How often the bus was given to others while a processor waits awake. A longer wait is slept through.
+/// The number of rounds with releases by others after which a waiting processor may sleep.
 const AWAKE_ROUNDS: u32 = 16;
 
-/// In how many rounds on end the bus is given back by nobody before those who sleep are woken, the
-/// first time.
+/// The number of consecutive rounds without a release after which the sleepers are first woken.
 const STILL_ROUNDS: u32 = 8;
 
-/// In how many before the last one awake sleeps too. Those who slept were woken four times by then.
+/// The number of consecutive rounds without a release after which the last processor awake sleeps
+/// too. By then the sleepers were woken four times.
 const LONG_STILL_ROUNDS: u32 = 64;
 
-/// How long a processor has waited for the bus, in rounds. After each it asks the arbiter again.
+/// How long a processor has waited for the bus, in rounds. After each round it asks the arbiter
+/// again.
 #[derive(Clone, Copy, Debug)]
 pub struct WaitState {
     rounds: u32,
@@ -19,7 +20,7 @@ pub struct WaitState {
 }
 
 impl WaitState {
-    /// That of a processor that does not wait.
+    /// Returns the state of a processor that does not wait.
     pub fn new() -> WaitState {
         WaitState {
             rounds: 0,
@@ -28,7 +29,7 @@ impl WaitState {
         }
     }
 
-    /// The processor has the bus, for which it had to wait.
+    /// Records that the processor got the bus after a wait.
     pub(crate) fn end(&mut self) {
         *self = WaitState {
             rounds: 0,
@@ -37,7 +38,7 @@ impl WaitState {
         };
     }
 
-    /// Whether the processor had to wait for the bus that it had. That is asked once.
+    /// Returns whether the processor waited for the bus that it last had, and clears that fact.
     #[inline(always)]
     pub(crate) fn take_has_waited(&mut self) -> bool {
         mem::take(&mut self.has_waited)
@@ -48,29 +49,29 @@ impl WaitState {
         self.rounds > 0
     }
 
-    /// One round more.
+    /// Counts one more round.
     pub(crate) fn begin_round(&mut self) {
         self.rounds = self.rounds.saturating_add(1);
     }
 
-    /// Whether the processor is to sleep where another waits awake: it waited long, and the bus was
-    /// given to one after the other.
+    /// Whether the processor may sleep while another one waits awake: it has waited long, and the
+    /// bus was released in the last round.
     pub(crate) fn is_over(&self) -> bool {
         self.rounds > AWAKE_ROUNDS && self.still == 0
     }
 
-    /// Whether the processor is to sleep whoever is awake: the bus was long given back by nobody.
+    /// Whether the processor may sleep as the last one: the bus was not released for long.
     pub(crate) fn is_spent(&self) -> bool {
         self.still >= LONG_STILL_ROUNDS
     }
 
-    /// The bus was given back in this round.
+    /// Records a round in which the bus was released.
     pub(crate) fn note_release(&mut self) {
         self.still = 0;
     }
 
-    /// It was not. Answers whether those who sleep are to be woken, since one of them may have the bus.
-    /// The longer it lasts, the rarer that is.
+    /// Records a round in which the bus was not released. Returns whether the sleepers are to be
+    /// woken, because one of them may have the bus. That happens after 8, 16, 32, .. such rounds.
     pub(crate) fn note_none(&mut self) -> bool {
         self.still = self.still.saturating_add(1);
         self.still >= STILL_ROUNDS && self.still.is_power_of_two()

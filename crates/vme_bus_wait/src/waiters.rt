@@ -6,38 +6,40 @@ use std::sync::Wait;
 use std::sync::atomic::{AtomicBool, AtomicU64, Ordering};
 use std::{hint, thread};
 
-/// How often a processor looks whether the bus was given back, before it yields.
+/// The number of times that a processor polls for a release before it yields its thread.
 const PAUSES: u32 = 64;
 
-/// Of so many processors at most one waits at a time, so it is not counted who waits awake. Of fewer
-/// nobody ever waits.
+/// With this many processors at most one waits at a time, so no count of awake processors is
+/// kept. With fewer, none ever waits.
 const ALONE: usize = 2;
 
-/// How often one of two who stands aside looks whether the other still gives the bus back.
+/// The number of times that a processor that defers to the other one polls for its releases.
 const LOOKS_ASIDE: u32 = 16;
 
-/// How often it pauses before each of these looks, since each keeps the other waiting for a line of
-/// the cache.
+/// The number of pauses before each of these polls. Each poll delays the other processor by a cache
+/// line transfer.
 const PAUSES_ASIDE: u32 = 32;
 
-/// What all who wait change.
+/// The values that all waiting processors share.
 #[derive(Drop)]
 struct Counts {
-    /// How often the bus was given back.
+    /// The number of releases of the bus.
     releases: AtomicU64,
-    /// How many wait awake, where more than one may wait at a time.
+    /// The number of processors that wait awake, if more than one may wait at a time.
     awake: AtomicU64,
-    /// How many sleep, or are about to.
+    /// The number of processors that sleep or are about to sleep.
     asleep: AtomicU64,
-    /// Whether one of two stands aside.
+    /// Whether one of two processors defers to the other.
     aside: AtomicBool,
 }
 
-/// What the processors that share a bus tell each other while they wait for it. Who waits looks here
-/// before it asks the arbiter again, so that it does not keep the arbiter from those who use the bus.
-/// Who waits long sleeps. While the bus goes from one to the other one who waits is awake: it sees
-/// where the bus is given back no more, and wakes the others, since it may be one of them who has it.
-/// Where it is long given back by nobody, the last one sleeps too.
+/// The state that the processors of one bus share while they wait for it. A waiting processor polls
+/// this state before it asks the arbiter again, so that it does not contend with the processors
+/// that use the bus.
+///
+/// A processor that waits long sleeps. While the bus passes from processor to processor, one
+/// waiting processor stays awake. It notices when releases stop, and wakes the others, because one
+/// of them may have got the bus. If no release follows for long, the last one sleeps too.
 #[derive(Drop)]
 pub struct BusWaiters {
     counts: CachePadded<Counts>,
@@ -45,7 +47,10 @@ pub struct BusWaiters {
 }
 
 impl BusWaiters {
-    /// For so many processors, none of which waits.
+    /// Returns the shared state for `count` processors, none of which waits.
+    ///
+    /// # Errors
+    /// `AllocError` if an allocation fails.
     pub fn new(alloc: Global, count: usize) -> Result<BusWaiters, AllocError> {
         let mut sleepers = Vec::with_capacity(alloc, count)?;
         for _ in 0..count {
@@ -63,14 +68,15 @@ impl BusWaiters {
         })
     }
 
-    /// How often the bus was given back by now. It is asked before the arbiter is, so that no release
+    /// Returns the number of releases so far. Read it before asking the arbiter, so that no release
     /// after the arbiter's reply is missed.
     pub fn releases(&self) -> u64 {
         self.counts.releases.load(Ordering::SeqCst)
     }
 
-    /// The processor gave the bus back. Where all who wait for it sleep, one of them is woken. If it is
-    /// one of two, and had to wait for the bus, it stands aside for a while.
+    /// Records that the processor released the bus. If processors wait and all of them sleep, it
+    /// wakes one of them. If there are two processors and this one had to wait for the bus, it
+    /// defers to the other for a while.
     #[inline(always)]
     pub fn release(&self, wait_state: &mut WaitState) {
         if self.sleepers.len() < ALONE {
@@ -87,8 +93,9 @@ impl BusWaiters {
         }
     }
 
-    /// A round of waiting, after the arbiter told this processor to wait: until the bus was given back
-    /// more often than `seen`, but not for long.
+    /// Waits for one round, after the arbiter replied `Waiting`: until the number of releases
+    /// differs from `seen`, or for a bounded time. `who` is the processor's place among the `count`
+    /// processors.
     #[cold]
     #[inline(never)]
     pub fn wait<R: Wait>(&self, rt: &R, who: usize, seen: u64, wait_state: &mut WaitState) {
@@ -106,7 +113,7 @@ impl BusWaiters {
         }
     }
 
-    /// The processor has the bus, and waits no more.
+    /// Records that the processor got the bus, so it no longer waits.
     #[inline(always)]
     pub fn leave(&self, wait_state: &mut WaitState) {
         if wait_state.has_begun() {
@@ -115,9 +122,9 @@ impl BusWaiters {
         }
     }
 
-    /// Lets the other of two use the bus, for a while or until it is given back no more, unless the other
-    /// stands aside. To hand the bus over takes longer than a transfer, so it is not to go from one to
-    /// the other with each.
+    /// Lets the other of two processors use the bus for a while, until its releases stop, unless
+    /// the other one defers too. A change of the bus between threads takes longer than a transfer,
+    /// so one processor makes several transfers before the other does.
     #[cold]
     #[inline(never)]
     fn stand_aside(&self) {
@@ -138,27 +145,27 @@ impl BusWaiters {
         self.counts.aside.store(false, Ordering::SeqCst);
     }
 
-    /// Whether more than one may wait at a time, so that it is counted who waits awake.
+    /// Whether more than one processor may wait at a time, so that awake processors are counted.
     #[inline(always)]
     fn counts_awake(&self) -> bool {
         self.sleepers.len() > ALONE
     }
 
-    /// One more waits awake.
+    /// Counts one more processor that waits awake.
     fn come_awake(&self) {
         if self.counts_awake() {
             self.counts.awake.fetch_add(1, Ordering::SeqCst);
         }
     }
 
-    /// One less does. Answers whether another is left.
+    /// Counts one processor fewer that waits awake. Returns whether another one remains.
     #[inline(always)]
     fn leave_awake(&self) -> bool {
         self.counts_awake() && self.counts.awake.fetch_sub(1, Ordering::SeqCst) > 1
     }
 
-    /// Pauses until the bus was given back more often than `seen`. Where that takes long it yields the
-    /// processor to another thread, once. Answers whether the bus was given back.
+    /// Polls until the number of releases differs from `seen`. After `PAUSES` polls it yields the
+    /// thread once. Returns whether a release came.
     fn pause(&self, seen: u64) -> bool {
         for _ in 0..PAUSES {
             if self.releases() != seen {
@@ -170,8 +177,8 @@ impl BusWaiters {
         self.releases() != seen
     }
 
-    /// Sleeps, unless the bus was given back more often than `seen`, or, where it is not to sleep as the
-    /// last one, nobody else who waits is awake.
+    /// Sleeps, unless a release came since `seen`, or no other waiting processor is awake and
+    /// `as_last` is false.
     fn sleep<R: Wait>(&self, rt: &R, who: usize, seen: u64, as_last: bool) {
         let Some(sleeper) = self.sleepers.get(who) else {
             return;

@@ -1,4 +1,4 @@
--- A board of quad bytes and read-modify-writes answers each stage's command.
+-- A board of quad bytes and read-modify-writes answers the command of each stage.
 use Rattle.std.proofs.Common.{◌≡◌, ◌≢◌, ℕ, ◌+◌, ◌%◌, ◌≤◌, true, List, [], ◌∷◌, length, Some, refl, sym, arith}
 use Rattle.std.proofs.lemmas.Bool.{and_from, le-leb, eq-eqb}
 use Rattle.vme_lanes.specs.Rows.{location_at}
@@ -17,7 +17,7 @@ use Rattle.vme_shared.specs.declared.stage.Stage.TheVariants.{Locks, ReadsPutCou
 use Rattle.vme_shared.specs.Mailboxes.{raised}
 use Rattle.vme_mailbox_laws.proofs.Stages.{stage_command}
 
--- what is answered is no bus error
+-- the reply to a command that the board can answer is no bus error
 read_answered : (board : Board) (at len : ℕ) → can_answer board (Read at len) ≡ true → (step board (Read at len)).0 ≢ Berr
 read_answered board at len can error = let is = rw can at error in cc
 
@@ -56,7 +56,7 @@ module _ (board : Board) (m : BoardMailbox) (lies : LiesIn board m) where
       let within = lies.within in
       and_from _ _ (le-leb (places.lock_at m + 1) (length board.bytes) (omega arith)) (rw (byte_there (places.lock_at m) lies.place) refl)
 
-  -- each stage's command is answered
+  -- the reply to each stage's command is no bus error
   pub stage_answered : (stage : Stage) → (step board (stage_command m stage)).0 ≢ Berr
   stage_answered Locks error = let is = rw set_answered at error in cc
   stage_answered ReadsPutCount error = let place = lies.place in read_answered board _ 4 (quad (places.put_count_at m) (omega arith) (omega arith)) error

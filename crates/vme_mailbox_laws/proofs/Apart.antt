@@ -1,4 +1,4 @@
--- A command whose bytes are among those of a place that shares none with a mailbox's does not touch the mailbox.
+-- A command does not touch a mailbox if its bytes are among those of a range that shares none with the mailbox.
 use Rattle.std.proofs.Common.{◌≡◌, ℕ, ◌+◌, ◌<◌, ◌≤◌, true, false, sym, ◌∙◌, arith}
 use Rattle.std.specs.Prelude.{nat_lt, ◌&&◌, min, max}
 use Rattle.std.proofs.lemmas.Bool.{and_parts, and_from, ltb-true, lt-ltb, eq-eqb, true≢false, false_from_ne_true}
@@ -8,13 +8,13 @@ use Rattle.vme_shared.specs.MailboxSteps.{BoardMailbox, end_of, offset_of, len_o
 use Rattle.vme_script.specs.declared.board_range.BoardRange.{BoardRange}
 use Rattle.vme_script.specs.BoardRanges.{share}
 
--- a command to the board at a place has its bytes among these
+-- the bytes of a command to a board are among those of a range
 pub record IsAmong (bytes : BoardRange) (board : ℕ) (c : Command) : Type 0 where
   pub there : bytes.board ≡ board
   pub from : bytes.offset ≤ offset_of c
   pub upto : offset_of c + len_of c ≤ bytes.offset + bytes.len
 
--- places on one board, each with a byte, of which each begins before the other ends
+-- two ranges of one board share a byte if each begins before the other ends
 share_by : (a b : BoardRange) → a.board ≡ b.board → 0 < a.len → 0 < b.len → a.offset < b.offset + b.len → b.offset < a.offset + a.len
     → share a b ≡ true
 share_by a b board some_a some_b before behind =

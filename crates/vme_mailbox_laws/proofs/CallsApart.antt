@@ -1,4 +1,4 @@
--- What a line calls is a call of what is attempted for it.
+-- A call of a line is a call of its attempt.
 use Rattle.std.proofs.Common.{◌≡◌, ℕ, List, Result, Ok, Err}
 use Rattle.vme_cycle.specs.declared.fault.CycleFault.{CycleFault}
 use Rattle.vme_core.specs.declared.event.EventReply.{EventReply}
@@ -14,15 +14,15 @@ use Rattle.vme_line_task.specs.Scripts.{Attempt, Transferring, Awaiting, Sharing
 use Rattle.vme_line_task.specs.Tables.{Invokes, attempts_of, lawful_next, next_given, given_of, line_next}
 use Rattle.vme_line_task.proofs.lemmas.Below.{moves_makes, waits_makes, shares_makes}
 
--- a task makes a call, by something that it was given
+-- a job makes a call, for some replies
 abbrev pub JobCalls : Job → Call → Type 0
 JobCalls job call = (g : Given) × (next_of job g ≡ tasks.Invokes call)
 
--- and so does what is asked of a lock or a mailbox
+-- a job of a lock or a mailbox makes a call, for some replies
 abbrev pub SharedCalls : SharedJob → Call → Type 0
 SharedCalls s call = (g : Given) × (shared_next s g ≡ shares.Invokes call)
 
--- and what is attempted, if it is not refused
+-- an attempt makes a call, if it is not refused
 abbrev pub Calls : Result Attempt CycleFault → Call → Type 0
 Calls (Ok (Transferring job)) call = JobCalls job call
 Calls (Ok (Awaiting job want)) call = JobCalls job call

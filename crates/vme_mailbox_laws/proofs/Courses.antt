@@ -1,4 +1,4 @@
--- A put or a take stands in the phase in which its commands have left the mailbox.
+-- A put or a take is in the phase that its commands lead to.
 use Rattle.std.proofs.Common.{◌≡◌, ℕ, ◌≤◌, ◌⊎◌, true, List, [], ◌∷◌, ◌++◌, Option, Some, None, Result, Ok, Err, refl, ap, sym, subst, ◌∙◌, inl, inr}
 use Rattle.std.specs.Prelude.{◌==◌}
 use Rattle.std.proofs.lemmas.Bool.{eq-eqb}
@@ -40,14 +40,14 @@ use Rattle.vme_mailbox_laws.proofs.Single.{IsGoodTo, Waits, Answered, reply_byte
 use Rattle.vme_mailbox_laws.proofs.Stages.{IsStage, is_stage, stage_command, stage_expected}
 use Rattle.vme_mailbox_laws.proofs.Rows.{Before, Words, Leads, IsFine, IsFineEnd, goes}
 
--- a stage's datum is to be answered yet, in the phase before it; or it was, and leads on
+-- a stage in this phase: its datum has no reply yet, or the stage's outcome leads on
 abbrev pub AtWork : BoardMailbox → SharedRequest → Stage → BusJob → Given → Phase → List ℕ → List ℕ → Type 0
 AtWork m request stage bus g phase put taken =
     (Waits bus g × (Before m request stage phase × Words request stage put taken))
     ⊎ ((reply : Reply) × Answered bus reply g
     × Leads m request (step_after request stage (expected_outcome (stage_expected stage) (reply_bytes reply))) phase put taken)
 
--- a stage at work, in a phase
+-- a stage at work, with its phase and words
 pub record IsAt (m : BoardMailbox) (board : ℕ) (request : SharedRequest) (stage : Stage) (job : Job) (g : Given) (at : Option Phase)
     (put taken : List ℕ) : Type 0 where
   pub phase : Phase
@@ -55,19 +55,19 @@ pub record IsAt (m : BoardMailbox) (board : ℕ) (request : SharedRequest) (stag
   pub own : IsStage m board stage job
   pub work : AtWork m request stage own.bus g phase put taken
 
--- an end: it has left the mailbox
+-- an end: the mailbox is left, and the words are those of the outcome
 pub record IsOver (request : SharedRequest) (end : SharedOutcome) (at : Option Phase) (put taken : List ℕ) : Type 0 where
   pub is : at ≡ Some Idle
   pub put_is : put ≡ put_reported end request
   pub taken_is : taken ≡ taken_reported end
   pub fine : IsFineEnd end
 
--- how far it has come stands for its phase and its words
+-- the progress of a put or a take matches its phase and its words
 abbrev pub Stands : BoardMailbox → ℕ → SharedRequest → Progress → Option Phase → List ℕ → List ℕ → Type 0
 Stands m board request (At stage job g) at put taken = IsAt m board request stage job g at put taken
 Stands m board request (Over end) at put taken = IsOver request end at put taken
 
--- where nothing went to the board
+-- a step without a command to the board keeps the phase
 unmoved : (m : BoardMailbox) (board : ℕ) (request : SharedRequest) (progress : Progress) (at after : Option Phase) (put taken : List ℕ) → after ≡ at
     → Stands m board request progress at put taken
     → Stands m board request progress after (put ++ put_by at after) (taken ++ taken_by at after)
@@ -75,7 +75,7 @@ unmoved m board request progress at after put taken same stands =
     rw same (subst (λ ps. Stands m board request progress at ps (taken ++ taken_by at at)) (sym (ap (λ ws. put ++ ws) (no_put at) ∙ append-nil put))
     (subst (λ ts. Stands m board request progress at put ts) (sym (ap (λ ws. taken ++ ws) (no_taken at) ∙ append-nil taken)) stands))
 
--- a mailbox in use has a slot
+-- a mailbox of a put or a take has a slot
 asked_slot : (request : SharedRequest) (mailbox : Mailbox) → mailbox_in request ≡ Some mailbox → IsAsked request → 1 ≤ mailbox.slots
 asked_slot (asked.Lock am addr) mailbox is formed = absurd cc
 asked_slot (asked.Unlock am addr) mailbox is formed = absurd cc
@@ -104,7 +104,7 @@ module _ (s : SharedJob) (board : ℕ) (m : BoardMailbox) (uses : UsesMailbox s 
   stepped (Finish end) at phase put taken there leads =
       record { is = there ∙ ap Some leads.0; put_is = leads.1; taken_is = leads.2; fine = leads.3 }
 
-  -- the first stage
+  -- the first stage begins in the idle phase
   pub opening : Stands m board s.request (progress_of s []) (Some Idle) [] []
   opening = by_request s.request refl
     where
@@ -119,7 +119,7 @@ module _ (s : SharedJob) (board : ℕ) (m : BoardMailbox) (uses : UsesMailbox s 
           let first : first_stage s.request ≡ Locks = ap first_stage same in
           rw first (begun Locks [] (stage_job s Locks) (Some Idle) Idle [] [] refl refl refl (refl, refl) (λ bus. waits_fresh bus))
 
-  -- one thing more is given
+  -- the progress after one more reply matches its phase and its words
   abbrev pub Moved : Progress → Option EventReply → Option Phase → List ℕ → List ℕ → Type 0
   Moved progress last at put taken =
       Stands m board s.request (progress_given s last progress) (phase_given m board (next_at progress) last at)
@@ -131,7 +131,7 @@ module _ (s : SharedJob) (board : ℕ) (m : BoardMailbox) (uses : UsesMailbox s 
   moved_to progress to last at next put taken goes_to phase_is stands =
       rw goes_to (subst (λ p. Stands m board s.request to p (put ++ put_by at p) (taken ++ taken_by at p)) (sym phase_is) stands)
 
-  -- the datum is not yet answered then: the stage stays at work
+  -- a stage whose datum has no reply yet stays at work
   waits_stays : (stage : Stage) (job : Job) (bus : BusJob) (g : Given) → job ≡ Bus bus → Waits bus g
       → progress_by s stage job g (next_of job g) ≡ At stage job g
   waits_stays stage job bus g made waits =
@@ -143,7 +143,7 @@ module _ (s : SharedJob) (board : ℕ) (m : BoardMailbox) (uses : UsesMailbox s 
         | inr (inr (inr moves)) ↦ ap (progress_by s stage job g) moves
       ]
 
-  -- and so it does while the datum goes to no board
+  -- a stage whose datum goes to no board stays at work
   waits_on : (stage : Stage) (job : Job) (g : Given) (at : Option Phase) (put taken : List ℕ) (last : Option EventReply)
       (stands : IsAt m board s.request stage job g at put taken) → Waits stands.own.bus (last ∷ g)
       → Before m s.request stage stands.phase × Words s.request stage put taken
@@ -153,7 +153,7 @@ module _ (s : SharedJob) (board : ℕ) (m : BoardMailbox) (uses : UsesMailbox s 
       (unmoved m board s.request (At stage job (last ∷ g)) at at put taken refl
       (record { phase = stands.phase; is = stands.is; own = stands.own; work = inl (waits, before) }))
 
-  -- the arbiter is asked, or looked to
+  -- the arbiter replies to a request or a look
   turned_on : (stage : Stage) (job : Job) (g : Given) (at : Option Phase) (put taken : List ℕ) (last : Option EventReply) (call : Call)
       (stands : IsAt m board s.request stage job g at put taken) → Waits stands.own.bus g
       → Before m s.request stage stands.phase × Words s.request stage put taken
@@ -210,7 +210,7 @@ module _ (s : SharedJob) (board : ℕ) (m : BoardMailbox) (uses : UsesMailbox s 
         work = inr (reply, answered, rw stands.is leads);
       })
 
-  -- the bus is given back, and the stage's outcome leads on
+  -- the bus is released, and the stage's outcome leads on
   freed : (stage : Stage) (job : Job) (g : Given) (at : Option Phase) (put taken : List ℕ) (last : Option EventReply) (reply : Reply)
       (stands : IsAt m board s.request stage job g at put taken) → Answered stands.own.bus reply g
       → Leads m s.request (step_after s.request stage (expected_outcome (stage_expected stage) (reply_bytes reply))) stands.phase put taken
@@ -231,7 +231,7 @@ module _ (s : SharedJob) (board : ℕ) (m : BoardMailbox) (uses : UsesMailbox s 
       (unmoved m board s.request (step_begun s (step_after s.request stage outcome)) at at put taken refl
       (stepped (step_after s.request stage outcome) at stands.phase put taken stands.is leads))
 
-  -- it rests until its first call
+  -- a stage before its first call
   called : (stage : Stage) (job : Job) (g : Given) (at : Option Phase) (put taken : List ℕ) (last : Option EventReply)
       (stands : IsAt m board s.request stage job g at put taken) → Waits stands.own.bus g
       → Before m s.request stage stands.phase × Words s.request stage put taken → next_of job g ≡ tasks.NotStarted
@@ -243,7 +243,7 @@ module _ (s : SharedJob) (board : ℕ) (m : BoardMailbox) (uses : UsesMailbox s 
       waits_on stage job g at put taken None stands (waits_called stands.own.bus g waits rests_bus) before
       (ap (λ n. phase_given m board (task_shown n) None at) rests)
 
-  -- whatever stage is at work
+  -- one more reply, at any stage
   pub moves : (progress : Progress) (last : Option EventReply) (at : Option Phase) (put taken : List ℕ) → Stands m board s.request progress at put taken
       → IsGood (next_at progress) last → IsCount (phase_given m board (next_at progress) last at) → Moved progress last at put taken
   moves (Over end) last at put taken stands good count = unmoved m board s.request (Over end) at at put taken refl stands
@@ -292,7 +292,7 @@ module _ (s : SharedJob) (board : ℕ) (m : BoardMailbox) (uses : UsesMailbox s 
         | inr answered ↦ leads_count (step_after s.request stage (expected_outcome (stage_expected stage) (reply_bytes answered.0))) stands.phase put taken answered.2
       ])
 
-  -- a command with a good reply goes by the rows
+  -- a command with a good reply follows the protocol
   datum_goes : (stage : Stage) (job : Job) (g : Given) (at : Option Phase) (put taken : List ℕ) (reply : Reply)
       (stands : IsAt m board s.request stage job g at put taken) → Waits stands.own.bus g
       → Before m s.request stage stands.phase × Words s.request stage put taken
@@ -329,7 +329,7 @@ module _ (s : SharedJob) (board : ℕ) (m : BoardMailbox) (uses : UsesMailbox s 
             let other : Invokes (done_call stands.own.bus) ≡ Invokes (OnBoard x command) = ap task_shown (sym answered.1.next) ∙ to_job in absurd cc
       ]
 
-  -- by all that was given
+  -- the progress matches its phase and its words, for all good replies
   pub stands_along : (given : Given) → AllGood s given → AllCounts m board s given
       → Stands m board s.request (progress_of s given) (phase_along m board s given) (words_given put_by m board s given) (words_given taken_by m board s given)
   stands_along [] good counts = opening

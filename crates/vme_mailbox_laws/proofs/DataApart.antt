@@ -24,7 +24,7 @@ use Rattle.vme_script.specs.declared.board_range.BoardRange.{BoardRange}
 use Rattle.vme_script.specs.Bytes.{transfer_bytes, request_bytes}
 use Rattle.vme_mailbox_laws.proofs.Apart.{IsAmong}
 
--- the command of a datum is at the datum's place
+-- the command of a datum is at the place of the datum
 at_place : (request : Request) (i at : ℕ) → offset_of (datum_command request i at) ≡ at
 at_place (requests.Read am addr n) i at = refl
 at_place (requests.Write am addr bytes) i at = refl
@@ -36,7 +36,7 @@ at_place (requests.Modify am addr n f) i at = refl
 cut_most : (bytes : List ℕ) (from n : ℕ) → length (slice_range bytes from (from + n)) ≤ n
 cut_most bytes from n = grind (arith, common_steps)
 
--- and has at most its bytes
+-- the command of a datum has at most the bytes of the datum
 at_most : (request : Request) (i at : ℕ) → is_counted request ≡ true
     → len_of (datum_command request i at) ≤ datum_len request
 at_most (requests.Read am addr n) i at counted = omega arith
@@ -49,7 +49,7 @@ at_most (requests.BlockFill am addr n count bytes) i at counted =
     omega arith
 at_most (requests.Modify am addr n f) i at counted = omega arith
 
--- datum i of some ends within all
+-- datum i of `count` lies within all data
 upto_span : (i n count : ℕ) → i < count → i * n + n ≤ n * count
 upto_span i n count less =
     let upto : n * suc i ≤ n * count = mul-le-mul_left n less in
@@ -59,7 +59,7 @@ upto_span i n count less =
 same_command : (c d : Command) → Some c ≡ Some d → c ≡ d
 same_command c d same = cc
 
--- what a transfer sends to a board is among the bytes of its request
+-- a command that a transfer sends to a board is among the bytes of its request
 pub sent : (entries : List Entry) (slot level : ℕ) (request : Request) (t : Transfer) (g : Given) (x : ℕ) (c : Command)
     → transfer_of request ≡ Ok t → next_of (bus_job entries slot level t) g ≡ Invokes (OnBoard x (Some c))
     → (bytes : BoardRange) × (request_bytes entries request ≡ Some bytes) × IsAmong bytes x c

@@ -1,4 +1,4 @@
--- Which commands go to a board, whatever was given: each the datum of its stage's transfer.
+-- Each command to a board is the datum of its stage's transfer, whatever the replies are.
 use Rattle.std.proofs.Common.{◌≡◌, ℕ, ◌+◌, ◌*◌, ◌≤◌, true, [], ◌∷◌, Option, Some, None, Result, Ok, Err, refl, ap, sym, subst, ◌∙◌, arith}
 use Rattle.vme_am.specs.Codes.{CodeRow, read_code}
 use Rattle.vme_cycle.specs.declared.fault.CycleFault.{CycleFault}
@@ -38,7 +38,7 @@ use Rattle.vme_mailbox_laws.proofs.Stages.{shape, own_request, distance, distanc
 use Rattle.vme_mailbox_laws.proofs.Courses.{some_slot}
 use Rattle.vme_mailbox_laws.proofs.Answers.{stage_answered}
 
--- a stage at work has its own bus task
+-- a stage at work has its own bus job
 abbrev OwnJob : SharedJob → Progress → Type 0
 OwnJob s (At stage job g) = stage_job s stage ≡ Ok job
 OwnJob s (Over end) = Unit {0}
@@ -64,7 +64,7 @@ own_job : (s : SharedJob) (given : Given) → OwnJob s (progress_of s given)
 own_job s [] = own_begun s (first_stage s.request) [] (stage_job s (first_stage s.request)) refl
 own_job s (last ∷ before) = own_given s last (progress_of s before) (own_job s before)
 
--- a request's one datum goes to the board that its address selects
+-- the one datum of a request goes to the board that its address selects
 record Sent (s : SharedJob) (request : Request) (x : ℕ) (command : Option Command) : Type 0 where
   code : CodeRow
   row : read_code (code_of request) ≡ Ok code
@@ -116,7 +116,7 @@ sent_at s (At stage job g) x command own makes = (
 )
 sent_at s (Over end) x command own makes = absurd cc
 
--- whatever was given
+-- each command to a board is the datum of a stage
 sent : (s : SharedJob) (given : Given) (x : ℕ) (command : Option Command) → shared_next s given ≡ Invokes (OnBoard x command)
     → (stage : Stage) × Sent s (stage_request s.request stage) x command
 sent s given x command makes = sent_at s (progress_of s given) x command (own_job s given) makes
@@ -124,7 +124,7 @@ sent s given x command makes = sent_at s (progress_of s given) x command (own_jo
 same_place : (p q : ℕ × ℕ) → Some p ≡ Some q → p ≡ q
 same_place p q same = cc
 
--- of a mailbox
+-- a command of a mailbox's stage goes to the mailbox's board
 mailbox_sent : (s : SharedJob) (mailbox : Mailbox) (board x : ℕ) (m : BoardMailbox) (stage : Stage) (command : Option Command)
     → LiesAt s.map mailbox board m → 1 ≤ m.slots → Sent s (mailbox_request mailbox stage) x command
     → (x ≡ board) × (command ≡ Some (stage_command m stage))
@@ -138,7 +138,7 @@ mailbox_sent s mailbox board x m stage command lies some out =
     let at : out.offset ≡ m.offset + distance m stage = ap (λ p. p.1) same in
     (ap (λ p. p.0) same, out.own ∙ ap (λ a. Some (datum_command (mailbox_request mailbox stage) 0 a)) at ∙ ap Some form.own)
 
--- the board of its mailbox gets the commands of its stages
+-- the board of the mailbox gets the commands of the stages
 pub stage_commands : (s : SharedJob) (given : Given) (mailbox : Mailbox) (board x : ℕ) (m : BoardMailbox) (command : Option Command)
     → mailbox_in s.request ≡ Some mailbox → LiesAt s.map mailbox board m → 1 ≤ m.slots
     → shared_next s given ≡ Invokes (OnBoard x command)
@@ -160,7 +160,7 @@ touching s given board x m command uses makes =
     let own = commands s given board x m command uses makes in
     (own.0, (stage_command m own.1.0, own.1.1, stage_touches m own.1.0 (some_slot s board m uses)))
 
--- and answered
+-- the board of the mailbox gives good replies
 pub answered : (s : SharedJob) (given : Given) (board x : ℕ) (m : BoardMailbox) (command : Option Command) (memory : Board) → UsesMailbox s board m
     → LiesIn memory m → shared_next s given ≡ Invokes (OnBoard x command)
     → IsGood (shared_next s given) (Some (replies.Board (command_step memory command).1))
@@ -173,7 +173,7 @@ answered s given board x m command memory uses lies makes =
     ) in
     rw makes (rw own.1.1 fine)
 
--- of a lock
+-- the command of a lock
 pub taken : (s : SharedJob) (given : Given) (am addr board : ℕ) (command : Option Command) → s.request ≡ asked.Lock am addr
     → shared_next s given ≡ Invokes (OnBoard board command) → GoesTo s.map am addr board (λ offset. Modify offset 1 Set) command
 taken s given am addr board command is makes =

@@ -1,4 +1,4 @@
--- In what phase a put or a take ends, and with which words.
+-- The phase in which a put or a take ends, and its words.
 use Rattle.std.proofs.Common.{◌≡◌, ℕ, true, List, Option, refl, ap, subst, ◌∙◌, inl, inr}
 use Rattle.std.specs.Prelude.{is_some}
 use Rattle.vme_master.specs.declared.job.Job.{Job}
@@ -13,7 +13,7 @@ use Rattle.vme_shared.specs.Tables.{SharedJob, Returns, Progress, At, Over, prog
 use Rattle.vme_mailbox_laws.specs.Along.{UsesMailbox, AllGood, AllCounts, phase_along, words_given}
 use Rattle.vme_mailbox_laws.proofs.Courses.{IsAt, IsOver, Stands, stands_along}
 
--- it always is in some phase
+-- a put or a take always is in some phase
 some_phase : (m : BoardMailbox) (board : ℕ) (request : SharedRequest) (progress : Progress) (at : Option Phase) (put taken : List ℕ)
     → Stands m board request progress at put taken → is_some at ≡ true
 some_phase m board request (At stage job g) at put taken stands = rw stands.is refl
@@ -35,7 +35,7 @@ goes_on_yet m board request stage job g at put taken outcome stands is =
       | inr answered ↦ let here = subst (λ n. task_shown n ≡ Returns outcome) (to_job ∙ answered.1.next) is in absurd cc
     ]
 
--- an end, where it has one
+-- the phase and the words at the end
 pub ends_in : (m : BoardMailbox) (board : ℕ) (request : SharedRequest) (progress : Progress) (at : Option Phase) (put taken : List ℕ)
     (outcome : SharedOutcome) → Stands m board request progress at put taken → next_at progress ≡ Returns outcome
     → IsOver request outcome at put taken

@@ -1,4 +1,4 @@
--- A mailbox is kept from one entry to the next, whoever makes it.
+-- Each entry, of any caller, keeps the invariant of a mailbox.
 use Rattle.std.proofs.Common.{◌≡◌, ℕ, ◌≤◌, true, false, List, ◌++◌, refl, ap, sym, subst, ◌∙◌, inl, inr, Option, Some, None}
 use Rattle.std.specs.Prelude.{is_some, ◌==◌, if◌then◌else◌}
 use Rattle.std.proofs.lemmas.Bool.{cases_Bool, cases_eq, eq-eqb, ne_eqb, cond-true, cond-false}
@@ -18,13 +18,13 @@ use Rattle.vme_shared.proofs.lemmas.Rows.{Went, went}
 use Rattle.vme_shared.proofs.lemmas.Quiet.{Quiet, quiet, quiet_same, busy, no_put, no_taken, stayed}
 use Rattle.vme_shared.proofs.lemmas.Ordered.{Holds}
 
--- what is there
+-- a phase that exists
 some_value : (phase : Option Phase) → is_some phase ≡ true → (p : Phase) × (phase ≡ Some p)
 some_value None is = absurd cc
 some_value (Some p) is = (p, refl)
 
 module _ (m : BoardMailbox) (some : 1 ≤ m.slots) (who : ℕ) (given : Option Command) (reply : Reply) (phases : ℕ → Option Phase) where
-  -- the phases after a command of one
+  -- the phases of all callers after a command of `who`
   abbrev moved : ℕ → Option Phase
   moved w = if who == w then after_command m (phases w) given reply else phases w
 
@@ -34,14 +34,14 @@ module _ (m : BoardMailbox) (some : 1 ≤ m.slots) (who : ℕ) (given : Option C
   moved_other : (w : ℕ) → (who ≡ w → ⊥) → moved w ≡ phases w
   moved_other w apart = let other : (who == w) ≡ false = ne_eqb who w apart in rw other refl
 
-  -- what is put and taken by it
+  -- the words that the command puts, and those that it takes
   abbrev puts_by : List ℕ
   puts_by = put_by (phases who) (after_command m (phases who) given reply)
 
   abbrev takes_by : List ℕ
   takes_by = taken_by (phases who) (after_command m (phases who) given reply)
 
-  -- it goes on alone, all others idle
+  -- the caller goes on, while all others are idle
   goes_on : (after put taken : List ℕ) (phase next : Phase) → phases who ≡ Some phase → after_command m (Some phase) given reply ≡ Some next
       → Went m after put taken phase next → ((w : ℕ) → (who ≡ w → ⊥) → phases w ≡ Some Idle)
       → Holds m after (put ++ puts_by) (taken ++ takes_by) moved
@@ -58,7 +58,7 @@ module _ (m : BoardMailbox) (some : 1 ≤ m.slots) (who : ℕ) (given : Option C
         others = λ w apart. moved_other w apart ∙ idle w apart;
       }
 
-  -- it stays idle, and another holds the mailbox on
+  -- the caller stays idle, while another holds the mailbox
   looks_on : (bytes after put taken : List ℕ) (holds : Holds m bytes put taken phases) → (holds.owner ≡ who → ⊥)
       → after_command m (Some Idle) given reply ≡ Some Idle → Quiet m bytes after → Holds m after (put ++ puts_by) (taken ++ takes_by) moved
   looks_on bytes after put taken holds apart goes still =
@@ -82,7 +82,7 @@ module _ (m : BoardMailbox) (some : 1 ≤ m.slots) (who : ℕ) (given : Option C
             ];
       }
 
-  -- the numbers of the mailbox stay, and so does its phase
+  -- the bytes of the mailbox and the caller's phase are unchanged
   rests : (bytes after put taken : List ℕ) → Holds m bytes put taken phases → Quiet m bytes after
       → ((phase : Phase) → after_command m (Some phase) given reply ≡ Some phase) → Holds m after (put ++ puts_by) (taken ++ takes_by) moved
   rests bytes after put taken holds still stays =
@@ -94,7 +94,7 @@ module _ (m : BoardMailbox) (some : 1 ≤ m.slots) (who : ℕ) (given : Option C
         | inr apart ↦ looks_on bytes after put taken holds apart (stays Idle) still
       ]
 
-  -- a command that touches the mailbox goes to a next phase
+  -- a command that touches the mailbox leads to a next phase
   next_of : (board : Board) (command : Command) (phase : Phase) → given ≡ Some command → touches m command ≡ true → reply ≡ (step board command).0
       → is_some (after_command m (phases who) given reply) ≡ true → phases who ≡ Some phase
       → (next : Phase)
@@ -108,7 +108,7 @@ module _ (m : BoardMailbox) (some : 1 ≤ m.slots) (who : ℕ) (given : Option C
       let next = some_value (after_command m (Some phase) given reply) there in
       (next.0, next.1, sym row ∙ next.1)
 
-  -- it is made by the one that holds the mailbox, or finds the mailbox free, or held by another
+  -- a command that touches the mailbox comes from its holder, finds it free, or finds it held by another
   touched : (board : Board) (command : Command) (put taken : List ℕ) → given ≡ Some command → touches m command ≡ true
       → reply ≡ (step board command).0 → is_some (after_command m (phases who) given reply) ≡ true → Holds m board.bytes put taken phases
       → Holds m (step board command).1.bytes (put ++ puts_by) (taken ++ takes_by) moved
@@ -141,7 +141,7 @@ module _ (m : BoardMailbox) (some : 1 ≤ m.slots) (who : ℕ) (given : Option C
             ]
       ]
 
--- any command of one
+-- any command of a caller keeps the invariant
 advance : (m : BoardMailbox) (some : 1 ≤ m.slots) (who : ℕ) (given : Option Command) (reply : Reply) (phases : ℕ → Option Phase) (board : Board)
     (put taken : List ℕ) → reply ≡ (answer board given).0 → is_some (after_command m (phases who) given reply) ≡ true
     → Holds m board.bytes put taken phases
@@ -158,7 +158,7 @@ advance m some who (Some command) reply phases board put taken replied goes hold
           (λ phase. cond-false (touches m command) (next_phase m phase (access_of command reply)) (Some phase) beside)
     ]
 
--- the same of an entry
+-- any entry keeps the invariant
 pub entry_holds : (m : BoardMailbox) (some : 1 ≤ m.slots) (e : Entry BoardCmd Reply) (phases : ℕ → Option Phase) (board : Board) (put taken : List ℕ)
     → e.reply ≡ (board_step board e.cmd).1 → is_some (after_entry m (phases e.who) e) ≡ true → Holds m board.bytes put taken phases
     → Holds m (board_step board e.cmd).0.bytes (put ++ put_by (phases e.who) (after_entry m (phases e.who) e))

@@ -1,4 +1,4 @@
--- Where the entries of each who lead by the rows, the whole history is proper.
+-- If the entries of each caller follow the protocol, the whole history is proper.
 use Rattle.std.proofs.Common.{◌≡◌, ℕ, ◌+◌, ◌≤◌, Bool, true, false, List, [], ◌∷◌, length, Option, Some, None, refl, ap, sym, subst, ◌∙◌, arith, inl, inr}
 use Rattle.std.specs.Prelude.{is_some, ◌==◌}
 use Rattle.std.proofs.lemmas.Bool.{cases_Bool, cases_eq, eq-eqb, eqb-true}
@@ -21,7 +21,7 @@ use Rattle.vme_mailbox_laws.specs.Along.{IsCount}
 use Rattle.vme_mailbox_laws.proofs.Held.{entry_holds}
 use Rattle.vme_mailbox_laws.proofs.Through.{IsAnswered, Wanted, behind, Through}
 
--- a put count that was read is that of the words put
+-- a put count that was read is the number of words put
 count_is : (m : BoardMailbox) (bytes put taken : List ℕ) (phase : Phase) → Kept m bytes put taken → Stands m bytes put taken phase → IsCount (Some phase)
 count_is m bytes put taken Idle kept stands = tt
 count_is m bytes put taken Locked kept stands = tt
@@ -89,12 +89,12 @@ lies_after : (m : BoardMailbox) (board : Board) (cmd : BoardCmd) → LiesIn boar
 unfolding answer_given
 lies_after m board cmd lies = lies_on m board (command_given cmd) lies
 
--- the words and the phase of each who are what is wanted
+-- the entries of a caller follow the protocol and reach the goal
 pub record Led (m : BoardMailbox) (at : Option Phase) (es : List (Entry BoardCmd Reply)) (wanted : Wanted) : Type 0 where
   pub goes : is_some (phase_after m at es) ≡ true
   pub done : wanted (phase_after m at es) (words_along put_by m at es) (words_along taken_by m at es)
 
--- the entry of its who goes by the rows, and all others wait
+-- the entry of its caller follows the protocol, and all others wait
 own_first : (m : BoardMailbox) (phases : ℕ → Option Phase) (e : Entry BoardCmd Reply) (h : List (Entry BoardCmd Reply)) (wanted : ℕ → Wanted)
     → IsAnswered m e → Through m (phases e.who) (own e.who (e ∷ h)) (wanted e.who)
     → (is_some (after_entry m (phases e.who) e) ≡ true)
@@ -105,7 +105,7 @@ own_first m phases e h wanted answered through =
     let mine : own e.who (e ∷ h) ≡ e ∷ own e.who h = let same : (e.who == e.who) ≡ true = eq-eqb e.who e.who refl in rw same refl in
     subst (λ es. Through m (phases e.who) es (wanted e.who)) mine through answered
 
--- what is wanted of each who after an entry
+-- the goal of each caller after an entry
 abbrev choose : Bool → Wanted → Wanted → Wanted
 choose true own other = own
 choose false own other = other
@@ -133,7 +133,7 @@ through_after m phases e h wanted answered count through who =
       | inr other ↦ rw other (rw other at (through who))
     ]
 
--- what each is led to by an entry and those after it
+-- the entries of each caller from one entry on reach the goal
 led_before : (m : BoardMailbox) (phases : ℕ → Option Phase) (e : Entry BoardCmd Reply) (h : List (Entry BoardCmd Reply)) (wanted : ℕ → Wanted) (who : ℕ)
     → Led m (phases_after m phases e who) (own who h) (wanted_after m phases e wanted who) → Led m (phases who) (own who (e ∷ h)) (wanted who)
 led_before m phases e h wanted who led =
@@ -146,7 +146,7 @@ led_before m phases e h wanted who led =
       | inr other ↦ rw other (rw other at led)
     ]
 
--- from entry to entry
+-- all entries of each caller reach the goal
 pub led : (m : BoardMailbox) (some : 1 ≤ m.slots) (board : Board) (put taken : List ℕ) (phases : ℕ → Option Phase) (h : List (Entry BoardCmd Reply))
     (wanted : ℕ → Wanted) → LiesIn board m → Holds m board.bytes put taken phases → IsLegal board_step board h
     → ((who : ℕ) → Through m (phases who) (own who h) (wanted who)) → (who : ℕ) → Led m (phases who) (own who h) (wanted who)

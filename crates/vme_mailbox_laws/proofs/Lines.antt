@@ -1,4 +1,4 @@
--- A line that puts into a mailbox, or takes from it, goes by its rows; any other line leaves it.
+-- A line that puts into a mailbox or takes from it follows the protocol; any other line leaves the mailbox alone.
 use Rattle.std.proofs.Common.{◌≡◌, ℕ, true, false, List, [], ◌∷◌, ◌++◌, Option, Some, None, Ok, refl, ap, sym, subst, ◌∙◌, inl, inr}
 use Rattle.std.specs.Prelude.{is_some, ◌==◌, ◌&&◌, nat_lt}
 use Rattle.std.proofs.lemmas.Bool.{cases_Bool, and_parts, eqb-true}
@@ -38,7 +38,7 @@ use Rattle.vme_mailbox_laws.specs.Runs.{AllTurned}
 use Rattle.vme_mailbox_laws.proofs.Through.{Wanted, behind, Through}
 use Rattle.vme_mailbox_laws.proofs.Tasks.{IsIn, move_on}
 
--- a board's part of moves, of the first and the others
+-- a board's part of a run, for the first transition and the others
 pub part_cons : (x : ℕ) (m : Transition) (run : List Transition) → board_part x (m ∷ run) ≡ board_part x (m ∷ []) ++ board_part x run
 part_cons x m run = by_entry (board_entry x m.who m.event m.reply) refl
   where
@@ -46,19 +46,19 @@ part_cons x m run = by_entry (board_entry x m.who m.event m.reply) refl
     by_entry None is = rw is refl
     by_entry (Some e) is = rw is refl
 
--- a call of what is asked of a mailbox is the line's
+-- a call of the attempt is a call of the line
 shares_makes : (n : SharedNext) (call : Call) → shares_next n ≡ Invokes call → n ≡ shares.Invokes call
 shares_makes shares.NotStarted call is = absurd cc
 shares_makes (shares.Invokes other) call is = cc
 shares_makes (shares.Returns outcome) call is = absurd cc
 
--- and so is its end
+-- an end of the line is the end of its attempt
 pub shares_ends : (n : SharedNext) (answer : LineReply) → shares_next n ≡ Returns answer → (outcome : SharedOutcome) × (n ≡ shares.Returns outcome) × (answer ≡ Shared outcome)
 shares_ends shares.NotStarted answer is = absurd cc
 shares_ends (shares.Invokes call) answer is = absurd cc
 shares_ends (shares.Returns outcome) answer is = (outcome, refl, cc)
 
--- an end after which another attempt is made has put and taken nothing
+-- an attempt that is followed by another has put and taken nothing
 again_ends : (n : SharedNext) → next_wants_retry (shares_next n) ≡ true
     → (outcome : SharedOutcome) × (n ≡ shares.Returns outcome) × ((request : SharedRequest) → put_reported outcome request ≡ []) × (taken_reported outcome ≡ [])
 again_ends shares.NotStarted is = absurd cc
@@ -69,7 +69,7 @@ again_ends (shares.Returns shared.Empty) is = (shared.Empty, refl, λ request. r
 again_ends (shares.Returns outcome) is = absurd cc
 
 module _ (s : SharedJob) (board : ℕ) (m : BoardMailbox) (uses : UsesMailbox s board m) where
-  -- a fresh attempt
+  -- a new attempt begins in the idle phase
   begins : IsIn s board m uses (None ∷ []) (Some Idle) [] []
   begins =
       let rest : shared_next s [] ≡ shares.NotStarted = rests s uses.started in
@@ -78,7 +78,7 @@ module _ (s : SharedJob) (board : ℕ) (m : BoardMailbox) (uses : UsesMailbox s 
       subst (λ p. Stands m board s.request (progress_of s (None ∷ [])) p (put_by (Some Idle) p) (taken_by (Some Idle) p)) same
       (moves s board m uses (progress_of s []) None (Some Idle) [] [] (opening s board m uses) good (subst IsCount (sym same) tt))
 
-  -- where the attempt has ended, so that another is made, that one begins
+  -- after an attempt that is followed by another, the next one begins
   settles : (made : Attempts) (at : Option Phase) (put taken : List ℕ) → IsIn s board m uses made.given at put taken
       → IsIn s board m uses (next_attempt made (attempt_next (Sharing s) made.given)).given at put taken
   settles made at put taken stands =
@@ -93,7 +93,7 @@ module _ (s : SharedJob) (board : ℕ) (m : BoardMailbox) (uses : UsesMailbox s 
       ]
 
   module _ (config : Configuration) (who : ℕ) (line : Line) (is : line_attempt config who line ≡ Ok (Sharing s)) where
-    -- what the line's attempt at work was given
+    -- the replies that the current attempt of the line was given
     abbrev pub InLine : List EventReply → Option Phase → List ℕ → List ℕ → Type 0
     InLine replies at put taken = IsIn s board m uses (attempts_of (Sharing s) config.tries (given_of replies)).given at put taken
 
@@ -105,7 +105,7 @@ module _ (s : SharedJob) (board : ℕ) (m : BoardMailbox) (uses : UsesMailbox s 
     pub line_begins : InLine [] (Some Idle) [] []
     line_begins = settles (record { given = None ∷ []; left = config.tries }) (Some Idle) [] [] begins
 
-    -- all moves of the line
+    -- all transitions of the line follow the protocol
     pub line_moves : (before : List EventReply) (run : List Transition) (replies : List EventReply) (at : Option Phase) (put taken : List ℕ)
         (rest : List (Entry BoardCmd Reply)) (wanted : Wanted) → InLine before at put taken → Continues config who line before run replies → AllTurned run
         → ((next : Option Phase) (ps ts : List ℕ) → InLine replies next ps ts → Through m next rest (behind wanted ps ts))
@@ -123,7 +123,7 @@ module _ (s : SharedJob) (board : ℕ) (m : BoardMailbox) (uses : UsesMailbox s 
         line_moves (mv.reply ∷ before) run replies next ps ts rest wanted
         (settles (record { given = Some mv.reply ∷ made.given; left = made.left }) next ps ts after) goes.1 turned.1 leads))
 
-    -- the end of the line
+    -- the phase and the words at the end of the line
     pub line_over : (replies : List EventReply) (answer : LineReply) (at : Option Phase) (put taken : List ℕ) → InLine replies at put taken
         → line_next config who line replies ≡ Returns answer
         → (outcome : SharedOutcome) × (answer ≡ Shared outcome) × IsOver s.request outcome at put taken
@@ -138,7 +138,7 @@ beside : (m : BoardMailbox) (given : Option Command) (reply : Reply) → ((c : C
 beside m None reply alone = refl
 beside m (Some c) reply alone = rw (alone c refl) refl
 
--- a move of a line that leaves it alone
+-- a transition of a line that leaves the mailbox alone
 move_beside : (m : BoardMailbox) (board : ℕ) (who : ℕ) (event : Event) (reply : EventReply) (more : List (Entry BoardCmd Reply)) (wanted : Wanted)
     → ((c : Command) → call_of event ≡ OnBoard board (Some c) → touches m c ≡ false) → Through m (Some Idle) more wanted
     → Through m (Some Idle) (board_part board (move who event reply ∷ []) ++ more) wanted
@@ -158,7 +158,7 @@ move_beside m board who (asked.Board x cmd) (event_replies.Board reply) more wan
       | inr other ↦ rw other through
     ]
 
--- all moves of such a line
+-- all transitions of a line that leaves the mailbox alone
 pub moves_beside : (config : Configuration) (who : ℕ) (line : Line) (board : ℕ) (m : BoardMailbox) (before : List EventReply) (run : List Transition)
     (replies : List EventReply) (more : List (Entry BoardCmd Reply)) (wanted : Wanted) → LeavesAlone config who line board m
     → Continues config who line before run replies → Through m (Some Idle) more wanted → Through m (Some Idle) (board_part board run ++ more) wanted

@@ -1,4 +1,4 @@
--- A put or a take of another mailbox stays among that mailbox's bytes, which share none with those of the first.
+-- A put or a take of another mailbox stays among that mailbox's bytes, which share none with those of this one.
 use Rattle.std.proofs.Common.{◌≡◌, ℕ, ◌+◌, ◌-◌, ◌*◌, ◌≤◌, true, false, List, length, Option, Some, None, Result, Ok, Err, ap, sym, subst, ◌∙◌, arith, inl, inr}
 use Rattle.std.specs.Prelude.{nat_le, ◌==◌, option_map, slice_get}
 use Rattle.std.proofs.lemmas.Bool.{and_parts, leb-true, eq-eqb, true≢false, false_from_ne_true}
@@ -27,7 +27,7 @@ use Rattle.vme_mailbox_laws.proofs.Apart.{IsAmong}
 use Rattle.vme_mailbox_laws.proofs.CallsApart.{Calls}
 use Rattle.vme_mailbox_laws.proofs.SendsApart.{shared_calls}
 
--- the place of a mailbox has all its bytes
+-- the range of a mailbox has all its bytes
 found_len : (found : Option (ℕ × ℕ)) (len : ℕ) (place : BoardRange)
     → option_map (λ one. record { board = one.0; offset = one.1; len = len }) found ≡ Some place → place.len ≡ len
 found_len None len place is = absurd cc
@@ -46,7 +46,7 @@ unfolding range_at
 place_len entries mailbox place is = row_len entries (read_code mailbox.am) mailbox.addr (16 + 4 * mailbox.slots) place is
 
 module _ (config : Configuration) (lawful : IsLawful config) where
-  -- a mailbox that may be named is one of those that are declared
+  -- a mailbox that a line may name is declared
   pub declared : (box : ℕ) → has_box (Declared (length config.mailboxes)) box ≡ true
       → (other : Mailbox) × (slice_get config.mailboxes (box - 1) ≡ Some other) × (mailbox_at config box ≡ other) × (1 ≤ box)
   declared box may =
@@ -63,7 +63,7 @@ module _ (config : Configuration) (lawful : IsLawful config) where
         | inr past ↦ absurd (omega (arith, past.0, first, last))
       ]
 
-  -- and shares no byte with one of another number
+  -- mailboxes with different numbers share no byte
   pub others_apart : (box k : ℕ) (other mailbox : Mailbox) (theirs : IsLawfulMailbox config.boards other)
       (mine : IsLawfulMailbox config.boards mailbox) → slice_get config.mailboxes (box - 1) ≡ Some other → 1 ≤ box
       → slice_get config.mailboxes k ≡ Some mailbox → (box == k + 1) ≡ false → share theirs.place mine.place ≡ false
@@ -74,7 +74,7 @@ module _ (config : Configuration) (lawful : IsLawful config) where
       let equal : box ≡ k + 1 = omega arith in
       true≢false (sym (eq-eqb box (k + 1) equal) ∙ distinct))
 
-  -- what is asked of a mailbox stays among its bytes
+  -- the commands of a put or a take are among the bytes of its mailbox
   pub box_sends : (who : ℕ) (request : SharedRequest) (other : Mailbox) (theirs : IsLawfulMailbox config.boards other)
       (x : ℕ) (c : Command) → mailbox_in request ≡ Some other
       → Calls (shared_attempt config who request) (OnBoard x (Some c)) → IsAmong theirs.place x c

@@ -1,4 +1,4 @@
--- No mailbox that is reached by data or short access and lies wholly in a board of a lawful map is refused.
+-- No mailbox that is reached by data or short access and lies in a board of a lawful map is refused.
 use Rattle.std.proofs.Common.{◌≡◌, ℕ, ◌+◌, ◌-◌, ◌*◌, ◌%◌, ◌<◌, ◌≤◌, zero, suc, true, false, List, [], ◌∷◌, ◌++◌, length, Option, Some, None, Ok, refl, sym, subst, arith, inl, inr}
 use Rattle.std.specs.Prelude.{nat_lt, ◌==◌, ◌&&◌, is_none, is_some, flat_map, not, slice_get}
 use Rattle.std.specs.List.{list_any}
@@ -30,24 +30,24 @@ use Rattle.vme_shared.specs.Mailboxes.{IsMailbox, word_at, set_lock, read_word, 
 use Rattle.vme_mailbox_laws.specs.Along.{LiesAt}
 use Rattle.vme_script.specs.MailboxTables.{is_mailbox_code}
 
--- a code that reads as a row of data or short access
+-- a code reads as a row of data or short access
 record IsReached (am : ℕ) : Type 0 where
   row : CodeRow
   code : read_code am ≡ Ok row
   alone : is_block row.kind ≡ false
   data_or_short : is_program row.kind ≡ false
 
--- each of these codes is one
+-- each of these codes satisfies `IsReached`
 abbrev EachReached : List ℕ → Type 0
 EachReached [] = Unit {0}
 EachReached (code ∷ more) = IsReached code × EachReached more
 
--- a row's code is one
+-- the code of a row of data or short access satisfies `IsReached`
 reached_at : (row : CodeRow) → read_code row.code ≡ Ok row → is_block row.kind ≡ false → is_program row.kind ≡ false
     → IsReached row.code
 reached_at row code alone data_or_short = record { row = row; code = code; alone = alone; data_or_short = data_or_short }
 
--- and so are the six that reach a mailbox
+-- the six codes that reach a mailbox satisfy `IsReached`
 all_reached : EachReached (0x09 ∷ 0x0d ∷ 0x29 ∷ 0x2d ∷ 0x39 ∷ 0x3d ∷ [])
 unfolding read_code
 all_reached =
@@ -70,7 +70,7 @@ one_of am (code ∷ more) each is =
 reached : (am : ℕ) → is_mailbox_code am ≡ true → IsReached am
 reached am is = one_of am (0x09 ∷ 0x0d ∷ 0x29 ∷ 0x2d ∷ 0x39 ∷ 0x3d ∷ []) all_reached is
 
--- a request is not refused where no part of it is
+-- a request is not refused if no part of it is
 none_refused : (row : CodeRow) (request : Request) → read_code (code_of request) ≡ Ok row → is_block_request request ≡ false
     → is_block row.kind ≡ false → (is_some (function_of request) && is_program row.kind) ≡ false → is_counted request ≡ true
     → nat_lt (addresses_of row.space) (addr_of request + span_of request) ≡ false → is_none (first_location request) ≡ false
@@ -84,7 +84,7 @@ not_past limit last less = elim (leb_tells (suc limit) last) [ inl more ↦ absu
 no_first : (a b : Option CycleFault) → a ≡ None → b ≡ None → first_of (a ∷ b ∷ []) ≡ None
 no_first a b first second = rw (first, second) refl
 
--- the read-modify-write of the lock's byte
+-- the read-modify-write of the lock's byte is not refused
 lock_none : (am addr : ℕ) (is : IsReached am) → addr % 4 ≡ 0 → addr + 1 ≤ addresses_of is.row.space
     → refusal_in (transfer_of (set_lock am addr)) ≡ None
 lock_none am addr is aligned within =
@@ -92,14 +92,14 @@ lock_none am addr is aligned within =
     none_refused is.row (set_lock am addr) is.code refl is.alone is.data_or_short refl
     (not_past (addresses_of is.row.space) (addr + 1) within) (rw (any, own_found Byte0 addr (sym aligned)) refl)
 
--- the read of a word
+-- the read of a word is not refused
 word_none : (am addr : ℕ) (is : IsReached am) → addr % 4 ≡ 0 → addr + 4 ≤ addresses_of is.row.space
     → refusal_in (transfer_of (read_word am addr)) ≡ None
 word_none am addr is aligned within =
     none_refused is.row (read_word am addr) is.code refl is.alone refl refl
     (not_past (addresses_of is.row.space) (addr + 4) within) (rw (own_found Bytes03 addr (sym aligned)) refl)
 
--- an entry of a lawful map ends in its space
+-- an entry of a lawful map ends in its address space
 no_other : (a b : Option MapFault) (more : List (Option MapFault)) → first_of (a ∷ b ∷ more) ≡ None
     → (b ≡ None) × (first_of more ≡ None)
 no_other None None more none = (refl, none)
@@ -141,7 +141,7 @@ ends entries place entry none there =
 
 module _ (map : List Entry) (mailbox : Mailbox) (board : ℕ) (m : BoardMailbox) (lawful : maps.first_refusal map ≡ None)
     (lies : LiesAt map mailbox board m) (formed : IsMailbox mailbox) where
-  -- its last byte has an address of the space
+  -- the last byte of a mailbox has an address of the space
   inside : (row : CodeRow) → read_code mailbox.am ≡ Ok row → mailbox.addr + 16 + 4 * mailbox.slots ≤ addresses_of row.space
   inside row code =
       let last : 15 + 4 * mailbox.slots < 16 + 4 * m.slots = let same = lies.slots in omega arith in

@@ -1,4 +1,4 @@
--- Each stage's command, with a good reply, is the access that comes next.
+-- Each stage's command, with a good reply, is an access that may come next.
 use Rattle.std.proofs.Common.{◌≡◌, ◌≢◌, ℕ, ◌+◌, ◌-◌, ◌*◌, ◌%◌, ◌^◌, ◌≤◌, ◌<◌, true, false, List, [], ◌∷◌, ◌++◌, Option, Some, refl, ap, sym, subst, ◌∙◌, arith, inl, inr}
 use Rattle.std.specs.Prelude.{length, nat_le, ◌==◌}
 use Rattle.std.proofs.lemmas.Bool.{cases_Bool, and_from, and_left, eq-eqb, ne_eqb, eqb-true, eqb-false, lt-ltb, ltb-true, leb-false, and_parts}
@@ -29,7 +29,7 @@ use Rattle.vme_mailbox_laws.specs.Along.{mailbox_in, IsCount, put_reported, take
 use Rattle.vme_mailbox_laws.proofs.Single.{reply_bytes}
 use Rattle.vme_mailbox_laws.proofs.Stages.{stage_command, stage_expected, stage_touches}
 
--- the phase in which an unlock finds the mailbox
+-- the phase before an unlock
 abbrev pub BeforeUnlock : SharedOutcome → Phase → Type 0
 BeforeUnlock shared.Put phase = phase ≡ Counted
 BeforeUnlock (shared.Took word) phase = phase ≡ Counted
@@ -38,7 +38,7 @@ BeforeUnlock shared.Empty phase = (p : ℕ) × (t : ℕ) × (phase ≡ Both p t)
 BeforeUnlock shared.Spent phase = (p : ℕ) × (t : ℕ) × (phase ≡ Both p t)
 BeforeUnlock end phase = ⊥
 
--- and each stage
+-- the phase before each stage
 abbrev pub Before : BoardMailbox → SharedRequest → Stage → Phase → Type 0
 Before m request Locks phase = phase ≡ Idle
 Before m request ReadsPutCount phase = phase ≡ Locked
@@ -51,26 +51,26 @@ Before m request (ReadsWord t) phase = (p : ℕ) × (phase ≡ Both p t) × ((p 
 Before m request (RaisesTakeCount t word) phase = phase ≡ Fetched t word
 Before m request (Unlocks end) phase = BeforeUnlock end phase
 
--- the words that were put and taken until then
+-- the words that were put and taken before each stage
 abbrev pub Words : SharedRequest → Stage → List ℕ → List ℕ → Type 0
 Words request (Unlocks end) put taken = (put ≡ put_reported end request) × (taken ≡ taken_reported end)
 Words request stage put taken = (put ≡ []) × (taken ≡ [])
 
--- what a put or a take may end as without an error
+-- the outcomes of a put or a take that are no errors
 abbrev pub IsFineEnd : SharedOutcome → Type 0
 IsFineEnd end = (end ≢ shared.Berr) × (end ≢ shared.Denied)
 
--- where a step leads
+-- the progress that a step leads to matches its phase and its words
 abbrev pub Leads : BoardMailbox → SharedRequest → Step → Phase → List ℕ → List ℕ → Type 0
 Leads m request (Continue stage) phase put taken = Before m request stage phase × Words request stage put taken
 Leads m request (Finish end) phase put taken = (phase ≡ Idle) × (put ≡ put_reported end request) × (taken ≡ taken_reported end) × IsFineEnd end
 
--- a reply has the form that a stage wants, and is no bus error
+-- a reply has the form that a stage needs, and is no bus error
 pub record IsFine (m : BoardMailbox) (stage : Stage) (reply : Reply) : Type 0 where
   pub form : has_form (reply_len (stage_command m stage)) reply ≡ true
   pub good : reply ≢ Berr
 
--- the stage's access leads on
+-- the access of a stage leads to a next phase
 pub record Went (m : BoardMailbox) (request : SharedRequest) (stage : Stage) (phase : Phase) (put taken : List ℕ) (reply : Reply) : Type 0 where
   pub next : Phase
   pub is : after_command m (Some phase) (Some (stage_command m stage)) reply ≡ Some next
@@ -79,27 +79,27 @@ pub record Went (m : BoardMailbox) (request : SharedRequest) (stage : Stage) (ph
       → Leads m request (step_after request stage (expected_outcome (stage_expected stage) (reply_bytes reply))) next
       (put ++ put_by (Some phase) (Some next)) (taken ++ taken_by (Some phase) (Some next))
 
--- a write with its length and its number
+-- a place equals itself
 same_place : (at : ℕ) → (at == at) ≡ true
 same_place at = eq-eqb at at refl
 
--- the access of a stage that touches the mailbox
+-- the access of a stage touches the mailbox
 step_in : (m : BoardMailbox) (stage : Stage) (phase : Phase) (reply : Reply) (next : Option Phase) → 1 ≤ m.slots
     → next_phase m phase (access_of (stage_command m stage) reply) ≡ next
     → after_command m (Some phase) (Some (stage_command m stage)) reply ≡ next
 step_in m stage phase reply next some is = rw (stage_touches m stage some) is
 
--- the lock
+-- the lock byte was held exactly if its top bit was set
 locks_found : (bytes : List ℕ) → length bytes ≡ 1 → has_top_bit bytes ≡ nat_le 128 (number_of bytes)
 locks_found [] long = absurd (omega arith)
 locks_found (byte ∷ []) long = let is : byte ≡ 256 * 0 + byte = omega arith in ap (nat_le 128) is
 locks_found (byte ∷ other ∷ bytes) long = absurd (omega arith)
 
--- nothing more
+-- appending no words
 nothing : (words : List ℕ) → words ≡ [] → words ++ [] ≡ []
 nothing words none = ap (λ ws. ws ++ []) none
 
--- four bytes, read
+-- four bytes that were read are a word
 fine_four : (bytes : List ℕ) → (length bytes == 4) ≡ true → word_in bytes ≡ Some (number_of bytes)
 fine_four bytes long = rw long refl
 
@@ -152,7 +152,7 @@ module _ (m : BoardMailbox) (request : SharedRequest) (mailbox : Mailbox) (is : 
   row_reads_put_count Done fine none = let form = fine.form in absurd cc
   row_reads_put_count Berr fine none = absurd (fine.good refl)
 
-  -- where both counts are known
+  -- the step after both counts are known
   counted : (p t : ℕ) → p < 2 ^ 32 → put ≡ [] → taken ≡ []
       → Before m request (counted_stage request p t) (Both p t) × Words request (counted_stage request p t) (put ++ []) (taken ++ [])
   counted p t small no_put no_taken = by_request request is
@@ -199,7 +199,7 @@ module _ (m : BoardMailbox) (request : SharedRequest) (mailbox : Mailbox) (is : 
   row_reads_word p t Done other fine none = let form = fine.form in absurd cc
   row_reads_word p t Berr other fine none = absurd (fine.good refl)
 
-  -- a word does not lie where the lock does
+  -- a word does not lie at the lock
   no_unlock : (n x : ℕ) → is_unlock m (places.word_at m n) 4 x ≡ false
   no_unlock n x = and_left _ _ (and_left _ _ (ne_eqb (places.word_at m n) (places.lock_at m) (λ same. omega arith)))
 
@@ -245,7 +245,7 @@ module _ (m : BoardMailbox) (request : SharedRequest) (mailbox : Mailbox) (is : 
       refl (λ count. (refl, (nothing put none.0, ap (λ ws. ws ++ word ∷ []) none.1)))
   row_raises_take_count t word Berr fine none = absurd (fine.good refl)
 
-  -- an unlock, from where it may be made
+  -- an unlock, from each phase that allows it
   unlocked : (end : SharedOutcome) (phase : Phase) (reply : Reply) → IsFineEnd end → next_phase m phase (Writes (places.lock_at m) 1 0) ≡ Some Idle
       → put_by (Some phase) (Some Idle) ≡ [] → taken_by (Some phase) (Some Idle) ≡ []
       → IsFine m (Unlocks end) reply → Words request (Unlocks end) put taken → Went m request (Unlocks end) phase put taken reply
@@ -281,7 +281,7 @@ module _ (m : BoardMailbox) (request : SharedRequest) (mailbox : Mailbox) (is : 
       subst (λ p. Went m request (Unlocks shared.Spent) p put taken reply) (sym at.2) (row_unlocks_both shared.Spent at.0 at.1 reply (λ same. absurd cc, λ same. absurd cc) fine reported)
   row_unlocks end phase reply at fine reported = absurd at
 
-  -- each stage
+  -- each stage leads to a next phase
   pub goes : (stage : Stage) (phase : Phase) (reply : Reply) → Before m request stage phase → Words request stage put taken → IsFine m stage reply
       → Went m request stage phase put taken reply
   goes Locks phase reply at none fine = subst (λ p. Went m request Locks p put taken reply) (sym at) (row_locks reply fine none)

@@ -1,4 +1,4 @@
--- A processor's whole script goes by the rows of a mailbox, and puts and takes the words that its answers tell.
+-- A processor's whole script follows the protocol, and puts and takes the words that its replies report.
 use Rattle.std.proofs.Common.{◌≡◌, ℕ, true, false, List, [], ◌∷◌, ◌++◌, Option, Some, Ok, refl, ap, sym, subst, ◌∙◌, inl, inr}
 use Rattle.std.specs.Prelude.{if◌then◌else◌}
 use Rattle.std.proofs.lemmas.Bool.{cases_Bool, eqb-true}
@@ -29,7 +29,7 @@ use Rattle.vme_mailbox_laws.proofs.Through.{Wanted, behind, Through}
 use Rattle.vme_mailbox_laws.specs.Runs.{AllTurned}
 use Rattle.vme_mailbox_laws.proofs.Lines.{line_begins, line_moves, line_over, moves_beside, part_cons}
 
--- a put and a take of the mailbox use it
+-- a put of the mailbox uses it
 puts : (config : Configuration) (who box board word : ℕ) (m : BoardMailbox) → IsMailboxOf config box board m
     → UsesMailbox (shared_job config who (requests.Put (mailbox_at config box) word)) board m
 puts config who box board word m is =
@@ -40,7 +40,7 @@ takes : (config : Configuration) (who box board : ℕ) (m : BoardMailbox) → Is
 takes config who box board m is =
     record { mailbox = mailbox_at config box; asked = refl; lies = is.lies; formed = is.formed; started = is.lawful }
 
--- what a put tells
+-- the word that a put reports
 put_effect : (box word : ℕ) (mailbox : Mailbox) (outcome : SharedOutcome)
     → put_reported outcome (requests.Put mailbox word) ≡ reported_put (lines.Put box word) (Shared outcome)
 put_effect box word mailbox shared.Put = refl
@@ -55,7 +55,7 @@ taken_shows : (outcome : SharedOutcome) → taken_reported outcome ≡ reported_
 taken_shows (shared.Took word) = refl
 taken_shows outcome = refl
 
--- moves in two parts
+-- all replies of two runs satisfy `IsTurned`
 turned_parts : (a b : List Transition) → AllTurned (a ++ b) → AllTurned a × AllTurned b
 turned_parts [] b turned = (tt, turned)
 turned_parts (mv ∷ a) b turned = let parts = turned_parts a b turned.1 in ((turned.0, parts.0), parts.1)
@@ -67,19 +67,19 @@ part_append x (mv ∷ a) b =
     ∙ sym (append_assoc (board_part x (mv ∷ [])) (board_part x a) (board_part x b)) ∙ ap (λ es. es ++ board_part x b) (sym (part_cons x mv a))
 
 module _ (config : Configuration) (who box board : ℕ) (m : BoardMailbox) (is : IsMailboxOf config box board m) where
-  -- what is wanted after a line, of what is wanted at the end
+  -- the goal after a line, for a goal at the end
   abbrev After : Line → LineReply → List (Entry BoardCmd Reply) → Wanted → Type 0
   After line answer rest wanted =
       Through m (Some Idle) rest
       (behind wanted (if names box line then reported_put line answer else []) (if names box line then reported_taken answer else []))
 
-  -- where a put or a take is over
+  -- the end of a put or a take reaches the goal
   at_end : (request : SharedRequest) (outcome : SharedOutcome) (next : Option Phase) (ps ts : List ℕ) (rest : List (Entry BoardCmd Reply))
       (wanted : Wanted) → IsOver request outcome next ps ts
       → Through m (Some Idle) rest (behind wanted (put_reported outcome request) (taken_reported outcome)) → Through m next rest (behind wanted ps ts)
   at_end request outcome next ps ts rest wanted over through = rw (over.is, over.put_is, over.taken_is) through
 
-  -- a line with such an attempt
+  -- a line whose attempt is a put or a take
   shared_line : (line : Line) (s : SharedJob) (uses : UsesMailbox s board m) (run : List Transition) (answer : LineReply)
       (rest : List (Entry BoardCmd Reply)) (wanted : Wanted) → line_attempt config who line ≡ Ok (Sharing s) → LineTrace config who line run answer
       → AllTurned run
@@ -92,7 +92,7 @@ module _ (config : Configuration) (who box board : ℕ) (m : BoardMailbox) (is :
       let over = line_over s board m uses config who line attempt trace.replies answer next ps ts stands trace.ends in
       at_end s.request over.0 next ps ts rest wanted over.2 (leads over.0 over.1))
 
-  -- a line of any kind
+  -- any line
   one_line : (line : Line) (run : List Transition) (answer : LineReply) (rest : List (Entry BoardCmd Reply)) (wanted : Wanted)
       → (names box line ≡ false → LeavesAlone config who line board m) → LineTrace config who line run answer → AllTurned run
       → After line answer rest wanted → Through m (Some Idle) (board_part board run ++ rest) wanted

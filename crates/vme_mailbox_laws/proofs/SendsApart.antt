@@ -1,4 +1,4 @@
--- The commands of a line that is no put and no take are among the bytes that it names.
+-- The commands of a line that is neither a put nor a take are among the bytes that the line names.
 use Rattle.std.proofs.Common.{◌≡◌, ℕ, List, length, Option, Some, None, Result, Ok, Err, refl, ap, sym, ◌∙◌, arith}
 use Rattle.std.specs.Prelude.{option_map}
 use Rattle.vme_cycle.specs.declared.fault.CycleFault.{CycleFault}
@@ -31,11 +31,11 @@ use Rattle.vme_mailbox_laws.proofs.Apart.{IsAmong}
 use Rattle.vme_mailbox_laws.proofs.DataApart.{sent}
 use Rattle.vme_mailbox_laws.proofs.CallsApart.{JobCalls, SharedCalls, Calls}
 
--- a command to a board is among these bytes, if there are any
+-- a command to a board is among the bytes of a range, if there is one
 abbrev pub Among : Option BoardRange → ℕ → Command → Type 0
 Among named x c = (bytes : BoardRange) × (named ≡ Some bytes) × IsAmong bytes x c
 
--- over the bus
+-- a transfer over the bus
 by_transfer : (config : Configuration) (who : ℕ) (request : Request) (x : ℕ) (c : Command) (t : Transfer)
     → transfer_of request ≡ Ok t → JobCalls (transfer_job config who t) (OnBoard x (Some c))
     → Among (request_bytes (entries_of config.boards) request) x c
@@ -64,7 +64,7 @@ await_sends config who request want x c calls = by_result (transfer_of request) 
     by_result (Ok t) is calls = by_transfer config who request x c t is calls
     by_result (Err fault) is calls = absurd calls
 
--- to the local port of the own board
+-- a command to the local port of the processor's own board
 local_one : (who offset len x : ℕ) (c own : Command) → offset_of own ≡ offset → len_of own ≡ len
     → OnBoard x (Some c) ≡ OnBoard who (Some own) → Among (Some (record { board = who; offset = offset; len = len })) x c
 local_one who offset len x c own at long same =
@@ -90,7 +90,7 @@ local_sends who (given.LocalModify offset n f) x c own calls =
     (local_calls (record { board = who; cmd = given.LocalModify offset n f }) calls.0 (OnBoard x (Some c)) calls.1)
 local_sends who (given.Cycle signals at f) x c own calls = absurd own
 
--- what is asked of a lock or a mailbox, which is not refused
+-- a call of a lock or a mailbox that is not refused
 pub shared_calls : (config : Configuration) (who : ℕ) (request : SharedRequest) (call : Call)
     → Calls (shared_attempt config who request) call
     → SharedCalls (shared_job config who request) call × (shared_refusal request ≡ None)
@@ -111,7 +111,7 @@ transfer_there request none = by_result (transfer_of request) refl none
     by_result (Ok t) is none = (t, is)
     by_result (Err fault) is none = absurd cc
 
--- a command that goes where a request selects, with its bytes
+-- a command at the board and the offset that a request selects is among its bytes
 goes_among : (entries : List Entry) (request : Request) (x : ℕ) (command_at : ℕ → Command) (c : Command)
     → ((at : ℕ) → (offset_of (command_at at) ≡ at) × (len_of (command_at at) ≡ span_of request))
     → refusal_in (transfer_of request) ≡ None
@@ -136,7 +136,7 @@ goes_among entries request x command_at c each none to =
       record { there = refl; from = omega arith; upto = omega arith },
     )
 
--- a lock
+-- the command that sets a lock
 pub lock_sends : (config : Configuration) (who am addr x : ℕ) (c : Command)
     → Calls (shared_attempt config who (asked.Lock am addr)) (OnBoard x (Some c))
     → Among (request_bytes (entries_of config.boards) (set_lock am addr)) x c
@@ -145,7 +145,7 @@ lock_sends config who am addr x c calls =
     goes_among (entries_of config.boards) (set_lock am addr) x _ c (λ at. (refl, refl)) own.1
     (taken (shared_job config who (asked.Lock am addr)) own.0.0 am addr x (Some c) refl own.0.1)
 
--- and given back
+-- the command that clears a lock
 pub unlock_sends : (config : Configuration) (who am addr x : ℕ) (c : Command)
     → Calls (shared_attempt config who (asked.Unlock am addr)) (OnBoard x (Some c))
     → Among (request_bytes (entries_of config.boards) (clear_lock am addr)) x c

@@ -1,4 +1,4 @@
--- A bus task of one datum that is given good replies: what it does next, and what comes of it.
+-- A bus job of one datum with good replies: its next step and its outcome.
 use Rattle.std.proofs.Common.{◌≡◌, ◌≢◌, ℕ, ◌+◌, ◌⊎◌, List, [], ◌∷◌, ◌++◌, Option, Some, None, refl, ap, sym, subst, ◌∙◌, inl, inr}
 use Rattle.std.specs.Prelude.{IsTrue}
 use Rattle.vme_cycle.specs.Requests.{count_of}
@@ -20,14 +20,14 @@ reply_bytes (Bytes datum) = datum.items
 reply_bytes Done = []
 reply_bytes Berr = []
 
--- what is good to what a task does next
+-- a reply is good for the next step of a job
 abbrev pub IsGoodTo : Next → Option EventReply → Type 0
 IsGoodTo NotStarted last = last ≡ None
 IsGoodTo (Invokes call) None = ⊥
 IsGoodTo (Invokes call) (Some reply) = IsTrue (fits call reply) × (reply ≢ replies.Board Berr) × (reply ≢ replies.Bus turned.Denied)
 IsGoodTo (Returns outcome) last = Unit {0}
 
--- its datum was not yet answered: it rests, it asks or looks, or its datum goes to the board
+-- the datum has no reply yet: the job rests, requests the bus or looks, or sends its datum to the board
 pub record Waits (job : BusJob) (g : Given) : Type 0 where
   pub none : data_in g ≡ 0
   pub bytes : bytes_in g ≡ []
@@ -35,7 +35,7 @@ pub record Waits (job : BusJob) (g : Given) : Type 0 where
       (next_of (Bus job) g ≡ NotStarted) ⊎ ((next_of (Bus job) g ≡ Invokes (ask_call job))
       ⊎ ((next_of (Bus job) g ≡ Invokes (look_call job)) ⊎ (next_of (Bus job) g ≡ Invokes (datum_call job job.place 0))))
 
--- its datum was answered, and the bus is given back next
+-- the datum has its reply, and the bus is released next
 pub record Answered (job : BusJob) (reply : Reply) (g : Given) : Type 0 where
   pub before : Given
   pub is : g ≡ Some (replies.Board reply) ∷ before
@@ -43,11 +43,11 @@ pub record Answered (job : BusJob) (reply : Reply) (g : Given) : Type 0 where
   pub good : reply ≢ Berr
   pub next : next_of (Bus job) g ≡ Invokes (done_call job)
 
--- before its first call
+-- the job before its first call
 pub waits_fresh : (job : BusJob) → Waits job []
 waits_fresh job = record { none = refl; bytes = refl; next = inl refl }
 
--- at its first call
+-- the job at its first call
 pub waits_called : (job : BusJob) (g : Given) → Waits job g → next_of (Bus job) g ≡ NotStarted → Waits job (None ∷ g)
 waits_called job g waits rests = record { none = waits.none; bytes = waits.bytes; next = inr (inl (rw rests refl)) }
 
@@ -58,7 +58,7 @@ module _ (job : BusJob) (one : count_of job.transfer.request ≡ 1) where
   past_datum : (n : ℕ) → n ≡ 0 → datum_or_done job (n + 1) ≡ done_call job
   past_datum n none = rw none (rw one refl)
 
-  -- the arbiter replied to an ask or a look
+  -- the arbiter replied to a request or a look
   pub waits_reported : (g : Given) (cmd : Call) (reply : ArbReply) → ((cmd ≡ ask_call job) ⊎ (cmd ≡ look_call job)) → Waits job g
       → next_of (Bus job) g ≡ Invokes cmd → IsGoodTo (Invokes cmd) (Some (replies.Bus reply)) → Waits job (Some (replies.Bus reply) ∷ g)
   waits_reported g cmd turned.Granted which waits makes good = record {
@@ -94,7 +94,7 @@ module _ (job : BusJob) (one : count_of job.transfer.request ≡ 1) where
   }
   answered_by g call Berr waits makes good = absurd (good.1 refl)
 
-  -- the bus is free again: the outcome is what the request is for
+  -- the bus is free again, and the job has its outcome
   ended_by : (g before : Given) (reply : Reply) (place : ℕ × ℕ) → job.place ≡ Some place → g ≡ Some (replies.Board reply) ∷ before → reply ≢ Berr
       → next_of (Bus job) g ≡ Invokes (done_call job)
       → next_of (Bus job) (Some (replies.Bus turned.Freed) ∷ g) ≡ Returns (expected_outcome (request_expected job.transfer.request) (bytes_in g))

@@ -32,7 +32,7 @@ use Rattle.vme_shared.specs.Mailboxes.{raised, mailbox_request, stage_request}
 use Rattle.vme_shared.specs.Tables.{SharedJob, stage_job, transfer_job}
 use Rattle.vme_mailbox_laws.specs.Along.{mailbox_in, LiesAt}
 
--- how far behind the first byte a stage's transfer is
+-- the distance of a stage's transfer from the first byte
 abbrev pub distance : BoardMailbox → Stage → ℕ
 distance m Locks = 0
 distance m ReadsPutCount = 4
@@ -43,7 +43,7 @@ distance m (ReadsWord t) = 16 + 4 * (t % m.slots)
 distance m (RaisesTakeCount t word) = 8
 distance m (Unlocks end) = 0
 
--- its command to the board
+-- the command of a stage to the board
 abbrev pub stage_command : BoardMailbox → Stage → Command
 stage_command m Locks = Modify (places.lock_at m) 1 Set
 stage_command m ReadsPutCount = Read (places.put_count_at m) 4
@@ -54,7 +54,7 @@ stage_command m (ReadsWord t) = Read (places.word_at m t) 4
 stage_command m (RaisesTakeCount t word) = Write (places.take_count_at m) (number_bytes 4 (raised t))
 stage_command m (Unlocks end) = Write (places.lock_at m) (0 ∷ [])
 
--- what it is for
+-- the reply that a stage expects
 abbrev pub stage_expected : Stage → ExpectedReply
 stage_expected Locks = expected_replies.Modify 1
 stage_expected ReadsPutCount = expected_replies.Read 4
@@ -65,7 +65,7 @@ stage_expected (ReadsWord t) = expected_replies.Read 4
 stage_expected (RaisesTakeCount t word) = expected_replies.Write
 stage_expected (Unlocks end) = expected_replies.Write
 
--- all are within the mailbox
+-- the transfer of each stage begins within the mailbox
 pub distance_within : (m : BoardMailbox) (stage : Stage) → 1 ≤ m.slots → distance m stage < mailbox_len m.slots
 distance_within m Locks some = omega arith
 distance_within m ReadsPutCount some = omega arith
@@ -76,7 +76,7 @@ distance_within m (ReadsWord t) some = let rest = rest_below t m.slots some in o
 distance_within m (RaisesTakeCount t word) some = omega arith
 distance_within m (Unlocks end) some = omega arith
 
--- a command with a byte there touches it
+-- a command with a byte of the mailbox touches it
 touches_by : (m : BoardMailbox) (c : Command) → 0 < len_of c → offset_of c < end_of m → m.offset < offset_of c + len_of c → touches m c ≡ true
 touches_by m c some before behind =
     and_from _ _ (and_from _ _ (lt-ltb 0 (len_of c) some) (lt-ltb (offset_of c) (end_of m) before)) (lt-ltb m.offset (offset_of c + len_of c) behind)
@@ -93,7 +93,7 @@ stage_touches m (ReadsWord t) some =
 stage_touches m (RaisesTakeCount t word) some = touches_by m (stage_command m (RaisesTakeCount t word)) (omega arith) (omega arith) (omega arith)
 stage_touches m (Unlocks end) some = touches_by m (stage_command m (Unlocks end)) (omega arith) (omega arith) (omega arith)
 
--- what a request of a mailbox has for each stage
+-- the request of a stage of a mailbox
 pub record Shape (mailbox : Mailbox) (m : BoardMailbox) (stage : Stage) (request : Request) : Type 0 where
   pub code : code_of request ≡ mailbox.am
   pub addr : addr_of request ≡ mailbox.addr + distance m stage
@@ -121,7 +121,7 @@ shape mailbox m (Unlocks end) slots =
     let here : m.offset + 0 ≡ m.offset = omega arith in
     record { code = refl; addr = omega arith; count = refl; expected = refl; own = ap (λ a. Write a (0 ∷ [])) here }
 
--- a stage of what is asked of a mailbox is one of the mailbox
+-- a stage of a put or a take is a stage of its mailbox
 pub own_request : (request : SharedRequest) (mailbox : Mailbox) (stage : Stage) → mailbox_in request ≡ Some mailbox
     → stage_request request stage ≡ mailbox_request mailbox stage
 own_request (asked.Lock am addr) mailbox stage is = absurd cc
@@ -129,7 +129,7 @@ own_request (asked.Unlock am addr) mailbox stage is = absurd cc
 own_request (asked.Put own word) mailbox stage is = let same : own ≡ mailbox = cc in ap (λ o. mailbox_request o stage) same
 own_request (asked.Take own) mailbox stage is = let same : own ≡ mailbox = cc in ap (λ o. mailbox_request o stage) same
 
--- the bus task of a stage
+-- the bus job of a stage
 pub record IsStage (m : BoardMailbox) (board : ℕ) (stage : Stage) (job : Job) : Type 0 where
   pub bus : BusJob
   pub is : job ≡ Bus bus

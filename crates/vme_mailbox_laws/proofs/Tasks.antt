@@ -1,4 +1,4 @@
--- The moves of a put or a take go by the rows of its mailbox.
+-- The transitions of a put or a take follow the protocol of its mailbox.
 use Rattle.std.proofs.Common.{◌≡◌, ℕ, true, List, [], ◌∷◌, ◌++◌, Option, Some, refl, ap, sym, subst, ◌∙◌}
 use Rattle.std.specs.Prelude.{◌==◌}
 use Rattle.std.proofs.lemmas.Bool.{eq-eqb}
@@ -26,18 +26,18 @@ use Rattle.vme_mailbox_laws.proofs.Courses.{Stands, moves, stands_count, command
 use Rattle.vme_mailbox_laws.specs.Runs.{IsTurned}
 use Rattle.vme_mailbox_laws.proofs.Through.{IsAnswered, Wanted, behind, Through, through_map}
 
--- words in two parts
+-- a goal after two lists of words
 pub joined : (wanted : Wanted) (put a taken b : List ℕ) (p : Option Phase) (ps ts : List ℕ) → behind wanted (put ++ a) (taken ++ b) p ps ts
     → behind (behind wanted put taken) a b p ps ts
 joined wanted put a taken b p ps ts is =
     subst (λ l. wanted p l (taken ++ (b ++ ts))) (append_assoc put a ps) (subst (λ l. wanted p ((put ++ a) ++ ps) l) (append_assoc taken b ts) is)
 
 module _ (s : SharedJob) (board : ℕ) (m : BoardMailbox) (uses : UsesMailbox s board m) where
-  -- what a put or a take is, by what it was given, in a phase and with these words
+  -- the state of a put or a take by its replies, with its phase and words
   abbrev pub IsIn : Given → Option Phase → List ℕ → List ℕ → Type 0
   IsIn given at put taken = Stands m board s.request (progress_of s given) at put taken
 
-  -- a good reply to its call leads on
+  -- a good reply leads to the next state
   given_on : (given : Given) (at : Option Phase) (put taken : List ℕ) (call : Call) (reply : EventReply) (next : Option Phase) → IsIn given at put taken
       → shared_next s given ≡ Invokes call → IsGood (Invokes call) (Some reply) → phase_given m board (Invokes call) (Some reply) at ≡ next → IsCount next
       → IsIn (Some reply ∷ given) next (put ++ put_by at next) (taken ++ taken_by at next)
@@ -57,7 +57,7 @@ module _ (s : SharedJob) (board : ℕ) (m : BoardMailbox) (uses : UsesMailbox s 
       subst (λ r. IsGood (Invokes (OnBoard x (command_given cmd))) (Some (replies.Board r))) (sym is.replied)
       (subst (λ n. IsGood n (Some (replies.Board (command_step is.memory (command_given cmd)).1))) makes fine)
 
-  -- a move of it, and what comes after
+  -- one transition, and the entries after it
   pub one_move : (given : Given) (at : Option Phase) (put taken : List ℕ) (who : ℕ) (event : Event) (reply : EventReply)
       (rest : List (Entry BoardCmd Reply)) (wanted : Wanted) → IsIn given at put taken → shared_next s given ≡ Invokes (call_of event) → IsTurned event reply
       → ((next : Option Phase) (a b : List ℕ) → IsIn (Some reply ∷ given) next (put ++ a) (taken ++ b) → Through m next rest (behind wanted a b))
@@ -88,7 +88,7 @@ module _ (s : SharedJob) (board : ℕ) (m : BoardMailbox) (uses : UsesMailbox s 
             fine after count),
       ))
 
-  -- the same, by all words since the beginning
+  -- one transition, by all words since the beginning
   pub move_on : (given : Given) (at : Option Phase) (put taken : List ℕ) (who : ℕ) (event : Event) (reply : EventReply)
       (rest : List (Entry BoardCmd Reply)) (wanted : Wanted) → IsIn given at put taken → shared_next s given ≡ Invokes (call_of event) → IsTurned event reply
       → ((next : Option Phase) (ps ts : List ℕ) → IsIn (Some reply ∷ given) next ps ts → Through m next rest (behind wanted ps ts))

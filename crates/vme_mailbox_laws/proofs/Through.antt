@@ -1,4 +1,4 @@
--- Entries of one that go by the rows of a mailbox, and where they lead.
+-- Entries of one caller that follow the protocol of a mailbox, and the goal that they reach.
 use Rattle.std.proofs.Common.{◌≡◌, ℕ, true, List, [], ◌∷◌, ◌++◌, Option, subst}
 use Rattle.std.specs.Prelude.{is_some}
 use Rattle.std.proofs.lemmas.List.{append_assoc}
@@ -18,15 +18,15 @@ pub record IsAnswered (m : BoardMailbox) (e : Entry BoardCmd Reply) : Type 0 whe
   pub lies : LiesIn memory m
   pub replied : e.reply ≡ (board_step memory e.cmd).1
 
--- what is wanted of a phase and of the words that were put and taken
+-- a goal: a property of the phase and of the words put and taken
 abbrev pub Wanted : Type 1
 Wanted = Option Phase → List ℕ → List ℕ → Type 0
 
--- what is wanted after some words
+-- a goal after these words
 abbrev pub behind : Wanted → List ℕ → List ℕ → Wanted
 behind wanted put taken = λ p ps ts. wanted p (put ++ ps) (taken ++ ts)
 
--- entries go by the rows, and lead to what is wanted, as long as each put count that is read is a number of four bytes
+-- entries follow the protocol and reach the goal, as long as each put count that is read is a number of four bytes
 abbrev pub Through : BoardMailbox → Option Phase → List (Entry BoardCmd Reply) → Wanted → Type 0
 Through m at [] wanted = wanted at [] []
 Through m at (e ∷ es) wanted =
@@ -35,7 +35,7 @@ Through m at (e ∷ es) wanted =
     × (IsCount (after_entry m at e)
     → Through m (after_entry m at e) es (behind wanted (put_by at (after_entry m at e)) (taken_by at (after_entry m at e))))
 
--- what implies what is wanted does as well
+-- a goal that follows from the reached goal is reached too
 pub through_map : (m : BoardMailbox) (at : Option Phase) (es : List (Entry BoardCmd Reply)) (wanted less : Wanted)
     → ((p : Option Phase) (ps ts : List ℕ) → wanted p ps ts → less p ps ts) → Through m at es wanted → Through m at es less
 through_map m at [] wanted less then through = then at [] [] through
@@ -47,7 +47,7 @@ through_map m at (e ∷ es) wanted less then through = λ answered.
           (first.1 count),
     )
 
--- entries, and then others
+-- entries, followed by other entries
 pub through_append : (m : BoardMailbox) (at : Option Phase) (es more : List (Entry BoardCmd Reply)) (wanted : Wanted)
     → Through m at es (λ p ps ts. Through m p more (behind wanted ps ts)) → Through m at (es ++ more) wanted
 through_append m at [] more wanted through = through

@@ -1,4 +1,4 @@
--- Each command of a put or a take is wholly within its mailbox, and so beside each other one.
+-- Each command of a put or a take is wholly within its mailbox, and so outside each other mailbox.
 use Rattle.std.proofs.Common.{◌≡◌, ℕ, ◌+◌, ◌≤◌, ◌<◌, max, min, false, Option, Some, subst, arith, inl, inr}
 use Rattle.std.proofs.lemmas.Bool.{cases_Bool, and_parts, ltb-true, ltb-false}
 use Rattle.vme_memory.specs.Steps.{Command}
@@ -15,7 +15,7 @@ use Rattle.vme_mailbox_laws.proofs.Stages.{stage_command}
 use Rattle.vme_mailbox_laws.proofs.Courses.{some_slot}
 use Rattle.vme_mailbox_laws.proofs.Datums.{stage_commands}
 
--- that of each stage
+-- the command of each stage is within the mailbox
 stage_within : (m : BoardMailbox) (stage : Stage) → 1 ≤ m.slots → IsWithin m (stage_command m stage)
 stage_within m Locks some = record { from = omega arith; to = omega arith }
 stage_within m ReadsPutCount some = record { from = omega arith; to = omega arith }
@@ -35,7 +35,7 @@ within s given mailbox board x mine command asks lies some makes =
     let own = stage_commands s given mailbox board x mine command asks lies slot makes in
     (own.0, (stage_command mine own.1.0, own.1.1, stage_within mine own.1.0 slot))
 
--- of one that was not refused at its start
+-- the commands of a put or a take that is not refused are within the mailbox
 pub within_used : (s : SharedJob) (given : Given) (board x : ℕ) (m : BoardMailbox) (command : Command) → UsesMailbox s board m
     → shared_next s given ≡ Invokes (OnBoard x (Some command)) → (x ≡ board) × IsWithin m command
 within_used s given board x m command uses makes =
@@ -44,7 +44,7 @@ within_used s given board x m command uses makes =
     let same : own.1.0 ≡ command = cc in
     (own.0, subst (λ c. IsWithin m c) same own.1.2)
 
--- a command within a mailbox has no byte of one that shares none with it
+-- a command within a mailbox does not touch a mailbox that shares no byte with it
 pub beside : (mine other : BoardMailbox) (c : Command) → IsWithin mine c → overlap mine other ≡ false → touches other c ≡ false
 beside mine other c inside apart =
     elim (cases_Bool (touches other c)) [

@@ -1,4 +1,5 @@
--- A put or a take as the board sees it: where its mailbox lies, and through which phases its commands lead.
+-- Defines how the board of a mailbox sees a put or a take: where the mailbox lies, and the phases that its commands
+-- lead through.
 use Rattle.std.specs.Prelude.{ℕ, ◌≡◌, ◌≢◌, ◌+◌, ◌%◌, ◌^◌, ◌<◌, ◌≤◌, nat_lt, max, min, Bool, ◌==◌, if◌then◌else◌, List, [], ◌∷◌, ◌++◌, Option, Some, None, Ok, IsTrue}
 use Rattle.vme_am.specs.Codes.{CodeRow, read_code}
 use Rattle.vme_decode.specs.declared.entry.Entry.{Entry}
@@ -22,22 +23,21 @@ use Rattle.vme_shared.specs.declared.request.SharedRequest.TheVariants as asked
 use Rattle.vme_shared.specs.Mailboxes.{IsAsked, shared_refusal}
 use Rattle.vme_shared.specs.Tables.{SharedJob, SharedNext, NotStarted, Invokes, Returns, shared_next}
 
--- the mailbox that is asked for, if one is (this project's own)
+-- the mailbox of a put or a take
 abbrev pub mailbox_in : SharedRequest → Option Mailbox
 mailbox_in (asked.Lock am addr) = None
 mailbox_in (asked.Unlock am addr) = None
 mailbox_in (asked.Put mailbox word) = Some mailbox
 mailbox_in (asked.Take mailbox) = Some mailbox
 
--- a mailbox lies wholly in the board at a place of a map: each of its addresses selects that board, so far on from the offset
--- of the first (this project's own)
+-- a mailbox lies in a board of a map: each of its addresses selects the board, at the same distance from the first byte
 pub record LiesAt (map : List Entry) (mailbox : Mailbox) (board : ℕ) (m : BoardMailbox) : Type 0 where
   pub slots : m.slots ≡ mailbox.slots
   pub each :
       (code : CodeRow) (k : ℕ) → read_code mailbox.am ≡ Ok code → k < mailbox_len m.slots
       → selection_at map code (mailbox.addr + k) ≡ Some (board, m.offset + k)
 
--- a put or a take that was not refused at its start, and the mailbox of the board at a place that it uses (this project's own)
+-- a put or a take that is not refused uses the mailbox `m` of a board
 pub record UsesMailbox (s : SharedJob) (board : ℕ) (m : BoardMailbox) : Type 0 where
   pub mailbox : Mailbox
   pub asked : mailbox_in s.request ≡ Some mailbox
@@ -45,57 +45,57 @@ pub record UsesMailbox (s : SharedJob) (board : ℕ) (m : BoardMailbox) : Type 0
   pub formed : IsAsked s.request
   pub started : shared_refusal s.request ≡ None
 
--- what was given is good to what was done next: none before the first call, and then a reply that fits and is neither a bus
--- error nor a denial (this project's own)
+-- a reply is good for the step before it: none before the first call; then it fits the call, and is neither a bus error
+-- nor a denial
 abbrev pub IsGood : SharedNext → Option EventReply → Type 0
 IsGood NotStarted last = last ≡ None
 IsGood (Invokes call) None = ⊥
 IsGood (Invokes call) (Some reply) = IsTrue (fits call reply) × (reply ≢ replies.Board Berr) × (reply ≢ replies.Bus Denied)
 IsGood (Returns outcome) last = Unit {0}
 
--- and so was all before it (this project's own)
+-- all replies given to a put or a take are good
 abbrev pub AllGood : SharedJob → Given → Type 0
 AllGood s [] = Unit {0}
 AllGood s (last ∷ before) = IsGood (shared_next s before) last × AllGood s before
 
--- the phase after a call and what was given to it: a command to the board, with its reply, moves it (this project's own)
+-- the phase after a call and its reply: a command to the board moves it, and every other call leaves it
 abbrev pub phase_given : BoardMailbox → ℕ → SharedNext → Option EventReply → Option Phase → Option Phase
 phase_given m board (Invokes (OnBoard x command)) (Some (replies.Board reply)) phase =
     if x == board then after_command m phase command reply else phase
 phase_given m board next last phase = phase
 
--- the phase in which its commands to the board have left a mailbox, from idle on (this project's own)
+-- the phase that a put's or take's commands to the board lead to, from idle on
 abbrev pub phase_along : BoardMailbox → ℕ → SharedJob → Given → Option Phase
 phase_along m board s [] = Some Idle
 phase_along m board s (last ∷ before) = phase_given m board (shared_next s before) last (phase_along m board s before)
 
--- the words that its commands to the board have put or taken (this project's own)
+-- the words that the commands of a put or a take to the board have put or taken
 abbrev pub words_given : (Option Phase → Option Phase → List ℕ) → BoardMailbox → ℕ → SharedJob → Given → List ℕ
 words_given by m board s [] = []
 words_given by m board s (last ∷ before) =
     words_given by m board s before ++ by (phase_along m board s before) (phase_along m board s (last ∷ before))
 
--- a put count that was read is a number of four bytes (this project's own)
+-- if the phase is that after reading the put count, the count is a number of four bytes
 abbrev pub IsCount : Option Phase → Type 0
 IsCount (Some (First p)) = p < 2 ^ 32
 IsCount phase = Unit {0}
 
--- each one that was (this project's own)
+-- each put count that a put or a take has read is a number of four bytes
 abbrev pub AllCounts : BoardMailbox → ℕ → SharedJob → Given → Type 0
 AllCounts m board s [] = Unit {0}
 AllCounts m board s (last ∷ before) = IsCount (phase_along m board s (last ∷ before)) × AllCounts m board s before
 
--- the words that are put by what comes of it: its own, as four bytes, where it was put (this project's own)
+-- the words that a put reports by its outcome: its word, as four bytes, if it was put
 abbrev pub put_reported : SharedOutcome → SharedRequest → List ℕ
 put_reported shared.Put (asked.Put mailbox word) = word % 2 ^ 32 ∷ []
 put_reported outcome request = []
 
--- and those that are taken (this project's own)
+-- the words that a take reports by its outcome
 abbrev pub taken_reported : SharedOutcome → List ℕ
 taken_reported (shared.Took word) = word ∷ []
 taken_reported outcome = []
 
--- a command goes to the board, and to the offset there, that a code and an address select (this project's own)
+-- a command goes to the board and the offset that a code and an address select
 pub record GoesTo (map : List Entry) (am addr board : ℕ) (command_at : ℕ → Command) (command : Option Command) : Type 0 where
   pub code : CodeRow
   pub row : read_code am ≡ Ok code
@@ -103,11 +103,11 @@ pub record GoesTo (map : List Entry) (am addr board : ℕ) (command_at : ℕ →
   pub selected : selection_at map code addr ≡ Some (board, offset)
   pub own : command ≡ Some (command_at offset)
 
--- a command's bytes are all bytes of a mailbox (this project's own)
+-- all bytes of a command are bytes of a mailbox
 pub record IsWithin (m : BoardMailbox) (command : Command) : Type 0 where
   pub from : m.offset ≤ offset_of command
   pub to : offset_of command + len_of command ≤ end_of m
 
--- whether some byte of a board is one of both mailboxes: the greater offset is below the lesser end (this project's own)
+-- whether two mailboxes of a board share a byte: the greater offset is below the lesser end
 abbrev pub overlap : BoardMailbox → BoardMailbox → Bool
 overlap a b = nat_lt (max a.offset b.offset) (min (end_of a) (end_of b))

@@ -1,4 +1,4 @@
--- The lines of scripts that name a mailbox, what they tell of its words, and that all others leave it alone.
+-- Defines which lines name a mailbox, the words that their replies report, and when a line leaves a mailbox alone.
 use Rattle.std.specs.Prelude.{ℕ, ◌≡◌, ◌%◌, ◌^◌, Bool, false, ◌==◌, if◌then◌else◌, List, [], ◌∷◌, ◌++◌, Some, None}
 use Rattle.vme_core.specs.declared.event.EventReply.{EventReply}
 use Rattle.vme_core.specs.Calls.{OnBoard}
@@ -16,48 +16,47 @@ use Rattle.vme_script.specs.Configurations.{Configuration}
 use Rattle.vme_line_task.specs.Scripts.{mailbox_at, lines_at}
 use Rattle.vme_line_task.specs.Tables.{Invokes, line_next}
 
--- whether a line puts into the mailbox with a number, or takes from it (this project's own)
+-- whether a line is a put or a take of the mailbox with this number
 abbrev pub names : ℕ → Line → Bool
 names box (Put other word) = other == box
 names box (Take other) = other == box
 names box line = false
 
--- the word that a line has put by its answer, as four bytes (this project's own)
+-- the word that a line reports as put by its reply, as four bytes
 abbrev pub reported_put : Line → LineReply → List ℕ
 reported_put (Put box word) (Shared shared.Put) = word % 2 ^ 32 ∷ []
 reported_put line answer = []
 
--- the word that a line has taken by its answer (this project's own)
+-- the word that a line reports as taken by its reply
 abbrev pub reported_taken : LineReply → List ℕ
 reported_taken (Shared outcome) = taken_reported outcome
 reported_taken answer = []
 
--- the words that lines have put into a mailbox by their answers, in order (this project's own)
+-- the words that lines report as put into a mailbox, in order
 abbrev pub lines_put : ℕ → List Line → List LineReply → List ℕ
 lines_put box (line ∷ lines) (answer ∷ answers) =
     (if names box line then reported_put line answer else []) ++ lines_put box lines answers
 lines_put box lines answers = []
 
--- the words that lines have taken from a mailbox by their answers, in order (this project's own)
+-- the words that lines report as taken from a mailbox, in order
 abbrev pub lines_taken : ℕ → List Line → List LineReply → List ℕ
 lines_taken box (line ∷ lines) (answer ∷ answers) =
     (if names box line then reported_taken answer else []) ++ lines_taken box lines answers
 lines_taken box lines answers = []
 
--- no command of a line to the board at a place touches a mailbox there (this project's own)
+-- no command of a line to a board touches a mailbox there
 abbrev pub LeavesAlone : Configuration → ℕ → Line → ℕ → BoardMailbox → Type 0
 LeavesAlone config who line board m =
     (replies : List EventReply) (command : Command) → line_next config who line replies ≡ Invokes (OnBoard board (Some command))
     → touches m command ≡ false
 
--- each of these lines names the mailbox with a number, or leaves it alone (this project's own)
+-- each of these lines names the mailbox with this number or leaves it alone
 abbrev pub AllLeave : Configuration → ℕ → ℕ → ℕ → BoardMailbox → List Line → Type 0
 AllLeave config who box board m [] = Unit {0}
 AllLeave config who box board m (line ∷ lines) =
     (names box line ≡ false → LeavesAlone config who line board m) × AllLeave config who box board m lines
 
--- the mailbox with a number lies at the board at a place, its transfers are lawful, and the lines of all scripts that do not
--- name it leave it alone (this project's own)
+-- the mailbox with this number lies in a board, is not refused, and is left alone by all lines that do not name it
 pub record IsMailboxOf (config : Configuration) (box board : ℕ) (m : BoardMailbox) : Type 0 where
   pub lies : LiesAt (entries_of config.boards) (mailbox_at config box) board m
   pub formed : IsMailbox (mailbox_at config box)

@@ -1,8 +1,8 @@
--- Where a declared mailbox lies in its board.
+-- Defines where a declared mailbox lies in its board.
 use Rattle.vme_shared.specs.MailboxSteps.{BoardMailbox}
 use Rattle.vme_shared.specs.declared.mailbox.Mailbox.{Mailbox}
 use Rattle.vme_script.specs.declared.board_range.BoardRange.{BoardRange}
 
--- the mailbox on its board, by the place of its bytes (this project's own)
+-- the mailbox in its board, at the place of its bytes
 abbrev pub on_board : Mailbox → BoardRange → BoardMailbox
 on_board mailbox place = record { offset = place.offset; slots = mailbox.slots }

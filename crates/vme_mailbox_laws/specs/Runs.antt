@@ -1,4 +1,4 @@
--- Runs of the processors' scripts that share one history of a board.
+-- Defines runs of the processors' scripts that share one history of a board.
 use Rattle.std.specs.Prelude.{ℕ, ◌≡◌, ◌≢◌, ◌<◌, List, [], ◌∷◌, length, All, IsTrue}
 use Rattle.vme_object.specs.declared.history.Entry.{Entry}
 use Rattle.vme_object.specs.History.{own}
@@ -18,19 +18,19 @@ use Rattle.vme_script.specs.Configurations.{Configuration}
 use Rattle.vme_line_task.specs.Scripts.{lines_at}
 use Rattle.vme_line_task.specs.Traces.{IsTrace}
 
--- a reply is of its event's kind, and that of the arbiter fits and is no denial (this project's own)
+-- a reply is of its event's kind; a reply of the arbiter also fits its command and is not a denial
 abbrev pub IsTurned : Event → EventReply → Type 0
 IsTurned (asked.Bus cmd) (replies.Bus reply) = IsTrue (fits (OnBus cmd) (replies.Bus reply)) × (replies.Bus reply ≢ replies.Bus Denied)
 IsTurned (asked.Board x cmd) (replies.Board reply) = Unit {0}
 IsTurned event reply = ⊥
 
--- the same of all moves (this project's own)
+-- all replies of a run satisfy `IsTurned`
 abbrev pub AllTurned : List Transition → Type 0
 AllTurned [] = Unit {0}
 AllTurned (m ∷ run) = IsTurned m.event m.reply × AllTurned run
 
--- a history of the board at a place is shared out among runs, one of each processor, each of which is the trace of its script
--- with its answers, with good replies of the arbiter (this project's own)
+-- a board's history is shared by one run of each processor; each run is the trace of its script with these replies, and
+-- all its replies satisfy `IsTurned`
 pub record ShareHistory (config : Configuration) (board : ℕ) (h : List (Entry BoardCmd Reply)) (runs : List (List Transition))
     (answers : List (List LineReply)) : Type 0 where
   pub known : All (λ e. e.who < length runs) h

@@ -6,9 +6,9 @@ ghost use Rattle.vme_line_task.specs.Scripts.{lines_at};
 ghost use Rattle.vme_mailbox_laws.specs.Places.{on_board};
 ghost use Rattle.vme_mailbox_laws.specs.Names.{AllLeave};
 
-/// Each line of each script of a lawful configuration names a declared mailbox by its number, as a
-/// put and a take of it do, or leaves it alone: whatever replies the line has, no command of it to the
-/// board of the mailbox touches a byte there.
+/// No line touches a declared mailbox that it does not name. In a lawful configuration, each line
+/// of each script is a put or a take that names the mailbox by its number, or no command that the
+/// line sends to the mailbox's board touches a byte of the mailbox, whatever replies the line gets.
 pub fn declared_mailboxes_are_left_alone()
     ensures lines { (config : Configuration) (k who : ℕ) (mailbox : Mailbox) → IsLawful config →
         slice_get config.mailboxes k ≡ Some mailbox →

@@ -1,5 +1,6 @@
-//! Laws of puts and takes, as the board of their mailbox sees them: their commands go by the rows
-//! of its phases, and what comes of them is told as it is.
+//! Laws of puts and takes, as the board of their mailbox sees them: their commands follow the
+//! mailbox protocol, their outcomes report the words that they put and take, and mailboxes are
+//! queues.
 #![tactic(auto)]
 
 mod isolation_laws;

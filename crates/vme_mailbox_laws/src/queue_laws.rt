@@ -23,10 +23,11 @@ ghost use Rattle.vme_mailbox_laws.specs.Places.{on_board};
 ghost use Rattle.vme_mailbox_laws.specs.Names.{lines_put, lines_taken, IsMailboxOf};
 ghost use Rattle.vme_mailbox_laws.specs.Runs.{ShareHistory};
 
-/// However the runs of the processors' scripts share a board's history, it is proper for a mailbox
-/// there that the lines which name it alone touch. The words that are taken are the first of the
-/// words that are put; and the words of each processor's own puts and takes, in order, are those that
-/// the answers of its lines tell.
+/// Mailboxes are queues. Let runs of the processors' scripts share a legal history of a board, in
+/// any interleaving, from a memory in which the mailbox is new, and let only the lines that name
+/// the mailbox touch it. Then the history is proper for the mailbox. The words taken are a prefix
+/// of the words put, and at most as many more words are put as the mailbox has slots. The words of
+/// each processor's own puts and takes, in order, are those that the replies to its lines report.
 pub fn scripts_go_by_the_rows()
     ensures proper { (config : Configuration) (box board : ℕ) (m : BoardMailbox) (memory : Board)
         (h : List (Entry BoardCmd Reply)) (runs : List (List Transition)) (answers : List (List LineReply)) →
@@ -53,7 +54,8 @@ pub fn scripts_go_by_the_rows()
         Each (λ who reported. own_words_taken who m h ≡ lines_taken box (lines_at config who) reported) answers }
 {}
 
-/// The words of one master among all words of a history are those of its own entries by themselves.
+/// The words that one caller puts or takes, among all words of a history, are those of its own
+/// entries alone.
 pub fn own_words_are_those_of_own_entries()
     ensures put { (who : ℕ) (m : BoardMailbox) (h : List (Entry BoardCmd Reply)) →
         own_words_put who m h ≡ words_along put_by m (Some Idle) (own who h) }
@@ -61,9 +63,9 @@ pub fn own_words_are_those_of_own_entries()
         own_words_taken who m h ≡ words_along taken_by m (Some Idle) (own who h) }
 {}
 
-/// The mailboxes of a lawful configuration lie at the boards where they are declared, each of their
-/// bytes, and wholly in the boards' memories, which answer their accesses. No put or take of one is
-/// refused.
+/// Each mailbox of a lawful configuration lies in the board where it is declared: each of its
+/// addresses selects that board at its place, its bytes lie wholly in the board's memory, which can
+/// answer its accesses, and no put or take of the mailbox is refused.
 pub fn declared_mailboxes_lie_in_their_boards()
     ensures addresses { (config : Configuration) (mailbox : Mailbox) → IsLawful config →
         (fine : IsLawfulMailbox config.boards mailbox) →

@@ -15,9 +15,9 @@ ghost use Rattle.vme_shared.specs.declared.request.SharedRequest.TheVariants.{Lo
 ghost use Rattle.vme_shared.specs.Tables.{SharedJob, Invokes, Returns, shared_next};
 ghost use Rattle.vme_mailbox_laws.specs.Along.{mailbox_in, LiesAt, IsWithin, overlap, UsesMailbox, IsGood, AllGood, AllCounts, phase_along, words_given, put_reported, taken_reported, GoesTo};
 
-/// Each command of a put or a take to a board goes to the board of its mailbox, and touches the
-/// mailbox; where the mailbox lies wholly in a board that answers quad bytes and read-modify-writes,
-/// the reply is good.
+/// Each command that a put or a take sends to a board goes to the board of its mailbox and touches
+/// the mailbox. If the mailbox lies wholly in a board that answers quad bytes and
+/// read-modify-writes, the reply is good: it fits and is not a bus error.
 pub fn puts_and_takes_touch_their_mailbox_alone()
     ensures touches { (s : SharedJob) (given : Given) (board x : ℕ) (m : BoardMailbox)
         (command : Option Command) → UsesMailbox s board m →
@@ -29,9 +29,9 @@ pub fn puts_and_takes_touch_their_mailbox_alone()
         IsGood (shared_next s given) (Some (replies.Board (command_step memory command).1)) }
 {}
 
-/// Whatever is replied, each command of a put or a take to a board goes to the board of its mailbox
-/// and is wholly within the bytes of that mailbox: a mailbox there that shares no byte with it is not
-/// touched.
+/// Whatever the replies are, each command that a put or a take sends to a board goes to the board
+/// of its mailbox and lies wholly within the bytes of that mailbox. So it touches no other mailbox
+/// there that shares no byte with it.
 pub fn puts_and_takes_stay_in_their_mailbox()
     ensures within { (s : SharedJob) (given : Given) (mailbox : Mailbox) (board x : ℕ)
         (mine : BoardMailbox) (command : Option Command) → mailbox_in s.request ≡ Some mailbox →
@@ -44,10 +44,10 @@ pub fn puts_and_takes_stay_in_their_mailbox()
         shared_next s given ≡ Invokes (OnBoard x (Some command)) → touches other command ≡ false }
 {}
 
-/// Whatever good replies it is given, a put or a take goes by the rows of its mailbox: each of its
-/// commands, with its reply, is the access that comes next there. Where it ends it has left the
-/// mailbox, it ends without a bus error or a denial, and the words that it has put or taken there
-/// are those that it tells.
+/// With good replies, a put or a take follows the mailbox protocol: each of its commands, with its
+/// reply, is an access that may come next. When it ends, it has left the mailbox, its outcome is
+/// neither a bus error nor a denial, and the words that it has put or taken are those that its
+/// outcome reports.
 pub fn puts_and_takes_go_by_the_rows()
     ensures rows { (s : SharedJob) (given : Given) (board : ℕ) (m : BoardMailbox) →
         UsesMailbox s board m → AllGood s given → AllCounts m board s given →
@@ -70,8 +70,8 @@ pub fn puts_and_takes_go_by_the_rows()
         words_given taken_by m board s given ≡ taken_reported outcome }
 {}
 
-/// A lock is taken by a read-modify-write of its one byte, and given back by a write of that byte:
-/// no other command goes to a board.
+/// The only commands that a lock sends to a board are the read-modify-write that sets its byte and
+/// the write of zero that clears it, at the board and the offset that its address selects.
 pub fn locks_touch_their_byte_alone()
     ensures taken { (s : SharedJob) (given : Given) (am addr board : ℕ) (command : Option Command) →
         s.request ≡ Lock am addr → shared_next s given ≡ Invokes (OnBoard board command) →

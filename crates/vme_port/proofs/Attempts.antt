@@ -1,4 +1,4 @@
--- What one try does to a pass: the take, the command and the put, one after another.
+-- The effect of one try on a pass: the take, the command and the put, in order.
 use Rattle.std.proofs.Common.{ℕ, ◌≡◌, ◌+◌, ◌-◌, ◌^◌, ◌<◌, ◌≤◌, false, List, [], ◌∷◌, ◌++◌, length, All, refl, ap, sym, ◌∙◌, subst, arith, length-append}
 use Rattle.std.proofs.lemmas.List.{append-nil}
 use Rattle.std.proofs.lemmas.List.Elements.{All-nil, All-cons}
@@ -16,12 +16,12 @@ use Rattle.vme_port.specs.Passes.{PassView, IsAtRest, seen_by, made_by}
 use Rattle.vme_port.specs.Calls.{Adds}
 use Rattle.vme_port.proofs.Accounts.{own_all}
 
--- the first object of those that are out
+-- the first of the objects that are held
 abbrev first_home : {S : Type 0} → Home S → List (ℕ × Home S) → Home S
 first_home other [] = other
 first_home other (x ∷ xs) = x.1
 
--- a pass with a seat
+-- the view of a pass with this seat
 abbrev pub pass_view : {S C R : Type 0} → TableId → ℕ → ℕ → Me (Home S) (SeatView C R) → PassView C R
 pass_view port who made m = record { port = port; who = who; made = made; seen = seen_by m.0.accounts; mine = made_by m.0.accounts }
 
@@ -30,23 +30,23 @@ module _ {S C R : Type 0} (step : S → C → S × R) (start : S) (k : ℕ) wher
   abbrev pub Opened : S → ℕ → Type 0
   Opened object passes = (object ≡ start) × (passes ≡ k)
 
-  -- the object is out after a take that was won
+  -- after a take that won, the seat holds the object
   pub out : (a : Account C R) (m : Me (Home S) (SeatView C R)) → HasTaken step Opened a m → IsOut m
   out a m t = (t.home, ap (λ m. m.1) t.after)
 
   module _ (a : Account C R) (m1 : Me (Home S) (SeatView C R)) (t : HasTaken step Opened a m1) where
-    -- the history that was found is legal, and leads to the object
+    -- the history that the take found is legal
     found_legal : IsLegal step start (a.seen ++ t.others)
     found_legal = subst (λ s. IsLegal step s (a.seen ++ t.others)) t.opens.0 t.legal
 
     found_object : t.home.object ≡ replay step start (a.seen ++ t.others)
     found_object = t.object ∙ ap (λ s. replay step s (a.seen ++ t.others)) t.opens.0
 
-    -- the object that is out is the one that was taken
+    -- the object that the seat holds is the one that was taken
     same_home : (home : Home S) → m1.1 ≡ (0, home) ∷ [] → home ≡ t.home
     same_home home there = ap (first_home home) (sym there ∙ ap (λ m. m.1) t.after)
 
-    -- a put of nothing, where the history is full
+    -- a put without an entry is allowed if the history is full
     pub put_none : (m2 : Me (Home S) (SeatView C R)) → IsFull m1 m2 → MayPut step start [] m2
     put_none m2 full =
         let nil = append-nil (a.seen ++ t.others) in record {
@@ -59,7 +59,7 @@ module _ {S C R : Type 0} (step : S → C → S × R) (start : S) (k : ℕ) wher
           count = t.count ∙ ap length (sym nil);
         }
 
-    -- a put of one entry, after a command
+    -- a put of one entry is allowed after a command
     pub put_one : (who : ℕ) (cmd : C) (reply : R) (m2 : Me (Home S) (SeatView C R)) → a.who ≡ who → HasPerformed step cmd reply m1 m2
         → MayPut step start (entry who cmd reply ∷ []) m2
     put_one who cmd reply m2 named p =
@@ -81,16 +81,16 @@ module _ {S C R : Type 0} (step : S → C → S × R) (start : S) (k : ℕ) wher
         → m3 ≡ (view (account a.who (a.seen ++ t.others ++ es) (a.mine ++ es) ∷ []) false, [])
     after_put es m2 m3 same reported = reported (account a.who (a.seen ++ t.others) a.mine) (same ∙ ap (λ m. m.0) t.after)
 
-    -- the history that was found has what the account made
+    -- the history that the take found is at least as long as what the account made
     made_within : length a.mine ≤ length (a.seen ++ t.others)
     made_within = omega (arith, own_within a.who a.seen, ap length t.sound, length-append a.seen t.others)
 
   module _ (who made : ℕ) (m0 m1 : Me (Home S) (SeatView C R)) (rest : IsAtRest m0 who made) where
-    -- a pass whose take was lost is at rest
+    -- after a take that lost, the pass is at rest
     pub rests_lost : HasLost step Opened m0 m1 → IsAtRest m1 who made
     rests_lost lost = subst (λ m. IsAtRest m who made) (sym lost.same) rest
 
-    -- the port has two passes or more where a take was lost
+    -- after a take that lost, the port has two passes or more
     pub shared_lost : HasLost step Opened m0 m1 → 2 ≤ k
     shared_lost lost = omega (arith, lost.opens.1, lost.shared)
 
@@ -99,35 +99,35 @@ module _ {S C R : Type 0} (step : S → C → S × R) (start : S) (k : ℕ) wher
       abbrev found : List (Entry C R)
       found = rest.only.seen ++ t.others
 
-      -- nothing that was new to the pass is its own
+      -- the entries that are new to the pass are those of others
       apart_found : own who t.others ≡ []
       apart_found = subst (λ w. own w t.others ≡ []) rest.named t.apart
 
-      -- the history has of the pass just what it made
+      -- the own entries of the pass in the history are those that it made
       own_found : own who found ≡ rest.only.mine
       own_found = own-append who rest.only.seen t.others ∙ ap (λ l. own who rest.only.seen ++ l) apart_found
           ∙ append-nil (own who rest.only.seen) ∙ subst (λ w. own w rest.only.seen ≡ rest.only.mine) rest.named t.sound
 
-      -- what the pass had seen begins the history
+      -- what the pass had seen is a prefix of the history
       begins_found : found ≡ seen_by m0.0.accounts ++ t.others
       begins_found = ap (λ m. seen_by m.0.accounts ++ t.others) (sym rest.alone)
 
-      -- one more entry can be counted where the command was performed
+      -- after the command, one more entry can be counted
       pub made_fits : (cmd : C) (reply : R) (m2 : Me (Home S) (SeatView C R)) → HasPerformed step cmd reply m1 m2 → made + 1 < 2 ^ 64
       made_fits cmd reply m2 p =
           let counted : p.home.count ≡ length found = ap (λ (h : Home S). h.count) (same_home rest.only m1 t p.home p.out) ∙ t.count in
           omega (arith, made_within rest.only m1 t, rest.counted, p.capacity)
 
       module _ (es : List (Entry C R)) (m2 m3 : Me (Home S) (SeatView C R)) (same : m2.0 ≡ m1.0) (reported : HasPut es m2 m3) where
-        -- after a put the pass has seen the whole history, and the entries
+        -- after the put, the pass has seen the whole history and the new entries
         seen_after : seen_by m3.0.accounts ≡ found ++ es
         seen_after = ap (λ m. seen_by m.0.accounts) (after_put rest.only m1 t es m2 m3 same reported)
 
-        -- and made them
+        -- after the put, the pass has made the new entries
         mine_after : made_by m3.0.accounts ≡ made_by m0.0.accounts ++ es
         mine_after = ap (λ m. made_by m.0.accounts) (after_put rest.only m1 t es m2 m3 same reported) ∙ ap (λ m. made_by m.0.accounts ++ es) (sym rest.alone)
 
-        -- and is at rest
+        -- after the put, the pass is at rest
         rests_after : IsAtRest m3 who (made + length es)
         rests_after = record {
           only = account rest.only.who (found ++ es) (rest.only.mine ++ es);
@@ -136,7 +136,7 @@ module _ {S C R : Type 0} (step : S → C → S × R) (start : S) (k : ℕ) wher
           counted = omega (arith, length-append rest.only.mine es, rest.counted);
         }
 
-        -- and has added them to the whole history, where that is legal and they are its own
+        -- after the put, the pass has added its own entries, if the longer history is legal
         adds_after : (port port' : TableId) → port' ≡ port → IsLegal step start (found ++ es) → All (λ e. e.who ≡ who) es
             → Adds step start es (pass_view port who made m0) (pass_view port' who (made + length es) m3)
         adds_after port port' same_port legal whose = record {
@@ -160,11 +160,11 @@ module _ {S C R : Type 0} (step : S → C → S × R) (start : S) (k : ℕ) wher
         seen_full : seen_by m3.0.accounts ≡ found
         seen_full = seen_after [] m2 m3 same_full reported ∙ append-nil found
 
-        -- a pass is at rest after a put of nothing
+        -- after a put without an entry, the pass is at rest
         pub rests_full : IsAtRest m3 who made
         rests_full = subst (IsAtRest m3 who) (omega arith) (rests_after [] m2 m3 same_full reported)
 
-        -- it has then seen the whole history, and added nothing
+        -- after a put without an entry, the pass has seen the whole history and added nothing
         pub adds_none : (port port' : TableId) → port' ≡ port → Adds step start [] (pass_view port who made m0) (pass_view port' who made m3)
         adds_none port port' same_port =
             let legal : IsLegal step start (found ++ []) = subst (IsLegal step start) (sym (append-nil found)) (found_legal rest.only m1 t) in
@@ -172,7 +172,7 @@ module _ {S C R : Type 0} (step : S → C → S × R) (start : S) (k : ℕ) wher
             adds_after [] m2 m3 same_full reported port port' same_port legal (All-nil (λ (e : Entry C R). e.who ≡ who)) in
             subst (λ n. Adds step start [] (pass_view port who made m0) (pass_view port' who n m3)) (omega arith) after
 
-        -- and that history has the last count
+        -- if the call was `Spent`, the history has 2^64 - 1 entries
         pub is_full : length (seen_by m3.0.accounts) ≡ 2 ^ 64 - 1
         is_full = ap length seen_full ∙ sym t.count ∙ ap (λ (h : Home S). h.count) (sym (same_home rest.only m1 t full.home full.out)) ∙ full.last
 
@@ -183,17 +183,17 @@ module _ {S C R : Type 0} (step : S → C → S × R) (start : S) (k : ℕ) wher
         same_one : m2.0 ≡ m1.0
         same_one = ap (λ m. m.0) p.after
 
-        -- a pass is at rest after its call
+        -- after a call with one entry, the pass is at rest
         pub rests_one : IsAtRest m3 who (made + 1)
         rests_one = rests_after (e ∷ []) m2 m3 same_one reported
 
-        -- the history with the entry is legal
+        -- the history with the new entry is legal
         legal_one : IsLegal step start (found ++ e ∷ [])
         legal_one =
             let was : p.home.object ≡ replay step start found = ap (λ (h : Home S). h.object) (same_home rest.only m1 t p.home p.out) ∙ found_object rest.only m1 t in
             legal-append step start found (e ∷ []) (found_legal rest.only m1 t) (p.answer ∙ ap (λ s. (step s cmd).1) was, tt)
 
-        -- it has then added its entry to the whole history
+        -- after a call with one entry, the pass has added it to the whole history
         pub adds_one : (port port' : TableId) → port' ≡ port → Adds step start (e ∷ []) (pass_view port who made m0) (pass_view port' who (made + 1) m3)
         adds_one port port' same_port =
             adds_after (e ∷ []) m2 m3 same_one reported port port' same_port legal_one (All-cons (λ (e : Entry C R). e.who ≡ who) e [] refl (All-nil (λ (e : Entry C R). e.who ≡ who)))

@@ -9,7 +9,7 @@ use Rattle.vme_port.specs.Steps.{joint_view}
 use Rattle.vme_port.specs.Passes.{PassView, account_of, IsCounted}
 
 module _ {S C R : Type 0} where
-  -- a seat has the accounts of the passes that are not left
+  -- the seat has the accounts of all passes that are not left
   pub record IsGathered (all left : List (PassView C R)) (m : Me (Home S) (SeatView C R)) : Type 0 where
     pub done : List (PassView C R)
     pub split : all ≡ left ++ done
@@ -21,7 +21,7 @@ module _ {S C R : Type 0} where
       → m ≡ (view (account_of p ∷ []) false, []) → IsCounted p → IsGathered all left m
   first_joined all left p m split alone counted = record { done = p ∷ []; split = split; joined = alone; counted = All-cons IsCounted p [] counted (All-nil IsCounted) }
 
-  -- one pass more
+  -- one more pass is joined
   pub next_joined : (all rest left : List (PassView C R)) (p : PassView C R) (m n m' : Me (Home S) (SeatView C R)) → IsGathered all rest m → rest ≡ left ++ p ∷ []
       → n ≡ (view (account_of p ∷ []) false, []) → IsCounted p → m' ≡ (joint_view m.0 n.0, m.1) → IsGathered all left m'
   next_joined all rest left p m n m' was split alone counted after = record {

@@ -20,21 +20,21 @@ use Rattle.vme_port.specs.Steps.{HasTaken, take_effect, IsIdle}
 use Rattle.vme_port.proofs.Totals.{sum_at, sum_set, sum_over}
 use Rattle.vme_port.proofs.Accounts.{names_self, apart}
 
--- a word that is written reads so
+-- a word that is written is read back
 pub word_set : (words : List ℕ) (new : ℕ) → length words ≡ 1 → slice_index (set words 0 new) 0 ≡ new
 word_set [] new one = absurd (omega arith)
 word_set (w ∷ words) new one = refl
 
--- two lists of one account are equal where their accounts are
+-- one-element lists are equal only if their elements are
 pub head_same : {A : Type 0} (a b : A) → a ∷ [] ≡ b ∷ [] → a ≡ b
 head_same a b e = cc e
 
--- a number that counts a test is counted where it holds
+-- a test that counts for at least one holds
 pub counts : (b : Bool) → 1 ≤ cond b 1 0 → b ≡ true
 counts true one = refl
 counts false one = absurd (omega arith)
 
--- a count of one test is at most one
+-- a test counts for at most one
 pub counts_once : (b : Bool) → cond b 1 0 ≤ 1
 counts_once true = omega arith
 counts_once false = omega arith
@@ -52,7 +52,7 @@ module _ {C R : Type 0} where
       let one : ◌≡◌ {A = ℕ} (cond u.out 1 0) 1 = ap (λ (b : Bool). cond b 1 0) out in
       omega (arith, sum_at (λ (v : SeatView C R). cond v.out 1 0) views j u at)
 
-  -- the account of a who that some view has is of a who below k
+  -- the account of any view has a number below k
   pub who_below : (k : ℕ) (views : List (SeatView C R)) (id : ℕ) (a : Account C R) (out : Bool)
       → ((who : ℕ) → sum_by (names who) views ≡ cond (ltb who k) 1 0) → get_elem? views id ≡ some (view (a ∷ []) out) → a.who < k
   who_below k views id a out shared at =
@@ -65,7 +65,7 @@ module _ {S C R : Type 0} (step : S → C → S × R) (start : S) (k : ℕ) wher
   abbrev Rule : State (Home S) (SeatView C R) → Type 0
   Rule = Kept step start k
 
-  -- a step that changes no view, and leaves a free word free and a taken one taken
+  -- a step that changes no view and keeps a free word free and a taken word taken
   resting : (s : State (Home S) (SeatView C R)) (id : ℕ) (v : SeatView C R) (c : List (ℕ × Home S)) (new : ℕ) → Rule s → get_elem? s.views id ≡ some v
       → (slice_index s.words 0 ≡ 0 → new ≡ 0) → (slice_index s.words 0 ≢ 0 → new ≢ 0) → Rule (stepped s 0 new id c v keeps)
   resting s id v c new r at free taken =
@@ -85,7 +85,7 @@ module _ {S C R : Type 0} (step : S → C → S × R) (start : S) (k : ℕ) wher
       } in
       subst (λ (views : List (SeatView C R)). Rule (record { words = set s.words 0 new; homes = s.homes; views = views })) (sym (set_again s.views id v at)) kept
 
-  -- an exchange that finds the object at home takes it
+  -- an exchange that finds the word free takes the object
   taking : (s : State (Home S) (SeatView C R)) (id new : ℕ) (a : Account C R) (r : Rule s) → 0 < new → get_elem? s.views id ≡ some (view (a ∷ []) false)
       → (others : List (Entry C R)) → r.history ≡ a.seen ++ others → (fits : IsConsistent r.history a) → (home : AtHome step start r.history s)
       → Rule (stepped s 0 new id [] (view (account a.who (a.seen ++ others) a.mine ∷ []) true) (takes 0 home.home))
@@ -120,19 +120,19 @@ module _ {S C R : Type 0} (step : S → C → S × R) (start : S) (k : ℕ) wher
         });
       }
 
-  -- where some view holds the object it is away
+  -- if some view holds the object, the object is away
   pub is_away : (h : List (Entry C R)) (s : State (Home S) (SeatView C R)) → 1 ≤ holders s.views → AtHome step start h s ⊎ Away step start h s → Away step start h s
   is_away h s one (inl home) = absurd (omega (arith, home.none_out))
   is_away h s one (inr away) = away
 
-  -- where it is away, and some view does not hold it, the port has two passes or more
+  -- if another view holds the object, the port has two passes or more
   others_hold : (s : State (Home S) (SeatView C R)) (id : ℕ) (a : Account C R) (r : Rule s) → Away step start r.history s → get_elem? s.views id ≡ some (view (a ∷ []) false) → 2 ≤ k
   others_hold s id a r away at =
       let less = λ (j : ℕ) (v : SeatView C R) (there : get_elem? s.views j ≡ some v). out_weighs v r.history (λ out. away.holder j v there out) v.out refl in
       let over = sum_over (λ (v : SeatView C R). cond v.out 1 0) weight s.views id (view (a ∷ []) false) less at in
       omega (arith, away.one_out, r.weights)
 
-  -- an exchange from a free word, that is won or lost
+  -- an exchange from a free word wins or loses
   tries_alone : (opened : S → ℕ → Type 0) → opened start k → (slots id new : ℕ) (a : Account C R) → 0 < new
       → Allows Rule slots id (view (a ∷ []) false, []) 0 (λ x. either (eqb x 0) new x) (take_effect step opened (table_step slots 0 0 new none) (view (a ∷ []) false, []))
   tries_alone opened opens slots id new a some_new s r wide at fits64 =
@@ -183,14 +183,14 @@ module _ {S C R : Type 0} (step : S → C → S × R) (start : S) (k : ℕ) wher
         )
       ])
 
-  -- taking the object, from a free word to another number
+  -- an exchange from a free word to a positive number, from an idle seat
   pub tries : (opened : S → ℕ → Type 0) → opened start k → (slots id new : ℕ) (me : Me (Home S) (SeatView C R)) → 0 < new → IsIdle me
       → Allows Rule slots id me 0 (λ x. either (eqb x 0) new x) (take_effect step opened (table_step slots 0 0 new none) me)
   tries opened opens slots id new me some_new idle =
       subst (λ (m : Me (Home S) (SeatView C R)). Allows Rule slots id m 0 (λ x. either (eqb x 0) new x) (take_effect step opened (table_step slots 0 0 new none) m)) (sym idle.1)
       (tries_alone opened opens slots id new idle.0 some_new)
 
-  -- marking a taken port as wanted
+  -- the exchange that marks a taken port as wanted
   pub marks : (slots id : ℕ) (me : Me (Home S) (SeatView C R)) → Allows Rule slots id me 0 (λ x. either (eqb x 1) 2 x) (λ n m'. m' ≡ me)
   marks slots id me s r wide at fits64 =
       exchanged (slice_index s.words 0) 1 2

@@ -1,4 +1,4 @@
--- Opening a port, and dealing its accounts out, keep the rule.
+-- Opening a port and splitting its accounts keep the rule.
 use Rattle.std.proofs.Common.{ℕ, zero, suc, ◌≡◌, ◌+◌, ◌<◌, ◌≤◌, ◌==◌, inl, inr, Bool, true, false, cond, ltb, List, [], ◌∷◌, ◌++◌, length, set, take, drop, All, refl, ap, sym, ◌∙◌, subst, arith, length-append, eq-eqb, ne_eqb}
 use Rattle.std.specs.List.{sum_by}
 use Rattle.std.proofs.lemmas.List.Sums.{sum_by-append, sum_by_push}
@@ -20,12 +20,12 @@ use Rattle.vme_port.proofs.Totals.{sum_set}
 use Rattle.vme_port.proofs.Accounts.{named_more}
 
 module _ (C R : Type 0) where
-  -- there are as many fresh accounts as asked for
+  -- there are `n` fresh accounts
   pub fresh_length : (i n : ℕ) → length (fresh_accounts {C = C} {R = R} i n) ≡ n
   fresh_length i zero = refl
   fresh_length i (suc n) = ap suc (fresh_length (suc i) n)
 
-  -- none of them is of a who before the first
+  -- no fresh account has a number below the first
   fresh_before : (who i n : ℕ) → who < i → names_among who (fresh_accounts {C = C} {R = R} i n) ≡ 0
   fresh_before who i zero less = refl
   fresh_before who i (suc n) less =
@@ -33,7 +33,7 @@ module _ (C R : Type 0) where
       let rest : names_among who (fresh_accounts {C = C} {R = R} (suc i) n) ≡ 0 = fresh_before who (suc i) n (omega arith) in
       omega (arith, named_more who (account {C = C} {R = R} i [] []) (fresh_accounts (suc i) n))
 
-  -- nor of a who past the last
+  -- no fresh account has a number past the last
   fresh_past : (who i n : ℕ) → i + n ≤ who → names_among who (fresh_accounts {C = C} {R = R} i n) ≡ 0
   fresh_past who i zero less = refl
   fresh_past who i (suc n) less =
@@ -41,7 +41,7 @@ module _ (C R : Type 0) where
       let rest : names_among who (fresh_accounts {C = C} {R = R} (suc i) n) ≡ 0 = fresh_past who (suc i) n (omega arith) in
       omega (arith, named_more who (account {C = C} {R = R} i [] []) (fresh_accounts (suc i) n))
 
-  -- one of them is of each who in between
+  -- exactly one fresh account has each number in between
   fresh_in : (who i n : ℕ) → i ≤ who → who < i + n → names_among who (fresh_accounts {C = C} {R = R} i n) ≡ 1
   fresh_in who i zero from below = absurd (omega arith)
   fresh_in who i (suc n) from below = elim (cases_eq i who) [
@@ -55,23 +55,23 @@ module _ (C R : Type 0) where
         omega (arith, named_more who (account {C = C} {R = R} i [] []) (fresh_accounts (suc i) n))
   ]
 
-  -- at the start each who below k has one account
+  -- a new port has one account for each number below k, and no other
   fresh_shared : (k who : ℕ) (b : Bool) → ltb who k ≡ b → names_among who (fresh_accounts {C = C} {R = R} 0 k) ≡ cond b 1 0
   fresh_shared k who true below = fresh_in who 0 k (omega arith) (let less = ltb-true who k below in omega arith)
   fresh_shared k who false past = fresh_past who 0 k (let least = ltb-false who k past in omega arith)
 
-  -- each account fits the history of no entries
+  -- each fresh account agrees with the empty history
   fresh_fits : (i n : ℕ) → All (IsConsistent []) (fresh_accounts {C = C} {R = R} i n)
   fresh_fits i zero = All-nil (IsConsistent {C = C} {R = R} [])
   fresh_fits i (suc n) = All-cons (IsConsistent []) (account i [] []) (fresh_accounts (suc i) n) (record { begins = ([], refl); sound = refl; whole = refl }) (fresh_fits (suc i) n)
 
 module _ {C R : Type 0} where
-  -- what a cut view and the part that is cut off weigh together
+  -- a split keeps the total number of accounts
   cut_length : (accounts : List (Account C R)) → length (drop 1 accounts) + length (take 1 accounts) ≡ length accounts
   cut_length [] = refl
   cut_length (a ∷ rest) = omega arith
 
-  -- and how many of their accounts are of a who
+  -- a split keeps the total number of accounts of `who`
   cut_named : (who : ℕ) (accounts : List (Account C R)) → names_among who (drop 1 accounts) + names_among who (take 1 accounts) ≡ names_among who accounts
   cut_named who [] = refl
   cut_named who (a ∷ rest) = omega (arith, named_more who a rest, named_more who a [])
@@ -80,7 +80,7 @@ module _ {S C R : Type 0} (step : S → C → S × R) (start : S) (k : ℕ) wher
   abbrev Rule : State (Home S) (SeatView C R) → Type 0
   Rule = Kept step start k
 
-  -- the rule holds of a port that was just opened
+  -- the rule holds for a new port
   pub opens : (home : Home S) → home.object ≡ start → home.count ≡ 0 → Rule (opening (0 ∷ []) (home ∷ []) (newcomer k))
   opens home object count = record {
     history = [];
@@ -96,7 +96,7 @@ module _ {S C R : Type 0} (step : S → C → S × R) (start : S) (k : ℕ) wher
     place = inl (record { free = refl; home = home; here = refl; object = object; count = count; none_out = refl });
   }
 
-  -- other views that fit the history, and share, weigh and hold as the old ones, keep the rule
+  -- views that agree with the history, and have the same totals as the old ones, keep the rule
   reviewed : (s : State (Home S) (SeatView C R)) (views : List (SeatView C R)) (r : Rule s)
       → ((j : ℕ) (v : SeatView C R) → get_elem? views j ≡ some v → All (IsConsistent r.history) v.accounts)
       → ((who : ℕ) → sum_by (names who) views ≡ sum_by (names who) s.views) → sum_by weight views ≡ sum_by weight s.views → holders views ≡ holders s.views
@@ -116,7 +116,7 @@ module _ {S C R : Type 0} (step : S → C → S × R) (start : S) (k : ℕ) wher
     ];
   }
 
-  -- cutting the first account off
+  -- the split of the first account keeps the rule
   pub deals : (id : ℕ) (v : SeatView C R) → v.out ≡ false → Splits Rule id v (all_but_first v) (first_alone v)
   deals id v in' s r at =
       let left : SeatView C R = all_but_first v in
@@ -142,7 +142,7 @@ module _ {S C R : Type 0} (step : S → C → S × R) (start : S) (k : ℕ) wher
         | inr new ↦ absurd cc
       ])
 
-  -- taking another's accounts in
+  -- the join of two seats keeps the rule
   pub gathers : (id other : ℕ) (v w : SeatView C R) → v.out ≡ false → w.out ≡ false → Joins Rule id v other w (joint_view v w) empty_view
   gathers id other v w in' in'' s r at apart there =
       let both : SeatView C R = joint_view v w in
@@ -179,7 +179,7 @@ module _ {S C R : Type 0} (step : S → C → S × R) (start : S) (k : ℕ) wher
       ])
 
 module _ {S C R : Type 0} where
-  -- the first of the accounts that a seat stands for, and the others
+  -- the first account of a seat, and the others
   pub dealt : (k who : ℕ) (m : Me (Home S) (SeatView C R)) → StandsFor k who m → who < k
       → (m.0.out ≡ false) × StandsFor k (who + 1) (all_but_first m.0, m.1) × (first_alone m.0 ≡ view (account who [] [] ∷ []) false)
   dealt k who m (zero, sum, is) below = absurd (omega arith)
@@ -190,6 +190,6 @@ module _ {S C R : Type 0} where
         ap (λ m. first_alone m.0) is,
       )
 
-  -- a seat that stands for all passes does so from the first on
+  -- a seat that stands for all passes stands for those from number 0 on
   pub stands_first : (k : ℕ) (m : Me (Home S) (SeatView C R)) → m ≡ (newcomer k, []) → StandsFor k 0 m
   stands_first k m is = (k, omega arith, is)

@@ -1,4 +1,4 @@
--- Where the entries of one who stand in a history.
+-- The places of one caller's entries in a history.
 use Rattle.std.proofs.Common.{ℕ, zero, suc, ◌≡◌, ◌≢◌, ◌<◌, ◌==◌, inl, inr, Bool, cond, List, [], ◌∷◌, ◌++◌, length, take, slice_index_or, Contains, refl, ap, sym, ◌∙◌, subst, arith, eq-eqb, ne_eqb}
 use Rattle.std.specs.List.{count_by}
 use Rattle.std.proofs.lemmas.Bool.{cases_eq}
@@ -8,15 +8,15 @@ use Rattle.vme_object.specs.History.{own}
 use Rattle.vme_port.specs.Passes.{PassView}
 
 module _ {C R : Type 0} where
-  -- a who's part of a history that begins with an entry of its own
+  -- the own entries of `who` in a history that begins with an entry of `who`
   own_first : (who : ℕ) (e : Entry C R) (h : List (Entry C R)) → e.who ≡ who → own who (e ∷ h) ≡ e ∷ own who h
   own_first who e h same = ap (λ (b : Bool). cond b (e ∷ own who h) (own who h)) (eq-eqb e.who who same)
 
-  -- and of one that begins with an entry of another
+  -- the own entries of `who` in a history that begins with an entry of another caller
   own_later : (who : ℕ) (e : Entry C R) (h : List (Entry C R)) → e.who ≢ who → own who (e ∷ h) ≡ own who h
   own_later who e h other = ap (λ (b : Bool). cond b (e ∷ own who h) (own who h)) (ne_eqb e.who who other)
 
-  -- a place in a history, of an entry of a who, behind these that are its own
+  -- a place in a history of an entry of `who`, after exactly the entries `mine` of `who`
   pub record IsPlaceOf (who : ℕ) (h mine : List (Entry C R)) (e : Entry C R) : Type 0 where
     pub before : List (Entry C R)
     pub after : List (Entry C R)
@@ -24,7 +24,7 @@ module _ {C R : Type 0} where
     pub whose : e.who ≡ who
     pub only : own who before ≡ mine
 
-  -- a place behind one more entry, of its who
+  -- the place after one more entry of `who`
   place_behind_own : (who : ℕ) (g e : Entry C R) (h mine : List (Entry C R)) → g.who ≡ who → IsPlaceOf who h mine e → IsPlaceOf who (g ∷ h) (g ∷ mine) e
   place_behind_own who g e h mine same p = record {
     before = g ∷ p.before;
@@ -34,7 +34,7 @@ module _ {C R : Type 0} where
     only = own_first who g p.before same ∙ ap (λ l. g ∷ l) p.only;
   }
 
-  -- a place behind one more entry, of another who
+  -- the place after one more entry of another caller
   place_behind_other : (who : ℕ) (g e : Entry C R) (h mine : List (Entry C R)) → g.who ≢ who → IsPlaceOf who h mine e → IsPlaceOf who (g ∷ h) mine e
   place_behind_other who g e h mine other p = record {
     before = g ∷ p.before;
@@ -44,7 +44,7 @@ module _ {C R : Type 0} where
     only = own_later who g p.before other ∙ p.only;
   }
 
-  -- the entry at i among a who's own has such a place
+  -- the i-th own entry of `who` has its place in the history
   pub place_of : (who : ℕ) (h : List (Entry C R)) (i : ℕ) (d : Entry C R) → i < length (own who h)
       → IsPlaceOf who h (take i (own who h)) (slice_index_or (own who h) i d)
   place_of who [] i d less = absurd (omega arith)
@@ -69,7 +69,7 @@ module _ {C R : Type 0} where
         subst (λ l. IsPlaceOf who (g ∷ h) (take (suc i) l) (slice_index_or l (suc i) d)) (sym its) (place_behind_other who g _ h _ other p)
   ]
 
-  -- two entries of a who, behind as many of its own, stand at one place
+  -- two entries of `who` that follow as many of its own entries stand at one place
   pub same_place : (who : ℕ) (a b : List (Entry C R)) (e f : Entry C R) (x y : List (Entry C R)) → a ++ e ∷ x ≡ b ++ f ∷ y → e.who ≡ who
       → f.who ≡ who → own who a ≡ own who b → a ≡ b
   same_place who [] [] e f x y is mine theirs same = refl
@@ -93,7 +93,7 @@ module _ {C R : Type 0} where
       let prefixes : a ≡ b = same_place who a b e f x y rest mine theirs owns in
       λ i. first i ∷ prefixes i
 
-  -- an entry of a history is one of its who's
+  -- an entry of a history is among the own entries of its caller
   pub own_contains : (h : List (Entry C R)) (e : Entry C R) → Contains h e → Contains (own e.who h) e
   own_contains [] e (i, within, is) = absurd (omega arith)
   own_contains (g ∷ h) e (zero, within, is) =
@@ -105,7 +105,7 @@ module _ {C R : Type 0} where
         | inr other ↦ subst (λ l. Contains l e) (sym (own_later e.who g h other)) (j, less, there)
       ]
 
-  -- where one of some passes is of a who, there is such a pass
+  -- if the passes include one of `who`, there is that pass
   pub pass_of_who : (who : ℕ) (ps : List (PassView C R)) → count_by (λ p. p.who == who) ps ≡ 1 → (p : PassView C R) × Contains ps p × (p.who ≡ who)
   pass_of_who who [] one = absurd (omega arith)
   pass_of_who who (p ∷ ps) one = elim (cases_eq p.who who) [

@@ -23,7 +23,7 @@ module _ {S C R : Type 0} (step : S → C → S × R) (start : S) (k : ℕ) wher
   abbrev Rule : State (Home S) (SeatView C R) → Type 0
   Rule = Kept step start k
 
-  -- the accounts of a view beside the holder's are of other process_count
+  -- the accounts of all other views are those of other callers
   others_named : (s : State (Home S) (SeatView C R)) (id j : ℕ) (a : Account C R) (out : Bool) (u : SeatView C R) → Rule s → get_elem? s.views id ≡ some (view (a ∷ []) out)
       → get_elem? s.views j ≡ some u → j ≢ id → names_among a.who u.accounts ≡ 0
   others_named s id j a out u r at there apart =
@@ -31,7 +31,7 @@ module _ {S C R : Type 0} (step : S → C → S × R) (start : S) (k : ℕ) wher
       let both = sum_two (names a.who) s.views id j (view (a ∷ []) out) u at there apart in
       omega (arith, r.shared a.who, counts_once (ltb a.who k))
 
-  -- the holder's account fits the history with its entries behind
+  -- the holder's account agrees with the history that its entries are appended to
   holder_fits : (h es : List (Entry C R)) (a : Account C R) → All (λ e. e.who ≡ a.who) es → a.seen ≡ h → IsConsistent h a
       → IsConsistent (h ++ es) (account a.who (a.seen ++ es) (a.mine ++ es))
   holder_fits h es a whose seen f = record {
@@ -74,7 +74,7 @@ module _ {S C R : Type 0} (step : S → C → S × R) (start : S) (k : ℕ) wher
         });
       }
 
-  -- putting the object home after entries of the holder
+  -- a put of the object with entries of the holder
   pub puts : (slots id : ℕ) (es : List (Entry C R)) (me : Me (Home S) (SeatView C R)) → MayPut step start es me
       → Allows Rule slots id me 0 (λ x. 0) (put_effect es (table_step slots 0 0 0 none) me)
   puts slots id es me may =

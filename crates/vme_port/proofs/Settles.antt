@@ -1,4 +1,4 @@
--- A port that is closed with a seat of all passes tells their whole history.
+-- A port that is closed with a seat of all its passes determines the whole history.
 use Rattle.std.proofs.Common.{ℕ, ◌≡◌, ◌+◌, ◌<◌, ◌≤◌, ◌==◌, ◌⊎◌, inl, inr, Bool, false, cond, ltb, List, [], ◌∷◌, length, map, All, refl, ap, sym, ◌∙◌, subst, arith, eq-eqb, ne_eqb}
 use Rattle.std.specs.List.{sum_by, count_by}
 use Rattle.std.proofs.lemmas.Bool.{lt-ltb, cases_eq}
@@ -22,11 +22,11 @@ use Rattle.vme_port.proofs.Accounts.{named_more}
 use Rattle.vme_port.proofs.Keeps.{out_weighs}
 
 module _ {C R : Type 0} where
-  -- how many accounts of a who a view has is at most how many accounts it has
+  -- a view has at most as many accounts of `who` as it has accounts
   names_within : (who : ℕ) (l : List (Account C R)) → names_among who l ≤ length l
   names_within who l = count_by-le-length (λ (a : Account C R). a.who == who) l
 
-  -- a who's part of a history with one more entry
+  -- the number of own entries of `who` in a history with one more entry
   own_more : (who : ℕ) (e : Entry C R) (h : List (Entry C R)) → length (own who (e ∷ h)) ≡ length (own who h) + cond (who == e.who) 1 0
   own_more who e h = elim (cases_eq who e.who) [
     | inl same ↦
@@ -39,22 +39,22 @@ module _ {C R : Type 0} where
         omega (arith, ap length its)
   ]
 
-  -- how many entries of a history are those of some accounts' process_count
+  -- the number of a history's entries that belong to these accounts
   abbrev owned : List (Account C R) → List (Entry C R) → ℕ
   owned l h = sum_by (λ a. length (own a.who h)) l
 
-  -- no entries
+  -- an empty history has no owned entries
   owned_none : (l : List (Account C R)) → owned l [] ≡ 0
   owned_none [] = refl
   owned_none (a ∷ l) = omega (arith, sum_by-cons (λ (a : Account C R). length (own {C = C} {R = R} a.who [])) a l, owned_none l)
 
-  -- one entry more
+  -- the number of owned entries, with one entry more
   owned_more : (l : List (Account C R)) (e : Entry C R) (h : List (Entry C R)) → owned l (e ∷ h) ≡ owned l h + names_among e.who l
   owned_more [] e h = refl
   owned_more (a ∷ l) e h =
       omega (arith, sum_by-cons (λ (a : Account C R). length (own a.who (e ∷ h))) a l, sum_by-cons (λ (a : Account C R). length (own a.who h)) a l, named_more e.who a l, own_more a.who e h, owned_more l e h)
 
-  -- where one account is of each who, each entry is owned once
+  -- if there is one account for each number, each entry is owned exactly once
   owned_once : (k : ℕ) (l : List (Account C R)) (h : List (Entry C R)) → ((who : ℕ) → who < k → names_among who l ≡ 1) → All (λ e. e.who < k) h → owned l h ≡ length h
   owned_once k l [] one known = owned_none l
   owned_once k l (e ∷ h) one known =
@@ -62,7 +62,7 @@ module _ {C R : Type 0} where
       let rest = owned_once k l h one (All-tail (λ (e : Entry C R). e.who < k) e h known) in
       omega (arith, owned_more l e h, one e.who below)
 
-  -- what passes made is what the history has of them
+  -- the passes together made exactly the entries that belong to their accounts
   made_owned : (h : List (Entry C R)) (ps : List (PassView C R)) → All (IsConsistent h) (map account_of ps) → All IsCounted ps
       → sum_by (λ p. p.made) ps ≡ owned (map account_of ps) h
   made_owned h [] fits counted = refl
@@ -72,13 +72,13 @@ module _ {C R : Type 0} where
       let rest = made_owned h ps (All-tail (IsConsistent h) (account_of p) (map account_of ps) fits) (All-tail IsCounted p ps counted) in
       omega (arith, sum_by-cons (λ (p : PassView C R). p.made) p ps, sum_by-cons (λ (a : Account C R). length (own a.who h)) (account_of p) (map account_of ps), ap length fit.whole)
 
-  -- passes of a who are accounts of it
+  -- there are as many passes of `who` as accounts of `who`
   named_passes : (who : ℕ) (ps : List (PassView C R)) → count_by (λ p. p.who == who) ps ≡ names_among who (map account_of ps)
   named_passes who [] = refl
   named_passes who (p ∷ ps) =
       omega (arith, sum_by-cons (λ (p : PassView C R). cond (p.who == who) 1 0) p ps, named_more who (account_of p) (map account_of ps), named_passes who ps)
 
-  -- what fits of each pass's account
+  -- each pass agrees with the history if its account does
   fits_passes : (h : List (Entry C R)) (ps : List (PassView C R)) → All (IsConsistent h) (map account_of ps) → All (λ p. IsConsistent h (account_of p)) ps
   fits_passes h [] fits = All-nil (λ (p : PassView C R). IsConsistent h (account_of p))
   fits_passes h (p ∷ ps) fits =
@@ -88,7 +88,7 @@ module _ {S C R : Type 0} (step : S → C → S × R) (start : S) (k : ℕ) wher
   abbrev Rule : State (Home S) (SeatView C R) → Type 0
   Rule = Kept step start k
 
-  -- a seat that stands for k passes and holds nothing finds the object at home
+  -- if a seat stands for k passes and does not hold the object, the object is in its slot
   at_home : (s : State (Home S) (SeatView C R)) (id : ℕ) (accounts : List (Account C R)) (r : Rule s) → get_elem? s.views id ≡ some (view accounts false)
       → k ≤ length accounts → AtHome step start r.history s ⊎ Away step start r.history s → AtHome step start r.history s
   at_home s id accounts r at enough (inl home) = home
@@ -97,7 +97,7 @@ module _ {S C R : Type 0} (step : S → C → S × R) (start : S) (k : ℕ) wher
       let over = sum_over (λ (v : SeatView C R). cond v.out 1 0) weight s.views id (view accounts false) less at in
       absurd (omega (arith, away.one_out, r.weights))
 
-  -- and its accounts are one of each who
+  -- a seat that stands for k passes has one account for each number below k
   each_named : (s : State (Home S) (SeatView C R)) (id : ℕ) (accounts : List (Account C R)) (r : Rule s) → get_elem? s.views id ≡ some (view accounts false)
       → k ≤ length accounts → (who : ℕ) → who < k → names_among who accounts ≡ 1
   each_named s id accounts r at enough who below =
@@ -107,7 +107,7 @@ module _ {S C R : Type 0} (step : S → C → S × R) (start : S) (k : ℕ) wher
       let one : ◌≡◌ {A = ℕ} (cond (ltb who k) 1 0) 1 = ap (λ (b : Bool). cond b 1 0) (lt-ltb who k below) in
       omega (arith, r.shared who, r.weights)
 
-  -- the object is at home, and the accounts fit its history
+  -- the object is the replay of its history, and the accounts agree with that history
   pub closes : (s : State (Home S) (SeatView C R)) (id : ℕ) (accounts : List (Account C R)) → Rule s → get_elem? s.views id ≡ some (view accounts false)
       → k ≤ length accounts → (home : Home S) × (s.homes ≡ some home ∷ []) × Closes step start k accounts home.object home.count
   closes s id accounts r at enough =
@@ -126,7 +126,7 @@ module _ {S C R : Type 0} (step : S → C → S × R) (start : S) (k : ℕ) wher
         },
       )
 
-  -- the table's last state tells it of the object that it gives back
+  -- the last state of the table determines the object that it returns
   pub last : (id : ℕ) (m : Me (Home S) (SeatView C R)) (words : List ℕ) (homes : List (Home S)) (home : Home S) → Final (Seen Rule id m.0) words homes
       → get_elem? homes 0 ≡ some home → m ≡ (view m.0.accounts false, []) → k ≤ length m.0.accounts → Closes step start k m.0.accounts home.object home.count
   last id m words homes home final at idle enough =
@@ -136,7 +136,7 @@ module _ {S C R : Type 0} (step : S → C → S × R) (start : S) (k : ℕ) wher
       let same : reported.0 ≡ home = some-injective reported.0 home (sym (final.4 0 reported.0 (ap (λ hs. get_elem? hs 0) reported.1)) ∙ at) in
       subst (λ (home : Home S). Closes step start k m.0.accounts home.object home.count) same reported.2
 
-  -- what the accounts of some passes tell is told of the passes
+  -- passes settle if their accounts close
   pub settled : (passes : List (PassView C R)) (object : S) (n : ℕ) → Closes step start k (map account_of passes) object n → All IsCounted passes
       → Settles step start k passes object n
   settled passes object n reported counted =

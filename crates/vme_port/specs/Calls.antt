@@ -1,4 +1,4 @@
--- What calls do to the pass that makes them, and what their refusals tell.
+-- Defines what a call does to the pass that makes it, and what holds for each kind of result.
 use Rattle.std.specs.Prelude.{ℕ, ◌≡◌, ◌+◌, List, [], ◌∷◌, ◌++◌, length, All, Result, Ok, Err}
 use Rattle.vme_object.specs.declared.history.Entry.{Entry}
 use Rattle.vme_object.specs.History.{IsLegal, own, entry}
@@ -8,13 +8,13 @@ use Rattle.vme_port.specs.declared.fault.TryFault.{TryFault}
 use Rattle.vme_port.specs.declared.fault.TryFault.TheVariants.{Busy, Spent}
 use Rattle.vme_port.specs.Passes.{PassView}
 
--- the entries that a call adds: one with its reply, or none where it was refused (this project's own)
+-- the entries that a call adds: one with its reply, or none if it failed
 abbrev pub entries_of : {C R F : Type 0} → ℕ → C → Result R F → List (Entry C R)
 entries_of who cmd (Ok reply) = entry who cmd reply ∷ []
 entries_of who cmd (Err fault) = []
 
--- over a call a pass, which is of the same port and who, has seen more of the history with nothing of its own, and then added
--- these entries of its own; what it has seen now is legal, and has of its own just what it made (this project's own)
+-- what one call does to a pass: the pass sees further entries of others, then adds the entries `es` of its own; all
+-- that it has seen is legal
 pub record Adds {S C R : Type 0} (step : S → C → S × R) (start : S) (es : List (Entry C R)) (p q : PassView C R) : Type 0 where
   pub port : q.port ≡ p.port
   pub who : q.who ≡ p.who
@@ -27,8 +27,8 @@ pub record Adds {S C R : Type 0} (step : S → C → S × R) (start : S) (es : L
   pub sound : own p.who q.seen ≡ q.mine
   pub made : q.made ≡ p.made + length es
 
--- over any number of calls a pass, which is of the same port and who, made these entries: it has seen more of the history, in
--- which just these are its own (this project's own)
+-- what any number of calls do to a pass: the pass has seen more of the history, in which its own entries are exactly
+-- `es`
 pub record Makes {C R : Type 0} (es : List (Entry C R)) (p q : PassView C R) : Type 0 where
   pub port : q.port ≡ p.port
   pub who : q.who ≡ p.who
@@ -38,25 +38,25 @@ pub record Makes {C R : Type 0} (es : List (Entry C R)) (p q : PassView C R) : T
   pub mine : q.mine ≡ p.mine ++ es
   pub made : q.made ≡ p.made + length es
 
--- what holds where a call was busy (this project's own)
+-- `holds`, if the call was `Busy`
 abbrev pub IfBusy : {R : Type 0} → Result R TryFault → Type 0 → Type 0
 IfBusy (Err Busy) holds = holds
 IfBusy (Err Spent) holds = Unit {0}
 IfBusy (Ok reply) holds = Unit {0}
 
--- what holds where a call was not busy (this project's own)
+-- `holds`, if the call was not `Busy`
 abbrev pub UnlessBusy : {R : Type 0} → Result R TryFault → Type 0 → Type 0
 UnlessBusy (Err Busy) holds = Unit {0}
 UnlessBusy (Err Spent) holds = holds
 UnlessBusy (Ok reply) holds = holds
 
--- what holds where the history was full (this project's own)
+-- `holds`, if the call was `Spent`
 abbrev pub IfSpent : {R : Type 0} → Result R TryFault → Type 0 → Type 0
 IfSpent (Err Busy) holds = Unit {0}
 IfSpent (Err Spent) holds = holds
 IfSpent (Ok reply) holds = Unit {0}
 
--- whether a port was refused for its number of passes (this project's own)
+-- a port was rejected because of its number of passes
 abbrev pub IsBadCount : {A : Type 0} → Result A PortFault → Type 0
 IsBadCount (Err BadCount) = Unit {0}
 IsBadCount (Err OutOfMemory) = ⊥

@@ -1,4 +1,4 @@
--- What contracts see of a pass.
+-- Defines what contracts see of a pass.
 use Rattle.std.specs.Prelude.{ℕ, ◌≡◌, false, List, [], ◌∷◌, length}
 use Rattle.atomic_table.specs.Table.{Me}
 use Rattle.atomic_table.specs.Seated.{TableId}
@@ -8,8 +8,8 @@ use Rattle.vme_port.specs.declared.rule.SeatView.{SeatView}
 use Rattle.vme_port.specs.declared.home.Home.{Home}
 use Rattle.vme_port.specs.Views.{account, view}
 
--- a pass: whose it is, how many entries it made, the history that it has seen, and its own entries there; the port is named by
--- its table (this project's own)
+-- a pass: the table of its port, its number, how many entries it made, the history that it has seen, and its own
+-- entries there
 pub record PassView (C R : Type 0) : Type 0 where
   pub port : TableId
   pub who : ℕ
@@ -17,18 +17,17 @@ pub record PassView (C R : Type 0) : Type 0 where
   pub seen : List (Entry C R)
   pub mine : List (Entry C R)
 
--- what the first account has seen (this project's own)
+-- the history that the first account has seen
 abbrev pub seen_by : {C R : Type 0} → List (Account C R) → List (Entry C R)
 seen_by [] = []
 seen_by (a ∷ rest) = a.seen
 
--- what the first account made (this project's own)
+-- the entries that the first account made
 abbrev pub made_by : {C R : Type 0} → List (Account C R) → List (Entry C R)
 made_by [] = []
 made_by (a ∷ rest) = a.mine
 
--- between calls a pass stands for one account, which is of its who and has as many entries as it made; and the object is not
--- out with it (this project's own)
+-- between calls, a pass stands for one account, has its number, counts its entries, and does not hold the object
 pub record IsAtRest {S C R : Type 0} (me : Me (Home S) (SeatView C R)) (who made : ℕ) : Type 0 where
   pub only : Account C R
   pub alone : me ≡ (view (only ∷ []) false, [])
@@ -36,7 +35,7 @@ pub record IsAtRest {S C R : Type 0} (me : Me (Home S) (SeatView C R)) (who made
   pub counted : length only.mine ≡ made
 
 module _ {C R : Type 0} where
-  -- the pass of a port and a who that has made no call (this project's own)
+  -- the pass of number `who_is` of a port, before its first call
   pub record IsUnused (port_is : TableId) (who_is : ℕ) (p : PassView C R) : Type 0 where
     pub port : p.port ≡ port_is
     pub who : p.who ≡ who_is
@@ -44,10 +43,10 @@ module _ {C R : Type 0} where
     pub seen : p.seen ≡ []
     pub mine : p.mine ≡ []
 
-  -- the account of a pass (this project's own)
+  -- the account of a pass
   abbrev pub account_of : PassView C R → Account C R
   account_of p = account p.who p.seen p.mine
 
-  -- a pass has as many entries as it made (this project's own)
+  -- the number `made` of a pass counts its entries
   abbrev pub IsCounted : PassView C R → Type 0
   IsCounted p = length p.mine ≡ p.made

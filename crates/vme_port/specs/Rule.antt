@@ -1,4 +1,4 @@
--- The rule of a port: what holds between any two steps.
+-- Defines the rule of a port, which holds between any two steps.
 use Rattle.std.specs.Prelude.{ℕ, ◌≡◌, ◌≢◌, ◌<◌, ◌⊎◌, true, cond, ltb, List, [], ◌∷◌, length, All, slice_index}
 use Rattle.std.specs.List.{sum_by}
 use mathlib.Core.Option.{none, some}
@@ -11,14 +11,15 @@ use Rattle.vme_port.specs.declared.rule.SeatView.{SeatView}
 use Rattle.vme_port.specs.declared.home.Home.{Home}
 use Rattle.vme_port.specs.Views.{weight, names, holders}
 
--- what an account has seen begins the history, which has of its who just what the account made (this project's own)
+-- an account agrees with a history: what it has seen is a prefix of it, and its own entries there are those that it
+-- made
 pub record IsConsistent {C R : Type 0} (h : List (Entry C R)) (a : Account C R) : Type 0 where
   pub begins : IsPrefix a.seen h
   pub sound : own a.who a.seen ≡ a.mine
   pub whole : own a.who h ≡ a.mine
 
 module _ {S C R : Type 0} (step : S → C → S × R) (start : S) where
-  -- the object is at home, and is the replay of the history (this project's own)
+  -- the object is in its slot, is the replay of the history, and counts its entries
   pub record AtHome (h : List (Entry C R)) (s : State (Home S) (SeatView C R)) : Type 0 where
     pub free : slice_index s.words 0 ≡ 0
     pub home : Home S
@@ -27,7 +28,7 @@ module _ {S C R : Type 0} (step : S → C → S × R) (start : S) where
     pub count : home.count ≡ length h
     pub none_out : holders s.views ≡ 0
 
-  -- the object is out with one view, which stands for one pass and has seen the whole history (this project's own)
+  -- exactly one view holds the object; it stands for one pass, which has seen the whole history
   pub record Away (h : List (Entry C R)) (s : State (Home S) (SeatView C R)) : Type 0 where
     pub taken : slice_index s.words 0 ≢ 0
     pub gone : s.homes ≡ none ∷ []
@@ -35,8 +36,8 @@ module _ {S C R : Type 0} (step : S → C → S × R) (start : S) where
     pub holder : (j : ℕ) (v : SeatView C R) → get_elem? s.views j ≡ some v → v.out ≡ true
         → (a : Account C R) × (v.accounts ≡ a ∷ []) × (a.seen ≡ h)
 
-  -- the rule: all accounts fit one legal history, whose entries are of process_count below k; there is one account of each of these, k in
-  -- all; and the object is at home or away (this project's own)
+  -- the rule: one legal history, of callers below k, agrees with all accounts; each number below k has one account, and
+  -- no other number has one; the object is in its slot, or one view holds it
   pub record Kept (k : ℕ) (s : State (Home S) (SeatView C R)) : Type 0 where
     pub history : List (Entry C R)
     pub legal : IsLegal step start history

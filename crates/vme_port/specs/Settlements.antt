@@ -1,4 +1,4 @@
--- What the end of a port tells of its passes, and where their entries stand in its one history.
+-- Defines what a closed port guarantees about its passes, and where an entry stands in the history.
 use Rattle.std.specs.Prelude.{ℕ, ◌≡◌, ◌<◌, ◌==◌, List, ◌∷◌, ◌++◌, length, All}
 use Rattle.std.specs.List.{sum_by, count_by}
 use Rattle.vme_object.specs.declared.history.Entry.{Entry}
@@ -9,8 +9,8 @@ use Rattle.vme_port.specs.Rule.{IsConsistent}
 use Rattle.vme_port.specs.Passes.{PassView, IsCounted}
 
 module _ {S C R : Type 0} (step : S → C → S × R) (start : S) where
-  -- the accounts of a port that is closed, which are one of each who below k, fit one history of n entries, which leads to the
-  -- object (this project's own)
+  -- a closed port: its k accounts, one for each number below k, agree with one legal history of n entries, whose replay
+  -- is the object
   pub record Closes (k : ℕ) (accounts : List (Account C R)) (object : S) (n : ℕ) : Type 0 where
     pub history : List (Entry C R)
     pub legal : IsLegal step start history
@@ -21,8 +21,8 @@ module _ {S C R : Type 0} (step : S → C → S × R) (start : S) where
     pub known : All (λ e. e.who < k) history
     pub fits : All (IsConsistent history) accounts
 
-  -- k passes, one of each who below k, share one history of n entries of theirs, which leads to the object: it begins with what
-  -- each has seen, and has of each just what it made, all of which it has seen (this project's own)
+  -- a settled port: k passes, one for each number below k, share one legal history of n entries; each has seen a prefix
+  -- of it, and made and seen all its own entries there
   pub record Settles (k : ℕ) (passes : List (PassView C R)) (object : S) (n : ℕ) : Type 0 where
     pub history : List (Entry C R)
     pub legal : IsLegal step start history
@@ -37,8 +37,8 @@ module _ {S C R : Type 0} (step : S → C → S × R) (start : S) where
     pub mine : All (λ p. own p.who history ≡ p.mine) passes
     pub made : All IsCounted passes
 
-  -- an entry has its place in a history: behind what its caller had seen, with just the entries before it that its caller had
-  -- made, and with the reply of the step there (this project's own)
+  -- an entry has its place in a history: behind all that its caller had seen, after exactly the entries `mine` of its
+  -- caller, with the reply of the step there
   pub record StandsIn (history seen mine : List (Entry C R)) (e : Entry C R) : Type 0 where
     pub before : List (Entry C R)
     pub after : List (Entry C R)

@@ -1,4 +1,4 @@
--- What each kind of step does to the view of the seat that makes it.
+-- Defines what each kind of step does to the view of the seat that makes it.
 use Rattle.std.specs.Prelude.{ℕ, ◌+◌, ◌-◌, ◌^◌, ◌≡◌, ◌≢◌, ◌<◌, ◌≤◌, Bool, true, false, MatchBool}
 use Rattle.std.specs.Prelude.{List, [], ◌∷◌, ◌++◌, length, take, drop, All}
 use Rattle.atomic_table.specs.Table.{Me, Step}
@@ -10,29 +10,29 @@ use Rattle.vme_port.specs.declared.home.Home.{Home}
 use Rattle.vme_port.specs.Views.{account, view}
 
 module _ {C R : Type 0} where
-  -- split: what is left of a view when its first account is cut off (this project's own)
+  -- split: the accounts that remain after the first is split off
   abbrev pub all_but_first : SeatView C R → SeatView C R
   all_but_first v = view (drop 1 v.accounts) false
 
-  -- split: the account that is cut off (this project's own)
+  -- split: the account that is split off
   abbrev pub first_alone : SeatView C R → SeatView C R
   first_alone v = view (take 1 v.accounts) false
 
-  -- join: the accounts of the joined view are added, each with what it has seen itself (this project's own)
+  -- join: the accounts of both views
   abbrev pub joint_view : SeatView C R → SeatView C R → SeatView C R
   joint_view v w = view (w.accounts ++ v.accounts) false
 
-  -- join: the joined view is spent (this project's own)
+  -- join: the view of the seat that was joined, with no account
   abbrev pub empty_view : SeatView C R
   empty_view = view [] false
 
--- mark wanted: the view is as it was (this project's own)
+-- mark wanted: the seat's view is unchanged
 abbrev pub mark_effect : {T C R : Type 0} → Step T → Me T (SeatView C R) → ℕ → Me T (SeatView C R) → Type 0
 mark_effect st m n m' = m' ≡ m
 
 module _ {S C R : Type 0} (step : S → C → S × R) (opened : S → ℕ → Type 0) where
-  -- take won: the account has seen the whole history, in which entries of others follow what it had seen; the object is out with
-  -- it, and is the history's replay (this project's own)
+  -- a take that won: the account has seen the whole history, whose new entries are those of others; its seat holds the
+  -- object, which is the history's replay
   pub record HasTaken (a : Account C R) (m : Me (Home S) (SeatView C R)) : Type 0 where
     pub start : S
     pub passes : ℕ
@@ -46,7 +46,7 @@ module _ {S C R : Type 0} (step : S → C → S × R) (opened : S → ℕ → Ty
     pub object : home.object ≡ replay step start (a.seen ++ others)
     pub count : home.count ≡ length (a.seen ++ others)
 
-  -- take lost: nothing changed, and the port has two passes or more (this project's own)
+  -- a take that lost: nothing changed, and the port has two passes or more
   pub record HasLost (m m' : Me (Home S) (SeatView C R)) : Type 0 where
     pub start : S
     pub passes : ℕ
@@ -54,15 +54,16 @@ module _ {S C R : Type 0} (step : S → C → S × R) (opened : S → ℕ → Ty
     pub same : m' ≡ m
     pub shared : 2 ≤ passes
 
-  -- a take is won where the exchange found the word free, else lost (this project's own)
+  -- a take wins if the exchange found the word free, and loses otherwise
   abbrev pub take_effect : Step (Home S) → Me (Home S) (SeatView C R) → ℕ → Me (Home S) (SeatView C R) → Type 0
   take_effect st m n m' = (a : Account C R) → m ≡ (view (a ∷ []) false, []) → (n ≡ 0 → HasTaken a m') × (n ≢ 0 → HasLost m m')
 
-  -- a take, by whether it was won (this project's own)
+  -- a take from a seat that stands for one pass, by whether it won
   abbrev pub HasTried : Me (Home S) (SeatView C R) → Bool → Me (Home S) (SeatView C R) → Type 0
   HasTried m won m' = (a : Account C R) → m ≡ (view (a ∷ []) false, []) → MatchBool won (HasTaken a m') (HasLost m m')
 
--- put: the object is out with the seat, and is what these entries of the holder's lead to (this project's own)
+-- the condition of a put: the seat holds the object, which is the replay of what the holder has seen followed by its
+-- entries `es`
 pub record MayPut {S C R : Type 0} (step : S → C → S × R) (start : S) (es : List (Entry C R)) (m : Me (Home S) (SeatView C R)) :
     Type 0 where
   pub holder : Account C R
@@ -74,31 +75,32 @@ pub record MayPut {S C R : Type 0} (step : S → C → S × R) (start : S) (es :
   pub count : home.count ≡ length (holder.seen ++ es)
 
 module _ {S C R : Type 0} where
-  -- put: the entries are added to what the account has seen and to what it made, and it holds nothing (this project's own)
+  -- a put: the entries `es` are appended to what the account has seen and to what it made; the seat no longer holds the
+  -- object
   abbrev pub HasPut : List (Entry C R) → Me (Home S) (SeatView C R) → Me (Home S) (SeatView C R) → Type 0
   HasPut es m m' = (a : Account C R) → m.0 ≡ view (a ∷ []) true
       → m' ≡ (view (account a.who (a.seen ++ es) (a.mine ++ es) ∷ []) false, [])
 
-  -- put with entry, and put unchanged where there is none; put and wake is the same step (this project's own)
+  -- the effect of a put with the entries `es`
   abbrev pub put_effect : List (Entry C R) → Step (Home S) → Me (Home S) (SeatView C R) → ℕ → Me (Home S) (SeatView C R) → Type 0
   put_effect es st m n m' = HasPut es m m'
 
-  -- between calls a seat stands for one pass, and holds nothing (this project's own)
+  -- between calls, a seat stands for one pass and does not hold the object
   abbrev pub IsIdle : Me (Home S) (SeatView C R) → Type 0
   IsIdle m = (a : Account C R) × (m ≡ (view (a ∷ []) false, []))
 
-  -- the object is out with the seat (this project's own)
+  -- the seat holds the object
   abbrev pub IsOut : Me (Home S) (SeatView C R) → Type 0
   IsOut m = (home : Home S) × (m.1 ≡ (0, home) ∷ [])
 
-  -- the history of the object that is out has the last count, and nothing changed (this project's own)
+  -- the history of the object that the seat holds has 2^64 - 1 entries, and nothing changed
   pub record IsFull (m m' : Me (Home S) (SeatView C R)) : Type 0 where
     pub home : Home S
     pub out : m.1 ≡ (0, home) ∷ []
     pub last : home.count ≡ 2 ^ 64 - 1
     pub same : m' ≡ m
 
-  -- the object that is out take_effect a command and gave a reply, and counts one step more (this project's own)
+  -- the object that the seat holds performed a command, gave this reply, and counts one entry more
   pub record HasPerformed (step : S → C → S × R) (cmd : C) (reply : R) (m m' : Me (Home S) (SeatView C R)) : Type 0 where
     pub home : Home S
     pub out : m.1 ≡ (0, home) ∷ []

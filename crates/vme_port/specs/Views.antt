@@ -1,4 +1,4 @@
--- What the seats of a port know.
+-- Defines what the seats of a port know.
 use Rattle.std.specs.Prelude.{ℕ, zero, suc, ◌+◌, ◌≡◌, ◌==◌, Bool, false, List, [], ◌∷◌, length}
 use Rattle.std.specs.List.{count_by}
 use Rattle.atomic_table.specs.Table.{Me}
@@ -8,39 +8,39 @@ use Rattle.vme_port.specs.declared.rule.SeatView.{SeatView}
 use Rattle.vme_port.specs.declared.home.Home.{Home}
 
 module _ {C R : Type 0} where
-  -- an account of a who: the history that it has seen, and its own entries (this project's own)
+  -- the account of caller `who`: the history that it has seen, and its own entries
   abbrev pub account : ℕ → List (Entry C R) → List (Entry C R) → Account C R
   account who seen mine = record { who = who; seen = seen; mine = mine }
 
-  -- a view: the accounts that it stands for, and whether the object is out with it (this project's own)
+  -- a view: the accounts that a seat stands for, and whether the seat holds the object
   abbrev pub view : List (Account C R) → Bool → SeatView C R
   view accounts out = record { accounts = accounts; out = out }
 
-  -- how many passes a view stands for (this project's own)
+  -- the number of passes that a view stands for
   abbrev pub weight : SeatView C R → ℕ
   weight v = length v.accounts
 
-  -- how many of some accounts are of a who (this project's own)
+  -- how many of these accounts are those of caller `who`
   abbrev pub names_among : ℕ → List (Account C R) → ℕ
   names_among who accounts = count_by (λ a. a.who == who) accounts
 
-  -- how many of a view's accounts are of a who (this project's own)
+  -- how many accounts of a view are those of caller `who`
   abbrev pub names : ℕ → SeatView C R → ℕ
   names who v = names_among who v.accounts
 
-  -- with how many views the object is out (this project's own)
+  -- how many views hold the object
   abbrev pub holders : List (SeatView C R) → ℕ
   holders views = count_by (λ v. v.out) views
 
-  -- accounts of so many process_count, from a first one on, that have seen nothing (this project's own)
+  -- n accounts, of the callers numbered from `first` on, which have seen nothing
   abbrev pub fresh_accounts : ℕ → ℕ → List (Account C R)
   fresh_accounts first zero = []
   fresh_accounts first (suc n) = account first [] [] ∷ fresh_accounts (suc first) n
 
-  -- the view of the first seat of a port, which stands for all its passes (this project's own)
+  -- the view of the first seat of a port with k passes, which stands for all of them
   abbrev pub newcomer : ℕ → SeatView C R
   newcomer k = view (fresh_accounts 0 k) false
 
-  -- a seat stands for the passes of each who from this one on and below k, which have seen nothing (this project's own)
+  -- a seat stands for the passes numbered from `who` up to k - 1, which have seen nothing
   abbrev pub StandsFor : {S : Type 0} → ℕ → ℕ → Me (Home S) (SeatView C R) → Type 0
   StandsFor k who m = (n : ℕ) × (who + n ≡ k) × (m ≡ (view (fresh_accounts who n) false, []))

@@ -1,4 +1,4 @@
-//! The calls of a port, each through a pass.
+//! Calls of a port, each made through a pass.
 ghost use Rattle.std.specs.Prelude.{◌≡◌, ◌-◌, ◌^◌, ◌≤◌, length, IfErr};
 ghost use Rattle.vme_port.specs.Ports.{IsPassOf, opening, passes_of};
 ghost use Rattle.vme_port.specs.Calls.{entries_of, Adds, UnlessBusy, IfBusy, IfSpent};
@@ -13,11 +13,11 @@ use std::marker::Brand;
 use std::sync::Wait;
 use vme_object::{CommandRef, Object, Operation};
 
-/// How often a call tries before it parks.
+/// The number of tries that a call makes before it parks.
 const TRIES: u32 = 10;
 
 impl<O: Object> Port<O> {
-    /// One try.
+    /// Makes one try: takes the object, performs the command on it, and puts it back.
     fn attempt<A: Operation<O>>(
         &self,
         pass: &mut Pass<O>,
@@ -44,11 +44,12 @@ impl<O: Object> Port<O> {
         Ok(reply)
     }
 
-    /// Gives the object one command, if it is at home, and answers its reply. It waits for nobody.
+    /// Performs one command on the object if no other pass holds it, and returns the reply. It
+    /// never waits.
     ///
     /// # Errors
-    /// `Busy` where the object is out with another pass, and `Spent` where the history has 2^64 - 1
-    /// entries; neither adds an entry.
+    /// `Busy` if another pass holds the object, and `Spent` if the history has 2^64 - 1 entries.
+    /// Neither adds an entry.
     pub fn try_call(&self, pass: &mut Pass<O>, cmd: &O::Cmd) -> Result<O::Reply, TryFault>
         requires { IsPassOf self.now pass.old }
         ensures pass { IsPassOf self.now pass.new }
@@ -61,8 +62,8 @@ impl<O: Object> Port<O> {
         self.attempt(pass, &CommandRef { cmd }, Taking::Alone)
     }
 
-    /// Parks until the object may be at home, and tries, until a try is not busy. A try that takes
-    /// the object leaves the port wanted, so that its put wakes the next one who waits.
+    /// Parks until the object may be free and then tries, until a try is not `Busy`. A try that
+    /// takes the object marks the port as wanted, so that its put wakes the next waiting call.
     fn call_parked<R: Wait, A: Operation<O>>(
         &self,
         rt: &R,
@@ -86,7 +87,7 @@ impl<O: Object> Port<O> {
         unreachable!()
     }
 
-    /// Marks the port as wanted, where the object is out, and answers the word as it was.
+    /// Marks the port as wanted if the object is taken, and returns the value of the word before.
     fn mark(&self, pass: &mut Pass<O>) -> u64
         requires { IsPassOf self.now pass.old }
         ensures { pass.new ≡ pass.old }
@@ -96,11 +97,11 @@ impl<O: Object> Port<O> {
             .compare_exchange::<MarkStep>(&mut pass.seat, 0, TAKEN, WANTED)
     }
 
-    /// Gives the object one command, as soon as it is at home, and answers its reply. It tries some
-    /// times, and then parks until a put wakes it.
+    /// Performs one command on the object as soon as no other pass holds it, and returns the reply.
+    /// It tries ten times, with growing pauses, and then parks until a put wakes it.
     ///
     /// # Errors
-    /// `Spent` where the history has 2^64 - 1 entries; no entry is added.
+    /// `Spent` if the history has 2^64 - 1 entries. No entry is added.
     pub fn call<R: Wait>(&self, rt: &R, pass: &mut Pass<O>, cmd: &O::Cmd) -> Result<O::Reply, Spent>
         requires { IsPassOf self.now pass.old }
         ensures adds { Adds O.step (opening self.now) (entries_of pass.old.who cmd.now result) pass.old pass.new }
@@ -109,10 +110,12 @@ impl<O: Object> Port<O> {
         self.call_operation(rt, pass, &CommandRef { cmd })
     }
 
-    /// The same with what asks for the step of a command; the entry has that command.
+    /// Performs one operation on the object as soon as no other pass holds it, and returns the
+    /// reply. The new entry has the command that the operation stands for (`A.command`). It waits
+    /// as `call` does.
     ///
     /// # Errors
-    /// `Spent` where the history has 2^64 - 1 entries; no entry is added.
+    /// `Spent` if the history has 2^64 - 1 entries. No entry is added.
     pub fn call_operation<R: Wait, A: Operation<O>>(
         &self,
         rt: &R,
@@ -130,8 +133,8 @@ impl<O: Object> Port<O> {
         }
     }
 
-    /// Tries some more times, each after a longer pause, and then parks. It is cold, as `wake` and
-    /// `put_unchanged` are, so that the code of a call that waits for nobody runs straight on.
+    /// Makes the remaining tries, each after a longer pause, and then parks. It is `cold`, like
+    /// `wake` and `put_unchanged`, so that it stays out of the code of a call that does not wait.
     #[cold]
     #[inline(never)]
     fn call_again<R: Wait, A: Operation<O>>(

@@ -1,21 +1,21 @@
-/// Why a port can't be opened.
+/// The reasons why a port can't be opened.
 #[derive(Debug, Drop)]
 pub enum PortFault {
-    /// There was no memory.
+    /// An allocation failed.
     OutOfMemory,
     /// The number of passes is not 1 to 21.
     BadCount,
 }
 
-/// Why a try made no entry.
+/// The reasons why a try adds no entry.
 #[derive(Debug, Drop)]
 pub enum TryFault {
-    /// The object is out with another pass.
+    /// Another pass holds the object.
     Busy,
     /// The history has 2^64 - 1 entries.
     Spent,
 }
 
-/// The history has 2^64 - 1 entries, and takes no more.
+/// The fault of a call whose history already has 2^64 - 1 entries, the most that can be counted.
 #[derive(Debug, Drop)]
 pub struct Spent;

@@ -1,21 +1,23 @@
-//! What a port's table keeps: the slot with the object, and how the port was opened.
+//! The contents of a port's table: the slot with the object, and how the port was opened.
 ghost use Rattle.std.specs.Prelude.{◌≡◌};
 
 use std::snapshot::Snapshot;
 
-/// What the slot holds: the object, with the number of entries in its history. There are 64 unused
-/// bytes on each side, so that the word and other values are on other lines of the cache.
+/// The contents of the slot: the object and the number of entries in its history. There are 64
+/// unused bytes on each side, so that the word and other values lie on other cache lines.
 #[derive(Drop)]
 #[repr(C)]
 pub struct Home<O> {
     before: [u64; 8],
+    /// The object.
     pub object: O,
+    /// The number of entries in the object's history.
     pub count: u64,
     after: [u64; 8],
 }
 
 impl<O> Home<O> {
-    /// The home of an object that has made no step.
+    /// Returns the slot contents for an object whose history is empty.
     pub fn unused(object: O) -> Home<O>
         ensures object { result.object ≡ object }
         ensures count { result.count ≡ 0 }
@@ -28,7 +30,7 @@ impl<O> Home<O> {
         }
     }
 
-    /// The object, and how many steps it has made.
+    /// Returns the object and the number of entries in its history.
     pub fn into_parts(self) -> (O, u64)
         ensures { result ≡ (self.object, self.count) }
     {
@@ -45,6 +47,8 @@ impl<O> Home<O> {
 /// How a port was opened: with which object, and for how many passes.
 #[derive(Drop)]
 pub struct Opening<O> {
+    /// The object that the port was opened with.
     pub start: Snapshot<O>,
+    /// The number of passes, 1 to 21.
     pub passes: usize,
 }

@@ -1,4 +1,4 @@
-//! What calls, one after another and in any threads, come to.
+//! Laws about sequences of calls, made on any threads.
 ghost use Rattle.std.specs.Prelude.{◌≡◌, ◌+◌, ◌++◌, [], ℕ, List, take, length, Contains};
 ghost use Rattle.std.specs.List.{sum_by};
 ghost use Rattle.atomic_table.specs.Seated.{TableId};
@@ -11,7 +11,8 @@ ghost use Rattle.vme_port.specs.Settlements.{Settles, StandsIn};
 
 use vme_object::Object;
 
-/// A pass makes over one call what it adds, and over several what it makes over each, in order.
+/// Calls compose. Over no call a pass makes no entries; over one call it makes what that call adds;
+/// over two sequences of calls it makes the entries of the first followed by those of the second.
 pub fn calls_compose<O: Object>()
     ensures none { (p : PassView O.Cmd O.Reply) → Makes [] p p }
     ensures one { (start : O) (es : List (Entry O.Cmd O.Reply)) (p q : PassView O.Cmd O.Reply) →
@@ -20,11 +21,13 @@ pub fn calls_compose<O: Object>()
         Makes a p q → Makes b q r → Makes (a ++ b) p r }
 {}
 
-/// The calls of all passes make one history. Let a port be settled, and let a pass have made some
-/// entries since any moment of its own. Each of them has its one place in the history: behind all
-/// that the pass had seen at that moment and the entries that it made before this one, and with the
-/// reply of the step there. The history has no other entries than those of the passes, and as many
-/// as they made; and of a pass just what it made since it was unused.
+/// The calls of all passes of a settled port make one history.
+///
+/// Each entry that a pass made after some moment has exactly one place in the history. That place
+/// is behind everything that the pass had seen at that moment and behind the entries that the pass
+/// made before this one, and the entry has the reply of the step there. The history has no other
+/// entries than those of the passes, and as many as they made together. A pass that was unused at
+/// the moment made exactly its own part of the history.
 pub fn calls_make_one_history<O: Object>()
     ensures placed { (start object : O) (k n : ℕ) (passes : List (PassView O.Cmd O.Reply))
         (reported : Settles O.step start k passes object n)

@@ -1,5 +1,6 @@
-//! A port: one object that callers in any threads share through passes. Its calls make one legal
-//! history that only grows, and a pass knows the part of it that it has seen.
+//! A port: one object that callers on any threads share, each through a pass of its own. Its calls
+//! make one legal history that only grows. A pass knows the prefix of that history that it has
+//! seen.
 #![tactic(auto)]
 
 mod calls;

@@ -8,8 +8,8 @@ use atomic_table::Seat;
 use std::marker::Model;
 use vme_object::Object;
 
-/// What one caller of a port holds: the right to call it, under its number. Contracts see it as a
-/// `PassView`, with the history that it has seen and its own entries there. It can't be copied.
+/// The right of one caller to call a port, under the caller's number. Contracts see it as a
+/// `PassView`: the history that it has seen, and its own entries there. A pass can't be copied.
 #[derive(Drop)]
 pub struct Pass<O: Object> {
     pub(crate) seat: Seat<Home<O>, SeatView<O::Cmd, O::Reply>>,
@@ -28,14 +28,14 @@ impl<O: Object> Model for Pass<O> {
 }
 
 impl<O: Object> Pass<O> {
-    /// The number of the pass: its entries are under it.
+    /// Returns the number of the pass, which is also the number of its caller in the history.
     pub fn who(&self) -> usize
         ensures { result ≡ self.now.who }
     {
         self.who
     }
 
-    /// How many entries the pass added.
+    /// Returns the number of entries that the pass has added to the history.
     pub fn made(&self) -> u64
         ensures made { result ≡ self.now.made }
         ensures entries { result ≡ length self.now.mine }
@@ -43,7 +43,7 @@ impl<O: Object> Pass<O> {
         self.made
     }
 
-    /// The seat of the pass, which stands for it alone.
+    /// Returns the seat of the pass, which stands for this pass alone.
     pub(crate) fn into_seat(self) -> Seat<Home<O>, SeatView<O::Cmd, O::Reply>>
         ensures port { result.table_id ≡ self.port }
         ensures alone { result.me ≡ (view (account_of self ∷ []) false, []) }

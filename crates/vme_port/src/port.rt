@@ -14,10 +14,10 @@ use std::alloc::{AllocError, Global};
 use std::snapshot::Snapshot;
 use vme_object::Object;
 
-/// The most passes that a port has.
+/// The greatest number of passes of a port.
 const MOST_PASSES: usize = 21;
 
-/// One object that callers in any threads share, each through a pass of its own.
+/// One object that callers on any threads share, each through a pass of its own.
 #[derive(Drop)]
 pub struct Port<O: Object> {
     pub(crate) table: Table<Home<O>, SeatView<O::Cmd, O::Reply>, Opening<O>, PortRule<O>, Global>,
@@ -28,7 +28,7 @@ pub struct Port<O: Object> {
     ghost some: { 0 < passes },
 }
 
-/// The passes of a port that was just opened are all with one seat.
+/// A new port, together with one seat that stands for all its passes.
 struct Opened<O: Object> {
     port: Port<O>,
     seat: Seat<Home<O>, SeatView<O::Cmd, O::Reply>>,
@@ -38,10 +38,12 @@ impl<O: Object> Port<O> {
     ghost use Rattle.vme_port.specs.Ports.{IsPassOf, port_id, opening, passes_of};
     ghost use Rattle.vme_port.specs.Calls.{IsBadCount};
 
-    /// Opens a port of an object, for 1 to 21 passes, which have the numbers from 0 on.
+    /// Opens a port of an object for `count` passes, which is 1 to 21. The passes have the numbers
+    /// from 0 on, in order; none of them has seen or made an entry.
     ///
     /// # Errors
-    /// `BadCount` where the number of passes is another, else `OutOfMemory`; the object is dropped.
+    /// `BadCount` if `count` is not 1 to 21, and `OutOfMemory` if an allocation fails. The object
+    /// is dropped.
     pub fn new(alloc: Global, object: O, count: usize) -> Result<(Port<O>, Vec<Pass<O>>), PortFault>
     where
         O: Drop,
@@ -69,13 +71,14 @@ impl<O: Object> Port<O> {
         Ok((port, passes))
     }
 
-    /// Whether a call waits for the object, or is about to. Other threads may change that at any
-    /// time, so no clause says anything of the answer.
+    /// Whether a call waits for the object or is about to wait. Other threads may change that at
+    /// any time, so no clause states anything about the result.
     pub fn is_wanted(&self) -> bool {
         self.table.shared.peek(0) == WANTED
     }
 
-    /// The port, with one seat that has all its passes.
+    /// Opens the table of a port, and returns the port with one seat that stands for all its
+    /// passes.
     fn open(alloc: Global, object: O, passes: usize) -> Result<Opened<O>, AllocError>
     where
         O: Drop,
@@ -100,7 +103,7 @@ impl<O: Object> Port<O> {
         })
     }
 
-    /// Cuts off the seat's first account, and gives it a pass of its own.
+    /// Splits the seat's first account off, and returns a pass for it.
     fn deal_one(&self, seat: &mut Seat<Home<O>, SeatView<O::Cmd, O::Reply>>, who: usize) -> Pass<O>
         requires port { seat.old.table_id ≡ port_id self.now }
         requires below { who < passes_of self.now }
@@ -113,7 +116,7 @@ impl<O: Object> Port<O> {
         Pass { seat, who, made: 0 }
     }
 
-    /// Gives each account of the seat a pass of its own.
+    /// Makes a pass for each account of the seat.
     fn deal(&self, mut seat: Seat<Home<O>, SeatView<O::Cmd, O::Reply>>, passes: &mut Vec<Pass<O>>)
         requires port { seat.table_id ≡ port_id self.now }
         requires all { StandsFor (passes_of self.now) 0 seat.me }

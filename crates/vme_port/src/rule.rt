@@ -1,32 +1,38 @@
 //! The rule of a port, over one word, one slot and the views of all seats, with the kinds of step
-//! that keep it. No value of these views is made: they are for the proofs alone.
+//! that keep it. The program never constructs these views: only proofs use them.
 //!
-//! A kind of step tells its caller something, and can speak of nothing but the seat that makes the
-//! step. Two kinds need more: a take tells what the port was opened with, and a put which entries it
-//! adds. So each of them has a parameter whose trait, `Knows` or `Tells`, has one ghost member and no
-//! function. A call passes `Brand` for it, and the proof of the caller picks what the member is, from
-//! the call's arguments: `Port::attempt` picks the opening of its own port, and the one entry of its
-//! command. A `Brand` that nobody picks for knows nothing, and adds no entry.
+//! A kind of step states a fact to its caller, and can only mention the seat that makes the step.
+//! Two kinds need more: a take states what the port was opened with, and a put which entries it
+//! adds. So each of them has a type parameter whose trait, `OpeningWitness` or `EntryWitness`, has
+//! one ghost member and no function. A call passes `Brand` for it, and the proof of the caller
+//! chooses the member from the call's arguments: `Port::attempt` chooses the opening of its own
+//! port, and the one entry of its command. A `Brand` without a chosen member states nothing, and
+//! adds no entry.
 use crate::home::{Home, Opening};
 use atomic_table::{Join, Play, Split, TableRule};
 use std::collections::LinkedList;
 use std::marker::{Brand, PhantomData};
 use vme_object::{Entry, Object};
 
-/// What one pass knows: the history that it has seen, and its own entries.
+/// The knowledge of one pass: the history that it has seen, and its own entries.
 pub struct Account<C, R> {
+    /// The number of the pass.
     pub who: usize,
+    /// The history that the pass has seen.
     pub seen: LinkedList<Entry<C, R>>,
+    /// The entries that the pass made.
     pub mine: LinkedList<Entry<C, R>>,
 }
 
-/// What a seat knows: the accounts that it stands for, and whether the object is out with it.
+/// The knowledge of a seat: the accounts that it stands for, and whether it holds the object.
 pub struct SeatView<C, R> {
+    /// The accounts of the passes that the seat stands for.
     pub accounts: LinkedList<Account<C, R>>,
+    /// Whether the seat holds the object.
     pub out: bool,
 }
 
-/// The rule.
+/// The rule of a port (`Kept` in `specs/Rule.antt`).
 pub struct PortRule<O> {
     of: PhantomData<O>,
 }
@@ -40,7 +46,7 @@ impl<O: Object> TableRule<Home<O>, SeatView<O::Cmd, O::Reply>, Opening<O>> for P
     ghost first = { λ k. newcomer k.passes };
 }
 
-/// How a port was opened, as one who takes the object knows it. Each call picks it.
+/// What a take states about the opening of its port. The proof of each call chooses it.
 pub trait OpeningWitness<O> {
     ghost use Rattle.std.specs.Prelude.{ℕ};
 
@@ -51,7 +57,7 @@ impl<O> OpeningWitness<O> for Brand {
     ghost opened = { λ start passes. Unit {0} };
 }
 
-/// The entries that a put adds. Each call picks them.
+/// The entries that a put adds. The proof of each call chooses them.
 pub trait EntryWitness<C, R> {
     ghost use Rattle.std.specs.Prelude.{List};
     ghost use Rattle.vme_object.specs.declared.history.Entry.{Entry};
@@ -65,7 +71,7 @@ impl<C, R> EntryWitness<C, R> for Brand {
     ghost entries = { [] };
 }
 
-/// Taking the object, which is won or lost.
+/// The step that takes the object: it wins or loses.
 pub struct TakeStep<O, W> {
     of: PhantomData<(O, W)>,
 }
@@ -76,7 +82,7 @@ impl<O: Object, W: OpeningWitness<O>> Play<Home<O>, SeatView<O::Cmd, O::Reply>> 
     ghost then = { take_effect O.step W.opened };
 }
 
-/// Putting the object home, with the entries that were made.
+/// The step that puts the object back, with the entries that the caller made.
 pub struct PutStep<O, W> {
     of: PhantomData<(O, W)>,
 }
@@ -88,7 +94,7 @@ impl<O: Object, W: EntryWitness<O::Cmd, O::Reply>> Play<Home<O>, SeatView<O::Cmd
     ghost then = { put_effect W.entries };
 }
 
-/// Marking the word as wanted.
+/// The step that marks the word as wanted.
 pub struct MarkStep;
 
 impl<T, C, R> Play<T, SeatView<C, R>> for MarkStep {
@@ -97,7 +103,7 @@ impl<T, C, R> Play<T, SeatView<C, R>> for MarkStep {
     ghost then = { mark_effect };
 }
 
-/// Cutting the first account off.
+/// The step that splits the first account off.
 pub struct SplitStep;
 
 impl<C, R> Split<SeatView<C, R>> for SplitStep {
@@ -108,7 +114,7 @@ impl<C, R> Split<SeatView<C, R>> for SplitStep {
     ghost right = { first_alone };
 }
 
-/// Taking another's accounts in.
+/// The step that adds the accounts of another seat.
 pub struct JoinStep;
 
 impl<C, R> Join<SeatView<C, R>> for JoinStep {

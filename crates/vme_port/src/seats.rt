@@ -1,4 +1,5 @@
-//! What a call does with its seat: it takes the object, performs a command on it, and puts it home.
+//! The steps of a call on its seat: it takes the object, performs a command on it, and puts it
+//! back.
 ghost use Rattle.std.specs.Prelude.{◌≡◌, ◌<◌, ◌∷◌, [], MatchOption};
 ghost use Rattle.vme_port.specs.Steps.{IsIdle, IsOut, IsFull, HasPerformed, HasTried, MayPut, HasPut};
 ghost use Rattle.vme_object.specs.History.{entry};
@@ -11,26 +12,26 @@ use atomic_table::Seat;
 use std::marker::Brand;
 use vme_object::{Object, Operation, next_count};
 
-/// The word where the object is at home.
+/// The word while the object is in its slot.
 pub(crate) const FREE: u64 = 0;
 
-/// The word where it is out, and nobody is known to wait for it.
+/// The word while a pass holds the object, and no call is known to wait for it.
 pub(crate) const TAKEN: u64 = 1;
 
-/// The word where it is out, and somebody may wait for it.
+/// The word while a pass holds the object, and a call may wait for it.
 pub(crate) const WANTED: u64 = 2;
 
 /// How a call takes the object.
 #[derive(Clone, Copy)]
 pub(crate) enum Taking {
-    /// Nobody is known to wait for it.
+    /// No call is known to wait for the object.
     Alone,
-    /// Somebody may wait for it, so the put is to wake one.
+    /// A call may wait for the object, so the put wakes one.
     Wanted,
 }
 
 impl Taking {
-    /// The word while the object is out.
+    /// Returns the word to set while the object is taken.
     fn word(self) -> u64
         ensures { 0 < result }
     {
@@ -42,7 +43,7 @@ impl Taking {
 }
 
 impl<O: Object> Port<O> {
-    /// Takes the object, where it is at home.
+    /// Takes the object if it is in its slot, and returns whether it did.
     pub(crate) fn take<W: OpeningWitness<O>>(
         &self,
         seat: &mut Seat<Home<O>, SeatView<O::Cmd, O::Reply>>,
@@ -60,7 +61,7 @@ impl<O: Object> Port<O> {
             == FREE
     }
 
-    /// Performs a command on the object that is out with the seat, unless its history is full.
+    /// Performs a command on the object that the seat holds, unless its history is full.
     pub(crate) fn perform_counted<A: Operation<O>>(
         &self,
         seat: &mut Seat<Home<O>, SeatView<O::Cmd, O::Reply>>,
@@ -79,7 +80,8 @@ impl<O: Object> Port<O> {
         Some(asked.perform(&mut home.object))
     }
 
-    /// Puts the object home with these entries behind its history, and wakes one who waits for it.
+    /// Puts the object back, with these entries appended to its history, and wakes one waiting
+    /// call.
     pub(crate) fn put_entries<W: EntryWitness<O::Cmd, O::Reply>>(
         &self,
         seat: &mut Seat<Home<O>, SeatView<O::Cmd, O::Reply>>,
@@ -94,14 +96,14 @@ impl<O: Object> Port<O> {
         }
     }
 
-    /// Wakes one who waits for the object.
+    /// Wakes one waiting call.
     #[cold]
     #[inline(never)]
     fn wake(&self) {
         self.table.shared.wake_one(0);
     }
 
-    /// Puts the object home as it was, since its history is full.
+    /// Puts the object back unchanged, because its history is full.
     #[cold]
     #[inline(never)]
     pub(crate) fn put_unchanged(&self, seat: &mut Seat<Home<O>, SeatView<O::Cmd, O::Reply>>)
@@ -113,7 +115,8 @@ impl<O: Object> Port<O> {
         self.put_entries::<Brand>(seat);
     }
 
-    /// Puts the object home with one entry. The entry is named so that the call can pick it.
+    /// Puts the object back with one entry. The entry is a parameter so that the proof of the call
+    /// can choose it.
     pub(crate) fn put_entry<A: Operation<O>, W: EntryWitness<O::Cmd, O::Reply>>(
         &self,
         seat: &mut Seat<Home<O>, SeatView<O::Cmd, O::Reply>>,

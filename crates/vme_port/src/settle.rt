@@ -1,4 +1,4 @@
-//! The end of a port: its passes come together, and it gives the object back.
+//! The end of a port: all its passes come together, and the port returns the object.
 ghost use Rattle.std.specs.Prelude.{◌≡◌, ◌<◌, ◌≤◌, ◌∷◌, [], false, length, map, vec_len, All, IfOk, IfErr};
 ghost use Rattle.vme_port.specs.Views.{view};
 ghost use Rattle.vme_port.specs.Passes.{account_of, IsCounted};
@@ -12,21 +12,22 @@ use crate::rule::{JoinStep, SeatView};
 use atomic_table::Seat;
 use vme_object::Object;
 
-/// Not all passes were given: the port and the passes, as they came.
+/// The fault of a settlement with too few passes: the port and the passes, unchanged.
 #[derive(Drop)]
 pub struct Unsettled<O: Object> {
     /// The port.
     pub port: Port<O>,
-    /// The passes.
+    /// The passes that were given.
     pub passes: Vec<Pass<O>>,
 }
 
 impl<O: Object> Port<O> {
-    /// Closes the port with all its passes: the object as its history left it, and the number of
-    /// entries in that history. It takes no memory.
+    /// Closes the port with all its passes. It returns the object as its history left it, and the
+    /// number of entries in that history. It allocates nothing.
     ///
     /// # Errors
-    /// `Unsettled` where fewer passes are given than the port has, with all that was given.
+    /// `Unsettled` if fewer passes are given than the port has. It holds the port and the passes,
+    /// unchanged.
     pub fn settle(self, passes: Vec<Pass<O>>) -> Result<(O, u64), Unsettled<O>>
         requires { All (IsPassOf self) passes.items }
         ensures settled { IfOk result (λ r. Settles O.step (opening self) (passes_of self) passes.items r.0 r.1) }
@@ -41,7 +42,7 @@ impl<O: Object> Port<O> {
         Ok(self.close(seat))
     }
 
-    /// One seat with the accounts of all these passes, in their order.
+    /// Returns one seat that stands for all these passes, in their order.
     fn gather(&self, mut passes: Vec<Pass<O>>) -> Seat<Home<O>, SeatView<O::Cmd, O::Reply>>
         requires port { All (IsPassOf self.now) passes.items }
         requires some { 0 < vec_len passes }

@@ -1,4 +1,4 @@
--- What a counter comes to that is only bumped.
+-- The number of a counter that is only incremented.
 use Rattle.std.proofs.Common.{ℕ, ◌≡◌, ◌+◌, ◌%◌, ◌^◌, ◌<◌, List, [], ◌∷◌, length, All, Result, Ok, Err, refl, ap, ◌∙◌, arith}
 use Rattle.std.proofs.lemmas.List.Elements.{All-nil, All-cons, All-head, All-tail}
 use Rattle.vme_object.specs.declared.history.Entry.{Entry}
@@ -12,12 +12,12 @@ use Rattle.vme_port.specs.Passes.{PassView}
 use Rattle.vme_port.specs.Settlements.{Settles}
 use Rattle.vme_port.proofs.lemmas.OneHistory.{all_made}
 
--- what a call adds is of its command
+-- the entries that a call adds have its command
 pub all_of_call : {C R F : Type 0} (who : ℕ) (cmd : C) (result : Result R F) → All (λ e. e.cmd ≡ cmd) (entries_of who cmd result)
 all_of_call who cmd (Ok reply) = All-cons (λ (e : Entry _ _). e.cmd ≡ cmd) (entry who cmd reply) [] refl (All-nil (λ (e : Entry _ _). e.cmd ≡ cmd))
 all_of_call who cmd (Err fault) = All-nil (λ (e : Entry _ _). e.cmd ≡ cmd)
 
--- a counter that is bumped goes up by one for each entry
+-- each increment adds one to the counter
 pub bumped : (c : Counter) (h : List (Entry CounterCmd ℕ)) → All (λ e. e.cmd ≡ Bump) h → c.number + length h < 2 ^ 64
     → (replay count_step c h).number ≡ c.number + length h
 bumped c [] all fits = omega arith
@@ -29,7 +29,7 @@ bumped c (e ∷ h) all fits =
     let later = bumped (count_step c e.cmd).0 h rest (omega arith) in
     omega arith
 
--- passes that only bump settle on a counter that went up by one for each of their entries
+-- passes that only increment settle on a counter that grew by one for each of their entries
 pub settled_number : (start : Counter) (k : ℕ) (passes : List (PassView CounterCmd ℕ)) (c : Counter) (n : ℕ) → Settles count_step start k passes c n
     → All (λ p. All (λ e. e.cmd ≡ Bump) p.mine) passes → start.number + n < 2 ^ 64 → c.number ≡ start.number + n
 settled_number start k passes c n reported each fits =

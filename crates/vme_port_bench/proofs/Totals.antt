@@ -1,11 +1,11 @@
--- How many calls some passes made together.
+-- The total number of calls of some passes.
 use Rattle.std.proofs.Common.{ℕ, ◌≡◌, ◌*◌, List, [], ◌∷◌, length, All, arith}
 use Rattle.std.specs.List.{sum_by}
 use Rattle.std.proofs.lemmas.List.Sums.{sum_by-cons}
 use Rattle.std.proofs.lemmas.List.Elements.{All-head, All-tail}
 use Rattle.std.proofs.Math.Nat.{suc-mul}
 
--- where each term is n, the sum is n times their number
+-- if each term is n, the sum is n times the number of terms
 pub sum_of_equal : {A : Type 0} (f : A → ℕ) (n : ℕ) (xs : List A) → All (λ x. f x ≡ n) xs → sum_by f xs ≡ length xs * n
 sum_of_equal f n [] all = omega arith
 sum_of_equal f n (x ∷ xs) all =

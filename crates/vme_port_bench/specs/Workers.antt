@@ -1,4 +1,4 @@
--- What the threads do with their passes.
+-- Defines what the threads do with their passes.
 use Rattle.std.specs.Prelude.{ℕ, ◌≡◌, All}
 use Rattle.vme_object.specs.declared.counter.Counter.{Counter}
 use Rattle.vme_object.specs.declared.counter.CounterCmd.{CounterCmd}
@@ -8,12 +8,12 @@ use Rattle.vme_port.specs.Passes.{PassView}
 use Rattle.vme_port.specs.Ports.{IsPassOf}
 use Rattle.vme_port_bench.specs.declared.worker.CallsOf.{CallsOf}
 
--- a pass of the port that made n entries, all of them bumps (this project's own)
+-- a pass of the port made n entries, and all its entries are increments
 pub record HasBumped (port : Port Counter CounterCmd ℕ) (n : ℕ) (p : PassView CounterCmd ℕ) : Type 0 where
   pub of_port : IsPassOf port p
   pub count : p.made ≡ n
   pub bumps : All (λ e. e.cmd ≡ Bump) p.mine
 
--- two threads make as many calls of the same port (this project's own)
+-- two promises have the same port and the same number of calls
 abbrev pub IsSameWork : CallsOf → CallsOf → Type 0
 IsSameWork a b = (a.port.now ≡ b.port.now) × (a.calls ≡ b.calls)

@@ -3,19 +3,19 @@ ghost use Rattle.vme_port_bench.specs.Words.{AreTwoNumbers, arguments_of};
 
 use crate::fault::BenchFault;
 
-/// What the command line asks for.
+/// The arguments of the command line.
 #[derive(Clone, Copy)]
 pub struct Arguments {
-    /// How many threads call the port.
+    /// The number of threads that call the port.
     pub threads: usize,
-    /// How many calls each of them makes.
+    /// The number of calls that each thread makes.
     pub calls: u64,
 }
 
-/// Reads the words of the command line, of which the first is the program's name.
+/// Parses the words of the command line, of which the first is the program's name.
 ///
 /// # Errors
-/// `Usage` where there are not two more, each a number of at most 64 bits.
+/// `Usage` unless exactly two more words follow, each a decimal number of at most 64 bits.
 pub fn read_arguments(words: &[String]) -> Result<Arguments, BenchFault>
     ensures read { OkIff result (AreTwoNumbers words.now) (arguments_of words.now) }
     ensures usage { IfErr result (λ fault. fault ≡ BenchFault.Usage) }

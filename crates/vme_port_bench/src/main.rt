@@ -1,5 +1,6 @@
-//! `vme_port_bench THREADS CALLS` measures a port: so many threads, each with one pass, count one
-//! counter up so many times each. It prints the counter's number, and how many steps it made.
+//! `vme_port_bench THREADS CALLS` measures a port: each of `THREADS` threads has one pass and
+//! increments one counter `CALLS` times. The program prints the counter's number and the length of
+//! its history.
 #![tactic(auto)]
 
 mod arguments;
@@ -21,14 +22,14 @@ fn main(rt: HostRuntime) -> ExitCode {
     match outcome.and_then(|outcome| print(&rt, outcome)) {
         Ok(()) => ExitCode::SUCCESS,
         Err(fault) => {
-            // Where standard error fails there is nobody left to tell.
+            // A failure of standard error can't be reported anywhere.
             let _ = eprintln!(rt; "vme_port_bench: {fault}");
             ExitCode::from(fault.exit_status())
         }
     }
 }
 
-/// What the command line asks for.
+/// Reads the arguments of the command line.
 fn asked(rt: &HostRuntime) -> Result<Arguments, BenchFault> {
     let words = match env::args(rt) {
         Ok(words) => words.collect(rt.alloc()),
@@ -39,7 +40,7 @@ fn asked(rt: &HostRuntime) -> Result<Arguments, BenchFault> {
     read_arguments(words.as_slice())
 }
 
-/// Prints the number and the count of steps in one line.
+/// Prints the number and the history's length on one line.
 fn print(rt: &HostRuntime, outcome: Outcome) -> Result<(), BenchFault> {
     let Outcome { number, steps } = outcome;
     println!(rt; "{number} {steps}").map_err(|_| BenchFault::Write)

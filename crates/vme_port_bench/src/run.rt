@@ -13,17 +13,17 @@ use std::thread::{PromisedHandle, Scope, Threads};
 use vme_object::Counter;
 use vme_port::{Pass, Port, PortFault};
 
-/// What a run came to.
+/// The result of a run.
 #[derive(Clone, Copy)]
 pub struct Outcome {
-    /// The counter's number at its end.
+    /// The counter's number after the run.
     pub number: u64,
-    /// How many steps its history has.
+    /// The number of entries in the counter's history.
     pub steps: u64,
 }
 
 impl Outcome {
-    /// What a counter and the number of its steps come to.
+    /// Returns the outcome for this counter and this number of entries.
     fn of(counter: Counter, steps: u64) -> Outcome
         ensures number { result.number ≡ counter.number }
         ensures steps { result.steps ≡ steps }
@@ -34,14 +34,15 @@ impl Outcome {
     }
 }
 
-/// A thread that works, and brings its pass back.
+/// A thread that makes its calls and returns its pass.
 type Child<'a> = PromisedHandle<Option<Pass<Counter>>, CallsOf<'a>>;
 
 /// Opens a port of a counter, lets the threads make their calls at the same time, and closes it.
 ///
 /// # Errors
-/// `Usage` where the number of threads is not 1 to 21, `Memory`, `Thread` where one can't be
-/// started, and `Spent` where the history has 2^64 - 1 entries before all calls are made.
+/// `Usage` if the number of threads is not 1 to 21, `Memory` if an allocation fails, `Thread` if a
+/// thread can't be started, and `Spent` if the history has 2^64 - 1 entries before all calls are
+/// made.
 pub fn run<R: Threads + Wait + Sync>(
     rt: &R,
     alloc: Global,
@@ -59,7 +60,7 @@ pub fn run<R: Threads + Wait + Sync>(
     }
 }
 
-/// A port of a counter at 0, with its passes.
+/// Opens a port of a counter at 0, with its passes.
 fn open(alloc: Global, threads: usize) -> Result<(Port<Counter>, Vec<Pass<Counter>>), BenchFault>
     ensures opening { IfOk result (λ r. (opening r.0).number ≡ 0) }
     ensures passes { IfOk result (λ r. passes_of r.0 ≡ threads) }
@@ -74,7 +75,7 @@ fn open(alloc: Global, threads: usize) -> Result<(Port<Counter>, Vec<Pass<Counte
     }
 }
 
-/// Has each pass make its calls in a thread of its own, and answers the passes.
+/// Makes the calls of each pass on a thread of its own, and returns the passes.
 fn call_all<R: Threads + Wait + Sync>(
     rt: &R,
     alloc: Global,
@@ -136,7 +137,7 @@ fn start_all<'s, E, R: Threads + Wait + Sync>(
     Ok(())
 }
 
-/// Waits for each thread, and takes its pass in.
+/// Joins each thread and collects its pass.
 fn join_all<'s, R: Threads>(
     rt: &R,
     promise: CallsOf<'s>,

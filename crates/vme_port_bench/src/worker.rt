@@ -6,12 +6,12 @@ use std::thread::Promise;
 use vme_object::{Counter, CounterCmd};
 use vme_port::{Pass, Port};
 
-/// What a thread promises: to bring back a pass of the port that counted so often.
+/// The promise of a thread: it returns a pass of the port that has made `calls` increments.
 #[derive(Clone, Copy)]
 pub struct CallsOf<'a> {
-    /// The port that it calls.
+    /// The port that the thread calls.
     pub port: &'a Port<Counter>,
-    /// How many calls it makes.
+    /// The number of calls that the thread makes.
     pub calls: u64,
 }
 
@@ -19,7 +19,7 @@ impl<'a> Promise<Option<Pass<Counter>>> for CallsOf<'a> {
     ghost kept_by = { λ p r. IfSome r (HasBumped p.port.now p.calls) };
 }
 
-/// Makes so many calls with this pass, each of which counts one up. `None` where the history is full.
+/// Increments the counter `calls` times with this pass. Returns `None` if the history is full.
 pub fn work<R: Wait>(
     rt: &R,
     port: &Port<Counter>,
@@ -30,7 +30,7 @@ pub fn work<R: Wait>(
     ensures { IfSome result (HasBumped port.entry.now calls) }
 {
     for _ in 0..calls {
-        // A call that is refused adds nothing, which shows in the number of those made.
+        // A call that fails adds no entry, so the number of entries shows it.
         let _ = port.call(rt, &mut pass, &CounterCmd::Bump);
     }
     if pass.made() == calls {

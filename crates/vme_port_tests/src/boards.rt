@@ -1,4 +1,4 @@
-//! A port of a board's memory, on one thread.
+//! A port of a board's memory, called from one thread.
 ghost use Rattle.std.specs.Prelude.{All};
 ghost use Rattle.vme_port.specs.Ports.{IsPassOf};
 
@@ -15,7 +15,7 @@ const CLASS: Class = Class {
     rmw: true,
 };
 
-/// A port of a board of 16 bytes, and its two passes.
+/// Opens a port of a board of 16 bytes, with two passes.
 fn open(rt: &impl Abort, alloc: Global) -> (Port<ByteMemory>, Vec<Pass<ByteMemory>>)
     ensures { All (IsPassOf result.0) result.1.items }
 {
@@ -28,7 +28,7 @@ fn open(rt: &impl Abort, alloc: Global) -> (Port<ByteMemory>, Vec<Pass<ByteMemor
     opened
 }
 
-/// The last of some passes.
+/// Removes and returns the last pass.
 fn next_pass(
     rt: &impl Abort,
     port: &Port<ByteMemory>,
@@ -44,7 +44,7 @@ fn next_pass(
     }
 }
 
-/// One pass more, behind the others.
+/// Appends one pass to the others.
 fn add_pass(
     rt: &impl Abort,
     port: &Port<ByteMemory>,

@@ -1,4 +1,4 @@
-//! Ports of counters, in one thread and in several.
+//! Ports of counters, called from one thread and from several.
 ghost use Rattle.std.specs.Prelude.{◌≡◌, All, IfSome};
 ghost use Rattle.vme_port.specs.Ports.{IsPassOf};
 
@@ -11,17 +11,17 @@ use std::thread::{Threads, join};
 use vme_object::{Counter, CounterCmd};
 use vme_port::{Pass, Port, PortFault, Unsettled};
 
-/// How many calls each thread makes.
+/// The number of calls that each thread makes.
 const CALLS: usize = 1_000;
 
-/// What a thread brings back.
+/// The result of a thread: its pass and the replies to its calls.
 #[derive(Drop)]
 struct Worked {
     pass: Pass<Counter>,
     replies: Vec<u64>,
 }
 
-/// Calls the port many times, and keeps the replies.
+/// Calls the port `CALLS` times, and returns the pass with the replies.
 fn work<R: Wait>(
     rt: &R,
     alloc: Global,
@@ -45,7 +45,7 @@ fn work<R: Wait>(
     Some(Worked { pass, replies })
 }
 
-/// Two threads that work.
+/// Runs `work` on two threads.
 fn work_both<R: Threads + Wait + Sync>(
     rt: &R,
     alloc: Global,
@@ -72,7 +72,7 @@ fn work_both<R: Threads + Wait + Sync>(
     Some((one?, two?))
 }
 
-/// Four threads that work, and their passes in the order of their numbers.
+/// Runs `work` on four threads, and returns the results in the order of the passes' numbers.
 fn work_four<R: Threads + Wait + Abort + Sync>(
     rt: &R,
     alloc: Global,
@@ -101,7 +101,7 @@ fn work_four<R: Threads + Wait + Abort + Sync>(
     Some((left?, right?))
 }
 
-/// The pass of a thread that worked, and its replies with the others.
+/// Appends the replies of one thread to the others, and returns the thread's pass.
 fn take_in(rt: &impl Abort, worked: Worked, replies: &mut Vec<u64>) -> Pass<Counter>
     ensures { result ≡ worked.pass }
 {
@@ -174,7 +174,7 @@ fn a_port_has_up_to_21_passes(rt: HostRuntime) {
     assert_eq!(&rt; count, 0);
 }
 
-/// Run with memory refused: the port opens with all its passes, or not at all.
+/// Also run with failing allocations: the port opens with all its passes, or not at all.
 #[test]
 fn a_port_opens_or_lacks_memory(rt: HostRuntime) {
     match Port::new(rt.alloc(), Counter { number: 7 }, 21) {

@@ -1,4 +1,4 @@
-//! Ports that are busy: a call is inside until it is released.
+//! Ports that are busy, because a command on their object waits for a release.
 ghost use Rattle.vme_port.specs.Ports.{IsPassOf};
 
 use crate::ports::{next_pass, open};
@@ -11,10 +11,10 @@ use std::thread::{Threads, join};
 use vme_object::{CounterCmd, Held, Object};
 use vme_port::{Pass, Port, TryFault};
 
-/// How often a thread looks for a sign.
+/// The number of times that a thread polls a flag.
 const LOOKS: u32 = 10_000_000;
 
-/// Looks for a sign, for a while.
+/// Polls a flag until it is set, at most `LOOKS` times, and returns whether it was set.
 fn seen(sign: &AtomicBool) -> bool {
     let backoff = Backoff::new();
     for _ in 0..LOOKS {
@@ -26,7 +26,7 @@ fn seen(sign: &AtomicBool) -> bool {
     false
 }
 
-/// A try while another thread is inside its call, and one after it.
+/// Makes a try while the command of another thread runs, and one after it.
 fn try_meanwhile<R: Threads + Wait + Abort + Sync>(
     rt: &R,
     port: &Port<Held>,
@@ -73,7 +73,7 @@ fn a_port_is_busy_while_a_call_is_inside(rt: HostRuntime) -> Result<(), Fail> {
     Ok(())
 }
 
-/// Looks for a call that waits, for a while.
+/// Polls until a call waits for the object, at most `LOOKS` times, and returns whether one does.
 fn is_waited_for<O: Object>(port: &Port<O>) -> bool {
     let backoff = Backoff::new();
     for _ in 0..LOOKS {
@@ -85,7 +85,7 @@ fn is_waited_for<O: Object>(port: &Port<O>) -> bool {
     false
 }
 
-/// A call, and then the pass again.
+/// Makes one call, and returns its reply and the pass.
 fn call_held<R: Wait>(rt: &R, port: &Port<Held>, mut pass: Pass<Held>) -> (Option<u64>, Pass<Held>)
     requires { IsPassOf port.now pass }
     ensures { IsPassOf port.entry.now result.1 }
@@ -94,8 +94,8 @@ fn call_held<R: Wait>(rt: &R, port: &Port<Held>, mut pass: Pass<Held>) -> (Optio
     (reply, pass)
 }
 
-/// A call that begins once another is inside, and parks: the other is released once this one is seen
-/// to wait.
+/// Starts a call while another command runs, and releases that command once this call is seen to
+/// wait.
 fn call_parks<R: Threads + Wait + Abort + Sync>(
     rt: &R,
     port: &Port<Held>,
@@ -123,7 +123,7 @@ fn call_parks<R: Threads + Wait + Abort + Sync>(
     called
 }
 
-/// Two calls at a time, of which the second parks and is woken.
+/// Makes two calls at the same time, of which the second parks and is woken.
 fn call_twice<R: Threads + Wait + Abort + Sync>(
     rt: &R,
     port: &Port<Held>,

@@ -1,5 +1,5 @@
-//! Tests of ports, of counters in one thread and in several, and of a board's memory. They stand
-//! apart so that the port is not proved twice.
+//! Tests of ports: ports of counters, called from one thread and from several, and a port of a
+//! board's memory. They are a crate of their own so that `vme_port` is not proved twice.
 #![tactic(auto)]
 
 #[cfg(test)]

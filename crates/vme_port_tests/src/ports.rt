@@ -1,4 +1,4 @@
-//! What the tests of ports share.
+//! Functions that the tests of ports share.
 ghost use Rattle.std.specs.Prelude.{◌≡◌, All};
 ghost use Rattle.vme_port.specs.Ports.{IsPassOf, passes_of};
 
@@ -7,7 +7,7 @@ use std::process::Abort;
 use vme_object::Object;
 use vme_port::{Pass, Port, PortFault};
 
-/// A port of an object, with all its passes.
+/// Opens a port of an object with `count` passes, and panics if that fails.
 pub fn open<O: Object + Drop>(
     rt: &impl Abort,
     alloc: Global,
@@ -24,7 +24,7 @@ pub fn open<O: Object + Drop>(
     }
 }
 
-/// The last of some passes.
+/// Removes and returns the last pass.
 pub fn next_pass<O: Object>(rt: &impl Abort, port: &Port<O>, passes: &mut Vec<Pass<O>>) -> Pass<O>
     requires { All (IsPassOf port.now) passes.old.items }
     ensures pass { IsPassOf port.now result }

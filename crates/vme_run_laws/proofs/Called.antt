@@ -1,4 +1,4 @@
--- What a call does to the bus, and that its reply is a good one.
+-- The effect of a call on the bus, and that its reply is a good one.
 use Rattle.std.proofs.Common.{◌≡◌, ◌≢◌, ℕ, true, false, Bool, Option, Some, None, refl, sym, ◌∙◌}
 use Rattle.std.specs.Prelude.{slice_get}
 use Rattle.std.specs.Prelude.{◌&&◌}
@@ -25,7 +25,7 @@ use Rattle.vme_core.specs.Calls.{Call, OnBoard, OnBus, command_step, board_after
 use Rattle.vme_master.proofs.lemmas.Locals.{board_fits, turn_fits}
 use Rattle.vme_line_task.specs.Tenures.{IsGood}
 
--- a call on a board leaves the bus, and its reply is a board's
+-- a call on a board leaves the bus unchanged, and its reply is one of a board
 pub record BoardCalled (machine : Machine) (who x : ℕ) (command : Option Command) (after : Machine × EventReply) : Type 0 where
   pub bus : after.0.bus ≡ machine.bus
   pub reply : Reply
@@ -47,7 +47,8 @@ pub board_called : (machine : Machine) (who x : ℕ) (command : Option Command)
     → BoardCalled machine who x command (machine_step machine who (OnBoard x command))
 board_called machine who x command = by_found machine who x command (slice_get machine.boards x)
 
--- a command of a slot's own to the arbiter, which goes by what the slot was told, is not denied, and the slot stands as it is told
+-- a slot's command to the arbiter that follows its last reply is not denied, and the slot is in the state of its new
+-- reply
 pub record BusCalled (bus : Arbitration) (slot : ℕ) (cmd : ArbCmd) : Type 0 where
   pub orderly : IsOrderly (turn_step bus cmd).0
   pub own : slot_of cmd ≡ slot
@@ -84,7 +85,7 @@ bus_called bus slot last cmd orderly lawful stands may =
       good = record { fit = turn_fits bus cmd; granted = never_denied (turn_step bus cmd).0 slot (turn_step bus cmd).1 now };
     }
 
--- so no reply to either is a denial
+-- the reply to a call is not a denial
 pub call_granted : (machine : Machine) (who slot : ℕ) (last : Option ArbReply) (call : Call) → IsOrderly machine.bus.object
     → is_slot slot ≡ true → StandsAsReplied machine.bus.object slot last → ((cmd : ArbCmd) → call ≡ OnBus cmd → may_give slot last cmd ≡ true)
     → (machine_step machine who call).1 ≢ replies.Bus turned.Denied

@@ -1,4 +1,4 @@
--- Each mailbox that a lawful configuration declares is such a one.
+-- Each mailbox that a lawful configuration declares lies in its board and is left alone by other lines.
 use Rattle.std.proofs.Common.{◌≡◌, ℕ, ◌+◌, ◌-◌, ◌<◌, List, length, slice_index_or, Some, refl, sym, subst, arith}
 use Rattle.std.specs.Prelude.{slice_get}
 use Rattle.std.proofs.lemmas.Option.{get_or_from_slice_get, slice_get_within, slice_get-get_or}
@@ -25,7 +25,7 @@ use Rattle.vme_run_laws.specs.Declared.{IsDeclaredIn}
 use Rattle.vme_run_laws.proofs.Shared.{some_of}
 use Rattle.vme_run_laws.proofs.Queues.{IsQueue, queue}
 
--- the mailbox with the next number is the one at the place
+-- the mailbox with number k + 1 is the one at place k
 named : (config : Configuration) (k : ℕ) (mailbox : Mailbox) → slice_get config.mailboxes k ≡ Some mailbox
     → mailbox_at config (k + 1) ≡ mailbox
 named config k mailbox declared =
@@ -34,7 +34,7 @@ named config k mailbox declared =
 
 module _ (config : Configuration) (lawful : IsLawful config) (k : ℕ) (mailbox : Mailbox)
     (declared : slice_get config.mailboxes k ≡ Some mailbox) where
-  -- what makes it lawful
+  -- the mailbox is lawful
   abbrev fine : IsLawfulMailbox config.boards mailbox
   fine = lawful.mailboxes k mailbox declared
 
@@ -53,11 +53,11 @@ module _ (config : Configuration) (lawful : IsLawful config) (k : ℕ) (mailbox 
   memory_of own =
       rw (get_or_from_slice_get config.boards fine.place.board fine.board own fine.there) (lies_in config lawful mailbox fine)
 
-  -- wherever it is said to lie
+  -- the place of the mailbox is determined
   place_is : (place : BoardRange) → range_of (entries_of config.boards) mailbox ≡ Some place → fine.place ≡ place
   place_is place placed = let first = fine.placed in cc
 
--- so it is a queue in every report
+-- each declared mailbox is a queue in every report
 pub declared_queue : (config : Configuration) (report : Report) (is : IsReportOf config report) (box : ℕ) (m : BoardMailbox)
     (h : List (Entry BoardCmd Reply)) → IsLawful config → IsDeclaredIn config report is box m h → IsQueue config report box m h
 declared_queue config report is box m h lawful at =
@@ -74,7 +74,7 @@ declared_queue config report is box m h lawful at =
     (subst (λ (n : BoardMailbox). IsQueue config report (at.index + 1) n h) (sym at.bytes)
     (subst (IsQueue config report (at.index + 1) (on at.place)) (sym at.history) found))
 
--- what is declared at a place of a board has that board's history
+-- a mailbox that is declared on a board has the history of that board
 at_place : (config : Configuration) (report : Report) (is : IsReportOf config report) (k : ℕ) (mailbox : Mailbox) (place : BoardRange)
     (own : BoardConfig) (end : BoardReport) → slice_get config.mailboxes k ≡ Some mailbox
     → range_of (entries_of config.boards) mailbox ≡ Some place → place.board < length config.boards
@@ -97,7 +97,7 @@ at_place config report is k mailbox place own end declared placed below = (
   },
 )
 
--- so each declared mailbox has one in every report
+-- each declared mailbox has a history in every report
 pub there : (config : Configuration) (report : Report) (is : IsReportOf config report) (k : ℕ) → IsLawful config
     → k < length config.mailboxes
     → (m : BoardMailbox) × (h : List (Entry BoardCmd Reply)) × IsDeclaredIn config report is (k + 1) m h

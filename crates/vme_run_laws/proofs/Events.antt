@@ -1,4 +1,4 @@
--- Each call of a line is that of an event.
+-- Each call of a line is the call of an event.
 use Rattle.std.proofs.Common.{◌≡◌, ℕ, ◌+◌, ◌*◌, [], ◌∷◌, length, Option, Some, None, Result, Ok, Err, refl, ap, sym, subst, ◌∙◌}
 use Rattle.vme_cycle.specs.declared.fault.CycleFault.{CycleFault}
 use Rattle.vme_cycle.specs.declared.request.Request.{Request}
@@ -69,14 +69,14 @@ data_event config lawful slot level t whole g x command made =
           ∙ ap (λ place. datum_call j place i) datum.placed ∙ ap (OnBoard x) (sym datum.own);
     }
 
--- a local command
+-- a command to the local port
 local_event : (board : ℕ) (cmd : BoardCmd) (g : Given) (x : ℕ) (command : Option Command)
     → next_of (local_job board cmd) g ≡ tasks.Invokes (OnBoard x command) → HasEvent (OnBoard x command)
 local_event board cmd g x command made =
     let own : OnBoard x command ≡ OnBoard board (command_given cmd) = local_calls (record { board = board; cmd = cmd }) g (OnBoard x command) made in
     record { event = asked.Board board cmd; is = sym own }
 
--- a request's
+-- a call of a request
 lawful_event : (config : Configuration) → IsLawful config → (board : ℕ) (request : Request) (transfer : Result Transfer CycleFault)
     (attempt : Transfer → Attempt) (given : Given) (x : ℕ) (command : Option Command) → transfer_of request ≡ transfer
     → ((t : Transfer) (g : Given) → attempt_next (attempt t) g ≡ Invokes (OnBoard x command)
@@ -87,7 +87,7 @@ lawful_event config lawful board request (Ok t) attempt given x command is makes
     let g = (attempts_of (attempt t) config.tries given).given in
     data_event config lawful (slot_at config board) (level_at config board) t (transfer_is_lawful request t is) g x command (makes t g made)
 
--- each call of a lock or a mailbox is one of a transfer of a stage
+-- each call of a lock or a mailbox is a call of a stage's transfer
 record IsOfStage (s : SharedJob) (call : Call) : Type 0 where
   stage : Stage
   job : Job
@@ -183,7 +183,7 @@ pub has_event : (config : Configuration) → IsLawful config → (board : ℕ) (
 unfolding next_given
 has_event config lawful board line given call made = line_event config lawful board line given call made
 
--- an event of a call on a board that is there
+-- the event of a call on an existing board
 pub event_there : (machine : Machine) (event : Event) (call : Call) → call_of event ≡ call → IsCallBelow (length machine.boards) call
     → IsThere machine (target_of event)
 event_there machine (asked.Board x cmd) call is below = subst (IsCallBelow (length machine.boards)) (sym is) below

@@ -1,4 +1,4 @@
--- The table of lines never ends one as unfinished.
+-- The table of lines never ends a line as unfinished.
 use Rattle.std.proofs.Common.{◌≡◌, ◌≢◌, ℕ, Bool, true, false, if◌then◌else◌, List, [], ◌∷◌, slice_index_or, All, Result, Ok, Err, arith}
 use Rattle.std.specs.Str.{bytes_eq}
 use Rattle.std.proofs.lemmas.List.Elements.{All-nil, All-cons}
@@ -28,7 +28,7 @@ by_moves tasks.NotStarted answer ends over = cc
 by_moves (tasks.Invokes call) answer ends over = cc
 by_moves (tasks.Returns outcome) answer ends over = cc
 
--- the bytes were found or not
+-- an awaited read, whether its bytes were found or not
 by_bytes : (found : Bool) (answer : LineReply) → Returns (if found then Met else Timeout) ≡ Returns answer → answer ≢ Unfinished
 by_bytes true answer ends over = cc
 by_bytes false answer ends over = cc
@@ -50,19 +50,19 @@ by_attempt (Transferring job) given answer ends over = by_moves (next_of job giv
 by_attempt (Awaiting job want) given answer ends over = by_waits want (next_of job given) answer ends over
 by_attempt (Sharing s) given answer ends over = by_shares (shared_next s given) answer ends over
 
--- any line
+-- any attempt
 by_line : (tries : ℕ) (attempt : Result Attempt CycleFault) (given : Given) (answer : LineReply) → lawful_next tries attempt given ≡ Returns answer
     → answer ≢ Unfinished
 by_line tries (Ok a) given answer ends over = by_attempt a (attempts_of a tries given).given answer ends over
 by_line tries (Err fault) given answer ends over = cc
 
--- by the table
+-- any line, by the table
 by_table : (config : Configuration) (board : ℕ) (line : Line) (given : Given) (answer : LineReply) → next_given config board line given ≡ Returns answer
     → answer ≢ Unfinished
 unfolding next_given
 by_table config board line given answer ends over = by_line config.tries (line_attempt config board line) given answer ends over
 
--- all lines of a script_state
+-- all lines of a script
 script_state_finished : (config : Configuration) (board : ℕ) (ls : List Line) (run : List Transition) (answers : List LineReply)
     → IsTrace config board ls run answers → All (λ (answer : LineReply). answer ≢ Unfinished) answers
 script_state_finished config board [] run [] script_state = All-nil (λ (answer : LineReply). answer ≢ Unfinished)

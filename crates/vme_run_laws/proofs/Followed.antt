@@ -1,4 +1,4 @@
--- Turns are a run of moves.
+-- Turns are a run of transitions.
 use Rattle.std.proofs.Common.{◌≡◌, ◌≢◌, ℕ, ◌<◌, List, [], ◌∷◌, ◌++◌, length, map, Option, Some, None, refl, ap, sym, subst, ◌∙◌, append_assoc, inl, inr}
 use Rattle.std.specs.Prelude.{slice_get, slice_set, ◌==◌}
 use Rattle.std.specs.Option.{option_to_list}
@@ -22,11 +22,11 @@ use Rattle.vme_run_laws.proofs.Places.{set_same, set_other, place_is}
 use Rattle.vme_run_laws.proofs.Moving.{Moved, script_state_moved}
 use Rattle.vme_run_laws.proofs.Runs.{script_state_begun}
 
--- each processor has come so far by its own moves
+-- each processor has followed its script by its own transitions
 abbrev pub AllFollow : Configuration → List Transition → SystemState → Type 0
 AllFollow config moves system = (b : ℕ) (c : ScriptState) → slice_get system.script_states b ≡ Some c → IsTracePrefix config b (moves_of b moves) c
 
--- turns make more moves
+-- further turns make further transitions
 pub record Goes (config : Configuration) (before : List Transition) (calls : List (ℕ × Call)) (from to : SystemState) : Type 0 where
   pub more : List Transition
   pub same : calls_in more ≡ calls
@@ -111,7 +111,7 @@ run_goes config before system (slot ∷ slots) lawful count follow =
       count = then.count ∙ one.count;
     }
 
--- before the first turn
+-- the state before the first turn
 opening_follow : (config : Configuration) → AllFollow config [] (initial_state config)
 opening_follow config b c found = subst (IsTracePrefix config b []) (script_state_begun config.scripts b c found) (follows_nothing config b)
 

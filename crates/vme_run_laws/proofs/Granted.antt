@@ -43,7 +43,7 @@ use Rattle.vme_threads.specs.Reports.{HasHistory, IsReportOf}
 use Rattle.vme_run_laws.specs.Granted.{AreGranted}
 use Rattle.vme_run_laws.proofs.Turns.{Leads, GoodTurn, GoesWhile, turns_good}
 
--- replies of boards that are there fit; replies of the arbiter are of its kind
+-- a reply of an existing board fits, and a reply of the arbiter is of its kind
 abbrev Well : ℕ → Event → EventReply → Type 0
 Well n (asked.Board x cmd) (event_replies.Board reply) = x < n → IsGood (OnBoard x (command_given cmd)) (event_replies.Board reply)
 Well n (asked.Bus cmd) (event_replies.Bus reply) = Unit {0}
@@ -53,7 +53,7 @@ abbrev AllWell : ℕ → List Transition → Type 0
 AllWell n [] = Unit {0}
 AllWell n (m ∷ run) = Well n m.event m.reply × AllWell n run
 
--- replies of the arbiter are good too
+-- a reply of the arbiter is good too
 abbrev Replied : Event → EventReply → Type 0
 Replied (asked.Bus cmd) (event_replies.Bus reply) = IsGood (OnBus cmd) (event_replies.Bus reply)
 Replied event reply = Unit {0}
@@ -62,7 +62,7 @@ abbrev AllReplied : List Transition → Type 0
 AllReplied [] = Unit {0}
 AllReplied (m ∷ run) = Replied m.event m.reply × AllReplied run
 
--- an end of a line is no denial and leaves the slot free
+-- the end of a line is not a denial and leaves the slot free
 record Closes (config : Configuration) (board : ℕ) (line : Line) (before : List EventReply) : Type 0 where
   granted : (answer : LineReply) → line_next config board line before ≡ Returns answer → IsGranted answer
   free : (answer : LineReply) (slot : ℕ) → line_next config board line before ≡ Returns answer → Leads slot (line_reported config board line before) None
@@ -81,7 +81,7 @@ closes_next config board line before call reply made good = record {
 }
 
 module _ (config : Configuration) (lawful : IsLawful config) (board : ℕ) (there : board < length config.boards) where
-  -- what comes after a line
+  -- the transitions after a line
   abbrev After : List Transition → Type 0
   After rest = (last : Option ArbReply) → Leads (slot_at config board) last None → GoesWhile (slot_at config board) last (bus_part rest)
 
@@ -128,7 +128,7 @@ module _ (config : Configuration) (lawful : IsLawful config) (board : ℕ) (ther
       (subst (AllWell (length config.boards)) script_state.2 well)
       (λ well_rest. by_script_state ls script_state.1 answers script_state.4 well_rest))
 
-  -- so where all replies are good, no answer is a denial
+  -- if all replies are good, no line is denied
   move_good : (line : Line) (before : List EventReply) (event : Event) (reply : EventReply)
       → line_next config board line before ≡ Invokes (call_of event) → Well (length config.boards) event reply → Replied event reply
       → IsGood (call_of event) reply
@@ -167,7 +167,7 @@ module _ (config : Configuration) (lawful : IsLawful config) (board : ℕ) (ther
       All-cons IsGranted answer answers left.granted
       (script_state_granted ls script_state.1 answers script_state.4 left.well left.good)
 
--- replies of a board by its history
+-- a reply of a board, by the history of the board
 abbrev Fit : ℕ → Entry BoardCmd Reply → Type 0
 Fit x e = IsGood (OnBoard x (command_given e.cmd)) (event_replies.Board e.reply)
 
@@ -189,7 +189,7 @@ all_own P who (e ∷ h) all =
       | inr other ↦ rw other (all_own P who h (All-tail P e h all))
     ]
 
--- what a board's part says of its moves
+-- a reply of a board, by the board's part of a run
 abbrev FitAt : ℕ → Event → EventReply → Type 0
 FitAt x (asked.Board b cmd) (event_replies.Board reply) = b ≡ x → IsGood (OnBoard b (command_given cmd)) (event_replies.Board reply)
 FitAt x event reply = Unit {0}
@@ -250,7 +250,7 @@ reported_moves (m ∷ run) all =
     let parts = reported_head m.who m.event m.reply run all in
     (parts.0, reported_moves run parts.1)
 
--- the part of a who in a history of all
+-- the part of one caller in a history of all callers
 part_good : {S C R : Type 0} (step : S → C → S × R) (start : S) (part : List Transition → List (Entry C R)) (runs : List (List Transition)) (object : S)
     (steps : ℕ) (made : List ℕ) (P : Entry C R → Type 0) (has : HasHistory step start (map part runs) object steps made) (who : ℕ)
     → who < length runs → All P has.history → All P (part (slice_index_or runs who []))
@@ -276,7 +276,7 @@ run_well config report is who below =
     (slice_index_or report.boards.items x first).made.items (Fit x) end.history who below
     (history_fits x (opening_memory (slice_index_or config.boards x own)) end.history.history end.history.legal)))
 
--- all turns of a report are good
+-- all commands of a report's arbiter are good
 all_turns : (config : Configuration) → IsLawful config → (report : Report) (is : IsReportOf config report) → All GoodTurn is.bus.1.history
 all_turns config lawful report is =
     turns_good config.arbiter (length config.boards) (slot_at config) is.bus.1.history
@@ -305,12 +305,12 @@ none_denied (e ∷ h) good =
     (λ denied. (All-head GoodTurn e h good).granted (ap (λ (r : ArbReply). event_replies.Bus r) denied))
     (none_denied h (All-tail GoodTurn e h good))
 
--- so the arbiter denied nobody
+-- the arbiter of a report denies no command
 pub report_turns : (config : Configuration) (report : Report) → IsLawful config → (is : IsReportOf config report)
     → All (λ e. e.reply ≢ turned.Denied) is.bus.1.history
 report_turns config report lawful is = none_denied is.bus.1.history (all_turns config lawful report is)
 
--- and no line is denied
+-- no line of a report is denied
 pub report_granted : (config : Configuration) (report : Report) → IsLawful config → IsReportOf config report
     → Each (λ who lines. AreGranted lines.items) report.lines.items
 report_granted config report lawful is who d below =

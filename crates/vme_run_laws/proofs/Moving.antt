@@ -1,4 +1,4 @@
--- A turn's move, and how a processor follows its script by it.
+-- The transition of a turn, and how a processor follows its script by it.
 use Rattle.std.proofs.Common.{◌≡◌, ◌≢◌, ℕ, zero, suc, ◌<◌, true, false, List, [], ◌∷◌, ◌++◌, length, drop, Option, Some, None, refl, ap, sym, subst, ◌∙◌, inl, inr}
 use Rattle.std.specs.Prelude.{slice_get, option_map, ◌==◌}
 use Rattle.std.specs.Option.{option_to_list}
@@ -30,14 +30,14 @@ use Rattle.vme_run_laws.specs.Transitions.{calls_in, moves_of}
 use Rattle.vme_run_laws.proofs.Places.{left_after}
 use Rattle.vme_run_laws.proofs.Events.{has_event, event_there}
 
--- the first of the lines that are left stands in the script
+-- the first remaining line stands in the script
 pub first_left : (n : ℕ) (lines : List Line) (line : Line) (rest : List Line) → drop n lines ≡ line ∷ rest → slice_get lines n ≡ Some line
 first_left zero [] line rest left = absurd cc
 first_left zero (first ∷ lines) line rest left = cc
 first_left (suc n) [] line rest left = absurd cc
 first_left (suc n) (first ∷ lines) line rest left = first_left n lines line rest left
 
--- a call leaves as many boards
+-- a call keeps the number of boards
 board_count : (machine : Machine) (who x : ℕ) (command : Option Command) (found : Option (CountedState Board))
     → length (board_after machine who x command found).0.boards ≡ length machine.boards
 board_count machine who x command None = refl
@@ -47,7 +47,7 @@ pub step_count : (machine : Machine) (who : ℕ) (call : Call) → length (machi
 step_count machine who (OnBoard x command) = board_count machine who x command (slice_get machine.boards x)
 step_count machine who (OnBus cmd) = refl
 
--- a move of a who is among its own, and none of another's
+-- a transition of `who` is among its own, and not among those of another processor
 pub own_move : (who : ℕ) (event : Event) (reply : EventReply) → moves_of who (move who event reply ∷ []) ≡ move who event reply ∷ []
 own_move who event reply = let same : (who == who) ≡ true = eq-eqb who who refl in rw same refl
 
@@ -55,7 +55,7 @@ pub other_move : (who other : ℕ) (event : Event) (reply : EventReply) → who 
 other_move who other event reply apart =
     elim (eqb_tells who other) [ inl same ↦ absurd (apart same.1) | inr not_same ↦ let no : (who == other) ≡ false = not_same.0 in rw no refl ]
 
--- a turn of a board's processor is a move of it, or none
+-- a turn of a board's processor makes at most one transition
 pub record Moved (config : Configuration) (board : ℕ) (machine : Machine) (mine : List Transition) (call : Option Call) (after : Machine × ScriptState) : Type 0 where
   pub more : List Transition
   pub calls : calls_in more ≡ option_to_list (option_map {U = ℕ × Call} (λ one. (board, one)) call)
@@ -66,7 +66,7 @@ pub record Moved (config : Configuration) (board : ℕ) (machine : Machine) (min
   pub count : length after.0.boards ≡ length machine.boards
 
 module _ (config : Configuration) (lawful : IsLawful config) (board : ℕ) (there : board < length config.boards) where
-  -- no move
+  -- a turn without a transition
   nothing_moved : (machine : Machine) (mine : List Transition) (c : ScriptState) → IsTracePrefix config board mine c
       → Moved config board machine mine None (machine, c)
   nothing_moved machine mine c follows = record {
@@ -79,7 +79,7 @@ module _ (config : Configuration) (lawful : IsLawful config) (board : ℕ) (ther
     count = refl;
   }
 
-  -- a line that was given these replies: it goes on, or is answered
+  -- a line with these replies goes on or has ended
   settled_follows : (mine : List Transition) (ended : List LineReply) (replies : List EventReply) (line : Line) (next : LineNext)
       → slice_get (lines_at config board) (length ended) ≡ Some line → IsTracePrefix config board mine (script_state ended replies)
       → line_next config board line replies ≡ next → IsTracePrefix config board mine (settled ended replies next)
@@ -88,7 +88,7 @@ module _ (config : Configuration) (lawful : IsLawful config) (board : ℕ) (ther
   settled_follows mine ended replies line (Invokes call) found follows is = follows
   settled_follows mine ended replies line NotStarted found follows is = follows
 
-  -- a call
+  -- a turn with a call
   call_moved : (machine : Machine) (mine : List Transition) (c : ScriptState) (line : Line) (call : Call)
       → slice_get (lines_at config board) (length c.ended) ≡ Some line → length machine.boards ≡ length config.boards
       → IsTracePrefix config board mine c → line_next config board line c.replies ≡ Invokes call
@@ -114,7 +114,7 @@ module _ (config : Configuration) (lawful : IsLawful config) (board : ℕ) (ther
         count = step_count machine board call;
       }
 
-  -- a turn with these lines left
+  -- a turn with these remaining lines
   by_next : (machine : Machine) (mine : List Transition) (c : ScriptState) (line : Line) (rest : List Line) (next : LineNext) (after : ScriptState → Machine × ScriptState)
       → lines_left config board c ≡ line ∷ rest → length machine.boards ≡ length config.boards → IsTracePrefix config board mine c
       → line_next config board line c.replies ≡ next

@@ -17,13 +17,13 @@ use Rattle.vme_line_task.specs.Scripts.{slot_at, level_at, script_at, lines_at}
 use Rattle.vme_line_task.specs.Traces.{ScriptState}
 use Rattle.vme_stepper.specs.Turns.{lines_left, board_in_slot}
 
--- what was written at a place is read there
+-- a value that is written at a place is read there
 pub set_same : {X : Type 0} (xs : List X) (i : ℕ) (new x : X) → slice_get (slice_set xs i new) i ≡ Some x → new ≡ x
 set_same [] i new x found = absurd cc
 set_same (first ∷ xs) zero new x found = cc
 set_same (first ∷ xs) (suc i) new x found = set_same xs i new x found
 
--- and every other place is as it was
+-- a write leaves every other place unchanged
 pub set_other : {X : Type 0} (xs : List X) (i j : ℕ) (new : X) → i ≢ j → slice_get (slice_set xs i new) j ≡ slice_get xs j
 set_other [] i j new apart = refl
 set_other (first ∷ xs) zero zero new apart = absurd (apart refl)
@@ -31,7 +31,7 @@ set_other (first ∷ xs) zero (suc j) new apart = refl
 set_other (first ∷ xs) (suc i) zero new apart = refl
 set_other (first ∷ xs) (suc i) (suc j) new apart = set_other xs i j new (λ same. apart (ap suc same))
 
--- a board that is there
+-- the configuration has a board at this place
 pub record HasBoard (config : Configuration) (board : ℕ) : Type 0 where
   pub own : BoardConfig
   pub found : slice_get config.boards board ≡ Some own
@@ -55,7 +55,7 @@ has_board config board there =
       | inr past ↦ absurd (omega (arith, past.0))
     ]
 
--- its slot and level are lawful
+-- the slot and the level of a board are lawful
 pub lawful_slot : (config : Configuration) (board : ℕ) → IsLawful config → board < length config.boards → is_slot (slot_at config board) ≡ true
 lawful_slot config board lawful there =
     let has = has_board config board there in
@@ -76,7 +76,7 @@ slots_apart config a b lawful first second apart = λ same.
     let two = has_board config b second in
     apart (lawful.apart a b one.own two.own one.found two.found (sym one.slot ∙ same ∙ two.slot))
 
--- the place of a slot is that of its board
+-- the board at this place is in this slot
 pub record IsPlace (config : Configuration) (slot board : ℕ) : Type 0 where
   pub there : board < length config.boards
   pub own : slot_at config board ≡ slot
@@ -92,7 +92,7 @@ place_is config slot board placed = by_boards config.boards refl
         let same_own : slice_index_or config.boards board first ≡ has.own = get_or_from_slice_get config.boards board has.own first has.found in
         record { there = at.0; own = has.slot ∙ ap (λ (one : BoardConfig). one.slot) (sym same_own) ∙ eqb-true _ _ at.1 }
 
--- each line of a script is one that a script can have
+-- each of these lines is one that a script can have
 abbrev pub AllOwn : List Line → Type 0
 AllOwn [] = Unit {0}
 AllOwn (line ∷ lines) = IsOwnLine line × AllOwn lines

@@ -1,4 +1,4 @@
--- A mailbox that the lines which name it alone touch is a queue in every report.
+-- A mailbox that only the lines that name it touch is a queue in every report.
 use Rattle.std.proofs.Common.{◌≡◌, ℕ, ◌+◌, ◌≤◌, ◌<◌, List, length, slice_index_or, ◌∙◌}
 use Rattle.vme_object.specs.declared.history.Entry.{Entry}
 use Rattle.vme_object.specs.History.{IsPrefix}
@@ -23,7 +23,7 @@ use Rattle.vme_threads.specs.Rans.{answers_in}
 use Rattle.vme_threads.specs.Reports.{IsReportOf}
 use Rattle.vme_run_laws.proofs.Shared.{share, new_there, reported_in, reported_each}
 
--- a history is proper for a mailbox, which so is a queue there; its words are those that a report's lines tell
+-- a history is proper for a mailbox, which is a queue there, and its words are those that the report's lines show
 pub record IsQueue (config : Configuration) (report : Report) (box : ℕ) (m : BoardMailbox) (h : List (Entry BoardCmd Reply))
     : Type 0 where
   pub goes : IsProper m h

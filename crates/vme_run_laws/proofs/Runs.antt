@@ -1,4 +1,4 @@
--- Where all processors stand through a run of turns.
+-- The states of all processors through a run of turns.
 use Rattle.std.proofs.Common.{◌≡◌, ◌≢◌, ℕ, ◌<◌, List, [], ◌∷◌, length, map, Option, Some, None, refl, ap, sym, subst, ◌∙◌, inl, inr, ◌⊎◌, arith}
 use Rattle.std.specs.Prelude.{slice_get, slice_set, option_map}
 use Rattle.std.specs.Option.{option_map_or}
@@ -25,7 +25,7 @@ use Rattle.vme_run_laws.proofs.Places.{set_same, set_other, slots_apart, place_i
 use Rattle.vme_run_laws.proofs.Standing.{ScriptStands, rests_standing}
 use Rattle.vme_run_laws.proofs.Turned.{Stays, script_state_stays, first_is, HoldsFor, call_holds, replied_granted, machine_called, script_state_made}
 
--- each processor's slot stands to the bus as the processor knows
+-- the state of each processor's slot agrees with the replies to the processor
 pub record AllStand (config : Configuration) (system : SystemState) : Type 0 where
   pub orderly : IsOrderly system.machine.bus.object
   pub count : length system.script_states ≡ length config.boards
@@ -35,7 +35,7 @@ within : (config : Configuration) (system : SystemState) (b : ℕ) (c : ScriptSt
     → b < length config.boards
 within config system b c stand found = subst (λ (n : ℕ). b < n) stand.count (slice_get_within system.script_states b c found)
 
--- a turn keeps it
+-- a turn keeps that agreement
 by_script_state : (config : Configuration) (system : SystemState) (board : ℕ) (found : Option ScriptState) → IsLawful config → AllStand config system
     → board < length config.boards → slice_get system.script_states board ≡ found → AllStand config (turn_in config system board found)
 by_script_state config system board None lawful stand there is = stand
@@ -89,7 +89,7 @@ run_stand config system [] lawful stand = stand
 run_stand config system (slot ∷ slots) lawful stand =
     run_stand config (turn config system slot) slots lawful (turn_stand config system slot lawful stand)
 
--- before the first turn
+-- the state before the first turn
 pub script_state_begun : (scripts : List (List ScriptLine)) (b : ℕ) (c : ScriptState) → slice_get (map (λ script. script_state [] []) scripts) b ≡ Some c
     → script_state [] [] ≡ c
 script_state_begun scripts b c found = by_script (slice_get scripts b) (sym (slice_get-map (λ (script : List ScriptLine). script_state [] []) scripts b) ∙ found)
@@ -110,7 +110,7 @@ pub after_stand : (config : Configuration) (slots : List ℕ) → IsLawful confi
 unfolding state_after
 after_stand config slots lawful = run_stand config (initial_state config) slots lawful (opening_stand config lawful)
 
--- the call of a turn is the first that is left to its processor
+-- the call of a turn is the first call of the processor's remaining lines
 pub record IsCallOf (config : Configuration) (system : SystemState) (slot board : ℕ) (call : Call) : Type 0 where
   pub place : board_in_slot config slot ≡ Some board
   pub c : ScriptState
@@ -141,7 +141,7 @@ pub call_is : (config : Configuration) (system : SystemState) (slot board : ℕ)
 unfolding turn_call
 call_is config system slot board call is = call_at config system slot board call (board_in_slot config slot) refl is
 
--- so its slot holds the bus for data that go over it
+-- for data over the bus, the slot of the call holds the bus
 pub holder_is : (config : Configuration) (system : SystemState) (slot board place : ℕ) (command : Option Command) → IsLawful config
     → AllStand config system → turn_call config system slot ≡ Some (board, OnBoard place command)
     → IsLocal command ⊎ (system.machine.bus.object.holder ≡ Some slot)
@@ -156,7 +156,7 @@ holder_is config system slot board place command lawful stand is =
     one.first in
     subst (λ (s : ℕ). IsLocal command ⊎ (bus.holder ≡ Some s)) at.own holds
 
--- and is not denied
+-- the reply to the call is not a denial
 pub granted_is : (config : Configuration) (system : SystemState) (slot board : ℕ) (call : Call) → IsLawful config → AllStand config system
     → turn_call config system slot ≡ Some (board, call) → (machine_step system.machine board call).1 ≢ replies.Bus turned.Denied
 granted_is config system slot board call lawful stand is =
@@ -167,7 +167,7 @@ granted_is config system slot board call lawful stand is =
     (replied_granted config lawful board at.there system.machine stand.orderly) (lines_left config board one.c) one.c.replies call
     (left_own config board one.c lawful at.there) stands.stands stands.opens one.first
 
--- a turn does to the machine what its call does
+-- a turn changes the machine as its call does
 made_by : (config : Configuration) (system : SystemState) (board : ℕ) (found : Option ScriptState)
     → (turn_in config system board found).machine ≡ machine_called system.machine (script_state_call config board found)
 made_by config system board None = refl

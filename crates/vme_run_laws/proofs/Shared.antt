@@ -1,4 +1,4 @@
--- The runs of a report share each board's history.
+-- The runs of a report share the history of each board.
 use Rattle.std.proofs.Common.{◌≡◌, ◌≢◌, ℕ, ◌+◌, ◌-◌, ◌≤◌, ◌<◌, true, eqb, List, [], ◌∷◌, length, map, take, drop, replicate, slice_index_or, ap, sym, subst, ◌∙◌, arith, inl, inr}
 use Rattle.std.specs.Prelude.{All, IsTrue, slice_range}
 use Rattle.std.proofs.lemmas.Bool.{cases_Bool}
@@ -37,7 +37,7 @@ use Rattle.vme_threads.specs.Rans.{answers_in}
 use Rattle.vme_threads.specs.Reports.{IsReportOf}
 use Rattle.vme_run_laws.proofs.Granted.{report_turns}
 
--- a reply of the arbiter that fits and is no denial
+-- a reply of the arbiter fits and is not a denial
 abbrev Fine : Entry ArbCmd ArbReply → Type 0
 Fine e = IsTrue (fits (OnBus e.cmd) (replies.Bus e.reply)) × (replies.Bus e.reply ≢ replies.Bus turned.Denied)
 
@@ -60,7 +60,7 @@ all_own P who (e ∷ h) all =
       | inr other ↦ rw other (all_own P who h (All-tail P e h all))
     ]
 
--- so each move is turned well
+-- the reply of each transition satisfies `IsTurned`
 one_turned : (who : ℕ) (event : Event) (reply : EventReply) (tail : List Transition) → IsReplyTo event reply
     → All Fine (bus_part (move who event reply ∷ tail)) → IsTurned event reply × All Fine (bus_part tail)
 one_turned who (asked.Board x cmd) (replies.Board reply) tail kind all = (tt, all)
@@ -80,12 +80,12 @@ all_turned (m ∷ run) kind all =
     let first = one_turned m.who m.event m.reply run (All-head OfKind m run kind) all in
     (first.0, all_turned run (All-tail OfKind m run kind) first.1)
 
--- an element that is there
+-- an element at a place of a list
 pub some_of : {A : Type 0} (xs : List A) (x : ℕ) → x < length xs → A
 some_of [] x less = absurd (omega (arith, less))
 some_of (one ∷ xs) x less = one
 
--- the answers of a report's lines
+-- the replies to a report's lines
 abbrev pub reported_in : Report → List (List LineReply)
 reported_in report = map (λ lines. answers_in lines.items) report.lines.items
 
@@ -121,7 +121,7 @@ module _ (config : Configuration) (report : Report) (lawful : IsLawful config) (
         turned = λ who d less. turned_run who d less;
       }
 
--- a board of zeros
+-- a board of zeros has its size
 zeros_len : (size : ℕ) → length (zeros size) ≡ size
 unfolding zeros
 zeros_len size = length-replicate size 0
@@ -138,7 +138,7 @@ new_there there m lies =
     let inside : end_of m ≤ there.entry.size = subst (λ n. end_of m ≤ n) (zeros_len there.entry.size) lies.within in
     record { lies = lies; zero = zeros_at there.entry.size m.offset (mailbox_len m.slots) inside }
 
--- the answers of one processor's lines
+-- the replies to one processor's lines
 pub reported_each : (report : Report) (P : ℕ → List LineReply → Type 0) → Each P (reported_in report)
     → Each (λ who lines. P who (answers_in lines.items)) report.lines.items
 reported_each report P each who d below =

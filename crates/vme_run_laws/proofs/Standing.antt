@@ -1,4 +1,4 @@
--- Where a processor's slot stands to the bus, by how far the processor has come.
+-- The state of a processor's slot on the bus, by the processor's progress.
 use Rattle.std.proofs.Common.{◌≡◌, ℕ, List, [], ◌∷◌, ◌++◌, length, drop, Option, None, refl, sym, subst, inl, inr, ◌⊎◌}
 use Rattle.std.specs.Prelude.{All}
 use Rattle.std.proofs.lemmas.List.Elements.{All-push}
@@ -17,7 +17,7 @@ use Rattle.vme_line_task.specs.Tenures.{line_reported, IsGood, IsGranted}
 use Rattle.vme_line_task.proofs.lemmas.Kept.{line_begins, line_ends}
 use Rattle.vme_stepper.specs.Turns.{script_state, settled, lines_left}
 
--- what the slot was told last, in the line that comes next
+-- the last reply of the arbiter in the next line
 abbrev pub reported_left : Configuration → ℕ → List Line → List EventReply → Option ArbReply
 reported_left config board [] replies = None
 reported_left config board (line ∷ lines) replies = line_reported config board line replies
@@ -26,7 +26,7 @@ abbrev pub NotEnded : LineNext → Type 0
 NotEnded (Returns answer) = ⊥
 NotEnded next = Unit {0}
 
--- that line has not ended, if it has some reply
+-- the next line has not ended, if it has a reply
 abbrev pub IsOpen : Configuration → ℕ → List Line → List EventReply → Type 0
 IsOpen config board [] replies = Unit {0}
 IsOpen config board (line ∷ lines) replies = (replies ≡ []) ⊎ NotEnded (line_next config board line replies)
@@ -36,7 +36,7 @@ pub record ScriptStands (config : Configuration) (bus : Arbitration) (board : �
   pub opens : IsOpen config board (lines_left config board c) c.replies
   pub granted : All IsGranted c.ended
 
--- before a line was replied anything, its slot was told nothing
+-- before its first reply, the next line has no reply of the arbiter
 pub reported_begins : (config : Configuration) (board : ℕ) (lines : List Line) → reported_left config board lines [] ≡ None
 reported_begins config board [] = refl
 reported_begins config board (line ∷ lines) = line_begins config board line
@@ -45,7 +45,7 @@ opens_begins : (config : Configuration) (board : ℕ) (lines : List Line) → Is
 opens_begins config board [] = tt
 opens_begins config board (line ∷ lines) = inl refl
 
--- between lines
+-- between lines the slot is at rest
 pub rests_standing : (config : Configuration) (bus : Arbitration) (board : ℕ) (ended : List LineReply)
     → StandsAsReplied bus (slot_at config board) None → All IsGranted ended → ScriptStands config bus board (script_state ended [])
 rests_standing config bus board ended stands granted =
@@ -56,7 +56,7 @@ rests_standing config bus board ended stands granted =
       granted = granted;
     }
 
--- a line that has ended had no reply
+-- a line that has ended had no replies left
 pub ended_begins : (config : Configuration) (board : ℕ) (line : Line) (lines : List Line) (replies : List EventReply) (answer : LineReply)
     → IsOpen config board (line ∷ lines) replies → line_next config board line replies ≡ Returns answer → replies ≡ []
 ended_begins config board line lines replies answer (inl none) ends = none
@@ -73,7 +73,7 @@ goes_on config bus board ended replies line rest reply next left stands granted 
   granted = granted;
 }
 
--- a line goes on by a good reply, or is answered
+-- a line goes on by a good reply, or ends
 pub settled_stands : (config : Configuration) (bus : Arbitration) (board : ℕ) (ended : List LineReply) (replies : List EventReply) (line : Line)
     (rest : List Line) (call : Call) (reply : EventReply) (next : LineNext) → drop (length ended) (lines_at config board) ≡ line ∷ rest
     → line_next config board line replies ≡ Invokes call → IsGood call reply

@@ -1,4 +1,4 @@
--- What a file configures is lawful, so its mailboxes are queues in what is told of its run.
+-- The configuration in a file is lawful, so its mailboxes are queues in the report of its run.
 use Rattle.std.proofs.Common.{◌≡◌, ℕ, ◌+◌, ◌<◌, List, length, Option, Some, None, Ok}
 use Rattle.std.specs.Option.{ok_or}
 use Rattle.toml.specs.Data.{Members}
@@ -35,7 +35,7 @@ module _ (input text : List ℕ) (status : Status) (reported : IsRunText input t
   pub reported_lawful : IsLawful reported.config
   reported_lawful = read_lawful (parse_document input) reported.config reported.configures.1
 
-  -- so each mailbox that it declares is a queue in the report that is told
+  -- each mailbox that the file declares is a queue in the report
   pub reported_queue : (box : ℕ) (m : BoardMailbox) (h : List (Entry BoardCmd Reply))
       → IsDeclaredIn reported.config reported.report reported.run box m h → IsQueue reported.config reported.report box m h
   reported_queue box m h at = declared_queue reported.config reported.report reported.run box m h reported_lawful at

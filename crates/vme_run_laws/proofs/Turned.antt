@@ -1,4 +1,4 @@
--- What a turn does to where processors stand, and the call that it makes.
+-- The effect of a turn on the state of the processors, and the call that it makes.
 use Rattle.std.proofs.Common.{◌≡◌, ◌≢◌, ℕ, ◌<◌, List, [], ◌∷◌, ◌++◌, length, Option, Some, None, refl, ap, sym, subst, ◌∙◌, inl, inr, ◌⊎◌}
 use Rattle.std.specs.Prelude.{All, option_map}
 use Rattle.std.proofs.lemmas.List.Elements.{All-push}
@@ -30,7 +30,8 @@ use Rattle.vme_run_laws.proofs.Places.{lawful_slot, lawful_level, left_after, Al
 use Rattle.vme_run_laws.proofs.Called.{board_called, bus_called, call_granted}
 use Rattle.vme_run_laws.proofs.Standing.{reported_left, IsOpen, ScriptStands, reported_begins, rests_standing, ended_begins, settled_stands}
 
--- after a turn of a board's processor the bus is orderly, the processor stands well, and other slots stand as they did
+-- after a turn of a board's processor, the bus is orderly, the state of the processor's slot agrees, and other slots
+-- are unchanged
 pub record Stays (config : Configuration) (board : ℕ) (before : Arbitration) (after : Machine × ScriptState) : Type 0 where
   pub orderly : IsOrderly after.0.bus.object
   pub own : ScriptStands config after.0.bus.object board after.1
@@ -90,7 +91,7 @@ module _ (config : Configuration) (lawful : IsLawful config) (board : ℕ) (ther
   call_stays machine c line rest (OnBus cmd) left orderly granted stands made =
       turn_stays machine c line rest cmd left orderly granted stands made
 
-  -- a line that has ended was refused, and leaves the slot as it was
+  -- a line that ends without a call was refused, and leaves the slot unchanged
   refused_stands : (bus : Arbitration) (c : ScriptState) (line : Line) (rest : List Line) (answer : LineReply)
       → lines_left config board c ≡ line ∷ rest → ScriptStands config bus board c → line_next config board line c.replies ≡ Returns answer
       → ScriptStands config bus board (script_state (c.ended ++ answer ∷ []) [])
@@ -104,7 +105,7 @@ module _ (config : Configuration) (lawful : IsLawful config) (board : ℕ) (ther
       (All-push IsGranted c.ended answer stands.granted
       (line_first config board line answer (ap (line_next config board line) (sym none) ∙ ends)))
 
-  -- a turn with these lines left
+  -- a turn with these remaining lines
   by_next : (machine : Machine) (c : ScriptState) (line : Line) (rest : List Line) (next : LineNext) (after : ScriptState → Machine × ScriptState)
       → lines_left config board c ≡ line ∷ rest → IsOrderly machine.bus.object → ScriptStands config machine.bus.object board c
       → line_next config board line c.replies ≡ next
@@ -127,7 +128,7 @@ module _ (config : Configuration) (lawful : IsLawful config) (board : ℕ) (ther
       by_next machine c line rest (line_next config board line c.replies) (λ now. script_state_turn config board rest machine now) left orderly stands refl
       (λ now left_now stands_now. script_state_stays rest machine now left_now orderly stands_now)
 
-  -- what holds of the call of a line whose slot stands as the line was told holds of the next call
+  -- a property of each line's call holds for the next call
   by_first : (Q : Call → Type 0) (bus : Arbitration) (line : Line) (rest : List Line) (replies : List EventReply) (call : Call) (next : LineNext)
       → StandsAsReplied bus (slot_at config board) (line_reported config board line replies) → IsOpen config board (line ∷ rest) replies
       → line_next config board line replies ≡ next → call_or next (first_call config board rest []) ≡ Some call
@@ -158,7 +159,7 @@ module _ (config : Configuration) (lawful : IsLawful config) (board : ℕ) (ther
       (λ later free. first_is Q bus each rest [] call own.1
       (subst (StandsAsReplied bus (slot_at config board)) (sym (reported_begins config board rest)) free) (begins_open rest) later)
 
-  -- a call on a board is one of its local port, or the slot holds the bus
+  -- a call on a board is one of the local port, or the slot holds the bus
   abbrev pub HoldsFor : Arbitration → Call → Type 0
   HoldsFor bus (OnBoard x command) = IsLocal command ⊎ (bus.holder ≡ Some (slot_at config board))
   HoldsFor bus (OnBus cmd) = Unit {0}
@@ -174,7 +175,7 @@ module _ (config : Configuration) (lawful : IsLawful config) (board : ℕ) (ther
             (subst (StandsAsReplied bus (slot_at config board)) held stands))
       ]
 
-  -- and its reply is no denial
+  -- the reply to the call is not a denial
   pub replied_granted : (machine : Machine) → IsOrderly machine.bus.object → (line : Line) (replies : List EventReply) (call : Call)
       → IsOwnLine line → StandsAsReplied machine.bus.object (slot_at config board) (line_reported config board line replies)
       → line_next config board line replies ≡ Invokes call → (machine_step machine board call).1 ≢ event_replies.Bus turned.Denied
@@ -183,12 +184,12 @@ module _ (config : Configuration) (lawful : IsLawful config) (board : ℕ) (ther
       (lawful_slot config board lawful there) stands
       (λ cmd same. line_turns config board line replies cmd (lawful_level config board lawful there) (made ∙ ap Invokes same))
 
--- what a call does to the machine, if there is one
+-- the machine after a call, if there is one
 abbrev pub machine_called : Machine → Option (ℕ × Call) → Machine
 machine_called machine None = machine
 machine_called machine (Some one) = (machine_step machine one.0 one.1).0
 
--- a turn does to the machine what its call does
+-- a turn changes the machine as its call does
 by_made : (config : Configuration) (board : ℕ) (line : Line) (rest : List Line) (machine : Machine) (c : ScriptState) (next : LineNext)
     (after : ScriptState → Machine × ScriptState)
     → ((now : ScriptState) → now.replies ≡ [] → (after now).0 ≡ machine_called machine (option_map (λ call. (board, call)) (first_call config board rest [])))

@@ -1,4 +1,4 @@
--- Masters that go by the replies for as long as these are good: each of their replies is good.
+-- If callers follow the replies as long as these are good, each of their replies is good.
 use Rattle.std.proofs.Common.{◌≡◌, ℕ, ◌<◌, true, List, [], ◌∷◌, Option, Some, None, subst, sym, ◌∙◌, refl, cond, eqb, inl, inr}
 use Rattle.std.specs.Prelude.{All}
 use Rattle.std.proofs.lemmas.Bool.{cases_Bool, eqb-true, eqb-false, eq-eqb}
@@ -19,14 +19,14 @@ use Rattle.vme_core.specs.Calls.{OnBus}
 use Rattle.vme_line_task.specs.Tenures.{IsGood}
 use Rattle.vme_run_laws.proofs.Called.{BusCalled, bus_called}
 
--- a slot that stands by one last reply stands by another
+-- a slot that agrees with one last reply agrees with another after a command
 abbrev pub Leads : ℕ → Option ArbReply → Option ArbReply → Type 0
 Leads slot last now = (bus : Arbitration) → StandsAsReplied bus slot last → StandsAsReplied bus slot now
 
 abbrev pub GoodTurn : Entry ArbCmd ArbReply → Type 0
 GoodTurn e = IsGood (OnBus e.cmd) (replies.Bus e.reply)
 
--- each command may be given, and so may those after it if the reply to it is good
+-- each command is allowed, and the later ones are allowed if its reply is good
 abbrev pub GoesWhile : ℕ → Option ArbReply → List (Entry ArbCmd ArbReply) → Type 0
 GoesWhile slot last [] = Unit {0}
 GoesWhile slot last (e ∷ h) = ((now : Option ArbReply) × Leads slot last now × (may_give slot now e.cmd ≡ true))
@@ -47,7 +47,7 @@ goes_own : (slot : ℕ) (last : Option ArbReply) (e : Entry ArbCmd ArbReply) (h 
     → GoesWhile slot last (own e.who (e ∷ h)) → GoesWhile slot last (e ∷ own e.who h)
 goes_own slot last e h goes = let same : eqb e.who e.who ≡ true = eq-eqb e.who e.who refl in rw same at goes
 
--- an entry that legally follows is good, and leaves each where its last reply says
+-- a legal next entry is good, and each caller agrees with its last reply after it
 fit_after : (k : ℕ) (slots : ℕ → ℕ) (bus : Arbitration) (last : ℕ → Option ArbReply) (e : Entry ArbCmd ArbReply)
     (h : List (Entry ArbCmd ArbReply)) → AreMasters k slots → IsOrderly bus → e.who < k → e.reply ≡ (turn_step bus e.cmd).1
     → AreFit k slots bus last (e ∷ h)

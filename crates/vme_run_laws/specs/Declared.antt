@@ -1,4 +1,4 @@
--- A declared mailbox in a report.
+-- Defines a declared mailbox in a report.
 use Rattle.std.specs.Prelude.{ℕ, ◌≡◌, ◌+◌, ◌<◌, List, length, slice_get, Some}
 use Rattle.vme_object.specs.declared.history.Entry.{Entry}
 use Rattle.vme_memory.specs.declared.command.BoardCmd.{BoardCmd}
@@ -15,8 +15,8 @@ use Rattle.vme_threads.specs.declared.report.BoardReport.{BoardReport}
 use Rattle.vme_threads.specs.declared.report.Report.{Report}
 use Rattle.vme_threads.specs.Reports.{IsReportOf}
 
--- a configuration declares a mailbox under a number, from 1 on; its bytes lie so on their board; and this is the history of that
--- board in a report (this project's own)
+-- the mailbox with this number is declared, has these bytes on its board, and `h` is the history of that board in the
+-- report
 pub record IsDeclaredIn (config : Configuration) (report : Report) (is : IsReportOf config report) (box : ℕ) (m : BoardMailbox)
     (h : List (Entry BoardCmd Reply)) : Type 0 where
   pub index : ℕ

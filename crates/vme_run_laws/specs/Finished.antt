@@ -1,9 +1,9 @@
--- Lines that came to their own end.
+-- Defines lines that came to an end.
 use Rattle.std.specs.Prelude.{ℕ, ◌≢◌, List, All}
 use Rattle.vme_shared.specs.declared.reply.LineReply.{LineReply}
 use Rattle.vme_shared.specs.declared.reply.LineReply.TheVariants.{Unfinished}
 use Rattle.vme_threads.specs.Rans.{answers_in}
 
--- none of these lines is unfinished (this project's own)
+-- none of these lines is unfinished
 abbrev pub AreFinished : List (ℕ × LineReply) → Type 0
 AreFinished lines = All (λ answer. answer ≢ Unfinished) (answers_in lines)

@@ -1,9 +1,9 @@
--- Lines that were not denied the bus.
+-- Defines lines that were not denied the bus.
 use Rattle.std.specs.Prelude.{ℕ, List, All}
 use Rattle.vme_shared.specs.declared.reply.LineReply.{LineReply}
 use Rattle.vme_line_task.specs.Tenures.{IsGranted}
 use Rattle.vme_threads.specs.Rans.{answers_in}
 
--- none of these lines is answered that it was denied the bus (this project's own)
+-- none of these lines was denied the bus
 abbrev pub AreGranted : List (ℕ × LineReply) → Type 0
 AreGranted lines = All IsGranted (answers_in lines)

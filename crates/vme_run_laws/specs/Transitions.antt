@@ -1,4 +1,4 @@
--- Turns as a run of moves: what the boards and the arbiter went through, and what each processor did.
+-- Defines turns as a run of transitions of the boards, the arbiter and the processors.
 use Rattle.std.specs.Prelude.{ℕ, ◌≡◌, ◌==◌, List, [], ◌∷◌, ◌++◌, length, map, slice_get, Some}
 use Rattle.std.specs.List.{filter}
 use Rattle.std.specs.Option.{option_to_list}
@@ -13,24 +13,22 @@ use Rattle.vme_line_task.specs.Traces.{ScriptState, IsTracePrefix}
 use Rattle.vme_stepper.specs.Turns.{SystemState, turn, initial_state, state_after}
 use Rattle.vme_run_laws.specs.TurnCalls.{turn_call}
 
--- the calls that turns of slots make, one after another, each with the place of the board whose processor makes it
--- (this project's own)
+-- the calls that turns of these slots make, in order, each with the place of the board whose processor makes it
 abbrev pub calls_from : Configuration → SystemState → List ℕ → List (ℕ × Call)
 calls_from config system [] = []
 calls_from config system (slot ∷ slots) =
     option_to_list (turn_call config system slot) ++ calls_from config (turn config system slot) slots
 
--- the calls of moves, each with who made it (this project's own)
+-- the calls of a run, each with the processor that makes it
 abbrev pub calls_in : List Transition → List (ℕ × Call)
 calls_in run = map (λ m. (m.who, call_of m.event)) run
 
--- the moves of one who (this project's own)
+-- the transitions of processor `who`
 abbrev pub moves_of : ℕ → List Transition → List Transition
 moves_of who run = filter (λ m. m.who == who) run
 
--- turns of these slots are this run of moves. Its calls are theirs. Each board, from a memory of zeros, and the arbiter of the
--- configuration's kind, from a free bus, is where its own part of the run leaves it, one command after another, and has counted
--- that part. And each processor has come so far in its script by its own moves (this project's own)
+-- turns of these slots are this run: its calls are theirs, each object is the replay of its own part and has counted
+-- it, and each processor has followed its script by its own transitions
 pub record AreRun (config : Configuration) (slots : List ℕ) (run : List Transition) : Type 0 where
   pub calls : calls_in run ≡ calls_from config (initial_state config) slots
   pub boards :

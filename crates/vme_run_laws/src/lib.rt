@@ -1,5 +1,6 @@
-//! Laws of the turns that processors take on one backplane: the bus has one holder at most, who
-//! alone moves data over it, and nothing is denied (ANSI/IEEE Std 1014-1987, chapter 3).
+//! Laws of whole runs, by turns of slots and on threads: the bus has at most one holder, only the
+//! holder moves data over it, no request is denied (ANSI/IEEE Std 1014-1987, chapter 3), and each
+//! declared mailbox is a queue.
 #![tactic(auto)]
 
 mod queue_laws;

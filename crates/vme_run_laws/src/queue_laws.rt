@@ -19,10 +19,10 @@ ghost use Rattle.vme_threads.specs.Reports.{IsReportOf};
 ghost use Rattle.vme_engines.specs.RunTexts.{IsRunText};
 ghost use Rattle.vme_run_laws.specs.Declared.{IsDeclaredIn};
 
-/// However the processors' threads ran, each mailbox that a lawful configuration declares is a
-/// queue. The history of its board in a report is proper for it; the words that are taken are the
-/// first of the words that are put, and at most as many more are put as it has slots; and the words
-/// of each processor's own puts and takes, in order, are those that the report's lines tell.
+/// In every report of a lawful configuration, each declared mailbox is a queue. The history of its
+/// board is proper for it. The words taken are a prefix of the words put, and at most as many more
+/// words are put as the mailbox has slots. The words of each processor's own puts and takes, in
+/// order, are those that the report's lines show.
 pub fn declared_mailboxes_are_queues()
     ensures each { (config : Configuration) (report : Report) (is : IsReportOf config report) (k : ℕ) →
         IsLawful config → k < length config.mailboxes →
@@ -46,9 +46,11 @@ pub fn declared_mailboxes_are_queues()
         report.lines.items }
 {}
 
-/// What `run_engine` writes at `Ok` is the text of a report of the configuration that its input is
-/// (`IsRunText`). That configuration is lawful, so each mailbox that its input declares is such a
-/// queue in that report.
+/// What `run_engine` writes with status `Ok` is the text of a report of the configuration in its
+/// input (`IsRunText`). That configuration is lawful. In that report each declared mailbox is a
+/// queue: the history of its board is proper for it, the words taken are a prefix of the words put,
+/// at most as many more words are put as the mailbox has slots, and the words of each processor's
+/// own puts and takes are those that the report's lines show.
 pub fn texts_show_queues()
     ensures lawful { (input text : List ℕ) (status : Status) → (reported : IsRunText input text status) →
         IsLawful reported.config }

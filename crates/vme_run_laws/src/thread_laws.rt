@@ -15,23 +15,22 @@ ghost use Rattle.vme_threads.specs.Reports.{IsReportOf};
 ghost use Rattle.vme_run_laws.specs.Finished.{AreFinished};
 ghost use Rattle.vme_run_laws.specs.Granted.{AreGranted};
 
-/// No line of a report is unfinished: each came to its own end.
+/// No line of a report is unfinished.
 pub fn each_line_comes_to_its_end()
     ensures { (config : Configuration) (report : Report) → IsReportOf config report →
         Each (λ who lines. AreFinished lines.items) report.lines.items }
 {}
 
-/// No line of a report is denied the bus: each slot asks, looks and is done as it was told, so the
-/// arbiter denies nobody.
+/// No line of a report of a lawful configuration is denied the bus.
 pub fn no_line_is_denied()
     ensures { (config : Configuration) (report : Report) → IsLawful config → IsReportOf config report →
         Each (λ who lines. AreGranted lines.items) report.lines.items }
 {}
 
-/// The arbiter, of either kind, denies nobody. In a legal history of it from a free bus, where each
-/// processor's commands name one slot, its own, and its asks a level, both in range, and where each
-/// goes by its last reply, no reply is `Denied`. Nor is one in the history that a report's processors
-/// share.
+/// The arbiter, of either kind, denies no command. Consider a legal history from a free bus in
+/// which each processor's commands name one slot, its own, and follow its last reply, with slots
+/// and levels in range. Then no reply is `Denied`. In the history of the arbiter of a lawful
+/// configuration's report, no reply is `Denied` either.
 pub fn the_arbiter_denies_nobody()
     ensures law { (kind : ArbiterKind) (k : ℕ) (slots : ℕ → ℕ) (h : List (Entry ArbCmd ArbReply)) →
         IsLegal turn_step (opening_bus kind) h → TakeTurns k slots h →

@@ -13,7 +13,7 @@ ghost use Rattle.vme_stepper.specs.Turns.{SystemState, turn, state_after};
 ghost use Rattle.vme_run_laws.specs.TurnCalls.{turn_call};
 ghost use Rattle.vme_run_laws.specs.Transitions.{AreRun};
 
-/// A turn does to the boards and the arbiter what its one call does, and without a call nothing.
+/// A turn changes the boards and the arbiter by its one call, or not at all if it makes no call.
 pub fn a_turn_makes_its_call_alone()
     ensures call { (config : Configuration) (system : SystemState) (slot board : ℕ) (call : Call) →
         turn_call config system slot ≡ Some (board, call) →
@@ -23,9 +23,10 @@ pub fn a_turn_makes_its_call_alone()
         (turn config system slot).machine ≡ system.machine }
 {}
 
-/// Whatever turns were taken, the arbiter's state is orderly, with one holder at most; a call on a
-/// board that comes next is one of its own local port, or its slot holds the bus; and neither a reply
-/// to it nor the answer of a line is a denial.
+/// After any turns of any slots of a lawful configuration, the arbiter's state is orderly, with at
+/// most one holder. If the next turn of a slot makes a call on a board, the call is one of the
+/// processor's local port or the slot holds the bus. The reply to the next call is not a denial,
+/// and no line was denied the bus.
 pub fn commands_are_the_holders()
     ensures orderly { (config : Configuration) (slots : List ℕ) → IsLawful config →
         IsOrderly (state_after config slots).machine.bus.object }
@@ -41,9 +42,9 @@ pub fn commands_are_the_holders()
         All IsGranted c.ended }
 {}
 
-/// Turns are a run of moves, one at most a turn. Each board is where its own part of the run leaves
-/// a byte memory, one command after another, and so is the arbiter; each has counted just its part;
-/// and each processor comes through its script by its own moves.
+/// The turns of a lawful configuration are a run of transitions, with at most one transition for
+/// each turn. Each board and the arbiter are in the state that their own part of the run leads to,
+/// and have counted that part. Each processor has followed its script by its own transitions.
 pub fn turns_are_a_run_of_moves()
     ensures { (config : Configuration) (slots : List ℕ) → IsLawful config →
         (run : List Transition) × AreRun config slots run }

@@ -1,5 +1,5 @@
-//! Two processors that fill and read blocks of each other's boards: each block is longer than what
-//! lies in a room itself.
+//! Two processors that write and read blocks of each other's boards. Each block is longer than the
+//! inline capacity of a `BlockBuffer`.
 use crate::meetings::Meeting;
 use std::process::Abort;
 use std::sync::atomic::Ordering;
@@ -9,7 +9,7 @@ use vme_script::Config;
 use vme_shared::LineReply;
 use vme_threads::run_threads;
 
-/// Each writes 64 words of four bytes to the other's board, and reads them again.
+/// Each processor writes 64 words of four bytes to the other's board, and reads them back.
 static TWO_BOARDS: &str = "arbiter = \"rotating\"
 [[board]]
 slot = 1
@@ -31,7 +31,7 @@ br 0b 00000000 4 64
 \"\"\"
 ";
 
-/// A block was written, and then 64 words were read as they were written.
+/// Checks that the block was written and that 64 words were read as they were written.
 fn expect_block(rt: &impl Abort, lines: &[(u16, LineReply)], word: [u8; 4]) {
     let [(_, filled), (_, read)] = lines else {
         panic!(rt; "two lines")

@@ -1,4 +1,4 @@
-//! One processor is held before or after a line until the other is through.
+//! One processor is held before or after a line until the other has finished its script.
 use crate::meetings::replies_of;
 use crossbeam_utils::Backoff;
 use std::process::Abort;
@@ -7,7 +7,7 @@ use std::test::Fail;
 use vme_script::Config;
 use vme_threads::{Gate, Report, run_threads};
 
-/// Both write to the first board.
+/// Both processors write to the first board.
 static TWO_BOARDS: &str = "[[board]]
 slot = 1
 base = 0
@@ -32,16 +32,17 @@ static REPLIES: &str = "1:1 done
 2:2 done
 ";
 
-/// What the first board's memory begins with.
+/// The first bytes of the first board's memory after a run.
 static BYTES: [u8; 6] = [1, 2, 0, 0, 3, 4];
 
-/// How often the processor that is held looks for the other.
+/// The number of times that the held processor polls for the other.
 const LOOKS: u32 = 10_000_000;
 
-/// The last line of both scripts.
+/// The number of the last line of both scripts.
 const LAST_LINE: u16 = 2;
 
-/// A gate that holds the processor of one slot at one point, until the other is through.
+/// A gate that holds the processor of one slot at one point, until the other has finished its
+/// script.
 #[derive(Drop)]
 struct Hold {
     slot: u16,
@@ -90,7 +91,7 @@ impl Gate for Hold {
     }
 }
 
-/// Both processors made both steps on the first board, and none on the second.
+/// Checks that both processors made two steps on the first board and none on the second.
 fn expect_steps(rt: &impl Abort, report: &Report) {
     let [first, second] = report.boards.as_slice() else {
         panic!(rt; "two boards")

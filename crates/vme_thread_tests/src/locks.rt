@@ -1,4 +1,4 @@
-//! Processors that hold a lock each in turn: while one has it, no other writes.
+//! Processors that take one lock in alternation. While one has the lock, no other writes.
 use crate::sharing_gates::Open;
 use std::alloc::{AllocError, Global};
 use std::process::Abort;
@@ -8,10 +8,10 @@ use vme_script::Config;
 use vme_shared::{LineReply, SharedOutcome};
 use vme_threads::run_threads;
 
-/// Nobody is starved by a rotating arbiter.
+/// The head of the file. A rotating arbiter starves no level.
 static HEAD: &str = "arbiter = \"rotating\"\ntries = 1000000\n";
 
-/// Four processors, with the mark of each.
+/// Four processors, each with its mark.
 static BOARDS: [(&str, u8); 4] = [
     ("slot = 1\nbase = 0x0000\nlevel = 0\n", 1),
     ("slot = 2\nbase = 0x1000\nlevel = 1\n", 2),
@@ -19,10 +19,11 @@ static BOARDS: [(&str, u8); 4] = [
     ("slot = 4\nbase = 0x3000\nlevel = 3\n", 4),
 ];
 
-/// How often each has the lock.
+/// The number of times that each processor takes the lock.
 const TIMES: usize = 50;
 
-/// A file in which each, with the lock, writes its mark to one byte and reads it again.
+/// Returns a file in which each processor, while it has the lock, writes its mark to one byte and
+/// reads it back.
 fn file(alloc: Global) -> Result<String, AllocError> {
     let mut text = String::new(alloc);
     text.push_str(HEAD)?;
@@ -41,7 +42,8 @@ fn file(alloc: Global) -> Result<String, AllocError> {
     Ok(text)
 }
 
-/// Each time the lock was taken, the mark was found as it was written, and the lock given back.
+/// Checks that each lock was taken, that the mark was read as it was written, and that each lock
+/// was released.
 fn expect_marks(rt: &impl Abort, lines: &[(u16, LineReply)], mark: u8) {
     assert_eq!(rt; lines.len(), 4 * TIMES);
     for turn in lines.chunks(4) {

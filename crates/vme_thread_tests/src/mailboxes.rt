@@ -9,7 +9,8 @@ use vme_script::Config;
 use vme_shared::{LineReply, SharedOutcome};
 use vme_threads::{Report, run_threads};
 
-/// A mailbox of four words, in a board that all reach; nobody is starved by a rotating arbiter.
+/// A mailbox of four words, on a board that all processors can address. A rotating arbiter serves
+/// every level.
 static HEAD: &str = "arbiter = \"rotating\"
 tries = 1000000
 [[mailbox]]
@@ -22,7 +23,7 @@ base = 0
 size = 64
 ";
 
-/// The processors that put, with the first word of each, and the one that takes.
+/// The processors that put, each with its first word.
 static PUTTERS: [(&str, u32); 2] = [
     ("slot = 2\nbase = 0x1000\nlevel = 2\n", 0x200),
     ("slot = 3\nbase = 0x2000\nlevel = 1\n", 0x300),
@@ -30,28 +31,31 @@ static PUTTERS: [(&str, u32); 2] = [
 
 static TAKER: &str = "slot = 4\nbase = 0x3000\nlevel = 0\n";
 
-/// How many words each of the two puts, one after another.
+/// The number of words that each putting processor puts in the long run.
 const MANY: u32 = 100;
 
-/// How many each of them puts where the same file runs a thousand times.
+/// The number of words that each putting processor puts in each of a thousand short runs.
 const FEW: u32 = 5;
 
-/// How many threads run that file at the same time, each of which starts those of its processors. A
-/// processor that waits gives way to another, so on a busy machine one run alone would take long.
+/// The number of threads that run the short file at the same time. Each of them starts the threads
+/// of its processors. A waiting processor yields to others, so a single run would be slow on a busy
+/// machine.
 const AT_ONCE: usize = 20;
 
-/// How often each of them does.
+/// The number of runs that each of these threads makes.
 const TIMES: usize = 50;
 
-/// The two counts of the mailbox in the end, of many words and of few.
+/// The put count and the take count of the mailbox after a long run.
 const MANY_COUNTED: [u8; 8] = [0, 0, 0, 0xc8, 0, 0, 0, 0xc8];
 
+/// The put count and the take count of the mailbox after a short run.
 const FEW_COUNTED: [u8; 8] = [0, 0, 0, 0x0a, 0, 0, 0, 0x0a];
 
-/// Where these stand.
+/// The offset of the counts in the mailbox's board.
 const COUNTS_AT: u32 = 4;
 
-/// A file of these processors, where each of the two puts so many words.
+/// Returns a file in which each putting processor puts `words` words, and the third processor takes
+/// all of them.
 fn file(alloc: Global, words: u32) -> Result<String, AllocError> {
     let mut text = String::new(alloc);
     text.push_str(HEAD)?;
@@ -74,7 +78,7 @@ fn file(alloc: Global, words: u32) -> Result<String, AllocError> {
     Ok(text)
 }
 
-/// Each of these lines put its word.
+/// Checks that each line put its word.
 fn expect_put(rt: &impl Abort, lines: &[(u16, LineReply)], words: u32) {
     assert_eq!(rt; lines.len(), words as usize);
     for (_, reply) in lines {
@@ -82,7 +86,8 @@ fn expect_put(rt: &impl Abort, lines: &[(u16, LineReply)], words: u32) {
     }
 }
 
-/// These lines took every word once, and those of one processor in the order in which it put them.
+/// Checks that the lines took every word once, and the words of one processor in the order in which
+/// it put them.
 fn expect_taken(rt: &impl Abort, lines: &[(u16, LineReply)], words: u32) {
     let [(_, first), (_, second)] = PUTTERS;
     let mut firsts = first;
@@ -102,7 +107,7 @@ fn expect_taken(rt: &impl Abort, lines: &[(u16, LineReply)], words: u32) {
     assert_eq!(rt; seconds, second.wrapping_add(words));
 }
 
-/// The mailbox has counted all words twice, as put and as taken.
+/// Checks that the mailbox has counted all words, both as put and as taken.
 fn expect_counts(rt: &impl Abort, report: &Report, counts: &[u8]) {
     let Some(board) = report.boards.first() else {
         panic!(rt; "no board")
@@ -112,7 +117,7 @@ fn expect_counts(rt: &impl Abort, report: &Report, counts: &[u8]) {
     }
 }
 
-/// All of that, where each of the two put so many words.
+/// Checks the lines and the counts of a report in which each putting processor puts `words` words.
 fn expect_queue(rt: &impl Abort, report: &Report, words: u32, counts: &[u8]) {
     let [_, first, second, taker] = report.lines.as_slice() else {
         panic!(rt; "four processors")
@@ -123,7 +128,7 @@ fn expect_queue(rt: &impl Abort, report: &Report, words: u32, counts: &[u8]) {
     expect_counts(rt, report, counts);
 }
 
-/// The configuration in which each of the two puts so many words.
+/// Returns the configuration in which each putting processor puts `words` words.
 fn passing(rt: &impl Abort, alloc: Global, words: u32) -> Result<Config, AllocError> {
     let text = file(alloc, words)?;
     let Ok(config) = Config::read(alloc, text.as_bytes()) else {
@@ -132,7 +137,7 @@ fn passing(rt: &impl Abort, alloc: Global, words: u32) -> Result<Config, AllocEr
     Ok(config)
 }
 
-/// Runs it, and looks at what came of it.
+/// Runs the configuration and checks its report.
 fn pass_on<R: Threads + Wait + Abort + Sync>(
     rt: &R,
     alloc: Global,
@@ -146,7 +151,7 @@ fn pass_on<R: Threads + Wait + Abort + Sync>(
     expect_queue(rt, &report, words, counts);
 }
 
-/// Runs the file of few words over and over.
+/// Runs the short file `TIMES` times.
 fn pass_on_again<R: Threads + Wait + Abort + Sync>(rt: &R, alloc: Global, config: &Config) {
     for _ in 0..TIMES {
         pass_on(rt, alloc, config, FEW, FEW_COUNTED.as_slice());

@@ -7,7 +7,7 @@ use vme_report::reply_line;
 use vme_script::Config;
 use vme_threads::{Gate, Report, run_threads};
 
-/// Each writes a byte that the other waits for.
+/// Each processor writes a byte that the other waits for.
 pub(crate) static TWO_BOARDS: &str = "tries = 1000000
 [[board]]
 slot = 1
@@ -27,17 +27,17 @@ w 09 00000001 01
 \"\"\"
 ";
 
-/// What both are answered.
+/// The replies to both scripts.
 pub(crate) static REPLIES: &str = "1:1 done
 1:2 met
 2:1 met
 2:2 done
 ";
 
-/// How often a processor looks for the other.
+/// The number of times that a processor polls for the other.
 const LOOKS: u32 = 10_000_000;
 
-/// A gate at which each processor waits before its first line until the other is there too.
+/// A gate at which each processor waits before its first line until the other has reached it too.
 #[derive(Drop)]
 pub(crate) struct Meeting {
     first: AtomicBool,
@@ -79,7 +79,7 @@ impl Gate for Meeting {
     fn after(&self, _slot: u16, _line: u16) {}
 }
 
-/// The replies of a report, line by line.
+/// Returns the replies of a report, one line of text for each.
 pub(crate) fn replies_of(alloc: Global, report: &Report) -> Result<Vec<u8>, AllocError> {
     let mut text = Vec::new(alloc);
     for (board, lines) in report.boards.iter().zip(report.lines.iter()) {

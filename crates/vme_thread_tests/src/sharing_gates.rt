@@ -1,7 +1,7 @@
-//! A gate that holds nobody.
+//! The gate of the tests of locks and mailboxes.
 use vme_threads::Gate;
 
-/// A gate that is always open.
+/// A gate that never waits.
 pub(crate) struct Open;
 
 impl Gate for Open {

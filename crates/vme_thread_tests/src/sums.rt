@@ -1,4 +1,4 @@
-//! Processors that add to one word: four of them, and as many as there are slots.
+//! Processors that add to one word: four of them, and one in each of the 21 slots.
 use crate::sum_gates::Open;
 use std::alloc::{AllocError, Global};
 use std::process::Abort;
@@ -10,16 +10,16 @@ use vme_script::Config;
 use vme_shared::LineReply;
 use vme_threads::{Report, run_threads};
 
-/// How often each adds one where few lines do.
+/// The number of times that each processor adds one, with a short script.
 const FEW: u16 = 100;
 
-/// How often each adds one where its script is as long as it may be.
+/// The number of times that each processor adds one, with the longest script.
 const MOST: u16 = 1000;
 
-/// Where the word is in its board.
+/// The offset of the word in its board.
 const OFFSET: u32 = 16;
 
-/// The slot and the base of each board.
+/// The slot and the base address of each board.
 static PLACES: [&str; 21] = [
     "slot = 1\nbase = 0x0000",
     "slot = 2\nbase = 0x1000",
@@ -44,25 +44,26 @@ static PLACES: [&str; 21] = [
     "slot = 21\nbase = 0x14000",
 ];
 
-/// How the boards share the bus: the arbiter's kind, and the levels that the slots ask on in turn.
+/// How the boards share the bus: the arbiter's kind, and the levels that the slots request on, in
+/// rotation.
 struct Bus {
     arbiter: &'static str,
     levels: [&'static str; 4],
 }
 
-/// By priority, with all slots on the greatest level.
+/// A priority arbiter, with all slots on the highest level.
 const BY_PRIORITY: Bus = Bus {
     arbiter: "arbiter = 'priority'\n",
     levels: ["", "", "", ""],
 };
 
-/// In rotation, with the slots spread over the levels.
+/// A rotating arbiter, with the slots spread over all levels.
 const ROTATING: Bus = Bus {
     arbiter: "arbiter = 'rotating'\n",
     levels: ["level = 3\n", "level = 2\n", "level = 1\n", "level = 0\n"],
 };
 
-/// A file of the first `count` boards on a bus, each with so many lines.
+/// Returns a file of the first `count` boards, each with `lines` lines that add.
 fn boards(alloc: Global, bus: &Bus, count: usize, lines: u16) -> Result<String, AllocError> {
     let mut text = String::new(alloc);
     text.push_str(bus.arbiter)?;
@@ -82,7 +83,7 @@ fn boards(alloc: Global, bus: &Bus, count: usize, lines: u16) -> Result<String, 
     Ok(text)
 }
 
-/// A big-endian number.
+/// Returns the value of these bytes, most significant byte first.
 fn number_of(bytes: &[u8]) -> u32 {
     let mut number = 0_u32;
     for byte in bytes {
@@ -91,7 +92,7 @@ fn number_of(bytes: &[u8]) -> u32 {
     number
 }
 
-/// What the lines of a report found, in order of size.
+/// Returns the old values that the lines of a report read, in ascending order.
 fn found(alloc: Global, report: &Report) -> Result<Vec<u32>, AllocError> {
     let mut numbers = Vec::new(alloc);
     for lines in &report.lines {
@@ -105,8 +106,8 @@ fn found(alloc: Global, report: &Report) -> Result<Vec<u32>, AllocError> {
     Ok(numbers)
 }
 
-/// The word's board made a step for each line, as many for each processor, and the others none; the
-/// arbiter made at least two for each line.
+/// Checks that the word's board made one step for each line, as many for each processor, that the
+/// other boards made none, and that the arbiter made at least two for each line.
 fn expect_steps(rt: &impl Abort, report: &Report, sum: u32, lines: u16) {
     let [board, others @ ..] = report.boards.as_slice() else {
         panic!(rt; "no board")
@@ -126,7 +127,7 @@ fn expect_steps(rt: &impl Abort, report: &Report, sum: u32, lines: u16) {
     assert_eq!(rt; report.arbiter_steps, arbiter_steps);
 }
 
-/// The word that the board has in the end.
+/// Checks the bytes of the word after the run.
 fn expect_word(rt: &impl Abort, report: &Report, word: [u8; 4]) {
     let Some(board) = report.boards.first() else {
         panic!(rt; "no board")
@@ -136,7 +137,7 @@ fn expect_word(rt: &impl Abort, report: &Report, word: [u8; 4]) {
     }
 }
 
-/// So many boards that add, so often each, over a bus.
+/// Returns the configuration of `count` boards that each add `lines` times.
 fn adding(
     rt: &impl Abort,
     alloc: Global,
@@ -151,7 +152,8 @@ fn adding(
     Ok(config)
 }
 
-/// Each number below that of the word is found once, and the word is what the board has in the end.
+/// Checks that the lines read each number below the final value once, and that the word has the
+/// final value.
 fn expect_sum(
     rt: &impl Abort,
     alloc: Global,
@@ -170,7 +172,7 @@ fn expect_sum(
     Ok(())
 }
 
-/// So many boards add over a bus, so often each, and come to this word.
+/// Runs `count` boards that each add `lines` times, and checks the report against the final value.
 fn add_up<R: Threads + Wait + Abort + Sync>(
     rt: &R,
     alloc: Global,

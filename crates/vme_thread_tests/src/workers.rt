@@ -1,4 +1,4 @@
-//! Two workers on two threads of the test's own, and what is gathered of them.
+//! Two workers on two threads of the test's own, whose results are gathered.
 ghost use Rattle.std.specs.Prelude.{◌≡◌, ◌+◌, length};
 ghost use Rattle.vme_object.specs.Each.{Each};
 ghost use Rattle.vme_threads.specs.Ports.{IsBuilt, IsWorkerOf};
@@ -15,7 +15,7 @@ use vme_report::RunFault;
 use vme_script::Config;
 use vme_threads::{Ports, Ran, Report, Worker, gather};
 
-/// The last of the workers that are left.
+/// Removes and returns the last worker.
 fn next_worker(rt: &impl Abort, config: &Config, ports: &Ports, workers: &mut Vec<Worker>) -> Worker
     requires { Each (IsWorkerOf config.now ports.now) workers.old.items }
     ensures worker { IsWorkerOf config.now ports.now (length workers.new.items) result }
@@ -28,7 +28,7 @@ fn next_worker(rt: &impl Abort, config: &Config, ports: &Ports, workers: &mut Ve
     }
 }
 
-/// Runs both at the same time.
+/// Runs both workers at the same time.
 fn run_two<R: Threads + Wait + Sync>(
     rt: &R,
     config: &Config,
@@ -61,7 +61,7 @@ fn run_two<R: Threads + Wait + Sync>(
     )
 }
 
-/// Gathers both.
+/// Gathers the results of both workers.
 fn gather_two(
     alloc: Global,
     config: &Config,

@@ -1,4 +1,4 @@
--- Rans are taken one by one, and then boards are closed one by one.
+-- Finished workers are collected one by one, and then boards are closed one by one.
 use Rattle.std.proofs.Common.{◌≡◌, ℕ, ◌<◌, ◌≤◌, List, [], ◌∷◌, ◌++◌, length, map, slice_index_or, set, vec_len, vec_capacity, refl, ap, sym, subst, ◌∙◌, arith}
 use Rattle.std.specs.Global.{Vec}
 use Rattle.std.proofs.lemmas.List.{append-nil, append_assoc, get_or_default, get_or-set_other, length-set, length-append, map-append}
@@ -17,7 +17,7 @@ use Rattle.vme_threads.specs.Columns.{Column, AreColumns, HasOneMore}
 use Rattle.vme_threads.specs.Gathers.{AreSquare, CanClose, IsClosed, CanAllClose, AreClosed}
 use Rattle.vme_threads.proofs.Runs.{nil_of, same_count}
 
--- the first rans are taken, and all they have is sorted
+-- the first workers are collected, and their passes are sorted
 pub record Gathering (all left : List Ran) (columns : List Column) (bus : List (PassView ArbCmd ArbReply)) (lines : List (Vec (ℕ × LineReply))) : Type 0 where
   pub taken : List Ran
   pub split : all ≡ taken ++ left
@@ -29,7 +29,7 @@ pub record Gathering (all left : List Ran) (columns : List Column) (bus : List (
   pub passes : bus ≡ map (λ (r : Ran). r.pass_set.bus) taken
   pub answered : lines ≡ map (λ (r : Ran). r.lines) taken
 
--- none is taken
+-- no worker is collected
 pub gathering_begins :
     (all left : List Ran) (columns : List Column) (bus : List (PassView ArbCmd ArbReply)) (lines : List (Vec (ℕ × LineReply))) → left ≡ all
     → length all ≤ 21 → length columns ≡ 21 → AreColumns columns → length bus ≡ 0 → length lines ≡ 0 → Gathering all left columns bus lines
@@ -43,17 +43,17 @@ gathering_begins all left columns bus lines whole most count capacity no_bus no_
   answered = nil_of lines no_lines;
 }
 
--- how many are taken
+-- fewer workers are collected than there are
 pub taken_fewer : (all taken : List Ran) (r : Ran) (left : List Ran) → all ≡ taken ++ r ∷ left → length taken < length all
 taken_fewer all taken r left split = let whole = ap length split ∙ length-append taken (r ∷ left) in omega arith
 
--- the next one has as many passes as there are rans
+-- the next worker has as many passes as there are workers
 pub square_here : (all taken : List Ran) (r : Ran) (left : List Ran) → all ≡ taken ++ r ∷ left → AreSquare all → length r.pass_set.boards.items ≡ length all
 square_here all taken r left split square =
     let here : slice_index_or all (length taken) r ≡ r = ap (λ rs. slice_index_or rs (length taken) r) split ∙ get_or-append_seam taken r left r in
     ap (λ (q : Ran). length q.pass_set.boards.items) (sym here) ∙ square (length taken) r (taken_fewer all taken r left split)
 
--- each column has room for one more
+-- each column has capacity for one more pass
 pub column_has_space :
     (all left : List Ran) (columns : List Column) (bus : List (PassView ArbCmd ArbReply)) (lines : List (Vec (ℕ × LineReply))) (r : Ran)
     (rest : List Ran) → Gathering all left columns bus lines → left ≡ r ∷ rest → length all ≤ 21 → (x : ℕ) (c : Column) → x < length all
@@ -65,7 +65,7 @@ column_has_space all left columns bus lines r rest g is most x c x< =
     let size = ap length (g.dealt x d c x<) ∙ same_count (λ (r : Ran). slice_index_or r.pass_set.boards.items x d) g.taken in
     omega (arith, fewer, size, g.capacity x c x<, column.ok.0)
 
--- one more is taken
+-- one more worker is collected
 pub gathering_more :
     (all left : List Ran) (columns more : List Column) (bus bus_more : List (PassView ArbCmd ArbReply)) (lines lines_more : List (Vec (ℕ × LineReply)))
     (r : Ran) (rest : List Ran) → Gathering all left columns bus lines → left ≡ r ∷ rest → AreSquare all → length more ≡ length columns
@@ -89,14 +89,14 @@ gathering_more all left columns more bus bus_more lines lines_more r rest g is s
       answered = lines_is ∙ ap (λ ls. ls ++ r.lines ∷ []) g.answered ∙ sym (map-append (λ (q : Ran). q.lines) g.taken (r ∷ []));
     }
 
--- all are taken
+-- all workers are collected
 pub all_taken :
     (all left : List Ran) (columns : List Column) (bus : List (PassView ArbCmd ArbReply)) (lines : List (Vec (ℕ × LineReply)))
     (g : Gathering all left columns bus lines) → length left ≡ 0 → g.taken ≡ all
 all_taken all left columns bus lines g none =
     sym (g.split ∙ ap (λ rs. g.taken ++ rs) (nil_of left none) ∙ append-nil g.taken)
 
--- the first boards are closed, and the columns of all others are as they came
+-- the first boards are closed, and the columns of the others are unchanged
 pub record Closing (all left : List BoardPort) (old now : List Column) (ends : List BoardReport) : Type 0 where
   pub taken : List BoardPort
   pub split : all ≡ taken ++ left
@@ -104,7 +104,7 @@ pub record Closing (all left : List BoardPort) (old now : List Column) (ends : L
   pub closed : AreClosed taken old ends
   pub later : (x : ℕ) (c d : Column) → length taken ≤ x → x < length old → slice_index_or now x c ≡ slice_index_or old x d
 
--- none is closed
+-- no board is closed
 pub closing_begins : (all : List BoardPort) (old : List Column) (ends : List BoardReport) → length ends ≡ 0 → Closing all all old old ends
 closing_begins all old ends none = record {
   taken = [];
@@ -114,7 +114,7 @@ closing_begins all old ends none = record {
   later = λ x c d x≥ x<. get_or_default old x c d x<;
 }
 
--- the next board is at the place behind those that are closed
+-- the next board follows those that are closed
 pub board_here :
     (all taken : List BoardPort) (o : BoardPort) (left : List BoardPort) → all ≡ taken ++ o ∷ left
     → (slice_index_or all (length taken) o ≡ o) × (length taken < length all)
@@ -122,7 +122,7 @@ board_here all taken o left split =
     let whole = ap length split ∙ length-append taken (o ∷ left) in
     (ap (λ os. slice_index_or os (length taken) o) split ∙ get_or-append_seam taken o left o, omega arith)
 
--- its column can be closed with it
+-- the next board can be closed with its column
 pub can_close_here :
     (all left : List BoardPort) (old now : List Column) (ends : List BoardReport) (o : BoardPort) (rest : List BoardPort) (column : Column) (n : ℕ)
     (g : Closing all left old now ends) → left ≡ o ∷ rest → length all ≤ length old → n ≡ length g.taken
@@ -135,7 +135,7 @@ can_close_here all left old now ends o rest column n g is within at column_is ca
     subst (λ (p : BoardPort). CanClose p column.items) here.0
     (subst (λ (c : Column). CanClose (slice_index_or all (length g.taken) o) c.items) (sym its) (can (length g.taken) o column here.1))
 
--- one more is closed
+-- one more board is closed
 pub closing_more :
     (all left : List BoardPort) (old now : List Column) (ends : List BoardReport) (o : BoardPort) (rest : List BoardPort) (e : BoardReport)
     (column empty : Column) (n : ℕ) (g : Closing all left old now ends) → left ≡ o ∷ rest → length all ≤ length old → n ≡ length g.taken
@@ -157,7 +157,7 @@ closing_more all left old now ends o rest e column empty n g is within at column
           get_or-set_other now n x empty c (omega (arith, more, x≥, at)) ∙ g.later x c d (omega (arith, more, x≥)) x<;
     }
 
--- all are closed
+-- all boards are closed
 pub all_closed :
     (all left : List BoardPort) (old now : List Column) (ends : List BoardReport) → Closing all left old now ends → length left ≡ 0
     → AreClosed all old ends

@@ -1,11 +1,11 @@
--- Things go to holders by number, from the last one on.
+-- Things go to holders by index, from the last one on.
 use Rattle.std.proofs.Common.{◌≡◌, ℕ, ◌+◌, ◌<◌, ◌≤◌, List, [], ◌∷◌, ◌++◌, length, slice_index_or, set, refl, ap, sym, ◌∙◌, arith, inl, inr}
 use Rattle.std.proofs.lemmas.List.{append-nil, append_assoc, get_or_default, get_or_append_left, get_or-set_same, get_or-set_other, length-set, length-append}
 use Rattle.std.proofs.lemmas.Bool.{cases_eq}
 use Rattle.std.proofs.Math.Seq.{get_or-append_seam}
 
 module _ {P W : Type 0} (Got : P → W → W → Type 0) where
-  -- the first are left, and the holders of all others have theirs
+  -- the first things are left, and the holders of all others have theirs
   pub record Dealing (all left : List P) (before now : List W) : Type 0 where
     pub count : length now ≡ length before
     pub within : length all ≤ length before
@@ -15,7 +15,7 @@ module _ {P W : Type 0} (Got : P → W → W → Type 0) where
     pub later :
         (k : ℕ) (d : P) (w v : W) → length left ≤ k → k < length all → Got (slice_index_or all k d) (slice_index_or before k w) (slice_index_or now k v)
 
-  -- all are left
+  -- all things are left
   pub deals_begin : (all : List P) (before : List W) → length all ≤ length before → Dealing all all before before
   deals_begin all before less = record {
     count = refl;
@@ -26,11 +26,11 @@ module _ {P W : Type 0} (Got : P → W → W → Type 0) where
     later = λ k d w v k≥ k<. absurd (omega arith);
   }
 
-  -- how many are left
+  -- the number of things that are left
   pub deals_left : (all left : List P) (before now : List W) → Dealing all left before now → length left ≤ length all
   deals_left all left before now deals = let whole = ap length deals.first ∙ length-append left deals.rest in omega arith
 
-  -- the last that is left goes to the holder of its number
+  -- the last thing goes to the holder of its index
   pub deals_one :
       (all left : List P) (p : P) (before now : List W) (x v : W) → Dealing all (left ++ p ∷ []) before now
       → Got p (slice_index_or now (length left) x) v → Dealing all left before (set now (length left) v)
@@ -64,7 +64,7 @@ module _ {P W : Type 0} (Got : P → W → W → Type 0) where
             ];
       }
 
-  -- none is left
+  -- no thing is left
   pub deals_end :
       (all left : List P) (before now : List W) → Dealing all left before now → length left ≡ 0 → (k : ℕ) (d : P) (w v : W) → k < length all
       → Got (slice_index_or all k d) (slice_index_or before k w) (slice_index_or now k v)

@@ -37,13 +37,13 @@ pub record IsAtWork (config : Configuration) (place : ℕ) (before now : PassSet
   pub begun : line_to_do task ≢ NotStarted
   pub below : IsLineBelow (length config.boards) task
 
--- there is a line at each place of a script
+-- each place of a script has a line
 pub line_there : {A : Type 0} (xs : List A) (k : ℕ) → k < length xs → (x : A) × (slice_get xs k ≡ Some x)
 line_there [] k k< = absurd (omega arith)
 line_there (x ∷ xs) zero k< = (x, refl)
 line_there (x ∷ xs) (suc k) k< = line_there xs k (omega arith)
 
--- before the first event
+-- the state before the first event
 pub at_start :
     (config : Configuration) (place : ℕ) (d : PassSet) (fresh task : LineTask) → place < length (lines_at config d.who)
     → ((line : Line) → slice_get (lines_at config d.who) place ≡ Some line → fresh ≡ line_started config d.who line)
@@ -62,12 +62,12 @@ at_start config place d fresh task place< started advanced begun below =
       below = below;
     }
 
--- what it does next is what the table says
+-- the next event is that of the table
 next_is : (config : Configuration) (place : ℕ) (d e : PassSet) (task : LineTask) (at : IsAtWork config place d e task)
     → line_to_do task ≡ line_next config d.who at.line at.replies
 next_is config place d e task at = ap line_to_do at.is ∙ by_the_replies config d.who at.line at.replies
 
--- one event more
+-- the state after one more event
 pub at_more :
     (config : Configuration) (place : ℕ) (d e f : PassSet) (call : Call) (reply : EventReply) (task new : LineTask)
     → IsAtWork config place d e task → Some call ≡ call_in (line_to_do task) → AddsCall call reply e f
@@ -88,7 +88,7 @@ at_more config place d e f call reply task new at asks next advanced begun below
       below = below;
     }
 
--- the answer
+-- the reply of the line
 pub at_end :
     (config : Configuration) (place : ℕ) (d e : PassSet) (task : LineTask) (answer : LineReply) → IsAtWork config place d e task
     → Some answer ≡ answer_in (line_to_do task) → AddsLine config place answer d e
@@ -106,14 +106,14 @@ at_end config place d e task answer at is = record {
   };
 }
 
--- a line that makes a call has a event_ref of it
+-- a line that makes a call has an `EventRef` of that call
 pub has_event_ref : (next : LineNext) (event_ref : Option EventRef) → MakesCall next → option_map call_asked event_ref ≡ call_in next → IsSome event_ref
 has_event_ref NotStarted event_ref makes is = absurd makes
 has_event_ref (Invokes call) None makes is = absurd cc
 has_event_ref (Invokes call) (Some event_ref) makes is = refl
 has_event_ref (Returns answer) event_ref makes is = absurd makes
 
--- a board that is called is there
+-- what the table does next makes the call that it contains
 in_makes : (next : LineNext) (call : Call) → Some call ≡ call_in next → next ≡ Invokes call
 in_makes NotStarted call is = absurd cc
 in_makes (Invokes other) call is = cc

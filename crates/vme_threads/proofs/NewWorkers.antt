@@ -1,4 +1,4 @@
--- Workers, as they get passes.
+-- The workers while they get their passes.
 use Rattle.std.proofs.Common.{◌≡◌, ℕ, ◌<◌, ◌≤◌, List, [], ◌∷◌, ◌++◌, length, slice_index_or, vec_len, vec_capacity, ap, sym, subst, ◌∙◌, arith}
 use Rattle.vme_object.specs.Each.{Each, AllAt}
 use Rattle.vme_object.proofs.lemmas.Eachs.{AllAt-push}
@@ -19,7 +19,7 @@ use Rattle.vme_threads.specs.declared.ports.BoardPort.{BoardPort}
 use Rattle.vme_threads.specs.Ports.{IsPortOf, IsNewWorker, AreNewWorkers}
 use Rattle.vme_threads.specs.Dealings.{Gets, HaveSpace}
 
--- a worker with the arbiter's pass alone
+-- the workers with the arbiter's pass alone
 pub new_workers_first :
     (config : Configuration) (arbiter : Port Arbitration ArbCmd ArbReply) (i : ℕ) (w : Worker) (p : PassView ArbCmd ArbReply)
     → IsUnused (port_id arbiter) i p → w.pass_set.who ≡ p.who → w.pass_set.bus ≡ p → w.pass_set.boards.items ≡ []
@@ -69,14 +69,14 @@ new_workers_more config opened o arbiter passes ws vs new_worker unused count go
       (got.each k d d (omega (arith, got.count)) none);
 }
 
--- before all boards have their ports each worker has room for one more pass
+-- until all boards have their ports, each worker has capacity for one more pass
 pub new_workers_have_space :
     (config : Configuration) (opened : List BoardPort) (arbiter : Port Arbitration ArbCmd ArbReply) (ws : List Worker)
     → AreNewWorkers config opened arbiter ws → length opened < length config.boards → HaveSpace ws
 new_workers_have_space config opened arbiter ws new_worker less k d k< =
     let it = new_worker.each k d k< in omega (arith, it.boards.count, it.capacity)
 
--- a port of each board, by place
+-- the port of each board, by index
 pub all_ports :
     (n : ℕ) (boards : List BoardConfig) (opened : List BoardPort) → length opened ≡ length boards
     → Each (λ x o. (d : BoardConfig) → IsPortOf n (slice_index_or boards x d) o) opened → AllAt (λ x own o. IsPortOf n own o) boards opened

@@ -1,4 +1,4 @@
--- Lines that are attempted once: what their job does next is what they do.
+-- Lines that are attempted once follow their job.
 use Rattle.std.proofs.Common.{◌≡◌, ◌≢◌, ℕ, ◌<◌, false, List, [], ◌∷◌, ◌++◌, length, map, Some, None, Result, Ok, Err, refl, ap, sym, subst, ◌∙◌}
 use Rattle.std.specs.Prelude.{slice_get, IfOk}
 use Rattle.vme_memory.specs.declared.command.BoardCmd.{BoardCmd}
@@ -40,27 +40,27 @@ use Rattle.vme_threads.specs.Rans.{IsAnsweredBy, AddsLine}
 use Rattle.vme_threads.proofs.PassSets.{made_none, made_more}
 use Rattle.vme_threads.proofs.Runs.{script_is}
 
--- a transfer or a command is attempted once
+-- the table ends a transfer or a command after one attempt
 attempted_once : (next : Next) → next_wants_retry (moves_next next) ≡ false
 attempted_once tasks.NotStarted = refl
 attempted_once (tasks.Invokes call) = refl
 attempted_once (tasks.Returns outcome) = refl
 
--- so the attempt at work was given all that the line was given
+-- the first attempt has all replies to the line
 all_given : (job : Job) (tries : ℕ) (given : Given) → (attempts_of (Transferring job) tries given).given ≡ given
 all_given job tries [] = refl
 all_given job tries (last ∷ before) =
     rw (attempted_once (next_of job (last ∷ (attempts_of (Transferring job) tries before).given)))
     (ap (λ (g : Given). last ∷ g) (all_given job tries before))
 
--- and the line does next what its job does
+-- the line does next what its job does
 pub once_next : (config : Configuration) (board : ℕ) (line : Line) (job : Job) (replies : List EventReply)
     → line_attempt config board line ≡ Ok (Transferring job) → line_next config board line replies ≡ moves_next (next_of job (given_of replies))
 unfolding next_given
 once_next config board line job replies is =
     rw is (ap (λ (g : Given). moves_next (next_of job g)) (all_given job config.tries (given_of replies)))
 
--- a command to the local port was its line's one call
+-- a command to the local port gets its reply by one call
 pub local_answered :
     (cmd : BoardCmd) (reply : Reply) (outcome : Outcome) (d e : PassSet) → AddsTransitions (move d.who (asked.Board d.who cmd) (event_replies.Board reply) ∷ []) d e
     → ((board : ℕ) → next_of (local_job board cmd) (Some (event_replies.Board reply) ∷ None ∷ []) ≡ tasks.Returns outcome)
@@ -85,7 +85,7 @@ line_found config who place script line there at =
     subst (λ (all : List ScriptLine). slice_get (map (λ (one : ScriptLine). one.line) all) place ≡ Some line)
     (sym (script_is config who who script refl there)) at
 
--- where it was answered, so was the line at that place
+-- the reply to a line is the reply at its place
 pub answered_there :
     (config : Configuration) (place : ℕ) (line : Line) (d e : PassSet) (result : Result LineReply Spent)
     → slice_get (lines_at config d.who) place ≡ Some line → IfOk result (λ answer. IsAnsweredBy config line answer d e)
@@ -93,19 +93,19 @@ pub answered_there :
 answered_there config place line d e (Ok answer) there is = record { line = line; there = there; is = is }
 answered_there config place line d e (Err spent) there is = tt
 
--- a call of a task is that of its line
+-- a call of the task is the call of its line
 called : (next : Next) (call : Call) → Some call ≡ tasks_seen.call_in next → moves_next next ≡ Invokes call
 called tasks.NotStarted call is = absurd cc
 called (tasks.Invokes other) call is = cc
 called (tasks.Returns outcome) call is = absurd cc
 
--- so is its end
+-- the end of the task is the end of its line
 ended : (next : Next) (outcome : Outcome) → Some outcome ≡ tasks_seen.outcome_in next → moves_next next ≡ Returns (Transfer outcome)
 ended tasks.NotStarted outcome is = absurd cc
 ended (tasks.Invokes call) outcome is = absurd cc
 ended (tasks.Returns other) outcome is = cc
 
--- a refused request is answered so, without a call
+-- a refused request ends without a call
 refused_by : (map : List Entry) (slot level : ℕ) (t : Result LawfulRequest CycleFault) (fault : CycleFault)
     → Err fault ≡ bus_task map slot level t → t ≡ Err fault
 refused_by map slot level (Ok t) fault is = absurd cc
@@ -143,7 +143,7 @@ started_by : (map : List Entry) (slot level : ℕ) (t : Result LawfulRequest Cyc
 started_by map slot level (Ok t) task is = record { one = t; lawful = refl; fresh = cc }
 started_by map slot level (Err fault) task is = absurd cc
 
--- before the first event
+-- the state before the first event
 pub moving_start :
     (config : Configuration) (map : List Entry) (slot level : ℕ) (request : Request) (d : PassSet) (fresh task : TaskView)
     → map ≡ entries_of config.boards → slot_at config d.who ≡ slot → level_at config d.who ≡ level
@@ -167,14 +167,14 @@ moving_start config map slot level request d fresh task maps slots levels is adv
       begun = begun;
     }
 
--- what it does next is what the table says
+-- the next event is that of the table
 moving_next : (config : Configuration) (request : Request) (d e : PassSet) (task : TaskView) (at : IsMoving config request d e task)
     → moves_next (to_do task) ≡ line_next config d.who (lines.Bus request) at.replies
 moving_next config request d e task at =
     ap (λ (t : TaskView). moves_next (to_do t)) at.is ∙ ap moves_next (by_the_table at.job (given_of at.replies))
     ∙ sym (once_next config d.who (lines.Bus request) at.job at.replies at.attempted)
 
--- the boards that it calls are there
+-- the boards that the transfer calls exist
 pub moving_below :
     (config : Configuration) (request : Request) (d e : PassSet) (task : TaskView) (n : ℕ) (call : Call) → IsMoving config request d e task
     → d.who < length config.boards → length config.boards ≡ n → Some call ≡ tasks_seen.call_in (to_do task) → IsCallBelow n call
@@ -182,7 +182,7 @@ moving_below config request d e task n call at there same asks =
     subst (λ (m : ℕ). IsCallBelow m call) same
     (next_below config d.who (lines.Bus request) (given_of at.replies) call there (sym (moving_next config request d e task at) ∙ called (to_do task) call asks))
 
--- one event more
+-- the state after one more event
 pub moving_more :
     (config : Configuration) (request : Request) (d e f : PassSet) (call : Call) (reply : EventReply) (task new : TaskView)
     → IsMoving config request d e task → Some call ≡ tasks_seen.call_in (to_do task) → AddsCall call reply e f → new ≡ advance task (Some reply)
@@ -202,7 +202,7 @@ moving_more config request d e f call reply task new at asks next advanced begun
       begun = begun;
     }
 
--- the answer
+-- the reply of the line
 pub moving_end :
     (config : Configuration) (request : Request) (d e : PassSet) (task : TaskView) (outcome : Outcome) → IsMoving config request d e task
     → Some outcome ≡ tasks_seen.outcome_in (to_do task) → IsAnsweredBy config (lines.Bus request) (Transfer outcome) d e

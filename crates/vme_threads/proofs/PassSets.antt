@@ -27,7 +27,7 @@ use Rattle.vme_script.specs.Configurations.{Configuration}
 use Rattle.vme_threads.specs.Ports.{IsWorkerOf}
 use Rattle.vme_threads.specs.PassSets.{MatchesPorts, AddsTransitions}
 
--- nothing was made
+-- the empty run
 pub made_none : (d : PassSet) → AddsTransitions [] d d
 made_none d = record {
   who = refl;
@@ -37,7 +37,7 @@ made_none d = record {
   bus = makes_none d.bus;
 }
 
--- one run was made, and then another
+-- two runs, one after the other
 pub made_more : (a b : List Transition) (d e f : PassSet) → AddsTransitions a d e → AddsTransitions b e f → AddsTransitions (a ++ b) d f
 made_more a b d e f first then = record {
   who = then.who ∙ first.who;
@@ -56,7 +56,7 @@ made_more a b d e f first then = record {
       (makes_more (bus_part a) (bus_part b) d.bus e.bus f.bus first.bus then.bus);
 }
 
--- the passes are still those of the ports
+-- after a run, the passes are still those of the ports
 pub fits_after : (ports : Ports) (run : List Transition) (d e : PassSet) → AddsTransitions run d e → MatchesPorts ports d → MatchesPorts ports e
 fits_after ports run d e made fits = record {
   boards = record {
@@ -82,16 +82,16 @@ fits_first config ports i w is = record {
   bus_who = is.bus.who ∙ sym is.who;
 }
 
--- the part of a board's own event
+-- the part of a board in its own event
 own_part : (board who : ℕ) (cmd : BoardCmd) (reply : Reply) → board_part board (move who (asked.Board board cmd) (replies.Board reply) ∷ []) ≡ entry who cmd reply ∷ []
 own_part board who cmd reply = rw (eq-eqb board board refl) refl
 
--- the part of another board in it
+-- the part of another board in an event
 other_part :
     (x board who : ℕ) (cmd : BoardCmd) (reply : Reply) → x ≢ board → board_part x (move who (asked.Board board cmd) (replies.Board reply) ∷ []) ≡ []
 other_part x board who cmd reply off = rw (ne_eqb board x (λ same. off (sym same))) refl
 
--- an event of a board was made
+-- an event of a board is a run of one transition
 pub made_on_board :
     (d : PassSet) (board : ℕ) (cmd : BoardCmd) (reply : Reply) (event : Event) (p q : PassView BoardCmd Reply) (e : PassSet) → event ≡ asked.Board board cmd
     → board < length d.boards.items → p ≡ slice_index_or d.boards.items board p → p.who ≡ d.who → Makes (entry p.who cmd reply ∷ []) p q
@@ -116,7 +116,7 @@ made_on_board d board cmd reply event p q e is there at whose makes who boards b
       bus = subst (λ b. Makes [] d.bus b) (sym bus) (makes_none d.bus);
     })
 
--- so is a command to it, where its port takes it
+-- a call of a board's port is a run of one transition
 pub made_by_board :
     (ports : Ports) (d : PassSet) (board : ℕ) (cmd : BoardCmd) (result : Result Reply Spent) (o : BoardPort) (p q : PassView BoardCmd Reply) (e : PassSet)
     → MatchesPorts ports d → board < length d.boards.items → p ≡ slice_index_or d.boards.items board p

@@ -4,7 +4,7 @@ use Rattle.std.specs.List.{slice_get}
 use Rattle.std.proofs.lemmas.Option.{none-some, same_Some}
 use Rattle.vme_object.specs.Each.{Each}
 
--- what is told of an element
+-- an element of a mapped list is the image of an element
 pub reported_at : {A B : Type 0} (f : A → B) (xs : List A) (i : ℕ) (y : B) (d : A) → slice_get (map f xs) i ≡ Some y → f (slice_index_or xs i d) ≡ y
 reported_at f [] i y d reported = absurd (none-some y reported)
 reported_at f (x ∷ xs) zero y d reported = same_Some (f x) y reported
@@ -18,7 +18,7 @@ first_of_each P n xs x rest is each =
     let was = subst (Each (λ i. P (n + i))) is each in
     subst (λ i. P i x) same (was 0 x (omega arith))
 
--- all others
+-- all other elements
 pub rest_of_each :
     {A : Type 0} (P : ℕ → A → Type 0) (n m : ℕ) (xs : List A) (x : A) (rest : List A) → xs ≡ x ∷ rest → m ≡ n + 1
     → Each (λ i. P (n + i)) xs → Each (λ i. P (m + i)) rest
@@ -27,7 +27,7 @@ rest_of_each P n m xs x rest is more each k d k< =
     let was = subst (Each (λ i. P (n + i))) is each in
     subst (λ i. P i (slice_index_or rest k d)) same (was (suc k) d (omega arith))
 
--- all of them, numbered from another place on
+-- all elements, numbered from another place on
 pub begin_each :
     {A : Type 0} (P : ℕ → A → Type 0) (n : ℕ) (xs ys : List A) → n ≡ 0 → ys ≡ xs → Each P xs → Each (λ i. P (n + i)) ys
 begin_each P n xs ys none same each k d k< =

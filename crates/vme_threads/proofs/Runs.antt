@@ -24,31 +24,31 @@ use Rattle.vme_threads.specs.Rans.{AddsLine, numbers_in, answers_in, HasRun}
 use Rattle.vme_threads.proofs.PassSets.{made_none, made_more, fits_first, fits_after}
 use Rattle.vme_threads.proofs.Lines.{line_there}
 
--- the first lines of the script were answered by a run
+-- the first lines of the script got their replies by a run
 pub record IsUnderWay (config : Configuration) (count : ℕ) (before now : PassSet) (lines : List (ℕ × LineReply)) : Type 0 where
   pub run : List Transition
   pub made : AddsTransitions run before now
   pub trace : IsTrace config before.who (take count (lines_at config before.who)) run (answers_in lines)
   pub numbers : numbers_in lines ≡ take count (map (λ (one : ScriptLine). one.number) (script_at config before.who))
 
--- the empty list
+-- a list of length 0 is empty
 pub nil_of : {A : Type 0} (xs : List A) → length xs ≡ 0 → xs ≡ []
 nil_of [] none = refl
 nil_of (x ∷ xs) none = absurd (omega arith)
 
--- the script of a who
+-- the script of the processor at a place
 pub script_is :
     (config : Configuration) (who other : ℕ) (script : List ScriptLine) → other ≡ who → slice_get config.scripts other ≡ Some script
     → script_at config who ≡ script
 script_is config who other script same there =
     get_or_from_slice_get config.scripts who script [] (subst (λ n. slice_get config.scripts n ≡ Some script) same there)
 
--- no line was answered
+-- no line has its reply yet
 pub way_start : (config : Configuration) (d : PassSet) (lines : List (ℕ × LineReply)) → lines ≡ [] → IsUnderWay config 0 d d lines
 way_start config d lines none =
     subst (IsUnderWay config 0 d d) (sym none) (record { run = []; made = made_none d; trace = refl; numbers = refl })
 
--- one element more
+-- the prefix with one more element
 take_suc : {A : Type 0} (xs : List A) (k : ℕ) (x : A) → slice_get xs k ≡ Some x → take (suc k) xs ≡ take k xs ++ x ∷ []
 take_suc [] k x at = absurd (none-some x at)
 take_suc (y ∷ ys) zero x at = ap (λ z. z ∷ []) (same_Some y x at)
@@ -57,7 +57,7 @@ take_suc (y ∷ ys) (suc k) x at = ap (λ zs. y ∷ zs) (take_suc ys k x at)
 take_one : {A : Type 0} (xs : List A) (k : ℕ) (x : A) → slice_get xs k ≡ Some x → take (k + 1) xs ≡ take k xs ++ x ∷ []
 take_one xs k x at = let same : k + 1 ≡ suc k = omega arith in ap (λ n. take n xs) same ∙ take_suc xs k x at
 
--- one line more
+-- one more line has its reply
 pub way_more :
     (config : Configuration) (count : ℕ) (d e f : PassSet) (lines : List (ℕ × LineReply)) (number : ℕ) (answer : LineReply)
     → IsUnderWay config count d e lines → AddsLine config count answer e f
@@ -82,40 +82,40 @@ way_more config count d e f lines number answer way answered numbered =
           ∙ sym (take_one (map (λ (one : ScriptLine). one.number) (script_at config d.who)) count number numbered);
     }
 
--- the whole list
+-- the prefix that is the whole list
 take_whole : {A : Type 0} (xs : List A) (k : ℕ) → length xs ≤ k → take k xs ≡ xs
 take_whole [] zero all = refl
 take_whole [] (suc k) all = refl
 take_whole (x ∷ xs) zero all = absurd (omega arith)
 take_whole (x ∷ xs) (suc k) all = ap (λ ys. x ∷ ys) (take_whole xs k (omega arith))
 
--- as many lines as the script has
+-- a mapped list keeps its length
 pub same_count : {A B : Type 0} (f : A → B) (xs : List A) → length (map f xs) ≡ length xs
 same_count f [] = refl
 same_count f (x ∷ xs) = ap suc (same_count f xs)
 
--- there is a room for each line that is left
+-- there is a buffer for each line that is left
 pub some_buffer :
     (config : Configuration) (who n : ℕ) (buffers : List BufferView) → n < length (lines_at config who) → buffers ≡ drop n (buffers_of (script_at config who))
     → 0 < length buffers
 some_buffer config who n buffers n< are =
     buffers_left (script_at config who) n buffers (omega (arith, n<, same_count (λ (one : ScriptLine). one.line) (script_at config who))) are
 
--- the first of them is the next line's
+-- the first buffer is the next line's
 pub buffer_taken :
     (config : Configuration) (who n : ℕ) (buffers rest : List BufferView) (buffer : BufferView) → n < length (lines_at config who)
     → buffers ≡ drop n (buffers_of (script_at config who)) → buffers ≡ buffer ∷ rest → IsNextBuffer (script_at config who) n buffer rest
 buffer_taken config who n buffers rest buffer n< are is =
     next_buffer (script_at config who) n buffers rest buffer (omega (arith, n<, same_count (λ (one : ScriptLine). one.line) (script_at config who))) are is
 
--- and has room for what that line reads
+-- the next line's buffer is large enough for what the line reads
 pub buffer_serves :
     (config : Configuration) (who other n : ℕ) (buffer : BufferView) (rest : List BufferView) → IsNextBuffer (script_at config who) n buffer rest → other ≡ who
     → (line : Line) → slice_get (lines_at config other) n ≡ Some line → line_read_len line ≤ buffer.capacity
 buffer_serves config who other n buffer rest next same line there =
     next.enough line (subst (λ w. slice_get (lines_at config w) n ≡ Some line) same there)
 
--- all lines were answered
+-- all lines have their replies
 pub way_end :
     (config : Configuration) (ports : Ports) (count : ℕ) (w : Worker) (ran : Ran) → IsWorkerOf config ports w.pass_set.who w
     → IsUnderWay config count w.pass_set ran.pass_set ran.lines.items → length (lines_at config w.pass_set.who) ≤ count

@@ -1,4 +1,4 @@
--- What a processor does with its passes.
+-- Defines what a processor does with its passes.
 use Rattle.std.specs.Prelude.{◌≡◌, List, [], ◌∷◌, All}
 use Rattle.vme_object.specs.Each.{AllAt}
 use Rattle.vme_memory.specs.declared.command.BoardCmd.{BoardCmd}
@@ -14,7 +14,7 @@ use Rattle.vme_threads.specs.declared.pass_set.PassSet.{PassSet}
 use Rattle.vme_threads.specs.declared.ports.BoardPort.{BoardPort}
 use Rattle.vme_threads.specs.declared.ports.Ports.{Ports}
 
--- the passes of a pass_set are its who's passes of these ports (this project's own)
+-- the passes of a processor are its own passes of these ports
 pub record MatchesPorts (ports : Ports) (d : PassSet) : Type 0 where
   pub boards :
       AllAt (λ x (o : BoardPort) (p : PassView BoardCmd Reply). (p.port ≡ port_id o.port) × (p.who ≡ d.who)) ports.boards.items
@@ -22,8 +22,8 @@ pub record MatchesPorts (ports : Ports) (d : PassSet) : Type 0 where
   pub bus : d.bus.port ≡ port_id ports.bus
   pub bus_who : d.bus.who ≡ d.who
 
--- the who of a pass_set made a run: each reply is of its event's kind, and each pass made the run's part on its object
--- (this project's own)
+-- a processor made a run of transitions: each reply is of its event's kind, and each pass made the run's part on its
+-- object
 pub record AddsTransitions (run : List Transition) (before after : PassSet) : Type 0 where
   pub who : after.who ≡ before.who
   pub whose : All (λ m. m.who ≡ before.who) run
@@ -31,7 +31,7 @@ pub record AddsTransitions (run : List Transition) (before after : PassSet) : Ty
   pub boards : AllAt (λ x p q. Makes (board_part x run) p q) before.boards.items after.boards.items
   pub bus : Makes (bus_part run) before.bus after.bus
 
--- the who of a pass_set made an event of a call, and it got this reply (this project's own)
+-- a processor made one event of a call, and got this reply
 pub record AddsCall (call : Call) (reply : EventReply) (before after : PassSet) : Type 0 where
   pub event : Event
   pub calls : call_of event ≡ call

@@ -1,4 +1,5 @@
--- What is built of a configuration: a port of each board and of the arbiter, and the workers that have their passes.
+-- Defines what is built from a configuration: a port of each board and of the arbiter, and the workers with their
+-- passes.
 use Rattle.std.specs.Prelude.{ℕ, ◌≡◌, ◌≤◌, List, length, vec_len, vec_capacity}
 use Rattle.vme_object.specs.Each.{Each, AllAt}
 use Rattle.vme_memory.specs.declared.command.BoardCmd.{BoardCmd}
@@ -19,8 +20,8 @@ use Rattle.vme_threads.specs.declared.ports.BoardPort.{BoardPort}
 use Rattle.vme_threads.specs.declared.ports.Ports.{Ports}
 use Rattle.vme_threads.specs.RunBuffers.{AreEmptyBuffers}
 
--- a port of a board, in its slot, which was opened with zero memory for k passes; there is room for k counts
--- (this project's own)
+-- the port of a board: it is in the board's slot, was opened with zero memory for k passes, and has a buffer for k
+-- counts
 pub record IsPortOf (k : ℕ) (own : BoardConfig) (o : BoardPort) : Type 0 where
   pub slot : o.slot ≡ own.slot
   pub memory : opening o.port ≡ opening_memory own
@@ -28,8 +29,8 @@ pub record IsPortOf (k : ℕ) (own : BoardConfig) (o : BoardPort) : Type 0 where
   pub made : vec_len o.made ≡ 0
   pub made_capacity : k ≤ vec_capacity o.made
 
--- a worker has the i-th pass of each of these ports of boards and of the arbiter's, none of which has made a call; it has room
--- for passes of all boards, for what each line of the i-th script reads, and for the replies to it (this project's own)
+-- worker i before its script: it has the unused i-th pass of each port, and buffers for all boards' passes, for what
+-- its lines read and for its replies
 pub record IsNewWorker (config : Configuration) (opened : List BoardPort) (arbiter : Port Arbitration ArbCmd ArbReply) (i : ℕ)
     (w : Worker) : Type 0 where
   pub who : w.pass_set.who ≡ i
@@ -41,14 +42,14 @@ pub record IsNewWorker (config : Configuration) (opened : List BoardPort) (arbit
   pub lines : vec_len w.lines ≡ 0
   pub lines_capacity : length (script_at config i) ≤ vec_capacity w.lines
 
--- such a worker for each board (this project's own)
+-- there is one such worker for each board, in order
 pub record AreNewWorkers (config : Configuration) (opened : List BoardPort) (arbiter : Port Arbitration ArbCmd ArbReply)
     (workers : List Worker) : Type 0 where
   pub count : length workers ≡ length config.boards
   pub each : Each (IsNewWorker config opened arbiter) workers
 
--- a port of each board, each opened with zero memory for as many passes as there are boards, and so one of the arbiter of
--- its kind, of a free bus; and room for what is told of their run (this project's own)
+-- the ports of a lawful configuration: one of each board with zero memory, and one of its arbiter of a free bus, each
+-- with a pass for each board; and empty buffers for the report
 pub record IsBuilt (config : Configuration) (ports : Ports) : Type 0 where
   pub lawful : IsLawful config
   pub boards : AllAt (λ x own o. IsPortOf (length config.boards) own o) config.boards ports.boards.items
@@ -56,10 +57,10 @@ pub record IsBuilt (config : Configuration) (ports : Ports) : Type 0 where
   pub passes : passes_of ports.bus ≡ length config.boards
   pub report_buffers : AreEmptyBuffers (length config.boards) ports.report_buffers
 
--- the i-th worker of these ports, whose passes have made no call (this project's own)
+-- worker i of these ports, before its script
 abbrev pub IsWorkerOf : Configuration → Ports → ℕ → Worker → Type 0
 IsWorkerOf config ports i worker = IsNewWorker config ports.boards.items ports.bus i worker
 
--- a worker for each board, in order (this project's own)
+-- the workers of these ports, one for each board, in order
 abbrev pub AreWorkers : Configuration → Ports → List Worker → Type 0
 AreWorkers config ports workers = AreNewWorkers config ports.boards.items ports.bus workers

@@ -1,4 +1,4 @@
--- What a processor has done that went through its script.
+-- Defines what a processor has done when it has run its script.
 use Rattle.std.specs.Prelude.{ℕ, ◌≡◌, List, map, All, Some, Result, Ok, Err, slice_get}
 use Rattle.vme_object.specs.Each.{Each}
 use Rattle.vme_memory.specs.declared.command.BoardCmd.{BoardCmd}
@@ -17,28 +17,28 @@ use Rattle.vme_threads.specs.declared.worker.Ran.{Ran}
 use Rattle.vme_threads.specs.declared.ports.Ports.{Ports}
 use Rattle.vme_threads.specs.PassSets.{MatchesPorts, AddsTransitions}
 
--- a line of the script was answered by the moves of a run (this project's own)
+-- a line got its reply by a run of transitions, which is the trace of that line
 pub record IsAnsweredBy (config : Configuration) (line : Line) (answer : LineReply) (before after : PassSet) : Type 0 where
   pub run : List Transition
   pub made : AddsTransitions run before after
   pub trace : LineTrace config before.who line run answer
 
--- so was the line at a place (this project's own)
+-- the line at a place of the script got its reply
 pub record AddsLine (config : Configuration) (place : ℕ) (answer : LineReply) (before after : PassSet) : Type 0 where
   pub line : Line
   pub there : slice_get (lines_at config before.who) place ≡ Some line
   pub is : IsAnsweredBy config line answer before after
 
--- the numbers of lines that were answered (this project's own)
+-- the numbers of the lines
 abbrev pub numbers_in : List (ℕ × LineReply) → List ℕ
 numbers_in lines = map (λ line. line.0) lines
 
--- what they were answered (this project's own)
+-- the replies to the lines
 abbrev pub answers_in : List (ℕ × LineReply) → List LineReply
 answers_in lines = map (λ line. line.1) lines
 
--- a who went through its whole script by this run: the run is the script's trace and gives these lines, and its part on each
--- object is what the who's pass of that object made (this project's own)
+-- processor `who` ran its whole script by this run: the run is the script's trace and gives these replies, and its part
+-- on each object is what the pass made
 pub record IsRanOf (config : Configuration) (ports : Ports) (who : ℕ) (run : List Transition) (ran : Ran) : Type 0 where
   pub same : ran.pass_set.who ≡ who
   pub fits : MatchesPorts ports ran.pass_set
@@ -49,11 +49,11 @@ pub record IsRanOf (config : Configuration) (ports : Ports) (who : ℕ) (run : L
   pub boards : Each (λ x (p : PassView BoardCmd Reply). p.mine ≡ board_part x run) ran.pass_set.boards.items
   pub bus : ran.pass_set.bus.mine ≡ bus_part run
 
--- there is such a run (this project's own)
+-- there is a run by which processor `who` ran its whole script
 abbrev pub HasRun : Configuration → Ports → ℕ → Ran → Type 0
 HasRun config ports who ran = (run : List Transition) × IsRanOf config ports who run ran
 
--- how a worker ends: it went through its script, or an object is spent (this project's own)
+-- how a worker ends: it has run its whole script, or it returns `Spent`
 abbrev pub IsEndOfRun : Configuration → Ports → ℕ → Result Ran RunFault → Type 0
 IsEndOfRun config ports who (Ok ran) = HasRun config ports who ran
 IsEndOfRun config ports who (Err fault) = fault ≡ Spent

@@ -1,4 +1,4 @@
--- What a run of processors on threads of their own came to.
+-- Defines what the report of a run of processors on threads guarantees.
 use Rattle.std.specs.Prelude.{ℕ, ◌≡◌, ◌<◌, List, length, map, All}
 use Rattle.vme_object.specs.declared.history.Entry.{Entry}
 use Rattle.vme_object.specs.History.{replay, IsLegal, own}
@@ -18,8 +18,8 @@ use Rattle.vme_threads.specs.Ports.{IsBuilt}
 use Rattle.vme_threads.specs.Rans.{IsRanOf, numbers_in, answers_in}
 
 module _ {S C R : Type 0} (step : S → C → S × R) (start : S) where
-  -- one history that is legal from the opening state leads to an object; it has as many entries as there are steps; of each who
-  -- it has just the who's part, as many entries as the who made (this project's own)
+  -- one legal history leads to the object: it has `steps` entries, and of each caller exactly its part, with as many
+  -- entries as the caller made
   pub record HasHistory (parts : List (List (Entry C R))) (object : S) (steps : ℕ) (made : List ℕ) : Type 0 where
     pub history : List (Entry C R)
     pub legal : IsLegal step start history
@@ -29,15 +29,14 @@ module _ {S C R : Type 0} (step : S → C → S × R) (start : S) where
     pub owns : Each (λ who part. own who history ≡ part) parts
     pub makes : AllAt (λ who part n. n ≡ length part) parts made
 
--- what a board came to, where these runs were made: its own parts in them are shared out from one history of it, from zero
--- memory (this project's own)
+-- the entry of board x: its own parts of these runs share one legal history from zero memory, whose replay is its
+-- memory
 pub record IsEndOf (runs : List (List Transition)) (x : ℕ) (own : BoardConfig) (end : BoardReport) : Type 0 where
   pub slot : end.slot ≡ own.slot
   pub history : HasHistory board_step (opening_memory own) (map (board_part x) runs) end.memory end.steps end.made.items
 
--- a run of each processor is its script's trace and gives its lines, under their numbers; and each board, and the arbiter of
--- the configuration's kind, of a bus that is free at first, has one history, which is shared out among the runs
--- (this project's own)
+-- a report: each processor's run is the trace of its script and gives its replies; each board, and the arbiter of a
+-- free bus, has one legal history that the runs share
 pub record IsReportOf (config : Configuration) (report : Report) : Type 0 where
   pub runs : List (List Transition)
   pub workers : length runs ≡ length config.boards
@@ -53,12 +52,12 @@ pub record IsReportOf (config : Configuration) (report : Report) : Type 0 where
       × HasHistory turn_step (opening_bus config.arbiter) (map bus_part runs) object report.arbiter_steps
       report.arbiter_made.items
 
--- each of these ran is that of the worker of its number, by a run (this project's own)
+-- these are the finished workers, each by a run of its own
 pub record HaveRun (config : Configuration) (ports : Ports) (rans : List Ran) : Type 0 where
   pub runs : List (List Transition)
   pub each : AllAt (IsRanOf config ports) runs rans
 
--- a ran of each worker of the ports that were built of a configuration (this project's own)
+-- these are the finished workers of all boards, of ports that were built from this configuration
 pub record CanGather (config : Configuration) (ports : Ports) (rans : List Ran) : Type 0 where
   pub built : IsBuilt config ports
   pub count : length rans ≡ length config.boards

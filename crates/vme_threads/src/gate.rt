@@ -1,8 +1,9 @@
-/// What is called round each line of a script, by the thread of its processor.
+/// Hooks that the thread of each processor calls before and after each line of its script.
 pub trait Gate {
-    /// Called before the line of this number of the script of the processor in a slot.
+    /// Called before the processor in `slot` starts the line with number `line` of its script.
     fn before(&self, slot: u16, line: u16);
 
-    /// Called after it.
+    /// Called after the processor in `slot` has its reply to the line with number `line` of its
+    /// script.
     fn after(&self, slot: u16, line: u16);
 }

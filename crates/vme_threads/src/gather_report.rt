@@ -1,4 +1,4 @@
-//! The end of a run: the passes of all workers come together, port by port.
+//! The end of a run: the passes of all workers come together, and each port is closed.
 ghost use Rattle.std.specs.Prelude.{ℕ, ◌≡◌, ◌<◌, ◌≤◌, length, map, slice_index_or, vec_len, vec_capacity};
 ghost use Rattle.vme_object.specs.Each.{Each};
 ghost use Rattle.vme_memory.specs.declared.command.BoardCmd.{BoardCmd};
@@ -24,7 +24,7 @@ use vme_object::Object;
 use vme_port::{Pass, Port};
 use vme_shared::LineReply;
 
-/// Puts each pass into the column of its number.
+/// Moves each pass to the column of its index.
 fn sort_passes(columns: &mut Vec<Vec<Pass<ByteMemory>>>, mut passes: Vec<Pass<ByteMemory>>)
     requires within { vec_len passes ≤ vec_len columns.old }
     requires capacity { (x : ℕ) (c : Column) → x < vec_len passes →
@@ -40,7 +40,7 @@ fn sort_passes(columns: &mut Vec<Vec<Pass<ByteMemory>>>, mut passes: Vec<Pass<By
     passes.destroy_empty();
 }
 
-/// Closes a port with all its passes, and notes how many entries each of them made.
+/// Closes a port with all its passes, and appends the number of entries of each pass to `made`.
 fn settle_port<O: Object>(port: Port<O>, passes: Vec<Pass<O>>, made: &mut Vec<u64>) -> (O, u64)
     requires count { length passes.items ≡ passes_of port }
     requires each { Each (λ i p. (p.port ≡ port_id port) × (p.who ≡ i)) passes.items }
@@ -58,7 +58,7 @@ fn settle_port<O: Object>(port: Port<O>, passes: Vec<Pass<O>>, made: &mut Vec<u6
     }
 }
 
-/// Closes the port of a board.
+/// Closes the port of a board with all its passes.
 fn close_board(board: BoardPort, passes: Vec<Pass<ByteMemory>>) -> BoardReport
     requires { CanClose board passes.items }
     ensures { IsClosed board passes.items result }
@@ -77,8 +77,8 @@ fn close_board(board: BoardPort, passes: Vec<Pass<ByteMemory>>) -> BoardReport
     }
 }
 
-/// Sorts by ports what all rans have: the passes of each board's port go to its column. Their lines
-/// are kept in order.
+/// Sorts the passes of all finished workers by port: the passes of each board's port go to its
+/// column. The replies of the workers stay in order.
 fn collect_passes(
     rans: Vec<Ran>,
     columns: &mut Vec<Vec<Pass<ByteMemory>>>,
@@ -115,7 +115,7 @@ fn collect_passes(
     }
 }
 
-/// Closes the ports of all boards, each with its column.
+/// Closes the ports of all boards, each with the passes of its column.
 fn settle_boards(
     alloc: Global,
     boards: Vec<BoardPort>,
@@ -134,8 +134,8 @@ fn settle_boards(
     }
 }
 
-/// Ends a run: closes all ports, each with the passes of all workers, in the order of these. It takes
-/// no memory.
+/// Ends a run: closes every port with the passes of all workers, and returns the report. `rans` are
+/// the finished workers of these ports, in order. It allocates nothing.
 pub fn gather(ports: Ports, rans: Vec<Ran>) -> Report
     requires { (config : Configuration) × CanGather config ports rans.items }
     ensures { (config : Configuration) → CanGather config ports rans.items → IsReportOf config result }

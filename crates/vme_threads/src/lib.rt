@@ -1,6 +1,6 @@
 //! The processors of a backplane (ANSI/IEEE Std 1014-1987, chapters 2 and 3) as threads: a port of
-//! each board and one of the arbiter of their bus, and a worker for each processor, which reaches
-//! all of them through passes of its own.
+//! each board, a port of the arbiter of their bus, and a worker for each processor, which calls all
+//! of them through passes of its own.
 #![tactic(auto)]
 
 mod gate;

@@ -1,5 +1,5 @@
-//! Lines of a script, each by the shortest way: a command to the local port is one call, a transfer
-//! is a task alone, and what may be attempted again is a line's task.
+//! Lines of a script. Each line runs in the simplest way: a command to the local port is one call,
+//! a transfer is one task, and a line that may be attempted again is a line's task.
 ghost use Rattle.std.specs.Prelude.{◌≡◌, ◌≢◌, ◌<◌, ◌≤◌, ◌∷◌, [], ℕ, false, length, slice_get, Some, None, IfOk};
 ghost use Rattle.vme_core.specs.Calls.{Call};
 ghost use Rattle.vme_core.specs.declared.event.EventReply.TheVariants as replies;
@@ -33,12 +33,13 @@ use vme_script::Config;
 use vme_shared::LineReply;
 
 impl PassSet {
-    /// Makes the events of a line of the script, by its place among those that ask for something,
-    /// until it is answered; what it reads over the bus goes into the room. It waits before it looks
-    /// again whether it has the bus, and snoozes before each further attempt at the line.
+    /// Runs one line of the script until it has its reply. `line` is the index among the lines that
+    /// are neither blank nor comments; `buffer` receives what the line reads over the bus. While
+    /// another processor has the bus, it waits between two requests to the arbiter, and it pauses
+    /// before each further attempt at the line.
     ///
     /// # Errors
-    /// `Spent` where an object has made as many steps as can be counted, here or for another worker.
+    /// `Spent` if an object has made 2^64 - 1 steps, or if the workers of these ports have to stop.
     pub(crate) fn run_line<R: Wait>(
         &mut self,
         rt: &R,
@@ -63,10 +64,10 @@ impl PassSet {
         }
     }
 
-    /// A command to the local port of the own board: one call.
+    /// Runs a command to the local port of the processor's own board, as one call.
     ///
     /// # Errors
-    /// `Spent` as for a line.
+    /// `Spent` if the board has made 2^64 - 1 steps, or if the workers of these ports have to stop.
     fn run_local<R: Wait>(
         &mut self,
         rt: &R,
@@ -86,10 +87,10 @@ impl PassSet {
         Ok(LineReply::Transfer(local_outcome(cmd, reply)))
     }
 
-    /// A request over the bus: its task alone.
+    /// Runs a request over the bus, as one task.
     ///
     /// # Errors
-    /// `Spent` as for a line.
+    /// `Spent` if an object has made 2^64 - 1 steps, or if the workers of these ports have to stop.
     fn run_transfer<R: Wait>(
         &mut self,
         rt: &R,
@@ -126,7 +127,7 @@ impl PassSet {
     }
 }
 
-/// Whether a command is a cycle of the bus.
+/// Whether a command is a bus cycle.
 fn is_cycle(cmd: &BoardCmd) -> bool
     ensures own { result ≡ false → IsOwnLine (lines.Local cmd.now) }
     ensures other { IsOwnLine (lines.Local cmd.now) → result ≡ false }
@@ -134,7 +135,7 @@ fn is_cycle(cmd: &BoardCmd) -> bool
     matches!(cmd, BoardCmd::Cycle { .. })
 }
 
-/// What comes of a command to a local port, by its reply.
+/// Returns the outcome of a command to a local port, by the board's reply.
 fn local_outcome(cmd: &BoardCmd, reply: Reply) -> Outcome
     requires { IsOwnLine (lines.Local cmd.now) }
     ensures { (board : ℕ) →

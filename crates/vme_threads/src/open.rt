@@ -1,4 +1,4 @@
-//! How the ports are opened.
+//! The opening of the ports.
 ghost use Rattle.std.specs.Prelude.{◌≡◌, ◌<◌, ◌≤◌, [], length, slice_index_or, vec_len, IfOk};
 ghost use Rattle.vme_object.specs.Each.{Each, AllAt};
 ghost use Rattle.vme_arbiter.specs.Arbitration.{opening_bus};
@@ -17,7 +17,7 @@ use vme_object::Object;
 use vme_port::{Pass, Port, PortFault};
 use vme_script::Config;
 
-/// A port of an object and its passes, for a number of passes that ports have.
+/// Opens a port of an object for `count` passes, which is 1 to 21.
 fn open_port<O: Object>(
     alloc: Global,
     object: O,
@@ -39,7 +39,7 @@ where
     }
 }
 
-/// A port of the arbiter of a free bus, with its passes.
+/// Opens a port of the arbiter of a free bus, with a pass for each processor.
 pub(crate) fn open_bus(
     alloc: Global,
     config: &Config,
@@ -52,7 +52,7 @@ pub(crate) fn open_bus(
     open_port(alloc, config.arbiter(), config.boards())
 }
 
-/// A port of board `i`, with its passes.
+/// Opens a port of board `i`, with a pass for each processor.
 fn open_board(
     alloc: Global,
     config: &Config,
@@ -74,7 +74,7 @@ fn open_board(
     Ok((BoardPort { slot, port, made }, passes))
 }
 
-/// A port of each board, whose passes go to the workers.
+/// Opens a port of each board, and gives each worker its pass of each port.
 pub(crate) fn open_boards(
     alloc: Global,
     config: &Config,

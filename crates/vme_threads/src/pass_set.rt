@@ -25,8 +25,8 @@ use vme_port::{Pass, Spent};
 use vme_script::Config;
 use vme_shared::LineReply;
 
-/// The passes of one processor: one of the port of each board, by its place, and one of the
-/// arbiter's; and how long it has waited for the bus.
+/// The passes of one processor: one pass of the port of each board, by the board's index, and one
+/// pass of the arbiter's port. It also holds how long the processor has waited for the bus.
 #[derive(Drop)]
 pub struct PassSet {
     pub(crate) who: usize,
@@ -36,11 +36,11 @@ pub struct PassSet {
 }
 
 impl PassSet {
-    /// Gives a command to the arbiter. Who is told to wait does so for a round, and who gives the bus
-    /// back tells those who wait.
+    /// Performs one command on the arbiter. After a reply `Waiting` it waits for one round, and
+    /// after a release it may wake a waiting processor.
     ///
     /// # Errors
-    /// `Spent` where the arbiter has made as many steps as can be counted.
+    /// `Spent` if the arbiter has made 2^64 - 1 steps.
     #[inline(always)]
     pub(crate) fn call_bus<R: Wait>(
         &mut self,
@@ -65,10 +65,10 @@ impl PassSet {
         Ok(reply)
     }
 
-    /// Gives a board, by its place, what asks for the step of a command.
+    /// Performs one operation on the board at index `board`.
     ///
     /// # Errors
-    /// `Spent` where the board has made as many steps as can be counted.
+    /// `Spent` if the board has made 2^64 - 1 steps.
     #[inline(always)]
     pub(crate) fn call_board<R: Wait, A: Operation<ByteMemory>>(
         &mut self,
@@ -87,11 +87,12 @@ impl PassSet {
         port.call_operation(rt, pass, cmd)
     }
 
-    /// Makes what a event_ref asks, by a call of the port that it is for. A command is given where it lies,
-    /// and a datum of a transfer without its lines.
+    /// Makes the event that `event_ref` stands for, by one call of the port that it names. It
+    /// passes commands by reference, and the datum of a transfer as its cycle, without a copy of
+    /// its data lanes.
     ///
     /// # Errors
-    /// `Spent` where its object has made as many steps as can be counted.
+    /// `Spent` if the object has made 2^64 - 1 steps.
     #[inline(always)]
     pub(crate) fn call_event<R: Wait>(
         &mut self,
@@ -119,11 +120,11 @@ impl PassSet {
         }
     }
 
-    /// Makes the events of a line of the script, by its place among those that ask for something,
-    /// attempt by attempt, until it is answered.
+    /// Runs one line of the script attempt by attempt, until it has its reply. `line` is the index
+    /// among the lines that are neither blank nor comments. It pauses before each further attempt.
     ///
     /// # Errors
-    /// `Spent` where an object has made as many steps as can be counted, here or for another worker.
+    /// `Spent` if an object has made 2^64 - 1 steps, or if the workers of these ports have to stop.
     pub(crate) fn run_attempts<R: Wait>(
         &mut self,
         rt: &R,

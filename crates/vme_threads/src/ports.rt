@@ -14,7 +14,7 @@ use vme_memory::ByteMemory;
 use vme_port::Port;
 use vme_script::{Config, OutOfMemory};
 
-/// The port of a board.
+/// The port of a board, with the slot of the board and a buffer for the report.
 #[derive(Drop)]
 pub struct BoardPort {
     pub(crate) slot: u16,
@@ -22,8 +22,8 @@ pub struct BoardPort {
     pub(crate) made: Vec<u64>,
 }
 
-/// The ports of the boards of one backplane and of the arbiter of their bus, which threads share,
-/// and all room that the end of their run needs.
+/// The ports of the boards of one backplane and of the arbiter of their bus, which threads share.
+/// They include all buffers that the end of the run needs.
 #[derive(Drop)]
 pub struct Ports {
     pub(crate) boards: Vec<BoardPort>,
@@ -36,9 +36,12 @@ pub struct Ports {
 }
 
 impl Ports {
-    /// Opens a port of each board that is configured, with its memory all zero, and one of an arbiter
-    /// of a free bus, each with a pass for each processor; and the workers that have these passes. It
-    /// takes all memory that the workers and the end of their run need.
+    /// Opens a port of each configured board, with zero memory, and a port of the arbiter of a free
+    /// bus, each with a pass for each processor. Returns the ports and the workers that have these
+    /// passes. It allocates everything that the workers and the end of their run need.
+    ///
+    /// # Errors
+    /// `OutOfMemory` if an allocation fails.
     pub fn build(alloc: Global, config: &Config) -> Result<(Ports, Vec<Worker>), OutOfMemory>
         ensures built { IfOk result (λ r. IsBuilt config.now r.0) }
         ensures workers { IfOk result (λ r. AreWorkers config.now r.0 r.1.items) }

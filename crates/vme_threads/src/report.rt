@@ -1,29 +1,29 @@
 use vme_memory::ByteMemory;
 use vme_shared::LineReply;
 
-/// What a board came to in a run.
+/// The report's entry for one board.
 #[derive(Drop)]
 pub struct BoardReport {
     /// The slot of the board.
     pub slot: u16,
-    /// Its memory after the run.
+    /// The memory of the board after the run.
     pub memory: ByteMemory,
-    /// How many steps it took.
+    /// The number of steps that the board made.
     pub steps: u64,
-    /// How many of them each processor made, in order of slots.
+    /// How many of these steps each processor made, in order of slots.
     pub made: Vec<u64>,
 }
 
-/// What a run of all processors came to.
+/// The report of a run of all processors.
 #[derive(Drop)]
 pub struct Report {
-    /// For each processor, in order of slots, the number of each line of its script that asks for
-    /// something, with what it was answered.
+    /// For each processor, in order of slots: the number of each line of its script that is neither
+    /// blank nor a comment, with the reply to that line.
     pub lines: Vec<Vec<(u16, LineReply)>>,
-    /// The boards, in order of slots.
+    /// The entries of the boards, in order of slots.
     pub boards: Vec<BoardReport>,
-    /// How many steps the arbiter took.
+    /// The number of steps that the arbiter made.
     pub arbiter_steps: u64,
-    /// How many of them each processor made, in order of slots.
+    /// How many of these steps each processor made, in order of slots.
     pub arbiter_made: Vec<u64>,
 }

@@ -1,4 +1,4 @@
-//! BlockBuffer that is taken before a run and used at its end.
+//! Buffers that are allocated before a run and used at its end.
 ghost use Rattle.std.specs.Prelude.{◌≡◌, ◌≤◌, IfOk, vec_len, vec_capacity};
 ghost use Rattle.vme_threads.specs.Columns.{AreColumns};
 
@@ -12,7 +12,7 @@ use vme_shared::LineReply;
 /// The greatest number of boards: a backplane has 21 slots.
 const MOST_BOARDS: usize = 21;
 
-/// BlockBuffer for all passes of all ports.
+/// Buffers for all passes of all ports.
 #[derive(Drop)]
 pub struct PassBuffers {
     pub(crate) columns: Vec<Vec<Pass<ByteMemory>>>,
@@ -34,7 +34,7 @@ impl PassBuffers {
     }
 }
 
-/// BlockBuffer for what a report tells.
+/// Buffers for the report.
 #[derive(Drop)]
 pub struct ReportBuffers {
     pub(crate) lines: Vec<Vec<(u16, LineReply)>>,
@@ -45,7 +45,10 @@ pub struct ReportBuffers {
 impl ReportBuffers {
     ghost use Rattle.vme_threads.specs.RunBuffers.{AreEmptyBuffers};
 
-    /// BlockBuffer for the report of so many boards.
+    /// Allocates the buffers for the report of `count` boards.
+    ///
+    /// # Errors
+    /// `AllocError` if an allocation fails.
     pub(crate) fn new(alloc: Global, count: usize) -> Result<ReportBuffers, AllocError>
         ensures { IfOk result (AreEmptyBuffers count) }
     {

@@ -1,4 +1,4 @@
-//! One thread for each processor.
+//! Scripts on threads, one thread for each processor.
 ghost use Rattle.std.specs.Prelude.{◌≡◌, ◌≢◌, ◌≤◌, length, vec_len, vec_capacity, IfOk, IfErr};
 ghost use Rattle.vme_object.specs.Each.{Each};
 ghost use Rattle.vme_report.specs.declared.fault.RunFault.TheVariants.{Write};
@@ -20,12 +20,12 @@ use std::thread::{Promise, PromisedHandle, Scope, Threads};
 use vme_report::RunFault;
 use vme_script::Config;
 
-/// What a thread promises: the run of one worker.
+/// The promise of a thread: the run of one worker.
 #[derive(Clone, Copy)]
 pub struct WorkerPromise<'a> {
     /// The configuration.
     pub config: &'a Config,
-    /// The ports that it calls.
+    /// The ports that the worker calls.
     pub ports: &'a Ports,
     /// The number of the worker.
     pub who: usize,
@@ -35,15 +35,16 @@ impl<'a> Promise<Result<Ran, RunFault>> for WorkerPromise<'a> {
     ghost kept_by = { λ p r. IsEndOfRun p.config.now p.ports.now p.who r };
 }
 
-/// A thread that goes through a script.
+/// A thread that runs one worker.
 type Child<'a> = PromisedHandle<Result<Ran, RunFault>, WorkerPromise<'a>>;
 
-/// Goes through all scripts of a configuration, each processor on a thread of its own, and calls the
-/// gate before and after each line. All memory is taken before the first thread starts.
+/// Runs all scripts of a configuration, each processor on a thread of its own, and calls the gate
+/// before and after each line. It allocates everything that the run needs before the first thread
+/// starts.
 ///
 /// # Errors
-/// `Memory` where there is none, `Thread` where a thread can't be started, and `Spent` where an object
-/// has made as many steps as can be counted. All threads that were started have ended then.
+/// `Memory` if an allocation fails, `Thread` if a thread can't be started, and `Spent` if an object
+/// has made 2^64 - 1 steps. All started threads have ended by then.
 pub fn run_threads<R: Threads + Wait + Sync, G: Gate + Sync>(
     rt: &R,
     alloc: Global,
@@ -95,7 +96,7 @@ fn run_all<R: Threads + Wait + Sync, G: Gate + Sync>(
     )
 }
 
-/// Starts a thread for each worker. Where one can't be started, those that run are told to stop.
+/// Starts a thread for each worker. If one can't be started, the running threads are asked to stop.
 fn start_all<'s, E, R: Threads + Wait + Sync, G: Gate + Sync>(
     scope: &'s Scope<'s, E>,
     rt: &'s R,
@@ -129,7 +130,7 @@ fn start_all<'s, E, R: Threads + Wait + Sync, G: Gate + Sync>(
     Ok(())
 }
 
-/// Waits for each thread, and takes in what it went through.
+/// Joins each thread and collects its finished worker.
 fn join_all<'s, R: Threads>(
     rt: &R,
     config: &'s Config,

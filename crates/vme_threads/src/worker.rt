@@ -15,8 +15,8 @@ use vme_report::RunFault;
 use vme_script::{Config, Script};
 use vme_shared::LineReply;
 
-/// A processor that has not begun its script: its passes, a room for what each line reads, and room
-/// for the replies.
+/// A processor before its script: its passes, a buffer for what each line reads, and a buffer for
+/// the replies.
 #[derive(Drop)]
 pub struct Worker {
     pub(crate) pass_set: PassSet,
@@ -24,8 +24,8 @@ pub struct Worker {
     pub(crate) lines: Vec<(u16, LineReply)>,
 }
 
-/// A processor that went through its script: its passes, and the number of each line that asks for
-/// something with what it was answered.
+/// A processor after its script: its passes, and the number of each line with the reply to that
+/// line.
 #[derive(Drop)]
 pub struct Ran {
     pub(crate) pass_set: PassSet,
@@ -36,8 +36,8 @@ impl Worker {
     ghost use Rattle.vme_threads.specs.Ports.{IsBuilt, IsWorkerOf};
     ghost use Rattle.vme_threads.specs.Rans.{IsEndOfRun};
 
-    /// A worker with the arbiter's pass of its number, and with room for the passes of so many boards,
-    /// for what each line of a script reads and for the replies to its lines.
+    /// Returns a worker with the arbiter's pass of its number. It allocates the buffers for the
+    /// passes of `boards` boards, for what each line of the script reads, and for the replies.
     pub(crate) fn new(
         alloc: Global,
         boards: usize,
@@ -68,12 +68,13 @@ impl Worker {
         })
     }
 
-    /// Goes through the script of the processor on the caller's own thread, line by line, and calls
-    /// the gate before and after each line.
+    /// Runs the script of the processor on the caller's thread, line by line, and calls the gate
+    /// before and after each line. It may wait for the bus and for ports.
     ///
     /// # Errors
-    /// `Spent` where an object has made as many steps as can be counted, here or for another worker,
-    /// which all workers of these ports then stop for. The passes are given up.
+    /// `Spent` if an object has made 2^64 - 1 steps, or if another worker of these ports had to
+    /// stop. All workers of these ports then stop before their next event, and the passes are
+    /// dropped.
     pub fn run<R: Wait, G: Gate>(
         self,
         rt: &R,

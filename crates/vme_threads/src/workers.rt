@@ -1,4 +1,4 @@
-//! The workers, and the passes that they are given.
+//! The workers, and how they get their passes.
 ghost use Rattle.std.specs.Prelude.{◌≡◌, [], length, slice_index_or, vec_len, IfOk};
 ghost use Rattle.vme_object.specs.Each.{Each, AllAt};
 ghost use Rattle.vme_memory.specs.declared.command.BoardCmd.{BoardCmd};
@@ -15,8 +15,7 @@ use vme_memory::ByteMemory;
 use vme_port::{Pass, Port};
 use vme_script::Config;
 
-/// A worker for each pass of the arbiter's port, with room for the passes of the boards, for what its
-/// script reads and for the replies to it.
+/// Returns a worker for each pass of the arbiter's port. It allocates the buffers of all workers.
 pub(crate) fn new_workers(
     alloc: Global,
     config: &Config,
@@ -36,7 +35,7 @@ pub(crate) fn new_workers(
     Ok(workers)
 }
 
-/// Gives each worker the pass of its number.
+/// Gives each worker the pass of its index.
 pub(crate) fn distribute_passes(workers: &mut Vec<Worker>, mut passes: Vec<Pass<ByteMemory>>)
     requires count { vec_len passes ≡ vec_len workers.old }
     requires capacity { HaveSpace workers.old.items }

@@ -1,4 +1,4 @@
--- The words of one master are those of its own entries.
+-- The words of one caller are those of its own entries.
 use Rattle.std.proofs.Common.{◌≡◌, ℕ, List, [], ◌∷◌, ◌++◌, Option, refl, ap, ◌∙◌, inl, inr}
 use Rattle.std.specs.Prelude.{◌==◌}
 use Rattle.std.proofs.lemmas.Bool.{cases_Bool, eqb-true}
@@ -11,6 +11,7 @@ use Rattle.vme_shared.specs.Phases.{Phase, after_entry}
 use Rattle.vme_shared.specs.Words.{phases_after, words_along}
 use Rattle.vme_mailbox_laws.specs.Groups.{own_words_from}
 
+-- the words of `who` among all entries are those of its own entries
 pub own_words : (who : ℕ) (by : Option Phase → Option Phase → List ℕ) (m : BoardMailbox) (phases : ℕ → Option Phase)
     (h : List (Entry BoardCmd Reply)) → own_words_from who by m phases h ≡ words_along by m (phases who) (own who h)
 own_words who by m phases [] = refl

@@ -30,7 +30,7 @@ zeros_len : (size : ℕ) → length (zeros size) ≡ size
 unfolding zeros
 zeros_len size = length-replicate size 0
 
--- the place of a mailbox is where its first byte is selected
+-- the range of a mailbox begins where its first byte is selected
 placed : (entries : List Entry) (mailbox : Mailbox) (place : BoardRange) (code : CodeRow) → range_of entries mailbox ≡ Some place
     → read_code mailbox.am ≡ Ok code → selection_at entries code mailbox.addr ≡ Some (place.board, place.offset)
 unfolding range_at
@@ -45,7 +45,7 @@ placed entries mailbox place code is row =
         let same : record { board = one.0; offset = one.1; len = len } ≡ place = cc in
         ap (λ (p : BoardRange). Some (p.board, p.offset)) same
 
--- an entry of the map is its board's
+-- an entry of the map is that of its board
 own_entry : (boards : List BoardConfig) (k : ℕ) (board : BoardConfig) (entry : Entry) → slice_get boards k ≡ Some board
     → slice_get (entries_of boards) k ≡ Some entry → entry ≡ board.entry
 own_entry boards k board entry there is =
@@ -76,6 +76,7 @@ module _ (config : Configuration) (lawful : IsLawful config) (mailbox : Mailbox)
               ap (λ (p : BoardRange). p.len) (sym same)
       by_found (Err fault) is = absurd cc
 
+  -- each address of the mailbox selects its board
   pub lies_at : LiesAt (entries_of config.boards) mailbox fine.place.board (on_board mailbox fine.place)
   lies_at = record {
     slots = refl;
@@ -98,7 +99,7 @@ module _ (config : Configuration) (lawful : IsLawful config) (mailbox : Mailbox)
         });
   }
 
-  -- its offset is a multiple of four, as its address is
+  -- the mailbox's offset is a multiple of four
   offset_is : fine.place.offset % 4 ≡ 0
   unfolding range_at
   offset_is = by_row (read_code mailbox.am) refl fine.placed
@@ -111,6 +112,7 @@ module _ (config : Configuration) (lawful : IsLawful config) (mailbox : Mailbox)
           ∙ fine.numbers.aligned
       by_row (Err fault) is found = absurd cc
 
+  -- the mailbox lies wholly in its board's memory
   pub lies_in : LiesIn (opening_memory fine.board) (on_board mailbox fine.place)
   lies_in =
       let able = and_parts (answers_quads fine.board.class.width) fine.board.class.rmw fine.able in
@@ -124,7 +126,7 @@ module _ (config : Configuration) (lawful : IsLawful config) (mailbox : Mailbox)
         within = subst (λ n. fine.place.offset + (16 + 4 * mailbox.slots) ≤ n) (sym (zeros_len fine.board.entry.size)) inside;
       }
 
-  -- and none of its transfers is refused
+  -- no transfer of the mailbox is refused
   pub accepted : mailbox_refusal mailbox ≡ None
   accepted =
       not_refused (entries_of config.boards) mailbox fine.place.board (on_board mailbox fine.place) lawful.map lies_at fine.numbers fine.code

@@ -1,4 +1,4 @@
--- The lines of a lawful configuration leave each declared mailbox alone that they do not name.
+-- The lines of a lawful configuration leave alone each declared mailbox that they do not name.
 use Rattle.std.proofs.Common.{◌≡◌, ℕ, suc, ◌+◌, ◌-◌, true, false, List, [], ◌∷◌, length, map, Option, Some, refl, ap, sym, subst, ◌∙◌, inl, inr}
 use Rattle.std.specs.Prelude.{◌==◌, slice_get, Bool}
 use Rattle.std.specs.List.{list_any}
@@ -41,7 +41,7 @@ use Rattle.vme_mailbox_laws.proofs.CallsApart.{Calls, line_calls}
 use Rattle.vme_mailbox_laws.proofs.SendsApart.{Among, bus_sends, await_sends, local_sends, lock_sends, unlock_sends}
 use Rattle.vme_mailbox_laws.proofs.MailboxesApart.{place_len, declared, others_apart, box_sends}
 
--- none of a list passes a test
+-- no element of a list passes a test that none passes
 none_passes : {X : Type 0} (test : X → Bool) (xs : List X) (i : ℕ) (x : X) → slice_get xs i ≡ Some x → list_any test xs ≡ false
     → test x ≡ false
 none_passes test xs i x there none =
@@ -49,21 +49,21 @@ none_passes test xs i x there none =
 
 module _ (config : Configuration) (k who : ℕ) (mailbox : Mailbox) (lawful : IsLawful config)
     (here : slice_get config.mailboxes k ≡ Some mailbox) (fine : IsLawfulMailbox config.boards mailbox) where
-  -- the ranges of the boards, and what the lines of the script go by
+  -- the map of the boards
   abbrev entries : List Entry
   entries = entries_of config.boards
 
   abbrev file : Declaration
   file = record { entries = entries; mailboxes = config.mailboxes; board = who }
 
-  -- a command among bytes that share none with the mailbox's
+  -- a command among bytes that share none with the mailbox
   aside : (bytes : BoardRange) (c : Command) → IsAmong bytes fine.place.board c → share bytes fine.place ≡ false
       → touches (on_board mailbox fine.place) c ≡ false
   aside bytes c among apart =
       let len = place_len entries mailbox fine.place fine.placed in
       beside bytes fine.place (on_board mailbox fine.place) c among refl len apart
 
-  -- a command among the bytes that a line names, which are none of a declared mailbox
+  -- a command among the bytes that a line names, none of which is of a declared mailbox
   by_bytes : (named : Option BoardRange) (c : Command) → option_map_or (are_of_mailboxes file) named false ≡ false
       → Among named fine.place.board c → touches (on_board mailbox fine.place) c ≡ false
   by_bytes named c free among =
@@ -121,6 +121,7 @@ module _ (config : Configuration) (k who : ℕ) (mailbox : Mailbox) (lawful : Is
   script_leaves [] each = tt
   script_leaves (first ∷ script) each = (each 0 first refl, script_leaves script (λ j line found. each (suc j) line found))
 
+  -- all lines of a processor's script leave the mailbox alone
   pub left_alone : AllLeave config who (k + 1) fine.place.board (on_board mailbox fine.place) (lines_at config who)
   left_alone =
       elim (slice_get_cases config.scripts who).1 [

@@ -1,4 +1,4 @@
--- A history that runs of scripts share is proper, and its words are those that their answers tell.
+-- A history that runs of scripts share is proper, and its words are those that the replies report.
 use Rattle.std.proofs.Common.{◌≡◌, ℕ, ◌≤◌, ◌<◌, false, List, [], ◌∷◌, length, slice_index_or, Some, refl, ap, sym, subst, ◌∙◌, arith, inl, inr}
 use Rattle.std.specs.Prelude.{All, ◌==◌}
 use Rattle.std.proofs.lemmas.Bool.{cases_lt, ne_eqb}
@@ -26,7 +26,7 @@ use Rattle.vme_mailbox_laws.proofs.Histories.{Led, led}
 use Rattle.vme_mailbox_laws.proofs.Opening.{opening}
 use Rattle.vme_mailbox_laws.proofs.Scripts.{script}
 
--- who is not among them has no entry
+-- a number that is none of the callers' has no entry
 none_own : (n who : ℕ) (h : List (Entry BoardCmd Reply)) → n ≤ who → All (λ e. e.who < n) h → own who h ≡ []
 none_own n who [] past known = refl
 none_own n who (e ∷ h) past known =
@@ -34,7 +34,7 @@ none_own n who (e ∷ h) past known =
     let other : (e.who == who) ≡ false = ne_eqb e.who who (λ same. omega arith) in
     rw other (none_own n who h past (All-tail (λ (e : Entry BoardCmd Reply). e.who < n) e h known))
 
--- no answers tell of no word
+-- without replies, no word is reported
 none_put : (box : ℕ) (ls : List Line) → lines_put box ls [] ≡ []
 none_put box [] = refl
 none_put box (line ∷ ls) = refl
@@ -46,7 +46,7 @@ none_taken box (line ∷ ls) = refl
 module _ (config : Configuration) (box board : ℕ) (m : BoardMailbox) (memory : Board) (h : List (Entry BoardCmd Reply)) (runs : List (List Transition))
     (answers : List (List LineReply)) (is : IsMailboxOf config box board m) (new : IsNewMailbox memory m) (legal : IsLegal board_step memory h)
     (share : ShareHistory config board h runs answers) where
-  -- what is wanted of each
+  -- the goal of each processor: the words that its replies report
   abbrev Reported : ℕ → Wanted
   Reported who = λ p ps ts.
       (ps ≡ lines_put box (lines_at config who) (slice_index_or answers who []))
@@ -68,13 +68,16 @@ module _ (config : Configuration) (box board : ℕ) (m : BoardMailbox) (memory :
   each_led who =
       led m new.lies.some_slot memory [] [] all_idle h (λ w. Reported w) new.lies (opening memory m new) legal (λ w. through w) who
 
+  -- the shared history is proper for the mailbox
   pub proper : IsProper m h
   proper who = (each_led who).goes
 
+  -- the words that each processor puts are those that its replies report
   pub put_reported : Each (λ who reported. words_along put_by m (Some Idle) (own who h) ≡ lines_put box (lines_at config who) reported) answers
   put_reported who d below =
       (each_led who).done.0 ∙ ap (lines_put box (lines_at config who)) (get_or_default answers who [] d below)
 
+  -- the words that each processor takes are those that its replies report
   pub taken_reported : Each (λ who reported. words_along taken_by m (Some Idle) (own who h) ≡ lines_taken box (lines_at config who) reported) answers
   taken_reported who d below =
       (each_led who).done.1 ∙ ap (lines_taken box (lines_at config who)) (get_or_default answers who [] d below)

@@ -1,4 +1,4 @@
--- What passes made over their calls has its places in the one history that they settle on.
+-- The entries that passes make have their places in the one history that the port settles on.
 use Rattle.std.proofs.Common.{ℕ, ◌≡◌, ◌<◌, List, [], ◌∷◌, ◌++◌, length, take, slice_index_or, All, Contains, refl, ap, sym, ◌∙◌, subst, arith, append_assoc, length-append}
 use Rattle.std.proofs.lemmas.List.{append-nil, append_cancel_right}
 use Rattle.std.specs.List.{sum_by}
@@ -16,7 +16,7 @@ use Rattle.vme_port.proofs.Places.{IsPlaceOf, place_of, same_place, own_contains
 use Rattle.atomic_table.specs.Seated.{TableId}
 
 module _ {C R : Type 0} where
-  -- no call makes no entry
+  -- a pass makes no entries over no call
   pub makes_none : (p : PassView C R) → Makes [] p p
   makes_none p = record {
     port = refl;
@@ -28,7 +28,7 @@ module _ {C R : Type 0} where
     made = omega arith;
   }
 
-  -- what is made over some calls and over others after them is made over all
+  -- a pass makes, over two sequences of calls, the entries of both, in order
   pub makes_more : (a b : List (Entry C R)) (p q r : PassView C R) → Makes a p q → Makes b q r → Makes (a ++ b) p r
   makes_more a b p q r first then = record {
     port = then.port ∙ first.port;
@@ -43,7 +43,7 @@ module _ {C R : Type 0} where
   }
 
 module _ {S C R : Type 0} (step : S → C → S × R) (start : S) where
-  -- what one call adds is made over it
+  -- a pass makes, over one call, the entries that the call adds
   pub makes_one : (es : List (Entry C R)) (p q : PassView C R) → Adds step start es p q → Makes es p q
   makes_one es p q added = record {
     port = added.port;
@@ -60,7 +60,7 @@ module _ {S C R : Type 0} (step : S → C → S × R) (start : S) where
       begins : IsPrefix q.seen reported.history
       begins = All-contains (λ (p : PassView C R). IsPrefix p.seen reported.history) passes q reported.seen there
 
-      -- what the pass had seen has of it just what it had made
+      -- the own entries in what the pass had seen are those that it had made
       sound_before : own p.who p.seen ≡ p.mine
       sound_before =
           let sound : own q.who q.seen ≡ q.mine = All-contains (λ (p : PassView C R). own p.who p.seen ≡ p.mine) passes q reported.sound there in
@@ -69,7 +69,7 @@ module _ {S C R : Type 0} (step : S → C → S × R) (start : S) where
           ∙ ap (λ w. own w q.seen) (sym made.who) ∙ sound ∙ made.mine in
           append_cancel_right (own p.who p.seen) p.mine es both
 
-      -- an entry at a place in what the pass has seen since has its place in the history
+      -- an entry with a place in what the pass has seen since has its place in the history
       stands : (mine : List (Entry C R)) (e : Entry C R) → IsPlaceOf p.who made.since mine e → StandsIn step start reported.history p.seen (p.mine ++ mine) e
       stands mine e at =
           let before : List (Entry C R) = p.seen ++ at.before in
@@ -91,18 +91,18 @@ module _ {S C R : Type 0} (step : S → C → S × R) (start : S) where
           subst (λ l. i < length l → StandsIn step start reported.history p.seen (p.mine ++ take i l) (slice_index_or l i d)) made.its
           (λ within. stands (take i (own p.who made.since)) (slice_index_or (own p.who made.since) i d) (place_of p.who made.since i d within)) less
 
-      -- a pass that had made no call made just its who's part of the history
+      -- an unused pass makes exactly its caller's part of the history
       pub part_of_unused : (port : TableId) (who : ℕ) → IsUnused port who p → own who reported.history ≡ es
       part_of_unused port who unused =
           ap (λ w. own w reported.history) (sym unused.who ∙ sym made.who)
           ∙ All-contains (λ (p : PassView C R). own p.who reported.history ≡ p.mine) passes q reported.mine there
           ∙ made.mine ∙ ap (λ l. l ++ es) unused.mine
 
-    -- the history has as many entries as the passes made
+    -- the history has as many entries as the passes made together
     pub entries_counted : length reported.history ≡ sum_by (λ p. length p.mine) passes
     entries_counted = sym reported.counted ∙ reported.summed ∙ sym (sum_same (λ (p : PassView C R). length p.mine) (λ (p : PassView C R). p.made) passes reported.made)
 
-    -- each entry of the history is one that a pass made
+    -- each entry of the history was made by some pass
     pub maker_of : (e : Entry C R) → Contains reported.history e → (p : PassView C R) × Contains passes p × Contains p.mine e
     maker_of e there =
         let below : e.who < k = All-contains (λ (e : Entry C R). e.who < k) reported.history e reported.known there in
@@ -112,14 +112,14 @@ module _ {S C R : Type 0} (step : S → C → S × R) (start : S) where
         let its : own e.who reported.history ≡ p.mine = ap (λ w. own w reported.history) (sym found.2) ∙ mine in
         (p, found.1, subst (λ l. Contains l e) its (own_contains reported.history e there))
 
-    -- what holds of all entries that passes made holds of the whole history
+    -- a property of all entries that passes made holds for the whole history
     pub all_made : (P : Entry C R → Type 0) → All (λ p. All P p.mine) passes → All P reported.history
     all_made P each i d less =
         let e : Entry C R = slice_index_or reported.history i d in
         let maker = maker_of e (Contains-get_or reported.history i d less) in
         All-contains P maker.0.mine e (All-contains (λ (p : PassView C R). All P p.mine) passes maker.0 each maker.1) maker.2
 
-  -- two entries of one who, behind as many of its own, have one place
+  -- two entries of one caller that follow as many of its own entries have one place
   pub one_place : (h seen seen' mine : List (Entry C R)) (e f : Entry C R) → e.who ≡ f.who → (a : StandsIn step start h seen mine e) → (b : StandsIn step start h seen' mine f)
       → a.before ≡ b.before
   one_place h seen seen' mine e f same a b =

@@ -1,4 +1,4 @@
--- One history of each object, from the passes of all rans.
+-- The passes of all finished workers give one history of each object.
 use Rattle.std.proofs.Common.{◌≡◌, ℕ, zero, suc, ◌<◌, ◌≤◌, List, [], ◌∷◌, ◌++◌, length, map, slice_index_or, vec_capacity, All, refl, ap, sym, subst, ◌∙◌, arith}
 use Rattle.std.specs.Global.{Vec}
 use Rattle.vme_object.specs.declared.history.Entry.{Entry}
@@ -34,13 +34,13 @@ use Rattle.vme_threads.specs.Reports.{HasHistory, IsEndOf, IsReportOf, HaveRun, 
 use Rattle.vme_threads.proofs.Lines.{line_there}
 use Rattle.vme_threads.proofs.Runs.{same_count}
 
--- what is at a place of a mapped list
+-- an element of a mapped list is the image of the element at its place
 map_at : {A B : Type 0} (f : A → B) (xs : List A) (k : ℕ) (b : B) (a : A) → k < length xs → slice_index_or (map f xs) k b ≡ f (slice_index_or xs k a)
 map_at f [] k b a k< = absurd (omega arith)
 map_at f (x ∷ xs) zero b a k< = refl
 map_at f (x ∷ xs) (suc k) b a k< = map_at f xs k b a (omega arith)
 
--- facts of two lists, of what is told of both
+-- a relation of two lists from a relation of their mapped lists
 all_at_maps :
     {A B C D : Type 0} (P : ℕ → A → B → Type 0) (Q : ℕ → C → D → Type 0) (f : A → C) (g : B → D) (xs : List A) (ys : List B)
     → ((k : ℕ) (a : A) (b : B) → P k a b → Q k (f a) (g b)) → AllAt P xs ys → AllAt Q (map f xs) (map g ys)
@@ -55,14 +55,14 @@ all_at_maps P Q f g xs ys leads all = record {
       (leads k (slice_index_or xs k a) (slice_index_or ys k b) (all.each k a b there)));
 }
 
--- facts of the first list alone
+-- a property of the first list from a relation of both
 each_left :
     {A B : Type 0} (P : ℕ → A → B → Type 0) (Q : ℕ → A → Type 0) (xs : List A) (ys : List B) → ((k : ℕ) (a : A) (b : B) → P k a b → Q k a)
     → AllAt P xs ys → Each Q xs
 each_left P Q xs ys leads all k a k< =
     let b = (line_there ys k (omega (arith, k<, all.count))).0 in leads k (slice_index_or xs k a) (slice_index_or ys k b) (all.each k a b k<)
 
--- facts of what is told of the second list alone
+-- a property of the second mapped list from a relation of both
 each_right :
     {A B D : Type 0} (P : ℕ → A → B → Type 0) (Q : ℕ → D → Type 0) (g : B → D) (xs : List A) (ys : List B)
     → ((k : ℕ) (a : A) (b : B) → P k a b → Q k (g b)) → AllAt P xs ys → Each Q (map g ys)
@@ -74,7 +74,7 @@ each_right P Q g xs ys leads all k d k< =
     subst (λ y. Q k y) (sym (map_at g ys k d b there)) (leads k (slice_index_or xs k a) (slice_index_or ys k b) (all.each k a b within))
 
 module _ {S C R : Type 0} (step : S → C → S × R) (start : S) where
-  -- passes that settle share one history, of which each has its part
+  -- passes that settle share one history, which has of each caller its part
   pub shared_history :
       (k : ℕ) (passes : List (PassView C R)) (parts : List (List (Entry C R))) (object : S) (n : ℕ) (made : List ℕ) → Settles step start k passes object n
       → length passes ≡ k → AllAt (λ who part (p : PassView C R). (p.who ≡ who) × (p.mine ≡ part)) parts passes
@@ -102,18 +102,18 @@ module _ {S C R : Type 0} (step : S → C → S × R) (start : S) where
             });
       }
 
--- the i-th pass of each ran, at a place
+-- the pass of the port at place x of a finished worker
 abbrev pub column_of : ℕ → PassView BoardCmd Reply → Ran → PassView BoardCmd Reply
 column_of x d r = slice_index_or r.pass_set.boards.items x d
 
 module _ (config : Configuration) (ports : Ports) (rans : List Ran) (can : CanGather config ports rans) where
-  -- each ran has a pass of each board's port
+  -- each finished worker has a pass of each board's port
   pub can_be_square : AreSquare rans
   can_be_square k r k< =
       let is = can.runs.each.each k [] r (omega (arith, k<, can.runs.each.count)) in is.fits.boards.count ∙ can.built.boards.count ∙ sym can.count
 
   module _ (x : ℕ) (o : BoardPort) (x< : x < length ports.boards.items) (d : PassView BoardCmd Reply) where
-    -- they are the passes of the board's port
+    -- the passes at place x are those of the port of board x, in order
     pub column_fits :
         Each (λ i (p : PassView BoardCmd Reply). (p.port ≡ port_id (slice_index_or ports.boards.items x o).port) × (p.who ≡ i)) (map (column_of x d) rans)
     column_fits =
@@ -121,7 +121,7 @@ module _ (config : Configuration) (ports : Ports) (rans : List Ran) (can : CanGa
         (column_of x d) can.runs.runs rans
         (λ who run ran is. let its = is.fits.boards.each x o d x< in (its.0, its.1 ∙ is.same)) can.runs.each
 
-    -- and each has its part
+    -- each pass of a board's port has made its run's part
     pub column_shows :
         AllAt (λ who part (p : PassView BoardCmd Reply). (p.who ≡ who) × (p.mine ≡ part)) (map (board_part x) can.runs.runs) (map (column_of x d) rans)
     column_shows =
@@ -149,19 +149,19 @@ module _ (config : Configuration) (ports : Ports) (rans : List Ran) (can : CanGa
         capacity = subst (λ n. n ≤ vec_capacity (slice_index_or ports.boards.items x o).made) (sym port.passes) port.made_capacity;
       }
 
-  -- the arbiter's passes are those of its port
+  -- the arbiter's passes are those of its port, in order
   pub bus_fits : Each (λ i (p : PassView ArbCmd ArbReply). (p.port ≡ port_id ports.bus) × (p.who ≡ i)) (map (λ (r : Ran). r.pass_set.bus) rans)
   bus_fits =
       each_right (IsRanOf config ports) (λ i (p : PassView ArbCmd ArbReply). (p.port ≡ port_id ports.bus) × (p.who ≡ i)) (λ (r : Ran). r.pass_set.bus)
       can.runs.runs rans (λ who run ran is. (is.fits.bus, is.fits.bus_who ∙ is.same)) can.runs.each
 
-  -- and each has its part
+  -- each pass of the arbiter's port has made its run's part
   bus_shows : AllAt (λ who part (p : PassView ArbCmd ArbReply). (p.who ≡ who) × (p.mine ≡ part)) (map bus_part can.runs.runs) (map (λ (r : Ran). r.pass_set.bus) rans)
   bus_shows =
       all_at_maps (IsRanOf config ports) (λ who part (p : PassView ArbCmd ArbReply). (p.who ≡ who) × (p.mine ≡ part)) bus_part (λ (r : Ran). r.pass_set.bus)
       can.runs.runs rans (λ who run ran is. (is.fits.bus_who ∙ is.same, is.bus)) can.runs.each
 
-  -- what a board came to
+  -- the report's entry for a board
   end_of_board :
       (columns : List Column) (ends : List BoardReport) → length config.boards ≤ length columns → AreDealt rans columns
       → AreClosed ports.boards.items columns ends → (x : ℕ) (own : BoardConfig)
@@ -190,7 +190,7 @@ module _ (config : Configuration) (ports : Ports) (rans : List Ran) (can : CanGa
             (is.made ∙ ap (λ (ps : List (PassView BoardCmd Reply)). map (λ (p : PassView BoardCmd Reply). p.made) ps) its);
       }
 
-  -- the report
+  -- gathered ports and closed boards give the report of the configuration
   pub report_of :
       (report : Report) (columns : List Column) (object : Arbitration) → length config.boards ≤ length columns → AreDealt rans columns
       → AreClosed ports.boards.items columns report.boards.items
@@ -238,7 +238,7 @@ module _ (config : Configuration) (ports : Ports) (rans : List Ran) (can : CanGa
             (sym (map_at (λ (r : Ran). r.lines) rans who ls r there)) is.trace;
       }
 
--- one ran more
+-- one more finished worker has a run
 pub have_more : (config : Configuration) (ports : Ports) (rans : List Ran) (r : Ran) → HaveRun config ports rans → HasRun config ports (length rans) r → HaveRun config ports (rans ++ r ∷ [])
 have_more config ports rans r have run = record {
   runs = have.runs ++ run.0 ∷ [];
@@ -246,6 +246,6 @@ have_more config ports rans r have run = record {
       AllAt-push (IsRanOf config ports) have.runs rans run.0 r have.each (subst (λ i. IsRanOf config ports i run.0 r) have.each.count run.1);
 }
 
--- no ran
+-- no finished worker needs a run
 pub have_none : (config : Configuration) (ports : Ports) → HaveRun config ports []
 have_none config ports = record { runs = []; each = record { count = refl; each = λ k run r k<. absurd (omega arith) } }

@@ -3,7 +3,7 @@ use Rattle.std.proofs.lemmas.List.Elements.{All-head, All-rest, All-push, All-sa
 use Rattle.vme_port_bench.specs.Workers.{HasBumped, IsSameWork}
 use Rattle.vme_port_bench.proofs.run.join_all.Goals as goal
 
--- the thread that is joined stood first among those that are left
+-- the thread that is joined is the first of the remaining ones
 pub loop-child-preserved : goal.loop-child-preserved
 loop-child-preserved g c =
     let was = c.loop-child.invariant in

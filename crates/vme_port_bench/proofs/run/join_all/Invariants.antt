@@ -3,7 +3,7 @@ use Rattle.std.specs.Vec.Iter.{into_iter_items, into_iter_len}
 use Rattle.vme_port_bench.specs.Workers.{HasBumped, IsSameWork}
 use Rattle.vme_port_bench.proofs.run.join_all.Given as goal
 
--- each pass that was taken in made its calls, and the threads that are left have their promise
+-- each collected pass made its calls, and the remaining threads have their promise
 abbrev pub invariant-loop-child : goal.invariant-loop-child
 invariant-loop-child g l = (vec_len l.passes + into_iter_len l.child-iterator ≡ vec_len l.fn.children)
     × (vec_len l.fn.children ≤ vec_capacity l.passes)

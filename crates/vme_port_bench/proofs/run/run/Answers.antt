@@ -7,7 +7,7 @@ use Rattle.vme_port_bench.proofs.Totals.{sum_of_equal}
 use Rattle.vme_port_bench.proofs.Bumps.{settled_number}
 use Rattle.vme_port_bench.proofs.run.run.Goals as goal
 
--- each pass made as many calls, and there are as many passes as threads
+-- each pass made `calls` calls, and there are as many passes as threads
 steps : goal.returns-clause-steps
 steps g c =
     let calls = c.args.arguments.calls in
@@ -18,7 +18,7 @@ steps g c =
 pub returns-clause-steps : goal.returns-clause-steps
 returns-clause-steps g c = steps g c
 
--- each step is a bump, which adds one to the number
+-- each step is an increment, which adds one to the number
 pub returns-clause-number : goal.returns-clause-number
 returns-clause-number g c =
     let port = c.in_ok-port.port in

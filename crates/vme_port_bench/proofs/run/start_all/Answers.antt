@@ -3,7 +3,7 @@ use Rattle.std.proofs.lemmas.List.Elements.{All-rest, All-push, All-same}
 use Rattle.vme_port_bench.specs.Workers.{HasBumped, IsSameWork}
 use Rattle.vme_port_bench.proofs.run.start_all.Goals as goal
 
--- the pass that is given away stood first among those that are left
+-- the pass of the next thread is the first of the remaining ones
 pub loop-pass-preserved : goal.loop-pass-preserved
 loop-pass-preserved g c =
     let was = c.loop-pass.invariant in

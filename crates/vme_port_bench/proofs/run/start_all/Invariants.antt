@@ -3,7 +3,7 @@ use Rattle.std.specs.Vec.Iter.{into_iter_items, into_iter_len}
 use Rattle.vme_port_bench.specs.Workers.{HasBumped, IsSameWork}
 use Rattle.vme_port_bench.proofs.run.start_all.Given as goal
 
--- each thread that was started has its promise, and the passes that are left made no call
+-- each started thread has its promise, and the remaining passes made no call
 abbrev pub invariant-loop-pass : goal.invariant-loop-pass
 invariant-loop-pass g l = (vec_len l.children + into_iter_len l.pass-iterator ≡ vec_len l.fn.passes)
     × (vec_len l.fn.passes ≤ vec_capacity l.children)

@@ -1,6 +1,6 @@
 use Rattle.vme_port.specs.Ports.{IsPassOf}
 use Rattle.vme_port_tests.proofs.counters.work.Given as goal
 
--- the pass stays the port's
+-- the pass stays a pass of the port
 abbrev pub invariant-loop : goal.invariant-loop
 invariant-loop g l = IsPassOf l.port l.pass

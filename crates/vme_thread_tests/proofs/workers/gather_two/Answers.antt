@@ -4,7 +4,7 @@ use Rattle.vme_threads.specs.Reports.{HaveRun, CanGather}
 use Rattle.vme_threads.proofs.lemmas.Gathered.{have_none, have_more}
 use Rattle.vme_thread_tests.proofs.workers.gather_two.Goals as goal
 
--- both have run
+-- both workers have run their scripts
 pub gather-requires : goal.gather-requires
 gather-requires c =
     let config = c.args.config.now in

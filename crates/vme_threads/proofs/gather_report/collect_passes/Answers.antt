@@ -21,7 +21,7 @@ sort_passes-requires-clause-capacity c x column x< =
     let wide = square_here _ g.taken r _ (g.split ∙ ap (λ rs. g.taken ++ rs) step) c.requires.square in
     column_has_space _ _ _ _ _ r _ g step (omega (arith, c.requires.most, c.args.rans.ok.0)) x column (omega (arith, x<, wide, r.pass_set.boards.ok.0))
 
--- one ran more is sorted
+-- one more worker is collected
 pub loop-ran-preserved : goal.loop-ran-preserved
 loop-ran-preserved c =
     let r = c.in-Some.ran in

@@ -3,7 +3,7 @@ use Rattle.std.specs.Vec.Iter.{into_iter_items}
 use Rattle.vme_threads.proofs.Collects.{Gathering}
 use Rattle.vme_threads.proofs.gather_report.collect_passes.Given as goal
 
--- what the rans so far have is sorted
+-- the passes of the workers so far are sorted
 abbrev pub invariant-loop-ran : goal.invariant-loop-ran
 invariant-loop-ran l = record {
   gathering : Gathering l.fn.rans.items (into_iter_items l.ran-iterator) l.columns.items l.bus.items l.lines.items;

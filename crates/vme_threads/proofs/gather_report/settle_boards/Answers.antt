@@ -6,7 +6,7 @@ use Rattle.vme_threads.specs.Gathers.{CanClose, IsClosed}
 use Rattle.vme_threads.proofs.Collects.{Closing, can_close_here, closing_more}
 use Rattle.vme_threads.proofs.gather_report.settle_boards.Goals as goal
 
--- its column is as it came
+-- the column of the board is unchanged
 pub close_board-requires : goal.close_board-requires
 close_board-requires c =
     let closing = c.loop-board.invariant.closing in
@@ -16,7 +16,7 @@ close_board-requires c =
     subst (λ (col : Column). CanClose c.in-Some.board col.items) (sym c.replace-passes.ensures.value)
     (can_close_here _ _ _ _ _ c.in-Some.board _ d c.len.result closing c.in-Some.ensures.steps.0 within at c.index_mut.ensures.value c.requires.passes)
 
--- one board more is closed
+-- one more board is closed
 pub loop-board-preserved : goal.loop-board-preserved
 loop-board-preserved c =
     let closing = c.loop-board.invariant.closing in

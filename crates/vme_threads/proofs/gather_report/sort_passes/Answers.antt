@@ -9,7 +9,7 @@ use Rattle.vme_threads.proofs.gather_report.sort_passes.Goals as goal
 pub loop-pass-init : goal.loop-pass-init
 loop-pass-init c = deals_begin HasOneMore _ _ (omega (arith, c.requires.within, c.args.passes.ok.0, c.args.columns.now.ok.0))
 
--- its column is as it came
+-- the column of the pass is unchanged
 pub push_reserved-requires : goal.push_reserved-requires
 push_reserved-requires c =
     let d = c.index_mut.result.now in

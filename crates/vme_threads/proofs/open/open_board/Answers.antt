@@ -4,7 +4,7 @@ use Rattle.vme_script.specs.Configurations.{opening_memory}
 use Rattle.vme_threads.proofs.Places.{reported_at}
 use Rattle.vme_threads.proofs.open.open_board.Goals as goal
 
--- the configuration tells the slot and the memory of the board
+-- the configuration determines the slot and the memory of the board
 pub returns-clause-port : goal.returns-clause-port
 returns-clause-port c d =
     let boards = c.args.config.now.boards in

@@ -7,7 +7,7 @@ use Rattle.vme_threads.specs.Ports.{IsPortOf, AreNewWorkers}
 use Rattle.vme_threads.proofs.NewWorkers.{new_workers_more, all_ports}
 use Rattle.vme_threads.proofs.open.open_boards.Goals as goal
 
--- one board more has its port, whose passes are handed out
+-- one more board has its port, and the workers have its passes
 pub loop-board-preserved : goal.loop-board-preserved
 loop-board-preserved c =
     let config = c.args.config.now in

@@ -4,7 +4,7 @@ use Rattle.vme_script.specs.declared.board.BoardConfig.{BoardConfig}
 use Rattle.vme_threads.specs.Ports.{IsPortOf, AreNewWorkers}
 use Rattle.vme_threads.proofs.open.open_boards.Given as goal
 
--- each board so far has its port, whose passes the workers have
+-- each board so far has its port, and the workers have its passes
 abbrev pub invariant-loop-board : goal.invariant-loop-board
 invariant-loop-board l = record {
   count : vec_len l.boards ≡ l.board;

@@ -12,7 +12,7 @@ use Rattle.vme_threads.proofs.Places.{first_of_each, rest_of_each}
 use Rattle.vme_threads.proofs.lemmas.Gathered.{have_more}
 use Rattle.vme_threads.proofs.threads.join_all.Goals as goal
 
--- the thread that is joined stood first among those that are left
+-- the thread that is joined is the first of the remaining ones
 pub loop-child-preserved : goal.loop-child-preserved
 loop-child-preserved g c =
     let config = c.args.config.now in

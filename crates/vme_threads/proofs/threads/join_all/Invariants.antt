@@ -5,7 +5,7 @@ use Rattle.vme_threads.specs.Reports.{HaveRun}
 use Rattle.vme_threads.specs.Threads.{IsPromiseOf}
 use Rattle.vme_threads.proofs.threads.join_all.Given as goal
 
--- each thread so far brought its ran
+-- each thread so far returned its finished worker
 abbrev pub invariant-loop-child : goal.invariant-loop-child
 invariant-loop-child g l = record {
   count : vec_len l.rans + into_iter_len l.child-iterator ≡ vec_len l.fn.children;

@@ -21,7 +21,7 @@ loop-worker-init g c =
       promised = λ k d k<. absurd (omega (arith, k<, c.requires.none, c.args.children.now.ok.0));
     }
 
--- the worker that starts stood first among those that are left
+-- the worker that starts is the first of the remaining ones
 pub loop-worker-preserved : goal.loop-worker-preserved
 loop-worker-preserved g c =
     let config = c.args.config.now in

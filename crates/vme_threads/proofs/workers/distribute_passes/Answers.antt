@@ -10,7 +10,7 @@ use Rattle.vme_threads.proofs.workers.distribute_passes.Goals as goal
 pub loop-pass-init : goal.loop-pass-init
 loop-pass-init c = deals_begin Gets _ _ (omega (arith, c.requires.count, c.args.passes.ok.0, c.args.workers.now.ok.0))
 
--- its worker is as it came
+-- the worker of the pass is unchanged
 pub push_reserved-requires : goal.push_reserved-requires
 push_reserved-requires c =
     let d = c.index_mut.result.now in

@@ -14,7 +14,7 @@ use Rattle.vme_threads.proofs.Places.{first_of_each, rest_of_each}
 use Rattle.vme_threads.proofs.NewWorkers.{new_workers_first}
 use Rattle.vme_threads.proofs.workers.new_workers.Goals as goal
 
--- the pass that is taken is the next worker's
+-- the next pass is the next worker's
 pub loop-pass-preserved : goal.loop-pass-preserved
 loop-pass-preserved c =
     let config = c.args.config.now in

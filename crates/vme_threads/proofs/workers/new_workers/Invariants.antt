@@ -6,7 +6,7 @@ use Rattle.vme_port.specs.Ports.{port_id}
 use Rattle.vme_threads.specs.Ports.{IsNewWorker}
 use Rattle.vme_threads.proofs.workers.new_workers.Given as goal
 
--- each pass that was taken has its worker, and those that are left have the next numbers
+-- each taken pass has its worker, and the remaining passes have the next numbers
 abbrev pub invariant-loop-pass : goal.invariant-loop-pass
 invariant-loop-pass l = record {
   count : vec_len l.workers + into_iter_len l.pass-iterator ≡ l.count;

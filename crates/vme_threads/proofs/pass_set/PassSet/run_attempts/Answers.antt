@@ -21,7 +21,7 @@ call_event-requires-clause-there g c =
     subst (λ n. IsCallBelow n call) same
     (call_there (length c.args.config.now.boards) c.loop.task call c.loop.invariant.below (rw c.unwrap-in-loop.ensures at c.event_ref.ensures))
 
--- the event that was due is made, and the line is told of its reply
+-- the next event is made, and the line advances by its reply
 pub loop-preserved : goal.loop-preserved
 loop-preserved g c =
     let n = length c.args.config.now.boards in

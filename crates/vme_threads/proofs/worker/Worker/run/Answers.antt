@@ -24,7 +24,7 @@ number-number-requires g c =
     let script = script_is config who c.loop-line.pass_set.who c.script.result.now c.loop-line.invariant.way.made.who c.script.ensures in
     omega (arith, c.loop-line-test.true, c.line_count-line-end.ensures, same_count (λ (one : ScriptLine). one.line) (script_at config who), ap length script)
 
--- the next room is taken
+-- the next buffer is taken
 pub take-buffer-requires : goal.take-buffer-requires
 take-buffer-requires g c =
     some_buffer c.args.config.now c.args.self.pass_set.who c.loop-line.line c.loop-line.buffers (omega (arith, c.loop-line-test.true, c.line_count-line-end.ensures))
@@ -51,7 +51,7 @@ run_line-requires-clause-fits g c =
     let ports = c.args.ports.now in
     fits_after ports _ w.pass_set _ c.loop-line.invariant.way.made (fits_first c.args.config.now ports w.pass_set.who w c.requires.worker)
 
--- one line more was answered
+-- one more line has its reply
 pub loop-line-preserved : goal.loop-line-preserved
 loop-line-preserved g c =
     let config = c.args.config.now in

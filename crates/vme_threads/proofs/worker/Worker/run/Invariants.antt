@@ -4,7 +4,7 @@ use Rattle.vme_line_task.specs.ReadBuffers.{buffers_of}
 use Rattle.vme_threads.proofs.Runs.{IsUnderWay}
 use Rattle.vme_threads.proofs.worker.Worker.run.Given as goal
 
--- the lines so far were answered, and the rooms of the others are left
+-- the lines so far have their replies, and the buffers of the others are left
 abbrev pub invariant-loop-line : goal.invariant-loop-line
 invariant-loop-line g l = record {
   count : vec_len l.lines ≡ l.line;
