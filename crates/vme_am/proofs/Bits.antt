@@ -1,4 +1,4 @@
--- What the bits of a code say is what the table says.
+-- The row that the bits of a code select is the row of the table.
 use Rattle.std.proofs.Common.{◌≡◌, ℕ, ◌<◌, zero, suc, not, nat_eq, bit_and, Option, Some, Ok, ap, arith, rules, inl, inr, subst, ◌∙◌, sym}
 use Rattle.std.proofs.lemmas.Bool.Decides.{eqb_tells}
 use Rattle.std.specs.Option.{option_map, option_and_then, ok_or}
@@ -17,17 +17,18 @@ at_below P zero k all lt = absurd (omega arith)
 at_below P (suc n) k all lt =
     elim (eqb_tells n k) [ inl same ↦ subst P same.1 all.0 | inr other ↦ at_below P n k all.1 (omega (arith, other.1)) ]
 
--- the row of a space and a kind, with the privilege that bit 2 shows, and eight bytes a datum where bits 1 and 0 are low
+-- the row of a space and a kind: bit 2 states the privilege, and bits 3, 1 and 0 state whether a datum has eight bytes
 abbrev row_with : ℕ → Space → Kind → CodeRow
 row_with code space kind = row code space kind (not (nat_eq (bit_and code 4) 0)) (nat_eq (bit_and code 11) 8)
 
 abbrev row_from_bits : ℕ → Option CodeRow
 row_from_bits code = option_and_then (λ space. option_map (row_with code space) (kind_by_bits space code)) (space_by_bits code)
 
--- at each of the numbers that six lines show, by computing both
+-- table and bits agree on each of the 64 numbers; both are computed
 all_agree : AllBelow (λ code. row_at code ≡ row_from_bits code) 64
 all_agree = search rules
 
+-- the row that the bits select is the row of the code
 pub row_by_bits :
     (code : ℕ) (space : Space) (kind : Kind) → code < 64 → space_by_bits code ≡ Some space → kind_by_bits space code ≡ Some kind
     → row_at code ≡ Some (row_with code space kind)
@@ -36,6 +37,7 @@ row_by_bits code space kind lt named accessed =
     ∙ ap (option_and_then (λ space. option_map (row_with code space) (kind_by_bits space code))) named
     ∙ ap (option_map (row_with code space)) accessed
 
+-- a code reads as the row that its bits select
 pub read_by_bits :
     (code : ℕ) (space : Space) (kind : Kind) → code < 64 → space_by_bits code ≡ Some space → kind_by_bits space code ≡ Some kind
     → Ok (row_with code space kind) ≡ read_code code

@@ -1,4 +1,4 @@
--- The address modifier table, as data, and what a code reads as.
+-- The address modifier table, and how a number is read as one of its codes.
 use Rattle.std.specs.Prelude.{ℕ, Bool, true, false, nat_lt, nat_le, ◌==◌, ◌&&◌, if◌then◌else◌, List, [], ◌∷◌, find, Option, Result}
 use Rattle.std.specs.Option.{ok_or}
 use Rattle.vme_am.specs.declared.code.Space.{Space}
@@ -8,7 +8,7 @@ use Rattle.vme_am.specs.declared.code.Kind.TheVariants.{DataAccess, ProgramAcces
 use Rattle.vme_am.specs.declared.code.AmFault.{AmFault}
 use Rattle.vme_am.specs.declared.code.AmFault.TheVariants.{TooLarge, UserDefined, Reserved}
 
--- one row of the address modifier table (IEEE 1014, section 2.2.2)
+-- one row of the address modifier table; IEEE 1014-1987, 2.2.2 (address modifiers)
 pub record CodeRow : Type 0 where
   pub code : ℕ
   pub space : Space
@@ -16,13 +16,13 @@ pub record CodeRow : Type 0 where
   pub supervisory : Bool
   pub wide : Bool
 
--- a row, by place: code, space, kind, privilege, whether a datum has eight bytes (this project's own)
+-- a row from its parts: code, space, kind, whether it is supervisory, whether a datum has eight bytes
 abbrev pub row : ℕ → Space → Kind → Bool → Bool → CodeRow
 row code space kind supervisory wide =
     record { code = code; space = space; kind = kind; supervisory = supervisory; wide = wide }
 
--- the address modifier table (IEEE 1014, section 2.2.2; the four rows of eight-byte blocks, codes 08, 0c, 38 and 3c: this
--- project's own)
+-- the address modifier table; IEEE 1014-1987, 2.2.2 (address modifiers). 08, 0c, 38 and 3c: the 64-bit block codes
+-- (MBLT) of VME64, ANSI/VITA 1-1994; here address phase and first datum are one event, and no address has 64 bits
 abbrev pub table : List CodeRow
 table =
     row 0x29 A16 ShortAccess false false ∷ row 0x2d A16 ShortAccess true false
@@ -34,14 +34,15 @@ table =
     ∷ row 0x08 A32 BlockAccess false true ∷ row 0x0c A32 BlockAccess true true
     ∷ []
 
--- the row of a code, if the table has one (IEEE 1014, section 2.2.2)
+-- the row of a code, if the table has one; IEEE 1014-1987, 2.2.2 (address modifiers)
 abbrev pub row_at : ℕ → Option CodeRow
 row_at code = find (λ r. r.code == code) table
 
--- why a code without a row is refused: 10 to 1f are user-defined (IEEE 1014, section 2.2.2), six lines show no number above 3f
+-- the fault of a number without a row: above 3f, from 10 to 1f (user-defined), or another number;
+-- IEEE 1014-1987, 2.2.2 (address modifiers)
 abbrev pub fault_of : ℕ → AmFault
 fault_of code = if nat_lt 0x3f code then TooLarge else (if nat_le 0x10 code && nat_le code 0x1f then UserDefined else Reserved)
 
--- what a number reads as: its row, or else its fault (this project's own)
+-- the row of a number, or else its fault
 unfoldable pub read_code : ℕ → Result CodeRow AmFault
 read_code code = ok_or (row_at code) (fault_of code)

@@ -5,7 +5,7 @@ ghost use Rattle.vme_am.specs.Bits.{space_by_bits, kind_by_bits};
 
 use std::marker::Model;
 
-/// An address space of the bus: how many address lines count in a cycle.
+/// An address space of the bus. It states how many address lines count in a cycle (section 2.3.5).
 #[derive(Clone, Copy, Debug, PartialEq, Eq)]
 pub enum Space {
     /// Short addresses, A01 to A15.
@@ -17,7 +17,7 @@ pub enum Space {
 }
 
 impl Space {
-    /// The number of byte addresses of the space.
+    /// Returns the number of byte addresses of the space: 2^16, 2^24 or 2^32 (section 2.3.5).
     pub fn addresses(self) -> u64
         ensures { result ≡ addresses_of self }
     {
@@ -29,28 +29,28 @@ impl Space {
     }
 }
 
-/// What a code lets a cycle reach.
+/// The kind of access that an address modifier code selects (section 2.2.2).
 #[derive(Clone, Copy, Debug, PartialEq, Eq)]
 pub enum Kind {
-    /// Data, in the standard or the extended space.
+    /// Data access, in the standard or the extended space.
     DataAccess,
-    /// Programs, in the standard or the extended space.
+    /// Program access, in the standard or the extended space.
     ProgramAccess,
-    /// Block transfers, in the standard or the extended space.
+    /// Block transfer, in the standard or the extended space.
     BlockAccess,
-    /// Anything in the short space.
+    /// Any access in the short space.
     ShortAccess,
 }
 
 impl Kind {
-    /// Whether the access is a block transfer.
+    /// Returns whether the access is a block transfer.
     pub fn is_block(self) -> bool
         ensures { result ≡ is_block self }
     {
         self == Kind::BlockAccess
     }
 
-    /// Whether the access is to programs.
+    /// Returns whether the access is a program access.
     pub fn is_program(self) -> bool
         ensures { result ≡ is_program self }
     {
@@ -58,7 +58,7 @@ impl Kind {
     }
 }
 
-/// The greatest number that six lines show.
+/// The greatest number that six lines can carry.
 const HIGHEST: u8 = 0x3f;
 
 const AM5_AM4: u8 = 0x30;
@@ -69,7 +69,7 @@ const AM2: u8 = 0x04;
 
 const AM1_AM0: u8 = 0x03;
 
-/// The space that AM5 and AM4 name, or `None` where they leave the code to the user.
+/// Returns the space that AM5 and AM4 select, or `None` for the user-defined codes.
 fn space_of(code: u8) -> Option<Space>
     ensures { result ≡ space_by_bits code }
 {
@@ -81,8 +81,8 @@ fn space_of(code: u8) -> Option<Space>
     }
 }
 
-/// The kind of access that AM1 and AM0 name in a space, or `None` where AM3 is low or they name
-/// none.
+/// Returns the kind of access that AM3, AM1 and AM0 select in a space. Returns `None` where AM3 is
+/// low or where the space has no access with these bits.
 fn kind_of(space: Space, code: u8) -> Option<Kind>
     ensures { result ≡ kind_by_bits space code }
 {
@@ -95,18 +95,18 @@ fn kind_of(space: Space, code: u8) -> Option<Kind>
     }
 }
 
-/// Why a number is no address modifier that a master of this project drives.
+/// Why a number is not an address modifier code of the table.
 #[derive(Clone, Copy, Debug, PartialEq, Eq)]
 pub enum AmFault {
-    /// Above 3f: there are six address modifier lines.
+    /// K9: above 3f. There are six address modifier lines.
     TooLarge,
-    /// From 10 to 1f: left to the user by the standard.
+    /// K2: from 10 to 1f. The standard leaves these codes to the user.
     UserDefined,
-    /// In no row of the table.
+    /// K1: no row of the table has this code.
     Reserved,
 }
 
-/// An address modifier: a code of the table, with what the table says of it.
+/// An address modifier: a code of the table with the entries of its row (section 2.2.2).
 #[derive(Clone, Copy, Debug, PartialEq, Eq)]
 pub struct Am {
     code: u8,
@@ -139,11 +139,16 @@ impl Am {
     ghost use Rattle.std.specs.Prelude.{Some};
     ghost use Rattle.vme_am.specs.Codes.{row_at, read_code};
 
-    /// Reads a code of the address modifier table.
+    /// Reads a code of the address modifier table (section 2.2.2).
     ///
-    /// The table is laid out by bits: AM5 and AM4 name the space or leave the code to the user,
-    /// AM3 is high in each row, AM2 is the privilege, and AM1 with AM0 names the kind of access:
-    /// both low, blocks whose data have eight bytes.
+    /// AM5 and AM4 select the space, or make the code user-defined. AM3 is high in each row, AM2
+    /// states the privilege, and AM1 and AM0 select the kind of access. Where both are low, the
+    /// code is one of a block whose data have eight bytes.
+    ///
+    /// # Errors
+    ///
+    /// `TooLarge` above 3f, `UserDefined` from 10 to 1f, `Reserved` for every other number without
+    /// a row.
     #[tactic(auto, unfolding(crate::specs::Codes::read_code))]
     pub fn from_code(code: u8) -> Result<Am, AmFault>
         ensures { result ≡ read_code code }
@@ -166,7 +171,7 @@ impl Am {
         })
     }
 
-    /// The number on AM5 to AM0, AM5 most significant.
+    /// Returns the number on AM5 to AM0, with AM5 the most significant bit.
     pub fn code(self) -> u8
         ensures value { result ≡ self.code }
         ensures row { row_at self.code ≡ Some self }
@@ -174,28 +179,29 @@ impl Am {
         self.code
     }
 
-    /// The space that the address lines name a byte of.
+    /// Returns the address space of the code.
     pub fn space(self) -> Space
         ensures { result ≡ self.space }
     {
         self.space
     }
 
-    /// The kind of access.
+    /// Returns the kind of access.
     pub fn kind(self) -> Kind
         ensures { result ≡ self.kind }
     {
         self.kind
     }
 
-    /// Whether the code asks for supervisory privilege.
+    /// Returns whether the code states supervisory privilege.
     pub fn is_supervisory(self) -> bool
         ensures { result ≡ self.supervisory }
     {
         self.supervisory
     }
 
-    /// Whether each datum has eight bytes, on the address lines and the data lines.
+    /// Returns whether each datum has eight bytes, on the address lines and the data lines
+    /// together.
     pub fn wide(self) -> bool
         ensures { result ≡ self.wide }
     {

@@ -1,4 +1,4 @@
--- The request that is granted next is the one that is before all others.
+-- The request that is granted next is the one that precedes all others.
 use Rattle.std.proofs.Common.{◌≡◌, ℕ, ◌<◌, zero, suc, Bool, true, false, not, List, [], ◌∷◌, length, Some, None, ap, sym, ◌∙◌, refl, arith, inl, inr, get_or, find, subst}
 use Rattle.std.specs.Prelude.{All, Contains, ◌⊎◌}
 use Rattle.std.specs.List.{list_any}
@@ -11,11 +11,11 @@ use Rattle.vme_arbiter.specs.Requests.{BusRequest, goes_before, next_request, is
 use Rattle.vme_arbiter.specs.Grants.{IsBehind, IsNext}
 use Rattle.vme_arbiter.proofs.Orders.{before-irreflexive, before-transitive, before-asymmetric, before-apart, before-total}
 
--- requests on the same level and of the same slot are the same
+-- requests with one level and one slot are equal
 pub same_request : (a b : BusRequest) → a.level ≡ b.level → a.slot ≡ b.slot → a ≡ b
 same_request a b level slot = λ i. record { level = level i; slot = slot i }
 
--- what it is to go before another
+-- the two ways in which a request precedes another
 before-cases : (levels : List ℕ) (a b : BusRequest) → goes_before levels a b ≡ true
     → (stands_before levels a.level b.level ≡ true) ⊎ ((a.level ≡ b.level) × (a.slot < b.slot))
 before-cases levels a b before =
@@ -27,11 +27,11 @@ before-cases levels a b before =
 lower-before : (levels : List ℕ) (a b : BusRequest) → a.level ≡ b.level → a.slot < b.slot → goes_before levels a b ≡ true
 lower-before levels a b level slot = or_right _ _ (and_from _ _ (eq-eqb a.level b.level level) (lt-ltb a.slot b.slot slot))
 
--- a level stands before none that is the same
+-- a level does not precede itself
 not_before_same : (levels : List ℕ) (a b : ℕ) → a ≡ b → stands_before levels a b ≡ false
 not_before_same levels a b same = ap (λ l. stands_before levels l b) same ∙ before-irreflexive levels b
 
--- a request that is behind another does not go before it
+-- a request behind another does not precede it
 behind-not_before : (levels : List ℕ) (next other : BusRequest) → IsBehind levels next other → goes_before levels other next ≡ false
 behind-not_before levels next other (inl same) =
     or_from _ _ (not_before_same levels other.level next.level (ap (λ r. r.level) same))
@@ -43,14 +43,14 @@ behind-not_before levels next other (inr (inr greater)) =
     or_from _ _ (not_before_same levels other.level next.level greater.0)
     (and_right _ _ (le-ltb other.slot next.slot (omega (arith, greater.1))))
 
--- a request that is behind the next one is that one, or the next one goes before it
+-- a request behind the next one is that one, or the next one precedes it
 behind-before : (levels : List ℕ) (next other : BusRequest) → IsBehind levels next other
     → (other ≡ next) ⊎ (goes_before levels next other ≡ true)
 behind-before levels next other (inl same) = inl same
 behind-before levels next other (inr (inl later)) = inr (or_left _ _ later)
 behind-before levels next other (inr (inr greater)) = inr (lower-before levels next other (sym greater.0) greater.1)
 
--- a request that does not go before another is behind it
+-- a request that does not precede another is behind it
 not_before-behind : (first : ℕ) (next other : BusRequest) → first < 4 → is_level next.level ≡ true → is_level other.level ≡ true
     → goes_before (level_order first) other next ≡ false → IsBehind (level_order first) next other
 not_before-behind first next other first< next_ok other_ok not_before =
@@ -66,7 +66,7 @@ not_before-behind first next other first< next_ok other_ok not_before =
           ]
     ]
 
--- what is behind a request is behind one that goes before it
+-- a request behind another is behind each request that precedes it
 behind-later : (levels : List ℕ) (next other first : BusRequest) → IsBehind levels next other → goes_before levels first next ≡ true
     → IsBehind levels first other
 behind-later levels next other first behind before =
@@ -90,14 +90,14 @@ behind-later levels next other first behind before =
           ]
     ]
 
--- where no element passes, each fails
+-- if no element passes a test, each one fails it
 each_fails : (test : BusRequest → Bool) (xs : List BusRequest) → list_any test xs ≡ false → All (λ x. test x ≡ false) xs
 each_fails test [] none = All-nil (λ x. test x ≡ false)
 each_fails test (x ∷ xs) none =
     let parts = or_parts (test x) (list_any test xs) none in
     All-cons (λ y. test y ≡ false) x xs parts.0 (each_fails test xs parts.1)
 
--- an element that passes is found where no other passes
+-- an element that passes is found if no other passes
 find-sole : (test : BusRequest → Bool) (xs : List BusRequest) (next : BusRequest) (k : ℕ) → k < length xs → get_or xs k next ≡ next
     → test next ≡ true → All (λ x. test x ≡ true → x ≡ next) xs → find test xs ≡ Some next
 find-sole test [] next k within at passes sole = absurd (omega arith)
@@ -111,7 +111,7 @@ find-sole test (x ∷ xs) next (suc k) within at passes sole =
           rw fails (find-sole test xs next k (omega arith) at passes (All-tail (λ y. test y ≡ true → y ≡ next) x xs sole))
     ]
 
--- what is found is in the list, and passes
+-- the element that is found is in the list and passes
 find-found : (test : BusRequest → Bool) (xs : List BusRequest) (next : BusRequest) → find test xs ≡ Some next
     → Contains xs next × (test next ≡ true)
 find-found test [] next found = cc
@@ -125,7 +125,7 @@ find-found test (x ∷ xs) next found =
           ((suc rest.0.0, omega (arith, rest.0.1), rest.0.2), rest.1)
     ]
 
--- where none goes before a request, each is behind it
+-- if no request precedes another, each is behind it
 behind_all : (first : ℕ) (next : BusRequest) (xs : List BusRequest) → first < 4 → is_level next.level ≡ true
     → All (λ r. is_level r.level ≡ true) xs → All (λ x. goes_before (level_order first) x next ≡ false) xs
     → All (IsBehind (level_order first) next) xs
@@ -137,7 +137,7 @@ behind_all first next (x ∷ xs) first< next_ok levels_ok fails =
     (not_before-behind first next x first< next_ok (All-head P x xs levels_ok) (All-head F x xs fails))
     (behind_all first next xs first< next_ok (All-tail P x xs levels_ok) (All-tail F x xs fails))
 
--- the one that is before all others is granted
+-- the request that precedes all others is granted next
 pub next-granted : (levels : List ℕ) (pending : List BusRequest) (next : BusRequest) → IsNext levels pending next
     → next_request levels pending ≡ Some next
 next-granted levels pending next is_next =
@@ -154,13 +154,13 @@ next-granted levels pending next is_next =
           absurd (false≢true (sym (not_from_true _ one) ∙ passes))
     ]) pending is_next.first)
 
--- what is granted is one of the set
+-- the request that is granted next is in the set
 pub granted-pends : (levels : List ℕ) (pending : List BusRequest) (next : BusRequest) → next_request levels pending ≡ Some next
     → Contains pending next
 granted-pends levels pending next is_granted =
     (find-found (λ (r : BusRequest). not (list_any (λ other. goes_before levels other r) pending)) pending next is_granted).0
 
--- and is before all others
+-- the request that is granted next precedes all others
 pub granted-next : (first : ℕ) (pending : List BusRequest) (next : BusRequest) → is_level first ≡ true
     → All (λ r. is_level r.level ≡ true) pending → next_request (level_order first) pending ≡ Some next
     → IsNext (level_order first) pending next
@@ -172,7 +172,7 @@ granted-next first pending next first_ok levels_ok is_granted =
     let fails = each_fails (λ other. goes_before levels other next) pending (not-true _ found.1) in
     record { pends = found.0; first = behind_all first next pending (ltb-true first 4 first_ok) next_ok levels_ok fails }
 
--- where something pends, one is before all others
+-- a set that is not empty has a request that precedes all others
 some_next : (first : ℕ) (r : BusRequest) (pending : List BusRequest) → is_level first ≡ true
     → All (λ r. is_level r.level ≡ true) (r ∷ pending) → (next : BusRequest) × IsNext (level_order first) (r ∷ pending) next
 some_next first r [] first_ok levels_ok =
@@ -210,7 +210,7 @@ some_next first r (s ∷ pending) first_ok levels_ok =
       )
     ]
 
--- nothing is granted exactly where nothing pends
+-- no request is granted next exactly where none is pending
 pub none-granted : (first : ℕ) (pending : List BusRequest) → is_level first ≡ true → All (λ r. is_level r.level ≡ true) pending
     → next_request (level_order first) pending ≡ None → pending ≡ []
 none-granted first [] first_ok levels_ok none = refl
@@ -219,7 +219,7 @@ none-granted first (r ∷ pending) first_ok levels_ok none =
     let one = next-granted (level_order first) (r ∷ pending) rest.0 rest.1 in
     cc
 
--- of two that are granted next each is the other
+-- two requests that are granted next are equal
 pub next-sole : (levels : List ℕ) (pending : List BusRequest) (a b : BusRequest) → IsNext levels pending a → IsNext levels pending b → a ≡ b
 next-sole levels pending a b next_a next_b =
     same_Some a b (sym (next-granted levels pending a next_a) ∙ next-granted levels pending b next_b)

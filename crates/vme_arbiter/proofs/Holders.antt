@@ -1,4 +1,4 @@
--- Who holds the bus, by the replies.
+-- The holder of the bus, by the replies.
 use Rattle.std.proofs.Common.{◌≡◌, ◌≢◌, ℕ, List, [], ◌∷◌, ◌++◌, Some, ap, subst, sym, ◌∙◌, rules}
 use Rattle.std.specs.Prelude.{All}
 use Rattle.std.proofs.lemmas.Option.{same_Some}
@@ -12,7 +12,7 @@ use Rattle.vme_arbiter.specs.declared.command.ArbReply.TheVariants.{Granted, Fre
 use Rattle.vme_arbiter.specs.Arbitration.{Arbitration, turn_step}
 use Rattle.vme_arbiter.specs.Turns.{slot_of, Frees, HasTheBus}
 
--- what is told a slot
+-- the reply Granted is for the holder
 pub reported-granted : (bus : Arbitration) (cmd : ArbCmd) → (turn_step bus cmd).1 ≡ Granted → (turn_step bus cmd).0.holder ≡ Some (slot_of cmd)
 reported-granted bus cmd reported = search rules
 
@@ -23,7 +23,7 @@ pub holder-stays : (bus : Arbitration) (cmd : ArbCmd) (slot : ℕ) → bus.holde
     → (turn_step bus cmd).0.holder ≡ Some slot
 holder-stays bus cmd slot held not_freed = search rules
 
--- a slot that holds the bus holds it until it is told that it is free
+-- a holder holds the bus until it has the reply Freed
 holder-kept : (bus : Arbitration) (slot : ℕ) (between : List (Entry ArbCmd ArbReply)) → bus.holder ≡ Some slot
     → IsLegal turn_step bus between → All (λ e. Frees slot e → ⊥) between → (replay turn_step bus between).holder ≡ Some slot
 holder-kept bus slot [] held legal keeps = held
@@ -34,7 +34,7 @@ holder-kept bus slot (e ∷ between) held legal keeps =
     holder-kept (turn_step bus e.cmd).0 slot between (holder-stays bus e.cmd slot held kept) legal.1
     (All-tail (λ e. Frees slot e → ⊥) e between keeps)
 
--- the slot that by the replies has the bus is the holder
+-- the slot that has the bus by the replies is the holder
 pub has_bus-holder : (bus : Arbitration) (h : List (Entry ArbCmd ArbReply)) (slot : ℕ) → IsLegal turn_step bus h → HasTheBus slot h
     → (replay turn_step bus h).holder ≡ Some slot
 has_bus-holder bus h slot legal has =
@@ -47,13 +47,13 @@ has_bus-holder bus h slot legal has =
     ∙ ap (λ (b : Arbitration). b.holder) (replay-append turn_step bus has.before (has.reported ∷ has.since))
     ∙ holder-kept (turn_step then has.reported.cmd).0 slot has.since held from.1 has.kept
 
--- so there is one such slot at most
+-- at most one slot has the bus by the replies
 pub has_bus-alone : (bus : Arbitration) (h : List (Entry ArbCmd ArbReply)) (a b : ℕ) → IsLegal turn_step bus h → HasTheBus a h
     → HasTheBus b h → a ≡ b
 has_bus-alone bus h a b legal has_a has_b =
     same_Some a b (sym (has_bus-holder bus h a legal has_a) ∙ has_bus-holder bus h b legal has_b)
 
--- and no other slot is told that it holds the bus
+-- while a slot has the bus, no other slot has the reply Granted
 pub has_bus-granted : (bus : Arbitration) (h : List (Entry ArbCmd ArbReply)) (next : Entry ArbCmd ArbReply) (slot : ℕ)
     → IsLegal turn_step bus (h ++ next ∷ []) → HasTheBus slot h → next.reply ≡ Granted → slot_of next.cmd ≡ slot
 has_bus-granted bus h next slot legal has granted =
@@ -63,7 +63,7 @@ has_bus-granted bus h next slot legal has granted =
     let stays = holder-stays last next.cmd slot held (λ freed. let both = sym reported ∙ freed in cc) in
     same_Some _ _ (sym (reported-granted last next.cmd reported) ∙ stays)
 
--- or that it held it
+-- while a slot has the bus, no other slot has the reply Freed
 pub has_bus-freed : (bus : Arbitration) (h : List (Entry ArbCmd ArbReply)) (next : Entry ArbCmd ArbReply) (slot : ℕ)
     → IsLegal turn_step bus (h ++ next ∷ []) → HasTheBus slot h → next.reply ≡ Freed → slot_of next.cmd ≡ slot
 has_bus-freed bus h next slot legal has freed =

@@ -1,4 +1,4 @@
--- The requests that an array of levels holds.
+-- The requests of an array of levels.
 use Rattle.std.proofs.Common.{◌≡◌, ◌≢◌, ℕ, ◌+◌, ◌<◌, zero, suc, Bool, true, false, List, [], ◌∷◌, set, Option, Some, None, ap, sym, ◌∙◌, refl, arith, eqb, ltb, subst, inl, inr, ◌⊎◌}
 use Rattle.std.specs.Prelude.{slice_get, All, Contains, is_some, option_and_then}
 use Rattle.std.specs.List.{list_any}
@@ -25,7 +25,7 @@ any_at test n (suc k) slot (None ∷ levels) level place there passes =
 any_at test n (suc k) slot (Some l ∷ levels) level place there passes =
     or_right _ _ (any_at test (n + 1) k slot levels level (omega arith) there passes)
 
--- what holds of each entry of the array holds of each request
+-- a property of each entry of the array holds of each request
 pub all_listed : (P : BusRequest → Type 0) (n : ℕ) (levels : List (Option ℕ))
     → ((k level : ℕ) → slice_get levels k ≡ Some (Some level) → P (bus_request level (n + k))) → All P (requests_from n levels)
 all_listed P n [] each = All-nil P
@@ -38,14 +38,14 @@ all_listed P n (Some l ∷ levels) each =
     (all_listed P (n + 1) levels (λ k level there. let at : n + suc k ≡ n + 1 + k = omega arith in
     subst (λ (slot : ℕ). P (bus_request level slot)) at (each (suc k) level there)))
 
--- a request of a lower slot than the rest goes first in the list
+-- a request of a lower slot than the rest is first in the list
 with_request-first : (new : BusRequest) (n : ℕ) (levels : List (Option ℕ)) → new.slot < n
     → with_request new (requests_from n levels) ≡ new ∷ requests_from n levels
 with_request-first new n [] low = refl
 with_request-first new n (None ∷ levels) low = with_request-first new (n + 1) levels (omega arith)
 with_request-first new n (Some l ∷ levels) low = rw (lt-ltb new.slot n low)
 
--- a level written at an empty place is a request more
+-- a level that is stored at an empty place adds a request
 pub requests_from-set_some : (n k slot level : ℕ) (levels : List (Option ℕ)) → slot ≡ n + k
     → slice_get levels k ≡ Some None
     → requests_from n (set levels k (Some level)) ≡ with_request (bus_request level slot) (requests_from n levels)
@@ -61,7 +61,7 @@ requests_from-set_some n (suc k) slot level (Some l ∷ levels) place empty =
     let later : ltb slot n ≡ false = le-ltb slot n (omega arith) in
     rw later (ap (λ rest. bus_request l n ∷ rest) (requests_from-set_some (n + 1) k slot level levels (omega arith) empty))
 
--- requests of greater slots alone stay as they are without one
+-- a list of greater slots is unchanged without a slot
 without_slot-low : (slot n : ℕ) (levels : List (Option ℕ)) → slot < n
     → without_slot slot (requests_from n levels) ≡ requests_from n levels
 without_slot-low slot n [] low = refl
@@ -70,7 +70,7 @@ without_slot-low slot n (Some l ∷ levels) low =
     let other : eqb n slot ≡ false = ne_eqb n slot (λ same. absurd (omega arith)) in
     rw other (ap (λ rest. bus_request l n ∷ rest) (without_slot-low slot (n + 1) levels (omega arith)))
 
--- a place made empty leaves the other requests
+-- a place that is emptied removes only its slot's request
 pub requests_from-set_none : (n k slot : ℕ) (levels : List (Option ℕ)) → slot ≡ n + k
     → requests_from n (set levels k None) ≡ without_slot slot (requests_from n levels)
 requests_from-set_none n k slot [] place = refl
@@ -83,13 +83,13 @@ requests_from-set_none n (suc k) slot (Some l ∷ levels) place =
     let other : eqb n slot ≡ false = ne_eqb n slot (λ same. absurd (omega arith)) in
     rw other (ap (λ rest. bus_request l n ∷ rest) (requests_from-set_none (n + 1) k slot levels (omega arith)))
 
--- a slot pends where its place has a level
+-- a slot has a pending request if its place has a level
 pending_at : (slot level : ℕ) (levels : List (Option ℕ)) → slice_get levels slot ≡ Some (Some level)
     → has_slot slot (requests_of levels) ≡ true
 pending_at slot level levels there =
     any_at (λ r. eqb r.slot slot) 0 slot slot levels level (omega arith) there (eq-eqb slot slot refl)
 
--- and not where it has none
+-- a slot has no pending request if its place has no level
 pending_not : (slot : ℕ) (levels : List (Option ℕ)) → ((level : ℕ) → slice_get levels slot ≢ Some (Some level))
     → has_slot slot (requests_of levels) ≡ false
 pending_not slot levels none =
@@ -103,7 +103,7 @@ pending_by slot levels None at = pending_not slot levels (λ level there. let no
 pending_by slot levels (Some None) at = pending_not slot levels (λ level there. let not_there = sym at ∙ there in cc)
 pending_by slot levels (Some (Some level)) at = pending_at slot level levels at
 
--- whether a slot pends is read at its place
+-- the place of a slot shows whether its request is pending
 pub pends-listed : (slot : ℕ) (levels : List (Option ℕ))
     → has_slot slot (requests_of levels) ≡ is_some (option_and_then (λ level. level) (slice_get levels slot))
 pends-listed slot levels = pending_by slot levels (slice_get levels slot) refl
@@ -122,8 +122,8 @@ contains_listed n (suc k) slot level (Some l ∷ levels) place there =
     let rest = contains_listed (n + 1) k slot level levels (omega arith) there in
     (suc rest.0, omega (arith, rest.1), rest.2)
 
--- what the array tells of the request that is granted next: it is there, no lower slot is on its level, and each other level stands
--- behind its own
+-- the next request in the array: it exists, no lower slot is on its level, and every other level with a request follows
+-- its own
 pub record IsFirstListed (levels : List ℕ) (places : List (Option ℕ)) (slot level : ℕ) : Type 0 where
   pub there : slice_get places slot ≡ Some (Some level)
   pub lowest : (k : ℕ) → k < slot → slice_get places k ≢ Some (Some level)
@@ -152,13 +152,13 @@ granted-listed levels slot level places is =
           subst (λ (x : ℕ). P (bus_request l x)) at behind);
     })
 
--- where the array is empty, nothing pends
+-- if the array is empty, no request is pending
 nothing_listed : (n : ℕ) (levels : List (Option ℕ)) → ((k l : ℕ) → slice_get levels k ≢ Some (Some l)) → requests_from n levels ≡ []
 nothing_listed n [] none = refl
 nothing_listed n (None ∷ levels) none = nothing_listed (n + 1) levels (λ k. none (suc k))
 nothing_listed n (Some l ∷ levels) none = absurd (none 0 l refl)
 
--- and nothing is granted
+-- if the array is empty, no request is granted next
 pub none-listed : (levels : List ℕ) (places : List (Option ℕ)) → ((k l : ℕ) → slice_get places k ≢ Some (Some l))
     → next_request levels (requests_of places) ≡ None
 none-listed levels places none = ap (next_request levels) (nothing_listed 0 places none)

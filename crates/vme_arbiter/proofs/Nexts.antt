@@ -15,7 +15,7 @@ use Rattle.vme_arbiter.proofs.Listed.{granted-listed, none-listed}
 abbrev pub AreInRange : List (Option ℕ) → Type 0
 AreInRange places = (slot level : ℕ) → slice_get places slot ≡ Some (Some level) → level < 4
 
--- the greatest up to the first level is granted next
+-- the lowest slot on the greatest level up to the first level is granted next
 pub up_to_first-next : (first : ℕ) (places : List (Option ℕ)) (slot level : ℕ) → AreInRange places
     → IsGreatest places 0 (first + 1) slot level → first < 4
     → next_request (level_order first) (requests_of places) ≡ Some (bus_request level slot)
@@ -37,7 +37,7 @@ up_to_first-next first places slot level in_range is first< =
           ];
     })
 
--- where none is up to there, the greatest above it
+-- if there is none up to the first level, the lowest slot on the greatest level above it is granted next
 above_first-next : (first : ℕ) (places : List (Option ℕ)) (slot level : ℕ) → AreInRange places → HasNone places 0 (first + 1)
     → IsGreatest places (first + 1) 4 slot level
     → next_request (level_order first) (requests_of places) ≡ Some (bus_request level slot)
@@ -60,7 +60,7 @@ above_first-next first places slot level in_range none is =
           ];
     })
 
--- so what is found above the first level, if anything, where none is up to there
+-- if there is none up to the first level, the request that is found above it, if any, is granted next
 pub later-next : (first : ℕ) (places : List (Option ℕ)) (found : Option Request) → AreInRange places → HasNone places 0 (first + 1)
     → MatchOption found (HasNone places (first + 1) 4) (λ next. IsGreatest places (first + 1) 4 next.slot next.level)
     → option_map (λ (next : Request). bus_request next.level next.slot) found ≡ next_request (level_order first) (requests_of places)
@@ -72,7 +72,7 @@ later-next first places None in_range none is =
     absurd (omega arith)))
 later-next first places (Some next) in_range none is = sym (above_first-next first places next.slot next.level in_range none is)
 
--- and it is in the array
+-- a request that is found is in the array
 pub later-within : (places : List (Option ℕ)) (from end : ℕ) (found : Option Request)
     → MatchOption found (HasNone places from end) (λ next. IsGreatest places from end next.slot next.level)
     → IfSome found (λ next. next.slot < length places)

@@ -4,13 +4,13 @@ use Rattle.std.proofs.lemmas.Bool.{cases_Bool, lt-ltb, le-ltb, ltb-true, eqb-tru
 use Rattle.vme_arbiter.specs.declared.kind.ArbiterKind.TheVariants.{Rotating}
 use Rattle.vme_arbiter.specs.Levels.{level_order, stands_before, levels_before, first_after}
 
--- no level stands before itself
+-- no level precedes itself
 pub before-irreflexive : (levels : List ℕ) (a : ℕ) → stands_before levels a a ≡ false
 before-irreflexive [] a = refl
 before-irreflexive (l ∷ levels) a =
     elim (cases_Bool (eqb l a)) [ inl same ↦ rw same refl | inr other ↦ rw other (before-irreflexive levels a) ]
 
--- what stands before a level stands before those that it stands before
+-- precedence is transitive
 pub before-transitive : (levels : List ℕ) (a b c : ℕ) → stands_before levels a b ≡ true → stands_before levels b c ≡ true
     → stands_before levels a c ≡ true
 before-transitive [] a b c first then = cc
@@ -26,7 +26,7 @@ before-transitive (l ∷ levels) a b c first then =
     ] in
     and_from _ _ bc.0 first_or_later
 
--- and not after them
+-- precedence is asymmetric
 pub before-asymmetric : (levels : List ℕ) (a b : ℕ) → stands_before levels a b ≡ true → stands_before levels b a ≡ false
 before-asymmetric levels a b first =
     elim (cases_Bool (stands_before levels b a)) [
@@ -34,7 +34,7 @@ before-asymmetric levels a b first =
       | inr not_back ↦ not_back
     ]
 
--- levels of which one stands before the other are two
+-- a level and one that it precedes are different
 pub before-apart : (levels : List ℕ) (a b : ℕ) → stands_before levels a b ≡ true → a ≢ b
 before-apart levels a b first same =
     false≢true (sym (before-irreflexive levels b) ∙ ap (λ l. stands_before levels l b) (sym same) ∙ first)
@@ -62,7 +62,7 @@ each_three test all f a b f< a< b< =
     all_four-at (λ b. test f a b) b b< (all_four-at (λ a. all_four (λ b. test f a b)) a a<
     (all_four-at (λ f. all_four (λ a. all_four (λ b. test f a b))) f f< all))
 
--- of two levels one stands before the other
+-- of two different levels one precedes the other
 total_at : ℕ → ℕ → ℕ → Bool
 total_at f a b = eqb a b || (stands_before (level_order f) a b || stands_before (level_order f) b a)
 
@@ -79,7 +79,7 @@ before-total first a b first< a< b< =
       | inr apart ↦ inr (or_cases _ _ apart)
     ]
 
--- a level stands before the lower ones, but for those up to the first, which stand before the others
+-- a greater level precedes a lower one, except that the levels up to the first precede those above it
 goes_down : ℕ → ℕ → ℕ → Bool
 goes_down f a b = (ltb b a && (not (ltb f a) || ltb f b)) || (not (ltb f a) && ltb f b)
 
@@ -98,28 +98,28 @@ down-before first a b first< a< b< down =
       | inr before ↦ before
     ]
 
--- up to the first level the greater stands before the lower
+-- up to the first level, a greater level precedes a lower one
 pub up_to_first : (first a b : ℕ) → first < 4 → b < a → a ≤ first → stands_before (level_order first) a b ≡ true
 unfolding goes_down
 up_to_first first a b first< lower within =
     down-before first a b first< (omega arith) (omega arith)
     (or_left _ _ (and_from _ _ (lt-ltb b a lower) (or_left _ _ (not_from_false _ (le-ltb first a within)))))
 
--- and before those above the first
+-- a level up to the first precedes each level above the first
 pub first_before_above : (first a b : ℕ) → a ≤ first → first < b → b < 4 → stands_before (level_order first) a b ≡ true
 unfolding goes_down
 first_before_above first a b within above b< =
     down-before first a b (omega arith) (omega arith) b<
     (or_right _ _ (and_from _ _ (not_from_false _ (le-ltb first a within)) (lt-ltb first b above)))
 
--- of which the greater stands before the lower too
+-- above the first level, a greater level precedes a lower one
 pub above_first : (first a b : ℕ) → first < b → b < a → a < 4 → stands_before (level_order first) a b ≡ true
 unfolding goes_down
 above_first first a b above lower a< =
     down-before first a b (omega arith) a< (omega arith)
     (or_left _ _ (and_from _ _ (lt-ltb b a lower) (or_right _ _ (lt-ltb first b above))))
 
--- after a grant that rotates, fewer levels stand before one that stood after the granted
+-- after a rotating grant, fewer levels precede one that followed the granted level
 turn_at : ℕ → ℕ → ℕ → Bool
 turn_at f granted level =
     not (stands_before (level_order f) granted level)
@@ -138,7 +138,7 @@ turn-nearer first granted level first< granted< level< before =
       | inr nearer ↦ ltb-true _ _ nearer
     ]
 
--- three levels at most stand before one
+-- at most three levels precede a level
 three_at : ℕ → ℕ → Bool
 three_at f level = ltb (levels_before (level_order f) level) 4
 

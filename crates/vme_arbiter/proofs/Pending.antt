@@ -1,4 +1,4 @@
--- What pends after a request is added or taken out.
+-- The pending requests after a request is added or removed.
 use Rattle.std.proofs.Common.{◌≡◌, ℕ, ◌<◌, Bool, true, false, ◌||◌, List, [], ◌∷◌, Some, ap, sym, ◌∙◌, refl, arith, eqb, ltb, inl, inr}
 use Rattle.std.specs.Prelude.{All}
 use Rattle.std.specs.List.{list_any}
@@ -18,7 +18,7 @@ or_swap true true c = refl
 or_swap true false c = refl
 or_swap false b c = refl
 
--- a slot has a request more
+-- a slot has a request in an extended set if it had one or the new one is its own
 pub has_slot-with : (slot : ℕ) (new : BusRequest) (pending : List BusRequest)
     → has_slot slot (with_request new pending) ≡ (eqb new.slot slot || has_slot slot pending)
 has_slot-with slot new [] = refl
@@ -30,7 +30,7 @@ has_slot-with slot new (r ∷ pending) =
           ∙ or_swap (eqb r.slot slot) (eqb new.slot slot) (has_slot slot pending))
     ]
 
--- a slot whose requests are taken out has none
+-- a slot has no request in a set without its requests
 pub has_slot-without_same : (slot : ℕ) (pending : List BusRequest) → has_slot slot (without_slot slot pending) ≡ false
 has_slot-without_same slot [] = refl
 has_slot-without_same slot (r ∷ pending) =
@@ -39,7 +39,7 @@ has_slot-without_same slot (r ∷ pending) =
       | inr other ↦ rw other (or_from _ _ other (has_slot-without_same slot pending))
     ]
 
--- and any other has those that it had
+-- every other slot has the requests that it had
 pub has_slot-without_other : (slot gone : ℕ) (pending : List BusRequest) → (slot ≡ gone → ⊥)
     → has_slot slot (without_slot gone pending) ≡ has_slot slot pending
 has_slot-without_other slot gone [] other = refl
@@ -52,14 +52,14 @@ has_slot-without_other slot gone (r ∷ pending) other =
       | inr not_gone ↦ rw not_gone (ap (λ rest. eqb r.slot slot || rest) (has_slot-without_other slot gone pending other))
     ]
 
--- the request that is granted is one of the set
+-- the request that is granted next is in the set
 pub granted-has_slot : (levels : List ℕ) (pending : List BusRequest) (next : BusRequest) → next_request levels pending ≡ Some next
     → has_slot next.slot pending ≡ true
 granted-has_slot levels pending next is_granted =
     let at = granted-pends levels pending next is_granted in
     list_any_at (λ r. eqb r.slot next.slot) pending at.0 next at.1 (eq-eqb _ _ (ap (λ r. r.slot) at.2))
 
--- what holds of a set and of a request more holds of both
+-- a property of a set and of a new request holds of the extended set
 pub All-with : (P : BusRequest → Type 0) (new : BusRequest) (pending : List BusRequest) → P new → All P pending
     → All P (with_request new pending)
 All-with P new [] holds all = All-cons P new [] holds all
@@ -71,7 +71,7 @@ All-with P new (r ∷ pending) holds all =
           (All-with P new pending holds (All-tail P r pending all)))
     ]
 
--- a request of a slot that has none goes to its place
+-- a request of a slot that has none keeps the list sorted by slot
 pub by_slot-with : (new : BusRequest) (pending : List BusRequest) → has_slot new.slot pending ≡ false → IsBySlot pending
     → IsBySlot (with_request new pending)
 by_slot-with new [] none by_slot = (All-nil (λ later. new.slot < later.slot), tt)
@@ -90,7 +90,7 @@ by_slot-with new (r ∷ pending) none by_slot =
           rw later (All-with (λ l. r.slot < l.slot) new pending greater by_slot.0, by_slot-with new pending apart.1 by_slot.1)
     ]
 
--- a set stays by slot without one
+-- a list without a slot's requests stays sorted by slot
 pub by_slot-without : (gone : ℕ) (pending : List BusRequest) → IsBySlot pending → IsBySlot (without_slot gone pending)
 by_slot-without gone [] by_slot = tt
 by_slot-without gone (r ∷ pending) by_slot =

@@ -1,4 +1,4 @@
--- A list of requests by slot is a set of them.
+-- A list of requests that is sorted by slot is a set.
 use Rattle.std.proofs.Common.{◌≡◌, ◌≢◌, ℕ, ◌<◌, zero, suc, List, [], ◌∷◌, ap, subst, sym, ◌∙◌, refl, arith, eqb, ltb, inl, inr, ◌⊎◌}
 use Rattle.std.specs.Prelude.{Contains, ◌↔◌}
 use Rattle.std.proofs.lemmas.Bool.{cases_Bool, eqb-true, eqb-false}
@@ -17,7 +17,7 @@ pub contains_parts : (x r : BusRequest) (xs : List BusRequest) → Contains (x �
 contains_parts x r xs (zero, within, at) = inl at
 contains_parts x r xs (suc k, within, at) = inr (k, omega (arith, within), at)
 
--- a set with a request more has that request and all others
+-- a set with one more request has that request and all others
 pub with-contains : (new r : BusRequest) (pending : List BusRequest) → (r ≡ new) ⊎ Contains pending r → Contains (with_request new pending) r
 with-contains new r [] (inl same) = contains_first new r [] (sym same)
 with-contains new r [] (inr there) = contains_later new r [] there
@@ -87,7 +87,7 @@ contains-without slot r (x ∷ pending) member =
           ]
     ]
 
--- two lists by slot with the same elements have the same first one
+-- two lists sorted by slot with the same elements have the same first element
 same_first : (x y : BusRequest) (xs ys : List BusRequest) → IsBySlot (x ∷ xs) → IsBySlot (y ∷ ys) → Contains (y ∷ ys) x
     → Contains (x ∷ xs) y → x ≡ y
 same_first x y xs ys by_x by_y x_in y_in =
@@ -103,7 +103,7 @@ same_first x y xs ys by_x by_y x_in y_in =
           ]
     ]
 
--- what is in the rest of one is in the rest of the other
+-- the elements in the rest of one list are those in the rest of the other
 rest_in_rest : (x r : BusRequest) (xs ys : List BusRequest) → IsBySlot (x ∷ xs) → (Contains (x ∷ xs) r → Contains (x ∷ ys) r)
     → Contains xs r → Contains ys r
 rest_in_rest x r xs ys by_x goes later =
@@ -115,7 +115,7 @@ rest_in_rest x r xs ys by_x goes later =
       | inr rest ↦ rest
     ]
 
--- two lists by slot with the same elements are the same
+-- two lists sorted by slot with the same elements are equal
 pub same_list : (a b : List BusRequest) → IsBySlot a → IsBySlot b → ((r : BusRequest) → Contains a r ↔ Contains b r) → a ≡ b
 same_list [] [] by_a by_b same = refl
 same_list [] (y ∷ ys) by_a by_b same = absurd (omega (arith, ((same y).1 (contains_first y y ys refl)).1))

@@ -1,4 +1,4 @@
--- A request that waits at a rotating arbiter, and the grants that come before it.
+-- A request that waits at a rotating arbiter, and the grants that precede its own.
 use Rattle.std.proofs.Common.{◌≡◌, ◌≢◌, ℕ, ◌<◌, ◌≤◌, true, List, [], ◌∷◌, length, Option, Some, None, ap, subst, sym, ◌∙◌, refl, arith, inl, inr, rules}
 use Rattle.std.specs.Prelude.{All, Contains}
 use Rattle.std.specs.List.{cons_option}
@@ -23,11 +23,11 @@ use Rattle.vme_arbiter.proofs.Pending.{All-with}
 use Rattle.vme_arbiter.proofs.lemmas.Orderly.{levels_ok, orderly-step, kind-stays}
 use Rattle.vme_arbiter.proofs.Sets.{contains_parts, with-contains, without-contains}
 
--- whom the bus is granted to holds it
+-- a slot that is granted the bus holds it
 pub grant-holds : (bus : Arbitration) (cmd : ArbCmd) (r : BusRequest) → grant_of bus cmd ≡ Some r → (turn_step bus cmd).0.holder ≡ Some r.slot
 grant-holds bus cmd r is = search rules
 
--- and nobody comes to hold it otherwise
+-- each new holder is granted the bus
 taken_granted : (holder : Option ℕ) (bus : Arbitration) (new : BusRequest) (slot : ℕ) → bus.holder ≢ Some slot
     → (lawful_ask holder bus new).0.holder ≡ Some slot
     → (r : BusRequest) × (option_map_or (λ (h : ℕ). None) holder (Some new) ≡ Some r) × (r.slot ≡ slot)
@@ -53,7 +53,7 @@ holder-granted bus (Done done) slot other now =
       | inr not_held ↦ absurd (other (rw not_held at now))
     ]
 
--- of two requests of one slot each is the other
+-- two pending requests of one slot are equal
 sole_slot : (a b : BusRequest) (pending : List BusRequest) → IsBySlot pending → Contains pending a → Contains pending b → a.slot ≡ b.slot
     → a ≡ b
 sole_slot a b [] by_slot in_a in_b same = absurd (omega (arith, in_a.1))
@@ -77,24 +77,24 @@ sole_slot a b (x ∷ pending) by_slot in_a in_b same =
           ]
     ]
 
--- where a request pends, somebody holds the bus
+-- if a request is pending, a slot holds the bus
 held_while_pending : (bus : Arbitration) (r : BusRequest) → IsOrderly bus → Contains bus.pending r → bus.holder ≡ None → ⊥
 held_while_pending bus r orderly pends nobody =
     let in_none : Contains [] r = subst (λ (l : List BusRequest). Contains l r) (orderly.free nobody) pends in
     omega (arith, in_none.1)
 
--- what waits on: the lowest on its level, in an orderly state of a rotating arbiter
+-- a request that waits: the lowest on its level, in an orderly state of a rotating arbiter
 record WaitsOn (bus : Arbitration) (r : BusRequest) : Type 0 where
   orderly : IsOrderly bus
   kind : bus.kind ≡ Rotating
   waits : IsLowest bus r
 
--- the grants so far, and what is left of them
+-- the properties of the grants while a request waits
 record Goes (bus : Arbitration) (r : BusRequest) (grants : List BusRequest) : Type 0 where
   elsewhere : All (λ grant. grant.level ≢ r.level) grants
   by_order : length grants ≤ levels_before (level_order bus.first) r.level
 
--- while something pends an ask is not granted at once, and leaves the level at which the next grant begins
+-- while a request is pending, a new request is not granted at once and keeps the level at which the next grant begins
 taken_goes : (holder : Option ℕ) (bus : Arbitration) (r new : BusRequest) (later : List BusRequest) → bus.holder ≡ holder → IsOrderly bus
     → IsLowest bus r → (new.level ≡ r.level → r.slot ≤ new.slot)
     → IsLowest (lawful_ask holder bus new).0 r
@@ -108,7 +108,7 @@ taken_goes (Some h) bus r new later is orderly lowest leaves = (
   λ goes. record { elsewhere = goes.elsewhere; by_order = goes.by_order },
 )
 
--- what is granted instead of the lowest on a level is on one that stands before it
+-- a grant to another request than the lowest on a level is on a level that precedes it
 granted_instead : (bus : Arbitration) (r next : BusRequest) → IsOrderly bus → IsLowest bus r → next_of bus ≡ Some next → next ≢ r
     → stands_before (level_order bus.first) next.level r.level ≡ true
 granted_instead bus r next orderly lowest is_next other =
@@ -123,7 +123,7 @@ granted_instead bus r next orderly lowest is_next other =
           absurd (omega (arith, later.1, not_lower))
     ]
 
--- a grant to another: the request still waits, and fewer levels stand before its own
+-- after a grant to another request, the request still waits, and fewer levels precede its own
 record Passed (bus : Arbitration) (r next : BusRequest) : Type 0 where
   lowest : IsLowest (bus_after_release (Some next) bus) r
   elsewhere : next.level ≢ r.level
@@ -149,7 +149,7 @@ passed_by bus r next on is_next other =
           (ltb-true r.level 4 r_ok) before);
     }
 
--- the bus is handed to another
+-- the grants after the bus is granted to another request
 handed_goes : (bus : Arbitration) (r : BusRequest) (next : Option BusRequest) (later : List BusRequest) → WaitsOn bus r → next_of bus ≡ next
     → All (λ grant. grant ≢ r) (cons_option next later)
     → IsLowest (bus_after_release next bus) r × (Goes (bus_after_release next bus) r later → Goes bus r (cons_option next later))
@@ -169,7 +169,7 @@ handed_goes bus r (Some next) later on is_next others =
           },
     )
 
--- each command leaves the request waiting, and its grant, if any, is one of those that may come
+-- each command leaves the request waiting, and its grant, if any, has the properties
 turn_goes : (bus : Arbitration) (r : BusRequest) (cmd : ArbCmd) (later : List BusRequest) → WaitsOn bus r → LeavesLowest r cmd
     → All (λ grant. grant ≢ r) (cons_option (grant_of bus cmd) later)
     → IsLowest (turn_step bus cmd).0 r × (Goes (turn_step bus cmd).0 r later → Goes bus r (cons_option (grant_of bus cmd) later))
@@ -185,12 +185,12 @@ turn_goes bus r (Done slot) later on leaves others =
       | inr not_held ↦ rw not_held (on.waits, λ goes. goes)
     ]
 
--- what holds of the grants holds of those after the first command
+-- a property of all grants holds of those after the first command
 later_others : (P : BusRequest → Type 0) (first : Option BusRequest) (later : List BusRequest) → All P (cons_option first later) → All P later
 later_others P None later all = all
 later_others P (Some next) later all = All-tail P next later all
 
--- through a history in which a request waits, the grants are few and elsewhere
+-- through a history in which a request waits, the grants have the properties
 all_go : (bus : Arbitration) (r : BusRequest) (h : List (Entry ArbCmd ArbReply)) → WaitsOn bus r → All (λ e. LeavesLowest r e.cmd) h
     → All (λ grant. grant ≢ r) (grants_in bus h) → Goes bus r (grants_in bus h)
 all_go bus r [] on leaves others = record { elsewhere = All-nil (λ grant. grant.level ≢ r.level); by_order = omega arith }
@@ -203,19 +203,19 @@ all_go bus r (e ∷ h) on leaves others =
     (All-tail (λ e. LeavesLowest r e.cmd) e h leaves)
     (later_others (λ grant. grant ≢ r) (grant_of bus e.cmd) later others))
 
--- a request that waits sees grants on other levels alone
+-- while a request waits, each grant is on another level
 pub waits-elsewhere : (bus : Arbitration) (r : BusRequest) (h : List (Entry ArbCmd ArbReply)) → IsOrderly bus → bus.kind ≡ Rotating
     → Waits bus r h → All (λ grant. grant.level ≢ r.level) (grants_in bus h)
 waits-elsewhere bus r h orderly kind waits =
     (all_go bus r h (record { orderly = orderly; kind = kind; waits = waits.pends }) waits.leaves waits.not_yet).elsewhere
 
--- and one at most for each level before its own
+-- while a request waits, there is at most one grant for each level that precedes its own
 pub waits-by_order : (bus : Arbitration) (r : BusRequest) (h : List (Entry ArbCmd ArbReply)) → IsOrderly bus → bus.kind ≡ Rotating
     → Waits bus r h → length (grants_in bus h) ≤ levels_before (level_order bus.first) r.level
 waits-by_order bus r h orderly kind waits =
     (all_go bus r h (record { orderly = orderly; kind = kind; waits = waits.pends }) waits.leaves waits.not_yet).by_order
 
--- so three at most
+-- while a request waits, there are at most three grants
 pub waits-three : (bus : Arbitration) (r : BusRequest) (h : List (Entry ArbCmd ArbReply)) → IsOrderly bus → bus.kind ≡ Rotating
     → Waits bus r h → length (grants_in bus h) ≤ 3
 waits-three bus r h orderly kind waits =

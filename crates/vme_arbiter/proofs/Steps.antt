@@ -9,17 +9,17 @@ use Rattle.vme_arbiter.specs.Requests.{BusRequest, next_request, requests_of}
 use Rattle.vme_arbiter.specs.Arbitration.{Arbitration, arbitration, granted, holds, pends, can_ask, ask_step, done_step}
 use Rattle.vme_arbiter.proofs.Listed.{pends-listed, requests_from-set_some, requests_from-set_none}
 
--- a place of a slot that does not pend is empty
+-- the place of a slot without a pending request is empty
 empty_place : (slot : ℕ) (levels : List (Option ℕ)) (place : Option ℕ) → slice_get levels slot ≡ Some place
     → is_some (option_and_then (λ level. level) (slice_get levels slot)) ≡ false → slice_get levels slot ≡ Some None
 empty_place slot levels None at none = at
 empty_place slot levels (Some level) at none = let one = rw at at none in cc
 
--- a slot that can ask does not pend
+-- a slot that can request the bus has no pending request
 can_ask-pends : (bus : Arbitration) (slot level : ℕ) → can_ask bus slot level ≡ true → pends bus slot ≡ false
 can_ask-pends bus slot level can = not-true _ (and_parts _ _ can).1
 
--- where the bus is held, the level is written at the slot's place
+-- on a held bus, a new request stores its level at the slot's place
 pub asked-waits : (kind : ArbiterKind) (first : ℕ) (holder : Option ℕ) (slot level : ℕ) (places : List (Option ℕ)) → slot < length places
     → is_some holder ≡ true → can_ask (arbitration kind first holder (requests_of places)) slot level ≡ true
     → arbitration kind first holder (requests_of (set places slot (Some level)))
@@ -31,7 +31,7 @@ asked-waits kind first (Some h) slot level places within held can =
     let empty = empty_place slot places _ (slice_get-get_or places slot None within) none in
     rw can (ap (arbitration kind first (Some h)) (requests_from-set_some 0 slot slot level places (omega arith) empty))
 
--- where a slot holds the bus and is done, the place of the next one is made empty
+-- when the holder gives the bus back, the place of the next request is emptied
 pub done-hands : (kind : ArbiterKind) (first : ℕ) (holder : Option ℕ) (slot : ℕ) (next : BusRequest) (places : List (Option ℕ))
     → holds (arbitration kind first holder (requests_of places)) slot ≡ true
     → Some next ≡ next_request (level_order first) (requests_of places)

@@ -1,49 +1,51 @@
--- Requests for the bus, and which of them is granted next.
+-- Requests for the bus, and the one that is granted next.
 use Rattle.std.specs.Prelude.{ℕ, ◌+◌, nat_lt, nat_le, Bool, not, ◌==◌, ◌&&◌, ◌||◌, List, [], ◌∷◌, if◌then◌else◌, Option, Some, None, filter, find}
 use Rattle.std.specs.List.{list_any}
 use Rattle.vme_arbiter.specs.Levels.{stands_before}
 
--- a pair (level, slot): a slot drives the bus request line of a level (IEEE 1014, section 3.2)
+-- a request for the bus: a slot drives the bus request line of a level;
+-- IEEE 1014-1987, 3.2 (lines of the arbitration bus)
 pub record BusRequest : Type 0 where
   pub level : ℕ
   pub slot : ℕ
 
--- a pair, by place (this project's own)
+-- a request from its level and its slot
 abbrev pub bus_request : ℕ → ℕ → BusRequest
 bus_request level slot = record { level = level; slot = slot }
 
--- the slots of a backplane: 1 to 21 (this project's own)
+-- the slots of a backplane: 1 to 21
 abbrev pub is_slot : ℕ → Bool
 is_slot slot = nat_le 1 slot && nat_le slot 21
 
--- the levels of bus requests: BR0* to BR3* (IEEE 1014, section 3.2)
+-- the levels of bus requests: BR0* to BR3*; IEEE 1014-1987, 3.2 (lines of the arbitration bus)
 abbrev pub is_level : ℕ → Bool
 is_level level = nat_lt level 4
 
--- whether one request goes before another: its level stands before the other's in the order of levels, or its level is the same
--- and its slot comes first on the grant daisy chain, which goes up from slot 1 (IEEE 1014, sections 3.2 and 3.3)
+-- whether a request precedes another: by level in an order of levels, and on one level by slot on the daisy chain;
+-- IEEE 1014-1987, 3.3 (arbiter and requesters)
 abbrev pub goes_before : List ℕ → BusRequest → BusRequest → Bool
 goes_before levels a b = stands_before levels a.level b.level || (a.level == b.level && nat_lt a.slot b.slot)
 
--- the request, if any, that the bus is granted to next: the one which none of them goes before (IEEE 1014, section 3.3)
+-- the request that is granted next, if any: no request of the set precedes it;
+-- IEEE 1014-1987, 3.3 (arbiter and requesters)
 abbrev pub next_request : List ℕ → List BusRequest → Option BusRequest
 next_request levels pending = find (λ next. not (list_any (λ other. goes_before levels other next) pending)) pending
 
--- the set with one request more; a set of requests is listed by slot (this project's own)
+-- the set with one more request; the list of a set is sorted by slot
 abbrev pub with_request : BusRequest → List BusRequest → List BusRequest
 with_request new [] = new ∷ []
 with_request new (r ∷ pending) = if nat_lt new.slot r.slot then new ∷ r ∷ pending else r ∷ with_request new pending
 
--- the set without the requests of a slot (this project's own)
+-- the set without the requests of a slot
 abbrev pub without_slot : ℕ → List BusRequest → List BusRequest
 without_slot slot pending = filter (λ r. not (r.slot == slot)) pending
 
--- the requests that an array of levels holds, by slot, counted from n (this project's own)
+-- the requests of an array of levels, one place for each slot, with slots counted from n
 abbrev pub requests_from : ℕ → List (Option ℕ) → List BusRequest
 requests_from n [] = []
 requests_from n (None ∷ levels) = requests_from (n + 1) levels
 requests_from n (Some level ∷ levels) = bus_request level n ∷ requests_from (n + 1) levels
 
--- and counted from 0 (this project's own)
+-- the requests of an array of levels, one place for each slot
 abbrev pub requests_of : List (Option ℕ) → List BusRequest
 requests_of levels = requests_from 0 levels

@@ -1,4 +1,5 @@
--- Histories of the arbiter: what their commands name, how slots stand by the replies, and masters that go by them.
+-- Histories of the arbiter: the slots of commands, the state of a slot by its replies, and masters that follow the
+-- replies.
 use Rattle.std.specs.Prelude.{◌≡◌, ◌<◌, ℕ, Bool, true, false, ◌==◌, ◌&&◌, ◌⊎◌, IsTrue, List, [], ◌∷◌, ◌++◌, Option, Some, None, All}
 use Rattle.vme_object.specs.declared.history.Entry.{Entry}
 use Rattle.vme_object.specs.History.{own}
@@ -9,17 +10,17 @@ use Rattle.vme_arbiter.specs.declared.command.ArbReply.TheVariants.{Granted, Wai
 use Rattle.vme_arbiter.specs.Requests.{is_slot, is_level}
 use Rattle.vme_arbiter.specs.Arbitration.{Arbitration, holds, pends}
 
--- the slot that a command names (this project's own)
+-- the slot of a command
 abbrev pub slot_of : ArbCmd → ℕ
 slot_of (Ask slot level) = slot
 slot_of (Look slot) = slot
 slot_of (Done slot) = slot
 
--- an entry by which a slot is told that it held the bus and holds it no more (this project's own)
+-- an entry whose reply frees a slot
 abbrev pub Frees : ℕ → Entry ArbCmd ArbReply → Type 0
 Frees slot e = (slot_of e.cmd ≡ slot) × (e.reply ≡ Freed)
 
--- by the replies a slot has the bus at the end of a history: it was told so, and was not freed since (this project's own)
+-- a slot has the bus at the end of a history: it has a reply Granted and no later Freed
 pub record HasTheBus (slot : ℕ) (h : List (Entry ArbCmd ArbReply)) : Type 0 where
   pub before : List (Entry ArbCmd ArbReply)
   pub reported : Entry ArbCmd ArbReply
@@ -29,8 +30,8 @@ pub record HasTheBus (slot : ℕ) (h : List (Entry ArbCmd ArbReply)) : Type 0 wh
   pub granted : reported.reply ≡ Granted
   pub kept : All (λ e. Frees slot e → ⊥) since
 
--- whether a slot holds and whether it pends, by the last reply to it: told Granted it holds; told Waiting it holds or pends;
--- told Freed, or nothing yet, it does neither; and it was not told Denied (this project's own)
+-- whether a slot holds and whether it waits match its last reply: Granted, it holds; Waiting, it holds or waits; Freed
+-- or none, neither; Denied is excluded
 abbrev pub IsAsReplied : Bool → Bool → Option ArbReply → Type 0
 IsAsReplied held pending (Some Granted) = held ≡ true
 IsAsReplied held pending (Some Waiting) = (held ≡ true) ⊎ (pending ≡ true)
@@ -38,12 +39,12 @@ IsAsReplied held pending (Some Freed) = (held ≡ false) × (pending ≡ false)
 IsAsReplied held pending None = (held ≡ false) × (pending ≡ false)
 IsAsReplied held pending (Some Denied) = ⊥
 
--- a slot stands to the bus as it was told last (this project's own)
+-- a slot holds the bus or waits as its last reply states
 abbrev pub StandsAsReplied : Arbitration → ℕ → Option ArbReply → Type 0
 StandsAsReplied bus slot last = IsAsReplied (holds bus slot) (pends bus slot) last
 
--- whether the master of a slot may give a command after this last reply to it: it asks on a level in range after none and
--- after Freed, looks after Waiting, and is done after Granted (this project's own)
+-- whether the master of a slot may give a command after its last reply: a request after none or Freed, a check after
+-- Waiting, and the bus back after Granted
 abbrev pub may_give : ℕ → Option ArbReply → ArbCmd → Bool
 may_give slot None (Ask s level) = s == slot && is_level level
 may_give slot (Some Freed) (Ask s level) = s == slot && is_level level
@@ -51,13 +52,12 @@ may_give slot (Some Waiting) (Look s) = s == slot
 may_give slot (Some Granted) (Done s) = s == slot
 may_give slot last cmd = false
 
--- the master of a slot gives each of these commands as it may after the reply before it, and the first as it may after this
--- last one (this project's own)
+-- the master of a slot follows the replies: each of its commands is allowed after the reply before it
 abbrev pub GoesByReplies : ℕ → Option ArbReply → List (Entry ArbCmd ArbReply) → Type 0
 GoesByReplies slot last [] = Unit {0}
 GoesByReplies slot last (e ∷ h) = IsTrue (may_give slot last e.cmd) × GoesByReplies slot (Some e.reply) h
 
--- the first k who are masters, each of a slot of its own, and each goes by its replies (this project's own)
+-- the callers 0 to k - 1 are masters, each with a slot of its own, and each follows its replies
 pub record TakeTurns (k : ℕ) (slots : ℕ → ℕ) (h : List (Entry ArbCmd ArbReply)) : Type 0 where
   pub in_range : (who : ℕ) → who < k → IsTrue (is_slot (slots who))
   pub apart : (v w : ℕ) → v < k → w < k → slots v ≡ slots w → v ≡ w

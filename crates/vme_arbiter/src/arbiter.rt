@@ -12,12 +12,12 @@ use vme_object::Object;
 /// The number of slots of a backplane. Slots are counted from 1.
 const SLOTS: u16 = 21;
 
-/// A place for each number of a slot; that of 0 stays empty.
+/// One place for each slot number, and place 0, which stays empty.
 const PLACES: usize = 22;
 
-/// The arbiter (section 3.3): who holds the data transfer bus, and who asks for it on which level.
-/// Contracts see it as its kind, the level at which its next grant begins, its holder and the set of
-/// requests that pend.
+/// The arbiter (section 3.3): the holder of the data transfer bus, and the pending requests with
+/// their levels. Contracts see it as its kind, the level at which its next grant begins, its
+/// holder, and the set of pending requests.
 #[derive(Debug, Drop)]
 pub struct Arbiter {
     kind: ArbiterKind,
@@ -40,21 +40,21 @@ impl Model for Arbiter {
 }
 
 impl Arbiter {
-    /// A priority arbiter, of a bus that nobody holds and nobody asks for.
+    /// Returns a priority arbiter of a free bus without pending requests.
     pub fn new() -> Arbiter
         ensures { result ≡ opening_bus Priority }
     {
         Arbiter::of(ArbiterKind::Priority)
     }
 
-    /// A rotating arbiter, of a bus that nobody holds and nobody asks for.
+    /// Returns a rotating arbiter of a free bus without pending requests.
     pub fn rotating() -> Arbiter
         ensures { result ≡ opening_bus Rotating }
     {
         Arbiter::of(ArbiterKind::Rotating)
     }
 
-    /// An arbiter of a kind, of a bus that nobody holds and nobody asks for.
+    /// Returns an arbiter of a kind, of a free bus without pending requests.
     pub fn of(kind: ArbiterKind) -> Arbiter
         ensures { result ≡ opening_bus kind }
     {
@@ -73,21 +73,22 @@ impl Arbiter {
         self.holder == Some(slot)
     }
 
-    /// Whether a request of a slot pends.
+    /// Whether a request of a slot is pending.
     fn pends(&self, slot: u16) -> bool
         ensures { result ≡ pends self.now slot }
     {
         level_of(&self.levels, slot).is_some()
     }
 
-    /// Whether a slot can ask on a level: both are in range, and it neither holds nor pends.
+    /// Whether a slot can request the bus on a level: both are in range, and the slot neither holds
+    /// the bus nor has a pending request.
     fn can_ask(&self, slot: u16, level: u8) -> bool
         ensures { result ≡ can_ask self.now slot level }
     {
         is_slot(slot) && level < LEVELS && !self.holds(slot) && !self.pends(slot)
     }
 
-    /// The bus is granted to a request.
+    /// Grants the bus to a request.
     fn grant(&mut self, request: Request)
         requires { request.level < 4 }
         ensures { self.new ≡ granted (bus_request request.level request.slot) self.old.pending self.old }
@@ -96,7 +97,7 @@ impl Arbiter {
         self.first = self.kind.first_after(request.level);
     }
 
-    /// A slot asks for the bus on a level.
+    /// The step of `ArbCmd::Ask`.
     fn ask(&mut self, slot: u16, level: u8) -> ArbReply
         ensures state { self.new ≡ (ask_step self.old slot level).0 }
         ensures reply { result ≡ (ask_step self.old slot level).1 }
@@ -112,7 +113,7 @@ impl Arbiter {
         ArbReply::Waiting
     }
 
-    /// A slot looks whether it holds the bus.
+    /// The step of `ArbCmd::Look`.
     fn look(&self, slot: u16) -> ArbReply
         ensures { result ≡ (look_step self.now slot).1 }
     {
@@ -125,7 +126,7 @@ impl Arbiter {
         ArbReply::Denied
     }
 
-    /// A slot gives the bus back, and it goes to the next.
+    /// The step of `ArbCmd::Done`: the bus is granted to the next request, if any.
     fn done(&mut self, slot: u16) -> ArbReply
         ensures state { self.new ≡ (done_step self.old slot).0 }
         ensures reply { result ≡ (done_step self.old slot).1 }
@@ -144,7 +145,7 @@ impl Arbiter {
     }
 }
 
-/// Whether a slot has this number.
+/// Whether a number is that of a slot.
 fn is_slot(number: u16) -> bool
     ensures { result ≡ is_slot number }
 {

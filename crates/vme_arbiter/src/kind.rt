@@ -3,17 +3,18 @@ ghost use Rattle.vme_arbiter.specs.Levels.{first_after};
 
 use crate::levels::HIGHEST;
 
-/// How an arbiter grants the bus (section 3.3).
+/// How an arbiter chooses the level of a grant (section 3.3).
 #[derive(Clone, Copy, Debug, PartialEq, Eq)]
 pub enum ArbiterKind {
-    /// By priority: each grant begins at the greatest level.
+    /// Priority: each grant begins at the greatest level, 3.
     Priority,
-    /// In rotation: a grant begins at the level below the one granted before it, and after 0 at 3.
+    /// Rotating: a grant begins at the level below that of the grant before it, and at 3 after
+    /// level 0.
     Rotating,
 }
 
 impl ArbiterKind {
-    /// The level at which the next grant begins, after one on a level.
+    /// The level at which the next grant begins, after a grant on `level`.
     pub(crate) fn first_after(self, level: u8) -> u8
         requires { level < 4 }
         ensures value { result ≡ first_after self level }

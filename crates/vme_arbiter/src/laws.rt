@@ -15,9 +15,9 @@ ghost use Rattle.vme_arbiter.specs.Orderly.{IsBySlot, IsOrderly};
 ghost use Rattle.vme_arbiter.specs.Shares.{grant_of, grants_in, Waits};
 ghost use Rattle.vme_arbiter.specs.Turns.{slot_of, HasTheBus, may_give, StandsAsReplied, TakeTurns};
 
-/// The bus is granted to the request on the level that stands first, in the order that begins at the
-/// first level, and among these to that of the lowest slot: there is one such request in every set
-/// of requests, on levels in range, that is not empty.
+/// States which request is granted next: the one on the first level in the order from `first`, and
+/// on that level the one of the lowest slot. Each set of requests on levels in range that is not
+/// empty has exactly one of these.
 pub fn first_level_then_lowest_slot()
     ensures next { (first : ℕ) (pending : List BusRequest) (next : BusRequest) →
         IsTrue (is_level first) → All (λ r. IsTrue (is_level r.level)) pending →
@@ -29,9 +29,9 @@ pub fn first_level_then_lowest_slot()
         IsNext (level_order first) pending a → IsNext (level_order first) pending b → a ≡ b }
 {}
 
-/// The list of the requests that pend is a set: added to it, a request is in it beside all others;
-/// taken out of it, a slot has none and all others stay; and two such lists by slot with the same
-/// requests are the same list.
+/// States that the list of pending requests is a set. An added request is in it beside all others;
+/// a slot that is removed has none, and all others stay; two lists sorted by slot with the same
+/// requests are equal.
 pub fn pending_requests_are_a_set()
     ensures added { (pending : List BusRequest) (new r : BusRequest) →
         Contains (with_request new pending) r ↔ ((r ≡ new) ⊎ Contains pending r) }
@@ -41,9 +41,10 @@ pub fn pending_requests_are_a_set()
         ((r : BusRequest) → Contains a r ↔ Contains b r) → a ≡ b }
 {}
 
-/// In every state that an arbiter of either kind comes to, a grant begins at a level in range, by
-/// priority always at the greatest; holder and requests are in range, the holder does not pend, no
-/// slot pends twice, and nothing pends where nobody holds the bus. Each turn keeps that.
+/// States that every reachable state of an arbiter of either kind is orderly, and that each command
+/// keeps this. The first level is in range, and 3 by priority. The holder and the requests are in
+/// range, the holder has no pending request, no slot has two, and none is pending while the bus is
+/// free.
 pub fn states_are_orderly()
     ensures all { (kind : ArbiterKind) (h : List (Entry ArbCmd ArbReply)) →
         IsOrderly (replay turn_step (opening_bus kind) h) }
@@ -51,8 +52,9 @@ pub fn states_are_orderly()
     ensures kind { (bus : Arbitration) (cmd : ArbCmd) → (turn_step bus cmd).0.kind ≡ bus.kind }
 {}
 
-/// A reply tells who holds the bus: `Granted` is told to the holder alone, a look by the holder is
-/// told so, `Freed` is told to the slot that held it, and without that the holder stays.
+/// States that the replies show the holder. Only the holder has the reply `Granted`, and a check by
+/// the holder has it. The reply `Freed` is for the slot that held the bus; after any other reply
+/// the holder stays.
 pub fn replies_show_the_holder()
     ensures granted { (bus : Arbitration) (cmd : ArbCmd) →
         (turn_step bus cmd).1 ≡ Granted → (turn_step bus cmd).0.holder ≡ Some (slot_of cmd) }
@@ -64,9 +66,9 @@ pub fn replies_show_the_holder()
         (turn_step bus cmd).1 ≢ Freed → (turn_step bus cmd).0.holder ≡ Some slot }
 {}
 
-/// One slot at most has the bus. In a legal history, a slot that was told `Granted` and not yet
-/// `Freed` is the holder; so there is one such slot at most, and no other one is told `Granted` or
-/// `Freed` next.
+/// States that at most one slot has the bus. In a legal history, a slot with a reply `Granted` and
+/// no later `Freed` is the holder. There is at most one slot of this kind, and no other slot has
+/// the reply `Granted` or `Freed` next.
 pub fn one_slot_has_the_bus()
     ensures holder { (kind : ArbiterKind) (h : List (Entry ArbCmd ArbReply)) (slot : ℕ) →
         IsLegal turn_step (opening_bus kind) h → HasTheBus slot h →
@@ -81,9 +83,9 @@ pub fn one_slot_has_the_bus()
         next.reply ≡ Freed → slot_of next.cmd ≡ slot }
 {}
 
-/// A slot stands to the bus as it was told last, and each turn keeps that: one of its own, which it
-/// may give after that reply, and one of any other slot. So by the last reply a master knows whether
-/// its slot holds the bus, and what it may say next is never denied.
+/// States that the last reply to a slot describes whether the slot holds the bus or waits. This
+/// holds after each command: a command of the slot that is allowed after its last reply, and a
+/// command of any other slot. A slot whose last reply is `Granted` is the holder.
 pub fn a_turn_leaves_each_where_it_was()
     ensures opening { (kind : ArbiterKind) (slot : ℕ) → StandsAsReplied (opening_bus kind) slot None }
     ensures own { (bus : Arbitration) (slot : ℕ) (last : Option ArbReply) (cmd : ArbCmd) →
@@ -97,16 +99,16 @@ pub fn a_turn_leaves_each_where_it_was()
         StandsAsReplied bus slot (Some Granted) → bus.holder ≡ Some slot }
 {}
 
-/// Where each master has a slot of its own and goes by the replies, no reply is `Denied`.
+/// States that no reply is `Denied` if each master has a slot of its own and follows the replies.
 pub fn no_turn_is_denied()
     ensures { (kind : ArbiterKind) (k : ℕ) (slots : ℕ → ℕ) (h : List (Entry ArbCmd ArbReply)) →
         IsLegal turn_step (opening_bus kind) h → TakeTurns k slots h → All (λ e. e.reply ≢ Denied) h }
 {}
 
-/// While a request of the lowest slot on its level waits at a rotating arbiter, the bus is granted
-/// on other levels alone, and at most once for each level that stands before its own in the order of
-/// the next grant, so at most three times. A slot that comes to hold the bus was granted it, and
-/// whom it is granted to holds it.
+/// States how many grants precede that of a waiting request at a rotating arbiter, if the request
+/// is that of the lowest slot on its level. The bus is granted only on other levels, at most once
+/// for each level that precedes its own in the order of the next grant, and at most three times.
+/// Each grant makes its slot the holder, and each new holder comes from a grant.
 pub fn at_most_three_go_before()
     ensures granted { (bus : Arbitration) (cmd : ArbCmd) (r : BusRequest) → grant_of bus cmd ≡ Some r →
         (turn_step bus cmd).0.holder ≡ Some r.slot }

@@ -17,7 +17,7 @@ pub(crate) struct Request {
     pub(crate) slot: u16,
 }
 
-/// The level that an array holds for a slot, if any.
+/// The level of a slot's pending request, if any.
 pub(crate) fn level_of(levels: &[Option<u8>], slot: u16) -> Option<u8>
     ensures { result ≡ option_and_then (λ level. level) (slice_get levels.now slot) }
 {
@@ -27,8 +27,9 @@ pub(crate) fn level_of(levels: &[Option<u8>], slot: u16) -> Option<u8>
     }
 }
 
-/// The request that the bus goes to next, where an array holds the level of each slot's request and
-/// a grant begins at a first level: on the first level in order that has one, the lowest slot.
+/// The request that the bus is granted to next, where `levels` has the level of each slot's pending
+/// request and the grant begins at the level `first`: the lowest slot on the first level with a
+/// request.
 pub(crate) fn next_request(levels: &[Option<u8>], first: u8) -> Option<Request>
     requires few { length levels.now ≤ 65536 }
     requires in_range { (slot level : ℕ) → slice_get levels.now slot ≡ Some (Some level) → level < 4 }
@@ -47,8 +48,8 @@ pub(crate) fn next_request(levels: &[Option<u8>], first: u8) -> Option<Request>
     greatest_request(levels, first + 1, LEVELS)
 }
 
-/// Whether an array holds a level for any slot. It looks at all places, so that many are compared at
-/// a time: mostly nobody asks, and then no level is sought.
+/// Whether any slot has a pending request. It examines every place, so that the compiler can
+/// compare several at a time: most often no request is pending, and then no level is searched.
 fn has_request(levels: &[Option<u8>]) -> bool
     ensures { IsFalse result → (slot level : ℕ) → slice_get levels.now slot ≢ Some (Some level) }
 {
@@ -59,8 +60,8 @@ fn has_request(levels: &[Option<u8>]) -> bool
     any
 }
 
-/// On the greatest of the levels from one to below another that has a request, that of the lowest
-/// slot.
+/// The request of the lowest slot on the greatest level, from `from` to below `end`, with a
+/// request.
 fn greatest_request(levels: &[Option<u8>], from: u8, end: u8) -> Option<Request>
     requires few { length levels.now ≤ 65536 }
     ensures { MatchOption result
@@ -75,7 +76,7 @@ fn greatest_request(levels: &[Option<u8>], from: u8, end: u8) -> Option<Request>
     None
 }
 
-/// The lowest slot whose request is on a level.
+/// The lowest slot with a request on a level.
 fn lowest_slot(levels: &[Option<u8>], level: u8) -> Option<u16>
     requires few { length levels.now ≤ 65536 }
     ensures { MatchOption result

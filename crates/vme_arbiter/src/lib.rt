@@ -1,7 +1,7 @@
-//! The arbiter of the arbitration bus (ANSI/IEEE Std 1014-1987, chapter 3): slots ask for the data
-//! transfer bus on one of four levels, and at most one of them holds it. When the holder is done,
-//! the bus goes to the first level that has a request, in an order that begins at 3 by priority and
-//! that rotates in the rotating arbiter; and on it, by the grant daisy chain, to the lowest slot.
+//! The arbiter of the arbitration bus (ANSI/IEEE Std 1014-1987, chapter 3). Slots request the data
+//! transfer bus on four levels, and at most one slot holds it. When the holder gives the bus back,
+//! the arbiter grants it to the first level with a request, and on that level to the lowest slot,
+//! which is first on the grant daisy chain.
 #![tactic(auto)]
 
 mod arbiter;

@@ -1,9 +1,9 @@
-//! The arbiter's calls in a worked order.
+//! The replies of the arbiter to commands in order.
 use crate::counters::reply;
 use std::process::Abort;
 use vme_arbiter::{ArbCmd, ArbReply, Arbiter, ArbiterKind};
 
-/// Commands in order, on one arbiter, each with its reply.
+/// Commands in order to one priority arbiter, each with its reply.
 static CALLS: [(ArbCmd, ArbReply); 15] = [
     (ArbCmd::Ask { slot: 9, level: 0 }, ArbReply::Granted),
     (ArbCmd::Ask { slot: 5, level: 3 }, ArbReply::Waiting),
@@ -30,7 +30,8 @@ fn grants_by_level_and_then_by_slot(rt: HostRuntime) {
     }
 }
 
-/// Four slots ask, one of them at once; then each holder is done, and each that waits looks.
+/// Four slots request the bus, and the first has it at once. Then each holder gives the bus back,
+/// and each slot that waits checks.
 static ROTATING_CALLS: [(ArbCmd, ArbReply); 16] = [
     (ArbCmd::Ask { slot: 9, level: 3 }, ArbReply::Granted),
     (ArbCmd::Ask { slot: 1, level: 3 }, ArbReply::Waiting),
@@ -58,8 +59,8 @@ fn grants_in_rotation(rt: HostRuntime) {
     }
 }
 
-/// The holder that the bus goes to when the first of four, on level 3, is done: the others ask on
-/// the levels 3, 1 and 2.
+/// The replies to checks by the three waiting slots, after the holder on level 3 gave the bus back.
+/// They wait on the levels 3, 1 and 2.
 fn second_holder(kind: ArbiterKind) -> [ArbReply; 3] {
     let mut arbiter = Arbiter::of(kind);
     for (cmd, _) in &ROTATING_CALLS[..5] {

@@ -1,4 +1,4 @@
-//! Rooms and blocks of a few bytes and of many, each once.
+//! Buffers and blocks of a few bytes and of many.
 use std::test::Fail;
 use vme_cycle::{BLOCK_LIMIT, Block, BlockBuffer, BlockFault};
 

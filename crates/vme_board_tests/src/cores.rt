@@ -1,4 +1,4 @@
-//! What a core shows after a few events, and what it leaves where memory is refused.
+//! The observable state of a core after a few events, and after an allocation that fails.
 ghost use Rattle.std.specs.Prelude.{◌≡◌, ◌<◌, length, All, IfOk};
 ghost use Rattle.vme_core.specs.Runs.{Machine, target_of};
 ghost use Rattle.vme_core.specs.Machines.{process_count, IsThere};
@@ -17,7 +17,7 @@ const CLASS: Class = Class {
     rmw: true,
 };
 
-/// The memory of one board, of 16 bytes.
+/// The memory of one board of 16 bytes.
 fn memories(rt: &HostRuntime) -> Result<Vec<ByteMemory>, OutOfMemory>
     ensures { IfOk result (λ memories. length memories.items ≡ 1) }
 {
@@ -30,7 +30,7 @@ fn memories(rt: &HostRuntime) -> Result<Vec<ByteMemory>, OutOfMemory>
     Ok(memories)
 }
 
-/// A core of one board, for two process_count.
+/// A core of one board, for two processors.
 fn one_board(rt: &HostRuntime) -> Result<Core, OutOfMemory>
     ensures boards { IfOk result (λ core. length core.boards ≡ 1) }
     ensures process_count { IfOk result (λ core. process_count core ≡ 2) }
@@ -38,7 +38,7 @@ fn one_board(rt: &HostRuntime) -> Result<Core, OutOfMemory>
     Core::new(rt.alloc(), memories(rt)?, 2)
 }
 
-/// The same with a rotating arbiter.
+/// A core of one board with a rotating arbiter, for two processors.
 fn rotating(rt: &HostRuntime) -> Result<Core, OutOfMemory>
     ensures boards { IfOk result (λ core. length core.boards ≡ 1) }
     ensures process_count { IfOk result (λ core. process_count core ≡ 2) }
@@ -46,7 +46,8 @@ fn rotating(rt: &HostRuntime) -> Result<Core, OutOfMemory>
     Core::with_arbiter(rt.alloc(), memories(rt)?, Arbiter::rotating(), 2)
 }
 
-/// A write of one byte by who 0, a read of it by who 1, and slot 2's request for the bus.
+/// A write of one byte by processor 0, a read of it by processor 1, and a request for the bus by
+/// slot 2.
 fn events() -> [(usize, Event); 3]
     ensures process_count { All (λ e. e.0 < 2) result }
     ensures there { (m : Machine) → length m.boards ≡ 1 → All (λ e. IsThere m (target_of e.1)) result }
@@ -100,7 +101,7 @@ fn answers_events_in_order(rt: HostRuntime) {
     assert_eq!(&rt; core.memory(0).byte(0), Some(0x7f));
 }
 
-/// Run with memory refused: all events are done, or none.
+/// Runs also with failing allocations: either all events are performed, or none.
 #[test]
 fn runs_all_events_or_none(rt: HostRuntime) {
     let Ok(mut core) = one_board(&rt) else {
@@ -123,7 +124,7 @@ fn runs_all_events_or_none(rt: HostRuntime) {
     }
 }
 
-/// One event by itself.
+/// One event on its own.
 #[test]
 fn applies_an_event(rt: HostRuntime) {
     let Ok(mut core) = one_board(&rt) else {
@@ -135,7 +136,8 @@ fn applies_an_event(rt: HostRuntime) {
     assert_eq!(&rt; core.made(0, Target::Bus), 1);
 }
 
-/// Slot 9 is done while slot 1 asks on its level and slot 3 on the one below, and both look.
+/// Slot 9 gives the bus back while slot 1 waits on its level and slot 3 on the level below. Both
+/// check.
 static LOOKS: [(ArbCmd, ArbReply); 6] = [
     (ArbCmd::Ask { slot: 9, level: 3 }, ArbReply::Granted),
     (ArbCmd::Ask { slot: 1, level: 3 }, ArbReply::Waiting),
@@ -145,7 +147,7 @@ static LOOKS: [(ArbCmd, ArbReply); 6] = [
     (ArbCmd::Look { slot: 3 }, ArbReply::Granted),
 ];
 
-/// A core takes the arbiter that it is given; where memory is refused there is none.
+/// A core has the given arbiter. With a failing allocation there is no core.
 #[test]
 fn takes_a_rotating_arbiter(rt: HostRuntime) {
     let Ok(mut core) = rotating(&rt) else {

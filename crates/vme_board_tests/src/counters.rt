@@ -1,11 +1,11 @@
-//! What the counters answer, and where counting ends.
+//! The replies of counters, and the end of counting.
 use std::process::Abort;
 use std::sync::Arc;
 use std::sync::atomic::{AtomicBool, Ordering};
 use std::test::Fail;
 use vme_object::{Counter, CounterCmd, Held, Object, next_count};
 
-/// The reply to a command, by the trait alone.
+/// Returns the reply to a command, by the trait only.
 pub fn reply<O: Object>(object: &mut O, cmd: &O::Cmd) -> O::Reply {
     object.apply(cmd)
 }

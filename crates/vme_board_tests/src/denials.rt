@@ -1,4 +1,4 @@
-//! Replies that do not fit, are absent or come early, and denials of the arbiter.
+//! Replies that do not match, are missing or come early, and denials of the arbiter.
 use crate::shared_course::{BOARDS, Given, MAILBOX, expect_end, replied, reported};
 use std::process::Abort;
 use std::test::Fail;
@@ -7,13 +7,13 @@ use vme_core::EventReply;
 use vme_decode::AddressMap;
 use vme_shared::{PutTask, SharedOutcome};
 
-/// Asks for the lock, is granted the bus, and stands at the cycle on the board.
+/// Leads a task through its request for the bus to the cycle of the lock.
 fn at_the_lock(task: &mut PutTask<'_>) {
     let _ = task.next(None);
     let _ = task.next(reported(ArbReply::Granted));
 }
 
-/// The lock was free, and the put count is asked for.
+/// Leads a task past the free lock to the read of the put count.
 fn at_the_put_count(task: &mut PutTask<'_>) {
     at_the_lock(task);
     let _ = task.next(replied(Given::Bytes(&[0])));

@@ -1,5 +1,5 @@
-//! Tests of counters, memories, address maps, the arbiter and the core, through what these crates
-//! show. They stand apart so that a crate with tests is not proved twice.
+//! Tests of counters, memories, address maps, the arbiter, the core and tasks, through their public
+//! functions. They are a crate of their own, so that no crate with tests is proved twice.
 #![tactic(auto)]
 
 #[cfg(test)]

@@ -1,4 +1,4 @@
-//! Worked examples of maps: what cycles select in them, and how entries are refused.
+//! Address maps: the entries that cycles select, and the refusals of maps.
 use std::alloc::Global;
 use std::process::Abort;
 use std::test::Fail;
@@ -16,7 +16,7 @@ fn entry(space: Space, base: u32, size: u32) -> Entry {
     }
 }
 
-/// What a read of `n` bytes selects.
+/// The selection of a read of `n` bytes.
 fn selected(
     rt: &impl Abort,
     map: &AddressMap,
@@ -30,7 +30,7 @@ fn selected(
     Ok(map.select(&plan.signals(0)))
 }
 
-/// Why there is no map of some entries, if there is none.
+/// The fault of some entries, if there is no map of them.
 fn fault(alloc: Global, entries: &[Entry]) -> Option<MapFault> {
     AddressMap::new(alloc, entries).err()
 }
@@ -56,7 +56,7 @@ static MIXED: [Entry; 3] = [
     },
 ];
 
-/// One-byte reads on that map, by code and address.
+/// Reads of one byte on that map, by code and address.
 static BYTES: [(u8, u32, Option<(usize, u32)>); 5] = [
     (0x39, 0x20_0004, None),
     (0x3d, 0x20_0004, Some((1, 4))),
@@ -78,7 +78,7 @@ fn selects_by_space_range_and_privilege(rt: HostRuntime) -> Result<(), Fail> {
     Ok(())
 }
 
-/// Neither by space nor by base, and the last covers nothing.
+/// Entries that are sorted neither by space nor by base. The last one covers nothing.
 static UNSORTED: [Entry; 4] = [
     Entry {
         space: Space::A32,
@@ -106,7 +106,7 @@ static UNSORTED: [Entry; 4] = [
     },
 ];
 
-/// One-byte reads on that map, by code and address.
+/// Reads of one byte on that map, by code and address.
 static PLACES: [(u8, u32, Option<(usize, u32)>); 5] = [
     (0x09, 0x1008, Some((1, 8))),
     (0x39, 0x1008, Some((2, 8))),
@@ -181,7 +181,7 @@ fn the_first_byte_selects(rt: HostRuntime) -> Result<(), Fail> {
     Ok(())
 }
 
-/// Entries by space, base and size, and why there is no map of them.
+/// Entries by space, base and size, and the fault of their map.
 static MAPS: [(&[(Space, u32, u32)], Option<MapFault>); 13] = [
     (&[], None),
     (&[(Space::A16, 0xfffc, 8)], Some(MapFault::OutsideSpace)),
@@ -233,7 +233,7 @@ fn refuses_entries_in_order(rt: HostRuntime) -> Result<(), Fail> {
     Ok(())
 }
 
-/// How many entries of a kind, and why there is no map of them.
+/// A number of equal entries, and the fault of their map.
 static COUNTS: [(usize, u32, Option<MapFault>); 3] = [
     (21, 0, None),
     (22, 0, Some(MapFault::TooMany)),

@@ -1,10 +1,11 @@
-//! What boards of several classes answer.
+//! The replies of boards of several classes.
 use std::process::Abort;
 use std::test::Fail;
 use vme_cycle::{Block, Modify, Plan, Request};
 use vme_lanes::Datum;
 use vme_memory::{BoardCmd, ByteMemory, Class, MemoryFault, Reply, Width8To32};
 
+/// A D32 class with unaligned cycles, block transfers and read-modify-writes.
 pub const WHOLE: Class = Class {
     width: Width8To32::D32,
     uat: true,
@@ -41,8 +42,8 @@ fn block_read(addr: u32, n: u8, count: u16) -> Request {
     }
 }
 
-/// How a board at address 0 answers each datum of a request, until the first bus error: `r`, `w`
-/// or `b` a datum.
+/// The replies of a board at address 0 to the data of a request, up to the first bus error. A
+/// letter stands for each: `r`, `w` or `b`.
 fn answers(rt: &impl Abort, memory: &mut ByteMemory, request: &Request) -> Datum {
     let mut letters = Datum::new();
     let Ok(plan) = Plan::of(request) else {
@@ -136,8 +137,7 @@ fn sizes_of_boards(rt: HostRuntime) -> Result<(), Fail> {
     Ok(())
 }
 
-/// What a command of a port is answered: `None` for a bus error, else the bytes, none after a
-/// write.
+/// The bytes of the reply to a command, empty after a write, or `None` for a bus error.
 fn answer(memory: &mut ByteMemory, command: &BoardCmd) -> Option<Datum> {
     match memory.local(command) {
         Reply::Bytes(datum) => Some(datum),
@@ -146,6 +146,7 @@ fn answer(memory: &mut ByteMemory, command: &BoardCmd) -> Option<Datum> {
     }
 }
 
+/// The datum of at most eight bytes, and an empty one for more.
 pub fn datum(bytes: &[u8]) -> Datum {
     Datum::try_from(bytes).unwrap_or_default()
 }
@@ -178,8 +179,8 @@ fn command(offset: u32, local: &Local) -> BoardCmd {
     }
 }
 
-/// Commands in order, on one board of 16 bytes: each with the bytes that it is answered (none
-/// after a write), or with nothing for a bus error, and with the byte at its offset after it.
+/// Commands in order to one board of 16 bytes: offset, command, bytes of the reply (empty after a
+/// write, `None` for a bus error), and the byte at the offset after it.
 static LOCALS: [(u32, Local, Option<&[u8]>, u8); 5] = [
     (15, Local::Write(&[0xaa, 0xbb]), None, 0),
     (13, Local::Write(&[0xaa, 0xbb]), Some(&[]), 0xaa),
@@ -218,8 +219,9 @@ fn read_quad(rt: &impl Abort, addr: u32) -> BoardCmd {
     }
 }
 
-/// Commands of the local port in order, on one board of 16 bytes, or reads of four bytes by the
-/// bus: each with the bytes that it is answered, none after a write. They reach over two words.
+/// Commands of the local port in order to one board of 16 bytes, or reads of four bytes by the bus
+/// where there is no command. Each has the bytes of its reply, empty after a write. They reach over
+/// two words.
 static ACROSS: [(u32, Option<Local>, &[u8]); 5] = [
     (3, Some(Local::Write(&[0xa1, 0xa2, 0xa3, 0xa4])), &[]),
     (0, None, &[0, 0, 0, 0xa1]),

@@ -1,4 +1,4 @@
-//! The boards of the tests, and how a task is led through a course of replies.
+//! The boards of the tests, and the driver that leads a task through a list of cycles and replies.
 use std::process::Abort;
 use vme_am::Space;
 use vme_arbiter::{ArbCmd, ArbReply};
@@ -9,7 +9,7 @@ use vme_lanes::Datum;
 use vme_memory::{BoardCmd, Reply};
 use vme_shared::{LockTask, Mailbox, PutTask, SharedOutcome, SharedTodo, TakeTask};
 
-/// The second is a board of 64 bytes from address 1000 hex on.
+/// Two boards. The second has 64 bytes from address 1000 hex up.
 pub static BOARDS: [Entry; 2] = [
     Entry {
         space: Space::A32,
@@ -27,10 +27,11 @@ pub static BOARDS: [Entry; 2] = [
 
 const BASE: u32 = 0x1000;
 
-/// The offset of the mailbox in the second board: its counts lie at 12 and 16, its words at 24 and
+/// The offset of the mailbox in the second board. Its counts are at 12 and 16, its words at 24 and
 /// 28.
 const LOCK_AT: u32 = 8;
 
+/// The mailbox of the tests, in the second board.
 pub const MAILBOX: Mailbox = Mailbox {
     am: 0x0d,
     addr: 0x1008,
@@ -42,7 +43,7 @@ pub const MAILBOX: Mailbox = Mailbox {
 pub enum Cycle {
     /// The read-modify-write of the lock.
     Set,
-    /// The write of zero over the lock.
+    /// The write of zero to the lock.
     Clear,
     /// A read of four bytes.
     Read(u32),
@@ -50,12 +51,12 @@ pub enum Cycle {
     Write(u32, [u8; 4]),
 }
 
-/// What a board replies.
+/// The reply of a board.
 #[derive(Clone, Copy, Debug)]
 pub enum Given {
     /// These bytes.
     Bytes(&'static [u8]),
-    /// That the bytes were written.
+    /// A write was done.
     Done,
     /// A bus error.
     Berr,
@@ -108,6 +109,7 @@ fn write(am: u8, addr: u32, bytes: &[u8]) -> Request {
     Request::Write { am, addr, bytes }
 }
 
+/// The reply of the second board, as the reply to an event.
 pub fn replied(given: Given) -> Option<EventReply> {
     let reply = match given {
         Given::Bytes(bytes) => Reply::Bytes(Datum::try_from(bytes).unwrap_or_default()),
@@ -117,6 +119,7 @@ pub fn replied(given: Given) -> Option<EventReply> {
     Some(EventReply::Board(reply))
 }
 
+/// The reply of the arbiter, as the reply to an event.
 pub fn reported(reply: ArbReply) -> Option<EventReply> {
     Some(EventReply::Bus(reply))
 }
@@ -144,6 +147,7 @@ impl<'a> SharedMachine for TakeTask<'a> {
     }
 }
 
+/// Checks that the next step of a task is this command to the arbiter.
 pub fn expect_turn(rt: &impl Abort, todo: &SharedTodo, wanted: ArbCmd) {
     match todo {
         SharedTodo::Call(Event::Bus(cmd)) => assert_eq!(rt; *cmd, wanted),
@@ -161,6 +165,7 @@ fn expect_cycle(rt: &impl Abort, todo: &SharedTodo, wanted: Cycle) {
     }
 }
 
+/// Checks that a task has ended, and returns its outcome.
 pub fn expect_end(rt: &impl Abort, todo: &SharedTodo) -> SharedOutcome {
     match todo {
         SharedTodo::Finished(outcome) => *outcome,
@@ -168,8 +173,8 @@ pub fn expect_end(rt: &impl Abort, todo: &SharedTodo) -> SharedOutcome {
     }
 }
 
-/// Leads a task of slot 2 on level 3 through a course, each cycle of which is a transfer of its own:
-/// its outcome, which is the same at a further call.
+/// Leads a task of slot 2 on level 3 through its cycles, each a transfer of its own, and returns
+/// its outcome. A further call has the same outcome.
 pub fn outcome(rt: &impl Abort, task: &mut impl SharedMachine, course: Course) -> SharedOutcome {
     let mut todo = task.call(None);
     for (cycle, given) in course {

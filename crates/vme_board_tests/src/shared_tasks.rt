@@ -1,4 +1,4 @@
-//! What locks, puts and takes come to, cycle by cycle.
+//! The outcomes of locks, puts and takes, cycle by cycle.
 use crate::shared_course::{BOARDS, Course, Cycle, Given, MAILBOX, outcome};
 use std::process::Abort;
 use std::test::Fail;
@@ -26,7 +26,7 @@ static FULL: [(Cycle, Given); 4] = [
     UNLOCKED,
 ];
 
-/// Two words apart, over the end of the numbers.
+/// A mailbox of two words that is full, with counts that wrap around.
 static FULL_ROUND: [(Cycle, Given); 4] = [
     FREE,
     (Cycle::Read(12), Given::Bytes(&[0, 0, 0, 1])),
@@ -41,7 +41,7 @@ static SPENT: [(Cycle, Given); 4] = [
     UNLOCKED,
 ];
 
-/// The last word that there is a count for.
+/// The last word that the counts allow.
 static LAST_PUT: [(Cycle, Given); 6] = [
     FREE,
     (Cycle::Read(12), Given::Bytes(&[0xff, 0xff, 0xff, 0xfe])),
@@ -80,7 +80,7 @@ static SECOND_TAKE: [(Cycle, Given); 6] = [
     UNLOCKED,
 ];
 
-/// The take count goes round over the end of the numbers.
+/// A take count that wraps around.
 static TAKE_ROUND: [(Cycle, Given); 6] = [
     FREE,
     (Cycle::Read(12), Given::Bytes(&[0, 0, 0, 0])),
@@ -254,15 +254,15 @@ const LAST: Mailbox = Mailbox {
     slots: 2,
 };
 
-/// One whose last word lies behind it.
+/// A mailbox whose last word lies outside the short space.
 const BEHIND: Mailbox = Mailbox {
     am: 0x29,
     addr: 0xffe8,
     slots: 3,
 };
 
-/// One with the code of a program, which has no read-modify-write, and with its last word behind the
-/// standard space.
+/// A mailbox with a program code, which has no read-modify-write, and with its last word outside
+/// the standard space.
 const PROGRAM: Mailbox = Mailbox {
     am: 0x3a,
     addr: 0x00ff_ffe8,

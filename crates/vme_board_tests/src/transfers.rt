@@ -1,4 +1,4 @@
-//! What tasks do next, call by call, in worked orders of replies.
+//! The next step of a task after each reply.
 use arrayvec::ArrayVec;
 use std::alloc::Global;
 use std::process::Abort;
@@ -12,7 +12,7 @@ use vme_lanes::Datum;
 use vme_master::{Outcome, Task, Todo};
 use vme_memory::{BoardCmd, Reply};
 
-/// One board of 64 bytes from address 1000 hex on.
+/// One board of 64 bytes from address 1000 hex up.
 static BOARDS: [Entry; 1] = [Entry {
     space: Space::A32,
     base: 0x1000,
@@ -26,13 +26,13 @@ const LOOK: Step = Step::Bus(ArbCmd::Look { slot: 2 });
 
 const DONE: Step = Step::Bus(ArbCmd::Done { slot: 2 });
 
-/// What a task does, without the lines of a cycle.
+/// A step of a task, without the lines of a cycle.
 #[derive(Clone, Copy, Debug, PartialEq, Eq)]
 enum Step {
     Bus(ArbCmd),
-    /// A cycle of the board at a place, at an offset.
+    /// A cycle of the board with this index, at an offset.
     Cycle(usize, u32),
-    /// A command to the local port of the board at a place.
+    /// A command to the local port of the board with this index.
     Local(usize),
     End,
 }
@@ -48,12 +48,12 @@ fn step_of(todo: &Todo) -> Step {
     }
 }
 
-/// What a task is given.
+/// The reply that a task receives.
 #[derive(Clone, Copy, Debug, PartialEq, Eq)]
 enum Given {
     Nothing,
     Turn(ArbReply),
-    /// These bytes, of a board.
+    /// These bytes of a board.
     Bytes(&'static [u8]),
     Done,
     Berr,
@@ -76,11 +76,11 @@ fn reply(given: Given) -> Option<EventReply> {
     }
 }
 
-/// What is given and what it leads to, call by call.
+/// The replies that a task receives, each with the step to which it leads.
 type Course = &'static [(Given, Step)];
 
-/// Calls a task as in a course, and once more after its end: its outcome. The end stays, and the
-/// bytes are given out once.
+/// Leads a task through replies and steps, and calls it once more after its end. Returns its
+/// outcome. The end stays, and the bytes are returned once.
 fn outcome(rt: &impl Abort, task: &mut Task<'_>, course: Course) -> Outcome {
     let mut end = None;
     for (given, wanted) in course {
@@ -100,7 +100,7 @@ fn outcome(rt: &impl Abort, task: &mut Task<'_>, course: Course) -> Outcome {
     outcome
 }
 
-/// The same outcome without its bytes.
+/// The outcome without its bytes.
 fn emptied(outcome: &Outcome) -> Outcome {
     match outcome {
         Outcome::Read(_) => Outcome::Read(Block::new()),
@@ -122,14 +122,14 @@ fn datum(bytes: &[u8]) -> Datum {
     Datum::try_from(bytes).unwrap_or_default()
 }
 
-/// The task of a request of slot 2 on level 3, with a room for what it reads.
+/// The task of a request of slot 2 on level 3, with a buffer for the bytes that it reads.
 fn start<'a>(alloc: Global, map: &AddressMap, request: &'a Request) -> Result<Task<'a>, Fail> {
     let plan = Plan::of(request)?;
     let buffer = BlockBuffer::with_capacity(alloc, plan.read_len())?;
     Ok(Task::start(map, 2, 3, request, buffer)?)
 }
 
-/// Runs a request through a course.
+/// Leads a request through replies and steps.
 fn run(
     rt: &impl Abort,
     alloc: Global,

@@ -1,4 +1,4 @@
-//! What boards answer to data of eight bytes.
+//! The replies of boards to data of eight bytes.
 use crate::memories::{WHOLE, datum};
 use std::alloc::Global;
 use std::process::Abort;
@@ -54,7 +54,7 @@ fn eight_bytes_lie_in_two_words(rt: HostRuntime) -> Result<(), Fail> {
     Ok(())
 }
 
-/// Boards of twelve bytes that lack eight from an offset on, or the cycle.
+/// Boards of twelve bytes that lack eight bytes at an offset, or the cycle.
 static LACKS: [(Class, u32); 3] = [
     (WHOLE, 8),
     (

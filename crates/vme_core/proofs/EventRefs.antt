@@ -1,4 +1,4 @@
--- A command to a board that is there is a call of the machine.
+-- A command to a board that exists is a call of the machine.
 use Rattle.std.proofs.Common.{◌≡◌, ℕ, ◌<◌, length, set, slice_index_or, Option, Some, refl, ap, sym, subst}
 use Rattle.std.specs.Prelude.{slice_get}
 use Rattle.std.proofs.lemmas.Option.{slice_get_read}
@@ -12,7 +12,7 @@ use Rattle.vme_core.specs.Runs.{Machine}
 use Rattle.vme_core.specs.Calls.{OnBoard, command_step, counted_step, machine_step}
 use Rattle.vme_core.specs.Machines.{IsThere}
 
--- it is put back in its place
+-- the board is stored in its place again
 pub board_made :
     (m self : Machine) (who x : ℕ) (command : Option Command) (b new : CountedState Board) (reply : Reply) → m ≡ self → IsThere self (at.Board x)
     → b ≡ slice_index_or m.boards x b → (new, reply) ≡ counted_step command_step b who command

@@ -1,4 +1,4 @@
--- What an event asks, without the lines of a cycle, and what it does to the machine.
+-- The call of an event, without the lines of a cycle, and its effect on the machine.
 use Rattle.std.specs.Prelude.{ℕ, ◌+◌, Option, Some, None, slice_get, slice_set, slice_index_or}
 use Rattle.vme_memory.specs.declared.reply.Reply.{Reply}
 use Rattle.vme_memory.specs.declared.reply.Reply.TheVariants.{Berr}
@@ -14,22 +14,22 @@ use Rattle.vme_core.specs.declared.event.EventReply.TheVariants as replies
 use Rattle.vme_core.specs.CountedStates.{CountedState}
 use Rattle.vme_core.specs.Runs.{Machine}
 
--- a command to the memory of a board, by the board's place, or none where what the board is given stands for no command; or a
--- command to the arbiter (this project's own)
+-- a command to the memory of the board with an index, or none if the cycle stands for no command; or a command to the
+-- arbiter
 pub data Call : Type 0 where
   OnBoard : ℕ → Option Command → Call
   OnBus : ArbCmd → Call
 
--- the call that an event makes (this project's own)
+-- the call of an event
 abbrev pub call_of : Event → Call
 call_of (asked.Board board cmd) = OnBoard board (command_given cmd)
 call_of (asked.Bus cmd) = OnBus cmd
 
--- the step of a board's memory on a command, if it is one: what is none is answered by a bus error (this project's own)
+-- the step of a board's memory on a command, if any; without one, the reply is a bus error
 abbrev pub command_step : Board → Option Command → Board × Reply
 command_step board command = ((answer board command).1, (answer board command).0)
 
--- an object takes a command of a who, and it is counted, once in all and once for the who (this project's own)
+-- an object takes a command of the processor who, counted once in all and once for who
 abbrev pub counted_step : {S C R : Type 0} → (S → C → S × R) → CountedState S → ℕ → C → CountedState S × R
 counted_step step t who cmd = (
   record {
@@ -40,7 +40,7 @@ counted_step step t who cmd = (
   (step t.object cmd).1,
 )
 
--- a board's part in the machine after a command to it; one that is not there is answered by a bus error (this project's own)
+-- the machine after a command to a board, and the reply; a board that does not exist replies with a bus error
 abbrev pub board_after : Machine → ℕ → ℕ → Option Command → Option (CountedState Board) → Machine × EventReply
 board_after machine who x command None = (machine, replies.Board Berr)
 board_after machine who x command (Some board) = (
@@ -48,14 +48,14 @@ board_after machine who x command (Some board) = (
   replies.Board (counted_step command_step board who command).1,
 )
 
--- the arbiter's part in the machine after a command to it (this project's own)
+-- the machine after a command to the arbiter, and the reply
 abbrev pub bus_after : Machine → ℕ → ArbCmd → Machine × EventReply
 bus_after machine who cmd = (
   record machine { bus = (counted_step turn_step machine.bus who cmd).0 },
   replies.Bus (counted_step turn_step machine.bus who cmd).1,
 )
 
--- the machine after a call of a who, and the reply (this project's own)
+-- the machine after a call of the processor who, and the reply
 abbrev pub machine_step : Machine → ℕ → Call → Machine × EventReply
 machine_step machine who (OnBoard x command) = board_after machine who x command (slice_get machine.boards x)
 machine_step machine who (OnBus cmd) = bus_after machine who cmd

@@ -1,20 +1,20 @@
--- An object with the number of its steps, and what going through a history does to both.
+-- An object with the number of its steps, and the effect of a history on both.
 use Rattle.std.specs.Prelude.{ℕ, ◌≡◌, ◌+◌, ◌<◌, List, length, replicate, slice_index_or}
 use Rattle.vme_object.specs.declared.history.Entry.{Entry}
 use Rattle.vme_object.specs.History.{replay, IsLegal, own}
 
--- an object, the number of its steps, and how many of them each who made, by place (this project's own)
+-- an object, the number of its steps, and the number of steps of each processor
 pub record CountedState (S : Type 0) : Type 0 where
   pub object : S
   pub steps : ℕ
   pub made : List ℕ
 
--- an object before its first step, for the process_count below k (this project's own)
+-- an object before its first step, with a count for each of k processors
 abbrev pub fresh_count : {S : Type 0} → ℕ → S → CountedState S
 fresh_count k object = record { object = object; steps = 0; made = replicate k 0 }
 
--- an object went through a history that is legal from where it stood, and each entry was counted, once in all and once
--- for its who (this project's own)
+-- an object went through a history that is legal from its state, and each entry was counted once in all and once for
+-- its processor
 pub record IsObjectRun {S C R : Type 0} (step : S → C → S × R) (h : List (Entry C R)) (before after : CountedState S) : Type 0 where
   pub legal : IsLegal step before.object h
   pub object : after.object ≡ replay step before.object h
@@ -22,8 +22,8 @@ pub record IsObjectRun {S C R : Type 0} (step : S → C → S × R) (h : List (E
   pub process_count : length after.made ≡ length before.made
   pub made : (w : ℕ) → w < length before.made → slice_index_or after.made w 0 ≡ slice_index_or before.made w 0 + length (own w h)
 
--- an object is where a legal history from its opening state leaves it; its steps are that history's entries, and those of
--- each who below k are the who's own (this project's own)
+-- an object is the replay of a legal history from its start; its steps are the entries, and the steps of each processor
+-- below k are that processor's entries
 pub record IsCountedReplay {S C R : Type 0} (step : S → C → S × R) (start : S) (h : List (Entry C R)) (k : ℕ) (t : CountedState S) : Type 0 where
   pub legal : IsLegal step start h
   pub object : t.object ≡ replay step start h

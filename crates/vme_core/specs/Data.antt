@@ -6,7 +6,7 @@ use Rattle.vme_cycle.specs.Plans.{signals_of}
 use Rattle.vme_memory.specs.declared.command.BoardCmd.{BoardCmd}
 use Rattle.vme_memory.specs.declared.command.BoardCmd.TheVariants as given
 
--- the cycle of datum i of a transfer, at the offset of its first byte: what the lines show, and the function of a
--- read-modify-write (IEEE 1014, section 2.3.6)
+-- the cycle of datum i of a transfer at an offset: its signals, and the function of a read-modify-write;
+-- IEEE 1014-1987, 2.3.6 (basic data transfer)
 abbrev pub datum_cycle : Transfer → ℕ → ℕ → BoardCmd
 datum_cycle t i at = given.Cycle (signals_of t i) at (function_of t.request)

@@ -1,4 +1,4 @@
--- A run of events over boards and the arbiter of their bus, and the part that each of them has in it.
+-- A run of events over boards and the arbiter of their bus, and each object's part of it.
 use Rattle.std.specs.Prelude.{ℕ, ◌==◌, if◌then◌else◌, Option, Some, None, List, map, filter_map, All}
 use Rattle.vme_object.specs.declared.history.Entry.{Entry}
 use Rattle.vme_object.specs.History.{entry}
@@ -18,63 +18,62 @@ use Rattle.vme_core.specs.declared.event.Target.{Target}
 use Rattle.vme_core.specs.declared.event.Target.TheVariants as at
 use Rattle.vme_core.specs.CountedStates.{CountedState, IsObjectRun}
 
--- the boards and the arbiter, each with its counts (this project's own)
+-- the boards and the arbiter, each with its counts
 pub record Machine : Type 0 where
   pub boards : List (CountedState Board)
   pub bus : CountedState Arbitration
 
--- an event of a run: who gave it, to what, and the reply (this project's own)
+-- a transition of a run: the processor, the event and the reply
 pub record Transition : Type 0 where
   pub who : ℕ
   pub event : Event
   pub reply : EventReply
 
--- a move by its parts (this project's own)
+-- a transition from its parts
 abbrev pub move : ℕ → Event → EventReply → Transition
 move who event reply = record { who = who; event = event; reply = reply }
 
--- what an event is given to (this project's own)
+-- the object that takes an event
 abbrev pub target_of : Event → Target
 target_of (asked.Board board cmd) = at.Board board
 target_of (asked.Bus cmd) = at.Bus
 
--- a reply is of the kind of its event: a board's, or the arbiter's (this project's own)
+-- a reply matches its event: it is a board's, or the arbiter's
 abbrev pub IsReplyTo : Event → EventReply → Type 0
 IsReplyTo (asked.Board board cmd) (replies.Board reply) = Unit {0}
 IsReplyTo (asked.Board board cmd) (replies.Bus reply) = ⊥
 IsReplyTo (asked.Bus cmd) (replies.Board reply) = ⊥
 IsReplyTo (asked.Bus cmd) (replies.Bus reply) = Unit {0}
 
--- what a move adds to the history of a board, if anything (this project's own)
+-- the entry that a transition adds to the history of a board, if any
 abbrev pub board_entry : ℕ → ℕ → Event → EventReply → Option (Entry BoardCmd Reply)
 board_entry x who (asked.Board board cmd) (replies.Board reply) = if board == x then Some (entry who cmd reply) else None
 board_entry x who (asked.Board board cmd) (replies.Bus reply) = None
 board_entry x who (asked.Bus cmd) reply = None
 
--- what a move adds to the history of the arbiter, if anything (this project's own)
+-- the entry that a transition adds to the history of the arbiter, if any
 abbrev pub bus_entry : ℕ → Event → EventReply → Option (Entry ArbCmd ArbReply)
 bus_entry who (asked.Board board cmd) reply = None
 bus_entry who (asked.Bus cmd) (replies.Board reply) = None
 bus_entry who (asked.Bus cmd) (replies.Bus reply) = Some (entry who cmd reply)
 
--- the history of a board in a run (this project's own)
+-- the history of a board in a run
 abbrev pub board_part : ℕ → List Transition → List (Entry BoardCmd Reply)
 board_part x run = filter_map (λ m. board_entry x m.who m.event m.reply) run
 
--- the history of the arbiter in a run (this project's own)
+-- the history of the arbiter in a run
 abbrev pub bus_part : List Transition → List (Entry ArbCmd ArbReply)
 bus_part run = filter_map (λ m. bus_entry m.who m.event m.reply) run
 
--- the events of a run, each with who gave it (this project's own)
+-- the events of a run, each with its processor
 abbrev pub events_in : List Transition → List (ℕ × Event)
 events_in run = map (λ m. (m.who, m.event)) run
 
--- the replies of a run (this project's own)
+-- the replies of a run
 abbrev pub replies_in : List Transition → List EventReply
 replies_in run = map (λ m. m.reply) run
 
--- the machine made a run: each reply is of its event's kind, and each board and the arbiter went through its own part
--- (this project's own)
+-- the machine made a run: each reply matches its event, and each board and the arbiter went through its own part
 pub record IsRun (run : List Transition) (before after : Machine) : Type 0 where
   pub fitting : All (λ m. IsReplyTo m.event m.reply) run
   pub boards : AllAt (λ x b a. IsObjectRun board_step (board_part x run) b a) before.boards after.boards

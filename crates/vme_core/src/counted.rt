@@ -11,7 +11,7 @@ use std::marker::Model;
 use vme_memory::{ByteMemory, Reply};
 use vme_object::{Object, next_count};
 
-/// An object, with the number of its steps and of those that each who made.
+/// An object, the number of its steps, and the number of steps of each processor.
 #[derive(Drop)]
 pub(crate) struct Counted<O> {
     object: O,
@@ -31,7 +31,7 @@ impl<O> Model for Counted<O> {
 }
 
 impl<O: Object> Counted<O> {
-    /// An object before its first step, with the counts of the process_count below `k`.
+    /// An object before its first step, with a count for each of `k` processors.
     pub(crate) fn new(alloc: Global, object: O, k: usize) -> Result<Counted<O>, OutOfMemory>
     where
         O: Drop,
@@ -47,7 +47,8 @@ impl<O: Object> Counted<O> {
         }
     }
 
-    /// Takes a command and counts it. Where no further step can be counted, nothing is done.
+    /// Takes a command of `who` and counts it. Where no further step can be counted, nothing is
+    /// done.
     #[inline(always)]
     pub(crate) fn apply(&mut self, who: usize, cmd: &O::Cmd) -> Result<O::Reply, Spent>
         requires who { who < length self.old.made }
@@ -62,7 +63,7 @@ impl<O: Object> Counted<O> {
         Ok(self.reply(who, cmd))
     }
 
-    /// The same where a further step can be counted.
+    /// Takes a command of `who` and counts it, where a further step can be counted.
     #[inline(always)]
     pub(crate) fn reply(&mut self, who: usize, cmd: &O::Cmd) -> O::Reply
         requires who { who < length self.old.made }
@@ -75,7 +76,7 @@ impl<O: Object> Counted<O> {
         reply
     }
 
-    /// One more step is counted, of `who`.
+    /// Counts one more step of `who`.
     #[inline(always)]
     fn count(&mut self, who: usize)
         requires who { who < length self.old.made }
@@ -102,7 +103,7 @@ impl<O: Object> Counted<O> {
         self.steps
     }
 
-    /// How many of the steps `who` made.
+    /// The number of steps of `who`.
     pub(crate) fn made(&self, who: usize) -> u64
         requires { who < length self.now.made }
         ensures { result ≡ slice_index_or self.now.made who 0 }
@@ -110,7 +111,7 @@ impl<O: Object> Counted<O> {
         self.made[who]
     }
 
-    /// How many of the steps each who made.
+    /// The number of steps of each processor.
     pub(crate) fn counts(&self) -> &[u64]
         ensures { result.now ≡ self.now.made }
     {
@@ -119,7 +120,7 @@ impl<O: Object> Counted<O> {
 }
 
 impl Counted<ByteMemory> {
-    /// Answers one datum of a transfer, and counts it, where a further step can be counted.
+    /// Takes one datum of a transfer of `who` and counts it, where a further step can be counted.
     #[inline(always)]
     pub(crate) fn datum(&mut self, who: usize, cycle: &DatumCycle<'_>) -> Reply
         requires who { who < length self.old.made }

@@ -1,4 +1,4 @@
-//! Data of transfers, as the memory takes them that they are for.
+//! Data of transfers as commands to a board.
 ghost use Rattle.std.specs.Prelude.{◌≡◌, ◌<◌, ◌%◌, Some, IsTrue};
 ghost use Rattle.vme_cycle.specs.Lawful.{IsLawfulTransfer};
 ghost use Rattle.vme_cycle.specs.Requests.{count_of, address_of, is_counted};
@@ -12,8 +12,9 @@ use vme_cycle::{Plan, Request};
 use vme_memory::{Access, ByteMemory, Reply};
 use vme_object::Operation;
 
-/// The cycle of a datum of a lawful transfer, for a memory where its first byte has an offset. Its
-/// lines are not laid out: a memory does what they would tell it. Contracts see it as the command.
+/// The cycle of a datum of a lawful transfer, with the offset of its first byte on the selected
+/// board. Its signals are not computed: the memory takes the datum directly. Contracts see it as
+/// the command.
 #[derive(Debug, Drop)]
 pub struct DatumCycle<'a> {
     plan: Plan<'a>,
@@ -36,8 +37,8 @@ impl<'a> Model for DatumCycle<'a> {
 }
 
 impl<'a> DatumCycle<'a> {
-    /// The cycle of datum `i` of a plan, with the offset of its first byte, which has the place in the
-    /// group of four that its address has.
+    /// Returns the cycle of datum `i` of a plan. `at` is the offset of its first byte, and has the
+    /// place of the datum's address in the group of four.
     #[inline(always)]
     pub fn new(plan: Plan<'a>, i: u16, at: u32) -> DatumCycle<'a>
         requires lawful { IsLawfulTransfer plan }
@@ -50,7 +51,7 @@ impl<'a> DatumCycle<'a> {
         DatumCycle { plan, i, at }
     }
 
-    /// What it asks of the memory.
+    /// The datum as an access to the memory.
     #[inline(always)]
     pub(crate) fn access(&self) -> Access<'a>
         ensures { command_given self.now ≡ Some (accessed result) }
@@ -71,7 +72,7 @@ impl Operation<ByteMemory> for DatumCycle<'_> {
     }
 }
 
-/// What datum `i` of a request asks of its slave, at the offset of its first byte there.
+/// Datum `i` of a request as an access, at the offset of its first byte.
 #[inline(always)]
 fn access_of(request: &Request, i: u16, at: u32) -> Access<'_>
     requires counted { IsTrue (is_counted request.now) }

@@ -5,33 +5,34 @@ use vme_memory::{BoardCmd, Reply};
 /// A command to one of the boards, or to the arbiter of their bus.
 #[derive(Debug, Drop)]
 pub enum Event {
-    /// To a board, by its place.
+    /// A command to the board with this index.
     Board { board: usize, cmd: BoardCmd },
-    /// To the arbiter.
+    /// A command to the arbiter.
     Bus(ArbCmd),
 }
 
-/// What an event asks, apart from the lines of a cycle.
+/// A command to one of the boards or to the arbiter that is borrowed, or a datum of a transfer
+/// without the lines of its cycle.
 #[derive(Debug, Drop)]
 pub enum EventRef<'a> {
-    /// A command to one of the boards, by its place.
+    /// A command to the board with this index.
     Board { board: usize, cmd: &'a BoardCmd },
-    /// A datum of a transfer, for one of the boards, by its place.
+    /// A datum of a transfer to the board with this index.
     Datum { board: usize, cycle: DatumCycle<'a> },
-    /// To the arbiter.
+    /// A command to the arbiter.
     Bus(ArbCmd),
 }
 
 /// The reply to an event.
 #[derive(Debug, Drop)]
 pub enum EventReply {
-    /// Of a board.
+    /// The reply of a board.
     Board(Reply),
-    /// Of the arbiter.
+    /// The reply of the arbiter.
     Bus(ArbReply),
 }
 
-/// One of the boards, by its place, or the arbiter.
+/// The object that takes an event: the board with this index, or the arbiter.
 #[derive(Clone, Copy, Debug, PartialEq, Eq)]
 pub enum Target {
     Board(usize),

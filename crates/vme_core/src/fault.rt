@@ -1,16 +1,16 @@
-/// There is no memory left for what was asked.
+/// An allocation failed.
 #[derive(Clone, Copy, Debug, PartialEq, Eq)]
 pub struct OutOfMemory;
 
-/// An object has made as many steps as can be counted, 2^64 - 1.
+/// The object has made 2^64 - 1 steps, the last number that can be counted.
 #[derive(Clone, Copy, Debug, PartialEq, Eq)]
 pub struct Spent;
 
 /// Why a run of events ended before its last event.
 #[derive(Clone, Copy, Debug, PartialEq, Eq)]
 pub enum RunStop {
-    /// There is no memory for the replies. Nothing was done.
+    /// The allocation for the replies failed. Nothing was done.
     OutOfMemory,
-    /// What an event was for can count no further step. The events before it were done.
+    /// The object of an event can count no further step. The events before it were done.
     Spent,
 }

@@ -9,15 +9,16 @@ ghost use Rattle.vme_core.specs.Calls.{call_of, machine_step};
 ghost use Rattle.vme_core.specs.Machines.{opening, IsThere};
 ghost use Rattle.vme_core.specs.declared.event.Event.{Event};
 
-/// Runs compose: a second one goes on from where the first ends.
+/// States that runs compose: a second run continues where the first ends.
 pub fn runs_compose()
     ensures nothing { (m : Machine) → IsRun [] m m }
     ensures goes_on { (first then : List Transition) (a b c : Machine) →
         IsRun first a b → IsRun then b c → IsRun (first ++ then) a c }
 {}
 
-/// After a run from an opening each board's memory, and the arbiter, is the replay of its own part
-/// of the run; its steps are that part's entries, and what each who made are the who's own.
+/// States that after a run from an opening state each board's memory, and the arbiter, is the
+/// replay of its own part of the run. Its steps are the entries of that part, and the steps of each
+/// processor are that processor's entries.
 #[tactic(auto, using(crate::proofs::lemmas::CountedStates::run_replays))]
 pub fn opening_is_replayed()
     ensures boards { (memories : List Board) (bus : Arbitration) (k : ℕ) (run : List Transition) (after : Machine) →
@@ -27,7 +28,7 @@ pub fn opening_is_replayed()
         IsRun run (opening memories bus k) after → IsCountedReplay turn_step bus (bus_part run) k after.bus }
 {}
 
-/// The call that an event makes is a run of one move, with the reply of that call.
+/// States that the call of an event is a run of one transition, with the reply of that call.
 #[tactic(auto, using(crate::proofs::lemmas::Calls::did_call))]
 pub fn a_call_is_a_run_of_one()
     ensures { (m : Machine) (who : ℕ) (event : Event) → IsThere m (target_of event) →

@@ -1,5 +1,5 @@
-//! A run of events on one thread: boards and the arbiter of their bus, each of which goes through
-//! its own part of the run, with the number of its steps and of those that each who made.
+//! A run of events on one thread: boards and the arbiter of their bus. Each object takes its own
+//! part of the run, and the core counts the steps of each object and those of each processor on it.
 #![tactic(auto)]
 
 mod counted;

@@ -37,16 +37,24 @@ impl Model for Core {
 }
 
 impl Core {
-    /// Boards with these memories and a priority arbiter of a free bus, for the process_count below `k`,
-    /// before any step. Where memory is refused the boards' memories are dropped.
+    /// Returns a core of boards with these memories and a priority arbiter of a free bus, for `k`
+    /// processors, before any step.
+    ///
+    /// # Errors
+    ///
+    /// An allocation failed. The memories are dropped.
     pub fn new(alloc: Global, memories: Vec<ByteMemory>, k: usize) -> Result<Core, OutOfMemory>
         ensures { IfOk result (λ core. core ≡ opening memories.items (opening_bus Priority) k) }
     {
         Core::with_arbiter(alloc, memories, Arbiter::new(), k)
     }
 
-    /// Boards with these memories and this arbiter of their bus, for the process_count below `k`, before any
-    /// step. Where memory is refused the boards' memories are dropped.
+    /// Returns a core of boards with these memories and this arbiter, for `k` processors, before
+    /// any step.
+    ///
+    /// # Errors
+    ///
+    /// An allocation failed. The memories are dropped.
     pub fn with_arbiter(
         alloc: Global,
         memories: Vec<ByteMemory>,
@@ -60,8 +68,11 @@ impl Core {
         Ok(Core { boards, bus })
     }
 
-    /// One event of `who`, and the reply to it. Where the object can count no further step, nothing
-    /// is done.
+    /// Performs one event of `who` and returns the reply.
+    ///
+    /// # Errors
+    ///
+    /// The object of the event can count no further step, and nothing was done.
     pub fn apply(&mut self, who: usize, event: &Event) -> Result<EventReply, Spent>
         requires who { who < process_count self.old }
         requires there { IsThere self.old (target_of event.now) }
@@ -80,8 +91,8 @@ impl Core {
         }
     }
 
-    /// One event_ref of `who` which its object can count, and the reply to it: the same as to an event that
-    /// asks the same.
+    /// Performs one event of `who` that its object can count, given by reference, and returns the
+    /// reply.
     #[inline(always)]
     pub fn apply_ref(&mut self, who: usize, event_ref: &EventRef<'_>) -> EventReply
         requires who { who < process_count self.old }
@@ -99,7 +110,7 @@ impl Core {
         }
     }
 
-    /// A command of `who` to the arbiter, which can count it, and the reply.
+    /// Performs a command of `who` to the arbiter, which can count it, and returns the reply.
     #[inline(always)]
     pub fn apply_bus(&mut self, who: usize, cmd: ArbCmd) -> ArbReply
         requires who { who < process_count self.old }
@@ -111,7 +122,8 @@ impl Core {
         self.bus.reply(who, &cmd)
     }
 
-    /// A command of `who` to a board which can count it, by its place, and the reply.
+    /// Performs a command of `who` to the board with index `board`, which can count it, and returns
+    /// the reply.
     #[inline(always)]
     pub fn apply_board(&mut self, who: usize, board: usize, cmd: &BoardCmd) -> Reply
         requires who { who < process_count self.old }
@@ -124,7 +136,8 @@ impl Core {
         self.boards[board].reply(who, cmd)
     }
 
-    /// One datum of a transfer of `who` for a board which can count it, by its place, and the reply.
+    /// Performs one datum of a transfer of `who` on the board with index `board`, which can count
+    /// it, and returns the reply.
     #[inline(always)]
     pub fn apply_datum(&mut self, who: usize, board: usize, cycle: &DatumCycle<'_>) -> Reply
         requires who { who < process_count self.old }
@@ -137,8 +150,13 @@ impl Core {
         self.boards[board].datum(who, cycle)
     }
 
-    /// Events one after another, each with who gives it; their replies are appended. BlockBuffer for all of
-    /// them is taken first. It ends before an event whose object can count no further step.
+    /// Performs events one after another, each with its processor, and appends their replies. The
+    /// capacity for all replies is reserved first.
+    ///
+    /// # Errors
+    ///
+    /// `OutOfMemory`: the reservation failed, and nothing was done. `Spent`: the object of an event
+    /// can count no further step; the events before it were done.
     #[tactic(auto, using(crate::proofs::lemmas::Dones::done_nothing, crate::proofs::lemmas::Dones::done_more, crate::proofs::lemmas::Dones::run_all, crate::proofs::lemmas::Dones::run_spent, crate::proofs::lemmas::Dones::run_none))]
     pub fn run(
         &mut self,
@@ -164,7 +182,7 @@ impl Core {
         Ok(())
     }
 
-    /// The number of steps of an object.
+    /// Returns the number of steps of an object.
     pub fn steps(&self, target: Target) -> u64
         requires { IsThere self.now target }
         ensures { steps_of self.now target ≡ Some result }
@@ -175,7 +193,7 @@ impl Core {
         }
     }
 
-    /// How many of the steps of an object `who` made.
+    /// Returns the number of steps of `who` on an object.
     pub fn made(&self, who: usize, target: Target) -> u64
         requires who { who < process_count self.now }
         requires there { IsThere self.now target }
@@ -187,7 +205,7 @@ impl Core {
         }
     }
 
-    /// How many of the steps of an object each who made, by place.
+    /// Returns the number of steps of each processor on an object, by processor number.
     pub fn counts(&self, target: Target) -> &[u64]
         requires { IsThere self.now target }
         ensures value { counts_of self.now target ≡ Some result.now }
@@ -199,7 +217,7 @@ impl Core {
         }
     }
 
-    /// The memory of a board.
+    /// Returns the memory of a board.
     pub fn memory(&self, board: usize) -> &ByteMemory
         requires { board < length self.now.boards }
         ensures { slice_get (map (λ b. b.object) self.now.boards) board ≡ Some result.now }
@@ -208,7 +226,7 @@ impl Core {
     }
 }
 
-/// Boards with these memories before any step, with the counts of the process_count below `k`.
+/// Boards with these memories before any step, with a count for each of `k` processors.
 fn fresh_boards(
     alloc: Global,
     memories: Vec<ByteMemory>,

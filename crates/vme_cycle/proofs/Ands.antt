@@ -1,4 +1,4 @@
--- Tests that are made in another order.
+-- Tests in another order.
 use Rattle.std.proofs.Common.{◌≡◌, Bool, true, false, ◌&&◌, refl}
 
 pub five_tests : (a w m l d : Bool) → ((((a && w) && m) && l) && d) ≡ (m && (a && (l && (w && d))))

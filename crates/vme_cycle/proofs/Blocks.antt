@@ -1,4 +1,4 @@
--- The locations of the data of a transfer, and what a slave that counts the address on senses.
+-- The locations of the data of a transfer, and what a slave that increments the address senses.
 use Rattle.std.proofs.Common.{◌≡◌, ℕ, ◌+◌, ◌*◌, ◌-◌, ◌%◌, ◌<◌, ◌⊎◌, zero, suc, Bool, true, false, not, Option, None, Some, is_none, option_map, refl, ap, sym, subst, ◌∙◌, arith, inl, inr}
 use Rattle.std.specs.Option.{option_and_then}
 use Rattle.std.specs.Prelude.{◌==◌, nat_le, if◌then◌else◌}
@@ -19,13 +19,13 @@ use Rattle.vme_cycle.specs.Plans.{shown_strobes}
 use Rattle.vme_cycle.specs.Parts.{IsLawful}
 use Rattle.vme_cycle.proofs.Lawful.{datum_lens, datum_few, few_len, block_datum, single}
 
--- n bytes from an address on are those of a location
+-- n bytes that begin at an address are those of a location
 pub record IsAt (addr n : ℕ) (l : Location) : Type 0 where
   pub found : location_for addr n ≡ Some l
   pub first : (row_of l).first ≡ addr % 4
   pub len : chosen_len (is_wide_len n) l ≡ Some n
 
--- a row that the data of blocks have
+-- a row that a datum of a block has
 pub record IsBlockRow (addr n : ℕ) (l : Location) : Type 0 where
   pub at : IsAt addr n l
   pub lword : (row_of l).strobes.lword ≡ nat_le n 2
@@ -74,7 +74,7 @@ four_bytes addr at = (Bytes03, record { at = record { found = rw at refl; first 
 eight_bytes : (addr : ℕ) → addr % 4 ≡ 0 → (l : Location) × IsBlockRow addr 8 l
 eight_bytes addr at = (Bytes03, record { at = record { found = refl; first = sym at; len = refl }; lword = refl; quad = refl; a01 = rw at refl })
 
--- an aligned single, double, quad or datum of eight bytes has a row
+-- an aligned datum of one, two, four or eight bytes has a row
 block_row : (wide : Bool) (addr n : ℕ) → is_datum_len wide n ≡ true → addr % n ≡ 0 → (l : Location) × IsBlockRow addr n l
 block_row wide addr n block aligned =
     elim (datum_lens wide n block) [
@@ -90,7 +90,7 @@ block_row wide addr n block aligned =
       ]
     ]
 
--- data of n bytes each begin at multiples of n where the first does
+-- if the first datum of a block is aligned, each datum is
 stays_aligned : (wide : Bool) (addr i n : ℕ) → is_datum_len wide n ≡ true → addr % n ≡ 0 → (addr + i * n) % n ≡ 0
 stays_aligned wide addr i n block aligned =
     elim (datum_lens wide n block) [
@@ -124,12 +124,12 @@ some_of : {A : Type 0} (found : Option A) → is_none found ≡ false → (x : A
 some_of None h = absurd cc
 some_of (Some x) h = (x, refl)
 
--- what a test leaves is what was there
+-- a test that passes keeps what was found
 left_by : {A : Type 0} (test : Bool) (found : Option A) → is_none (if test then None else found) ≡ false → is_none found ≡ false
 left_by true found h = absurd cc
 left_by false found h = h
 
--- the one datum of what is no block is at the first address
+-- the one datum of a single request is at the first address
 first_alone : (request : Request) (i : ℕ) → is_block_request request ≡ false → i < count_of request → address_of request i ≡ addr_of request
 first_alone request i alone less = let one = single request alone in let none : i ≡ 0 = omega (arith, one, less) in rw none (omega arith)
 
@@ -159,7 +159,7 @@ pub datum_found :
     → (l : Location) × (location_for (address_of request i) (datum_len request) ≡ Some l)
 datum_found row request i is less = let there = datum_at row request i is less in (there.0, there.1.found)
 
--- the location of a datum has its place, and with the code its length
+-- the location of a datum has its place and, with the code, its length
 pub datum_placed :
     (row : CodeRow) (request : Request) (i : ℕ) (l : Location) → IsLawful row request → i < count_of request
     → location_for (address_of request i) (datum_len request) ≡ Some l
@@ -171,7 +171,7 @@ datum_placed row request i l is less found =
       ap (λ wide. chosen_len wide l) (sym is.wide) ∙ (ap (λ m. chosen_len (is_wide_len (datum_len request)) m) (sym same) ∙ there.1.len),
     )
 
--- all data of a transfer have LWORD* alike
+-- all data of a transfer have the same level of LWORD*
 pub same_lword :
     (row : CodeRow) (request : Request) (i : ℕ) (first own : Location) → IsLawful row request → i < count_of request
     → location_for (address_of request zero) (datum_len request) ≡ Some first → location_for (address_of request i) (datum_len request) ≡ Some own
@@ -193,12 +193,12 @@ same_lword row request i first own is less at_first at_own =
           cc same
     ]
 
--- strobes with the levels that they have
+-- strobes with the levels that they have are unchanged
 same_levels : (strobes : Strobes) (a01 lword : Bool) → strobes.a01 ≡ a01 → lword ≡ strobes.lword
     → record { ds1 = strobes.ds1; ds0 = strobes.ds0; a01 = a01; lword = lword } ≡ strobes
 same_levels strobes a01 lword high low = rw (← high, low) refl
 
--- what a slave that counts the address on senses is the datum's own location
+-- a slave that increments the address senses the datum's own location
 pub counts_on :
     (row : CodeRow) (request : Request) (i : ℕ) (first own : Location) (s : SignalLines) → IsLawful row request → i < count_of request
     → location_for (address_of request zero) (datum_len request) ≡ Some first → location_for (address_of request i) (datum_len request) ≡ Some own
@@ -221,13 +221,13 @@ counts_on row request i first own s is less at_first at_own am shown =
           rw (kind, shown, same) (own_sensed own)
     ]
 
--- strobes that choose a location choose its bytes
+-- strobes of a location select its bytes
 pub len_of_strobes :
     (wide : Bool) (strobes : Strobes) (l : Location) (n : ℕ) → location_sensed strobes ≡ Some l → chosen_len wide l ≡ Some n
     → row_len wide strobes ≡ Some n
 len_of_strobes wide strobes l n sensed long = ap (option_and_then (chosen_len wide)) sensed ∙ long
 
--- the address of the first byte is shown by the address lines and the strobes
+-- the address lines and the strobes show the address of the first byte
 pub first_shown :
     (s : SignalLines) (own : Location) (addr : ℕ) → s.strobes ≡ (row_of own).strobes → s.addr ≡ addr - addr % 4 → (row_of own).first ≡ addr % 4
     → first_byte s ≡ Some addr
@@ -236,7 +236,7 @@ first_shown s own addr strobes group place =
     ∙ ap (option_map (λ l. s.addr + (row_of l).first)) (own_sensed own)
     ∙ ap Some (omega (arith, group, place))
 
--- strobes repr by their own datum are its own
+-- the strobes of a location shown for its own datum are its own strobes
 pub held_by_itself : (first own : Location) (strobes : Strobes) → first ≡ own → strobes ≡ shown_strobes (row_of first).strobes (row_of own).strobes
     → strobes ≡ (row_of own).strobes
 held_by_itself first own strobes same shown = rw same at shown

@@ -1,4 +1,4 @@
--- What a request without a refusal is.
+-- The facts of a request without a refusal.
 use Rattle.std.proofs.Common.{◌≡◌, ◌∙◌, sym, ℕ, List, ◌∷◌, length, ◌+◌, ◌*◌, ◌^◌, ◌-◌, ◌/◌, ◌≤◌, ◌<◌, ◌⊎◌, suc, Bool, true, false, not, Option, None, Ok, refl, arith, inl, inr, nat_lt}
 use Rattle.std.specs.Bool.{beq}
 use Rattle.std.proofs.Math.Nat.{mul-le-mul_left}
@@ -29,7 +29,7 @@ not_false : (b : Bool) → not b ≡ false → b ≡ true
 not_false true h = refl
 not_false false h = absurd cc
 
--- where no refusal is told, the first does not hold and none of the others is told
+-- if a list has no first refusal, its first test fails and the rest has no refusal
 none_first :
     (b : Bool) (fault : CycleFault) (more : List (Option CycleFault)) → first_of (where_true b fault ∷ more) ≡ None
     → (b ≡ false) × (first_of more ≡ None)
@@ -40,7 +40,7 @@ none_first false fault more h = (refl, h)
 single_lens : (n : ℕ) → is_single_len n ≡ true → (1 ≤ n) × (n ≤ 4)
 single_lens n h = let parts = and_parts _ _ h in (leb-true 1 n parts.0, leb-true n 4 parts.1)
 
--- a block's datum has one, two or four
+-- a block's datum has one, two or four bytes
 pub block_lens : (n : ℕ) → is_block_len n ≡ true → (n ≡ 1) ⊎ ((n ≡ 2) ⊎ (n ≡ 4))
 block_lens n h =
     elim (eqb_tells n 1) [
@@ -54,7 +54,7 @@ block_lens n h =
 block_small : (n : ℕ) → is_block_len n ≡ true → (1 ≤ n) × (n ≤ 4)
 block_small n h = elim (block_lens n h) [ inl one ↦ (omega (arith, one), omega (arith, one)) | inr more ↦ elim more [ inl two ↦ (omega (arith, two), omega (arith, two)) | inr four ↦ (omega (arith, four), omega (arith, four)) ] ]
 
--- or eight, with a code of such data
+-- a block's datum has one, two, four or, with a code of such data, eight bytes
 pub datum_lens : (wide : Bool) (n : ℕ) → is_datum_len wide n ≡ true → (n ≡ 1) ⊎ ((n ≡ 2) ⊎ ((n ≡ 4) ⊎ (n ≡ 8)))
 datum_lens true n h = inr (inr (inr (eqb-true n 8 h)))
 datum_lens false n h =
@@ -67,7 +67,7 @@ data_small false n h = let few = block_small n h in (few.0, omega (arith, few.1)
 up_to_eight : (n : ℕ) → (1 ≤ n) × (n ≤ 4) → (1 ≤ n) × (n ≤ 8)
 up_to_eight n few = (few.0, omega (arith, few.1))
 
--- the length of a datum
+-- a datum has one to eight bytes
 pub datum_small : (request : Request) → is_counted request ≡ true → (1 ≤ datum_len request) × (datum_len request ≤ 8)
 datum_small (Read am addr n) h = up_to_eight n (single_lens n h)
 datum_small (Write am addr bytes) h = up_to_eight (length bytes.items) (single_lens (length bytes.items) h)
@@ -76,7 +76,7 @@ datum_small (BlockWrite am addr n bytes) h = data_small (is_wide_code am) n (and
 datum_small (BlockFill am addr n count bytes) h = data_small (is_wide_code am) n (and_parts _ _ (and_parts _ _ h).0).0
 datum_small (Modify am addr n f) h = up_to_eight n (block_small n (and_parts _ _ h).0)
 
--- what is no block has data of at most four bytes
+-- a datum of a single request has at most four bytes
 pub datum_few : (request : Request) → is_block_request request ≡ false → is_counted request ≡ true → datum_len request ≤ 4
 datum_few (Read am addr n) b h = (single_lens n h).1
 datum_few (Write am addr bytes) b h = (single_lens (length bytes.items) h).1
@@ -88,7 +88,7 @@ datum_few (Modify am addr n f) b h = (block_small n (and_parts _ _ h).0).1
 some_count : (count : ℕ) → is_block_count count ≡ true → 0 < count
 some_count count h = let some = leb-true 1 count (and_parts _ _ h).0 in omega (arith, some)
 
--- there is a datum
+-- a request has at least one datum
 pub some_data : (request : Request) → is_counted request ≡ true → 0 < count_of request
 some_data (Read am addr n) h = omega arith
 some_data (Write am addr bytes) h = omega arith
@@ -97,7 +97,7 @@ some_data (BlockWrite am addr n bytes) h = some_count (length bytes.items / n) (
 some_data (BlockFill am addr n count bytes) h = some_count count (and_parts _ _ (and_parts _ _ h).0).1
 some_data (Modify am addr n f) h = omega arith
 
--- what is no block has one datum
+-- a single request has one datum
 pub single : (request : Request) → is_block_request request ≡ false → count_of request ≡ 1
 single (Read am addr n) h = refl
 single (Write am addr bytes) h = refl
@@ -106,7 +106,7 @@ single (BlockWrite am addr n bytes) h = absurd cc
 single (BlockFill am addr n count bytes) h = absurd cc
 single (Modify am addr n f) h = refl
 
--- a block's datum has a block's length
+-- a block's datum has a length that blocks allow
 pub block_datum :
     (request : Request) → is_block_request request ≡ true → is_counted request ≡ true
     → is_datum_len (is_wide_code (code_of request)) (datum_len request) ≡ true
@@ -121,7 +121,7 @@ block_datum (Modify am addr n f) b h = absurd cc
 pub few_len : (n : ℕ) → n ≤ 4 → is_wide_len n ≡ false
 few_len n few = elim (eqb_tells n 8) [ inl eight ↦ absurd (omega (arith, eight.1, few)) | inr other ↦ other.0 ]
 
--- eight bytes are those of a code of such data
+-- a datum has eight bytes exactly with a code of such data
 len_of_code : (wide : Bool) (n : ℕ) → is_datum_len wide n ≡ true → is_wide_len n ≡ wide
 len_of_code true n h = h
 len_of_code false n h = few_len n (block_small n h).1
@@ -175,7 +175,7 @@ same_unit n addr span h =
       | inr plain ↦ let same : addr / 256 ≡ (addr + span - 1) / 256 = rw plain at h in omega (arith, same)
     ]
 
--- all bytes lie in one unit of 2,048
+-- all bytes of a request fit in one unit of 2,048 bytes
 pub one_unit : (row : CodeRow) (request : Request) → IsLawful row request → span_of request ≤ 2048
 one_unit row request is =
     elim (cases_Bool (is_block_request request)) [
@@ -197,7 +197,7 @@ space_small A16 = omega arith
 space_small A24 = omega arith
 space_small A32 = omega arith
 
--- and so its address has 32 bits
+-- the address of each datum has 32 bits
 pub datum_below :
     (row : CodeRow) (request : Request) (i : ℕ) → IsLawful row request → i < count_of request → address_of request i + datum_len request ≤ 2 ^ 32
 datum_below row request i is less = let within = datum_within row request i is less in let small = space_small row.space in omega (arith, within, small)

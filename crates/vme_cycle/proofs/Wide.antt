@@ -1,4 +1,4 @@
--- Codes of eight-byte data, and how many bytes they choose.
+-- Codes of eight-byte data, and the number of bytes that they select.
 use Rattle.std.proofs.Common.{◌≡◌, ℕ, Bool, true, false, List, [], ◌∷◌, find, Option, None, Some, Ok, refl, ap, sym, ◌∙◌, inl, inr}
 use Rattle.std.specs.Prelude.{◌==◌, ◌||◌, not}
 use Rattle.std.specs.List.{list_all}
@@ -11,7 +11,7 @@ use Rattle.vme_lanes.specs.Rows.{row_of}
 use Rattle.vme_cycle.specs.Counts.{is_wide_row, is_wide_code}
 use Rattle.vme_cycle.specs.SignalLines.{len_with, chosen_len}
 
--- what holds of each holds of what is found
+-- what holds of each element holds of the element that is found
 all_found : (holds test : CodeRow → Bool) (rows : List CodeRow) (row : CodeRow) → list_all holds rows ≡ true → find test rows ≡ Some row → holds row ≡ true
 all_found holds test [] row all h = absurd cc
 all_found holds test (r ∷ rows) row all h =
@@ -21,7 +21,7 @@ all_found holds test (r ∷ rows) row all h =
       | inr fails ↦ all_found holds test rows row parts.1 (rw fails at h)
     ]
 
--- a row of eight-byte data is one of blocks
+-- a row of eight-byte data is a block row
 abbrev only_blocks : CodeRow → Bool
 only_blocks row = not row.wide || is_block row.kind
 
@@ -37,7 +37,7 @@ unfolding read_code
 wide_is_block code row h wide =
     found_block row wide (all_found only_blocks (λ r. r.code == code) table row refl (read_at code row (row_at code) h))
 
--- the test of a code's row is that of the row
+-- whether a code is one of eight-byte data is what its row states
 pub wide_code : (code : ℕ) (row : CodeRow) → read_code code ≡ Ok row → is_wide_code code ≡ row.wide
 wide_code code row h = ap is_wide_row h
 
@@ -51,11 +51,11 @@ four_of len n h =
       | inr other ↦ let none = rw other at h in absurd cc
     ]
 
--- what is chosen tells the length of the location
+-- the number of selected bytes determines the length of the location
 pub same_len : (wide : Bool) (a b : Location) (n : ℕ) → chosen_len wide a ≡ Some n → chosen_len wide b ≡ Some n → (row_of a).len ≡ (row_of b).len
 same_len true a b n first second = four_of (row_of a).len n first ∙ sym (four_of (row_of b).len n second)
 same_len false a b n first second = some_same _ _ (first ∙ sym second)
 
--- a length that is chosen without a code of eight-byte data
+-- without a code of eight-byte data, the number of selected bytes is the length of the location
 pub plain_len : (l : Location) (n : ℕ) → chosen_len false l ≡ Some n → (row_of l).len ≡ n
 plain_len l n h = some_same _ _ h

@@ -1,19 +1,19 @@
--- Bytes of blocks, and rooms for them.
+-- The bytes of blocks, and the buffers that collect them.
 use Rattle.std.specs.Prelude.{ℕ, List}
 
--- how many bytes lie in a value itself: as many as a line of 80 bytes can spell (this project's own)
+-- how many bytes lie in a value itself: as many as a line of 80 bytes can spell
 abbrev pub inline_capacity : ℕ
 inline_capacity = 40
 
--- the most bytes of a block: 256 data of eight bytes (this project's own)
+-- the greatest number of bytes of a block: 256 data of eight bytes
 abbrev pub block_limit : ℕ
 block_limit = 2048
 
--- what is seen of a room: its bytes, and how many have room (this project's own)
+-- the model of a buffer: its bytes and its capacity
 pub record BufferView : Type 0 where
   pub items : List ℕ
   pub capacity : ℕ
 
--- what is seen of a block: its bytes (this project's own)
+-- the model of a block: its bytes
 pub record BlockBytes : Type 0 where
   pub items : List ℕ

@@ -1,4 +1,4 @@
--- What a request without a refusal is, part by part: for proofs.
+-- The facts of a lawful request, one by one.
 use Rattle.std.specs.Prelude.{◌≡◌, ◌+◌, ◌≤◌, true, false, ◌&&◌, is_none, is_some}
 use Rattle.vme_am.specs.Codes.{CodeRow}
 use Rattle.vme_am.specs.Kinds.{is_block, is_program}
@@ -8,7 +8,7 @@ use Rattle.vme_cycle.specs.Counts.{is_wide_len}
 use Rattle.vme_cycle.specs.Requests.{addr_of, datum_len, span_of, is_block_request, function_of, is_counted}
 use Rattle.vme_cycle.specs.Lawful.{first_location, crosses_boundary}
 
--- each part of being lawful, by the row of the code (this project's own)
+-- what holds of a lawful request, with the row of its code
 pub record IsLawful (row : CodeRow) (request : Request) : Type 0 where
   pub kind : is_block row.kind ≡ is_block_request request
   pub no_program : (is_some (function_of request) && is_program row.kind) ≡ false

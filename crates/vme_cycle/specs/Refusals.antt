@@ -1,12 +1,12 @@
--- Refusals as a list, in the order in which they are told.
+-- Lists of refusals in the order of the checks.
 use Rattle.std.specs.Prelude.{Bool, true, false, List, [], ◌∷◌, Option, Some, None}
 
--- a refusal, where the test holds (this project's own)
+-- a refusal where a test holds
 abbrev pub where_true : {F : Type 0} → Bool → F → Option F
 where_true true fault = Some fault
 where_true false fault = None
 
--- the first that there is (this project's own)
+-- the first refusal of a list, if any
 abbrev pub first_of : {F : Type 0} → List (Option F) → Option F
 first_of [] = None
 first_of (Some fault ∷ more) = Some fault

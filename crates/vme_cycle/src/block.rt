@@ -10,10 +10,10 @@ use arrayvec::ArrayVec;
 use std::alloc::Global;
 use std::marker::Model;
 
-/// The most bytes of a block.
+/// The greatest number of bytes of a block: 256 data of eight bytes.
 pub const BLOCK_LIMIT: usize = 2048;
 
-/// The bytes of a block, in order of address.
+/// The bytes of a block, in order of address: at most [`BLOCK_LIMIT`].
 #[derive(Debug, Drop)]
 pub struct Block {
     repr: Repr,
@@ -33,14 +33,15 @@ impl Model for Block {
 }
 
 impl Block {
-    /// No bytes.
+    /// Returns a block of no bytes. It allocates nothing.
     pub fn new() -> Block
         ensures { result.items ≡ [] }
     {
         Block::from_short_slice(ArrayVec::new())
     }
 
-    /// A few bytes. It takes no memory.
+    /// Returns a block of at most [`INLINE_LEN`](crate::INLINE_LEN) bytes, stored in the value
+    /// itself. It allocates nothing.
     pub fn from_short_slice(bytes: ArrayVec<u8, 40>) -> Block
         ensures { result.items ≡ bytes.items }
     {
@@ -51,7 +52,12 @@ impl Block {
         }
     }
 
-    /// These bytes, if they are not too many and there is memory for them.
+    /// Returns a block with a copy of the bytes.
+    ///
+    /// # Errors
+    ///
+    /// `TooLong` exactly for more than [`BLOCK_LIMIT`] bytes. `Memory`: an allocation failed; with
+    /// up to [`INLINE_LEN`](crate::INLINE_LEN) bytes there is no error.
     pub fn from_slice(alloc: Global, bytes: &[u8]) -> Result<Block, BlockFault>
         ensures bytes { IfOk result (λ block. block.items ≡ bytes.now) }
         ensures long { (result ≡ Err TooLong) ↔ (block_limit < length bytes.now) }
@@ -69,6 +75,7 @@ impl Block {
         }
     }
 
+    /// Returns the block with the bytes of a representation.
     pub(crate) fn of_held(repr: Repr) -> Block
         requires { length (repr_bytes repr) ≤ block_limit }
         ensures { result.items ≡ repr_bytes repr }
@@ -76,7 +83,7 @@ impl Block {
         Block { repr }
     }
 
-    /// The bytes.
+    /// Returns the bytes, in order of address.
     pub fn as_slice(&self) -> &[u8]
         ensures value { result.now ≡ self.now.items }
         ensures fits { length result.now ≤ block_limit }
@@ -84,7 +91,7 @@ impl Block {
         self.repr.as_slice()
     }
 
-    /// The number of bytes.
+    /// Returns the number of bytes.
     pub fn len(&self) -> usize
         ensures value { result ≡ length self.now.items }
         ensures fits { result ≤ block_limit }

@@ -7,8 +7,8 @@ use arrayvec::ArrayVec;
 use std::alloc::{AllocError, Global};
 use std::marker::Model;
 
-/// Bytes that are read one datum after another, with room for a known number of them. Memory is
-/// taken when it is made, if at all.
+/// A buffer of fixed capacity for the bytes that the data of a transfer read. The capacity is
+/// allocated, if at all, when the buffer is made.
 #[derive(Debug, Drop)]
 pub struct BlockBuffer {
     repr: Repr,
@@ -27,7 +27,7 @@ impl Model for BlockBuffer {
 }
 
 impl BlockBuffer {
-    /// Nothing, with room for as many bytes as lie in the value itself.
+    /// Returns an empty buffer with a capacity of [`INLINE_LEN`] bytes. It allocates nothing.
     pub fn new() -> BlockBuffer
         ensures { result ≡ record { items = []; capacity = inline_capacity } }
     {
@@ -36,7 +36,11 @@ impl BlockBuffer {
         }
     }
 
-    /// Nothing, with room for so many bytes.
+    /// Returns an empty buffer with a capacity of `count` bytes, and of at least [`INLINE_LEN`].
+    ///
+    /// # Errors
+    ///
+    /// An allocation failed. With a `count` of up to [`INLINE_LEN`] there is no error.
     pub fn with_capacity(alloc: Global, count: usize) -> Result<BlockBuffer, AllocError>
         ensures capacity { IfOk result (λ buffer. buffer ≡ record { items = []; capacity = max inline_capacity count }) }
         ensures short { count ≤ inline_capacity → IsOk result }
@@ -52,7 +56,7 @@ impl BlockBuffer {
         })
     }
 
-    /// The bytes.
+    /// Returns the bytes.
     pub fn as_slice(&self) -> &[u8]
         ensures value { result.now ≡ self.now.items }
         ensures capacity { length result.now ≤ self.now.capacity }
@@ -61,7 +65,7 @@ impl BlockBuffer {
         self.repr.as_slice()
     }
 
-    /// Appends bytes for which there is room. It takes no memory.
+    /// Appends bytes within the capacity. It allocates nothing.
     pub fn extend_from_slice(&mut self, bytes: &[u8])
         requires { length self.old.items + length bytes.now ≤ self.old.capacity }
         ensures { self.new ≡ record self.old { items = self.old.items ++ bytes.now } }
@@ -69,7 +73,7 @@ impl BlockBuffer {
         self.repr.extend_from_slice(bytes);
     }
 
-    /// Lets all bytes go, and keeps the room.
+    /// Removes all bytes. The capacity stays.
     pub fn clear(&mut self)
         ensures capacity { self.new ≡ record self.old { items = [] } }
         ensures least { inline_capacity ≤ self.old.capacity }
@@ -77,7 +81,7 @@ impl BlockBuffer {
         self.repr.clear();
     }
 
-    /// The bytes as those of a block. It takes no memory.
+    /// Returns the bytes as a block. It allocates nothing.
     pub fn into_block(self) -> Block
         requires { length self.items ≤ block_limit }
         ensures { result.items ≡ self.items }

@@ -1,8 +1,8 @@
 /// Why there is no block of some bytes.
 #[derive(Clone, Copy, Debug, PartialEq, Eq)]
 pub enum BlockFault {
-    /// They are more than a block has.
+    /// There are more bytes than a block can have.
     TooLong,
-    /// There is no memory for them.
+    /// An allocation failed.
     Memory,
 }

@@ -3,25 +3,25 @@ ghost use Rattle.vme_cycle.specs.declared.fault.CycleFault.TheVariants.{Code};
 
 use vme_am::AmFault;
 
-/// Why a request has no cycle.
+/// Why a request is refused. The variants stand in the order of the checks.
 #[derive(Clone, Copy, Debug, PartialEq, Eq)]
 pub enum CycleFault {
-    /// K9, K2 or K1: the code is no address modifier that a master drives.
+    /// K9, K2 or K1: the code is not an address modifier of the table.
     Code(AmFault),
-    /// K5: a block without a block code, or a block code without a block.
+    /// K5: a block request without a block code, or a block code without a block request.
     WrongKindOfCode,
     /// K7: a read-modify-write with a program code.
     ProgramModify,
-    /// K8: a number of bytes or of data that no cycle or no block has, or bytes that don't agree
-    /// with it.
+    /// K8: a length or a number of data that no cycle or no block has, or bytes that do not match
+    /// them.
     BadCount,
-    /// K4: the first or the last byte is not in the code's space.
+    /// K4: the first or the last byte is outside the code's space.
     OutsideSpace,
-    /// K3: no byte location has these bytes, or a block or a read-modify-write begins at
-    /// no multiple of its data's length.
+    /// K3: no byte location has these bytes, or a block or a read-modify-write does not begin at a
+    /// multiple of its datum length.
     NoCycle,
-    /// K6: a block's first and last byte lie in different units of 256 bytes, or of 2,048 where its
-    /// data have eight.
+    /// K6: the first and the last byte of a block lie in different units of 256 bytes, or of 2,048
+    /// bytes where its data have eight bytes.
     CrossesBoundary,
 }
 

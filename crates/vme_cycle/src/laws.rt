@@ -1,8 +1,8 @@
 ghost use Rattle.std.specs.Prelude.{◌≡◌, ◌+◌, ◌%◌, ◌^◌, ◌<◌, ℕ, List, length, All};
 ghost use Rattle.vme_cycle.specs.Functions.{number_of, number_bytes, sum_of};
 
-/// A number and its bytes are inverse: so many bytes spell what is left of a number by that power
-/// of 256, and bytes are those of the number that they spell.
+/// States that a number and its bytes are inverse. `len` bytes spell the number modulo 256 to the
+/// power of `len`, and bytes are those of the number that they spell.
 pub fn bytes_are_their_number()
     ensures number { (len n : ℕ) → number_of (number_bytes len n) ≡ n % 256 ^ len }
     ensures len { (len n : ℕ) → length (number_bytes len n) ≡ len }
@@ -13,9 +13,8 @@ pub fn bytes_are_their_number()
         number_of bytes < 256 ^ length bytes }
 {}
 
-/// The sum that a read-modify-write writes is modulo two to the power of the number of bits: as a
-/// number it is the sum of the two numbers, modulo 256 to the power of its length, which is that of
-/// the first.
+/// States that the sum of a read-modify-write is the sum of the two numbers modulo 256 to the power
+/// of the length of the first. The sum has that length.
 pub fn sums_are_modulo()
     ensures value { (a b : List ℕ) →
         number_of (sum_of a b) ≡ (number_of a + number_of b) % 256 ^ length a }

@@ -1,6 +1,7 @@
-//! Requests of a master, single or of a block, the plan of a lawful one, and the signals that the
-//! plan drives. Which requests are lawful, and which refusal the others get, is this project's
-//! profile of the data transfer bus of ANSI/IEEE Std 1014-1987, chapter 2.
+//! Requests of a master, the plan of a lawful request, and the signals that a plan drives
+//! (ANSI/IEEE Std 1014-1987, chapter 2). The bytes of block transfers are in [`Block`]. Which
+//! requests are lawful, and which refusal each other request has, is this project's profile of the
+//! standard.
 #![tactic(auto)]
 
 mod block;

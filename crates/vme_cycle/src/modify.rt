@@ -3,16 +3,17 @@ ghost use Rattle.vme_cycle.specs.Functions.{number_from, bytes_onto, number_byte
 
 use vme_lanes::{Datum, copy_bytes};
 
-/// The function of a read-modify-write cycle: what is written in the place of what was read.
+/// The function of a read-modify-write cycle: it determines the bytes that replace the old bytes
+/// (section 2.3.8).
 #[derive(Debug, Drop, PartialEq, Eq)]
 pub enum Modify {
-    /// Bit 7 of the byte at the lowest address is set.
+    /// Sets bit 7 of the byte at the lowest address.
     Set,
-    /// These bytes take the place of the old ones.
+    /// Replaces the old bytes by these bytes.
     Exchange(Datum),
-    /// The sum with this number, modulo two to the power of the number of bits.
+    /// Adds this number, modulo two to the power of the number of bits.
     Add(Datum),
-    /// `put` where the old bytes are those of `expect`; else the old ones are written back.
+    /// Writes `put` if the old bytes equal `expect`. Otherwise it writes the old bytes back.
     Compare { expect: Datum, put: Datum },
 }
 
@@ -20,7 +21,7 @@ impl Modify {
     ghost use Rattle.std.specs.Prelude.{IsTrue};
     ghost use Rattle.vme_cycle.specs.Functions.{value, has_len};
 
-    /// What is written in the place of `old`.
+    /// Returns the bytes that replace `old`, as many as `old` has.
     pub fn value(&self, old: &Datum) -> Datum
         requires { IsTrue (has_len self.now (length old.now.items)) }
         ensures value { result.items ≡ value self.now old.now.items }
@@ -46,7 +47,7 @@ impl Modify {
         }
     }
 
-    /// The same function once more. It takes no memory.
+    /// Returns a copy of the function. It allocates nothing.
     pub fn copy(&self) -> Modify
         ensures { result ≡ self.now }
     {
@@ -61,7 +62,7 @@ impl Modify {
         }
     }
 
-    /// Whether each datum of the function has `len` bytes.
+    /// Returns whether each datum of the function has `len` bytes.
     pub fn has_len(&self, len: u8) -> bool
         ensures { result ≡ has_len self.now len }
     {
@@ -74,8 +75,8 @@ impl Modify {
     }
 }
 
-/// The sum of two numbers, in as many bytes as the first has. Of four bytes, which most have, it is
-/// that of two words; any other is made byte by byte.
+/// The sum of two numbers, in as many bytes as the first has. Data of four bytes are the most
+/// frequent and are added as words; other lengths are added byte by byte.
 #[tactic(auto, unfolding(crate::specs::Functions::sum_of))]
 fn sum_of(old: &Datum, by: &Datum) -> Datum
     requires { length by.now.items ≡ length old.now.items }
@@ -91,7 +92,7 @@ fn sum_of(old: &Datum, by: &Datum) -> Datum
     }
 }
 
-/// The sum of two words, as four bytes: what goes beyond them is lost.
+/// The sum of two words, modulo 2^32, as four bytes.
 #[inline(always)]
 fn sum_of_words(word: u32, by: u32) -> Datum
     ensures value { result.items ≡ number_bytes 4 (word + by) }
@@ -100,7 +101,7 @@ fn sum_of_words(word: u32, by: u32) -> Datum
     Datum::try_from(&word.wrapping_add(by).to_be_bytes()[..]).unwrap()
 }
 
-/// The number that bytes spell, the first most significant.
+/// The number that bytes spell, the first byte most significant.
 fn number_of(bytes: &[u8]) -> u128
     requires { length bytes.now ≤ 8 }
     ensures value { result ≡ number_from 0 bytes.now }

@@ -16,7 +16,7 @@ use std::marker::Model;
 use vme_am::Am;
 use vme_lanes::{DataLines, Datum, Location, place};
 
-/// How a lawful request goes over the bus: the cycle that each of its data is.
+/// The plan of a lawful request: one bus cycle for each datum.
 #[derive(Debug, Drop)]
 pub struct Plan<'a> {
     am: Am,
@@ -37,7 +37,11 @@ impl<'a> Model for Plan<'a> {
 }
 
 impl<'a> Plan<'a> {
-    /// The plan of a lawful request, or else the first refusal.
+    /// Returns the plan of a lawful request.
+    ///
+    /// # Errors
+    ///
+    /// The first refusal of the request, in the order K9, K2, K1, K5, K7, K8, K4, K3, K6.
     #[tactic(auto, unfolding(crate::specs::Lawful::transfer_of, crate::specs::Lawful::first_refusal))]
     pub fn of(request: &'a Request) -> Result<Plan<'a>, CycleFault>
         ensures plan { result ≡ transfer_of request.now }
@@ -74,7 +78,7 @@ impl<'a> Plan<'a> {
         Plan { am, request }
     }
 
-    /// The request, which is lawful.
+    /// Returns the request, which is lawful.
     #[tactic(auto, using(crate::proofs::Lawful::lawful))]
     pub fn request(&self) -> &'a Request
         ensures value { result.now ≡ self.now.request }
@@ -83,7 +87,7 @@ impl<'a> Plan<'a> {
         self.request
     }
 
-    /// The number of data, each a cycle of its own.
+    /// Returns the number of data. Each datum is a cycle of its own.
     pub fn len(&self) -> u16
         ensures value { result ≡ count_of self.now.request }
         ensures some { 0 < result }
@@ -93,7 +97,7 @@ impl<'a> Plan<'a> {
         self.request().count()
     }
 
-    /// The number of bytes of each datum.
+    /// Returns the number of bytes of each datum, 1 to 8.
     pub fn datum_len(&self) -> u8
         ensures value { result ≡ datum_len self.now.request }
         ensures size { (1 ≤ result) × (result ≤ 8) }
@@ -101,7 +105,7 @@ impl<'a> Plan<'a> {
         self.request().datum_len()
     }
 
-    /// How many bytes it reads in all.
+    /// Returns the number of bytes that the request reads in all; 0 for a write.
     pub fn read_len(&self) -> usize
         ensures { result ≡ read_len self.now.request }
     {
@@ -112,7 +116,7 @@ impl<'a> Plan<'a> {
         }
     }
 
-    /// The function of a read-modify-write, and `None` of another request.
+    /// Returns the function of a read-modify-write, and `None` for every other request.
     pub fn modify(&self) -> Option<&Modify>
         ensures value { option_map (λ f. f.now) result ≡ function_of self.now.request }
         ensures len { IfSome result (λ f. IsTrue (has_len f.now (datum_len self.now.request))) }
@@ -121,31 +125,31 @@ impl<'a> Plan<'a> {
         self.request().function()
     }
 
-    /// Whether it reads alone.
+    /// Returns whether the request only reads.
     pub fn reads(&self) -> bool
         ensures { result ≡ reads self.now.request }
     {
         self.request().reads()
     }
 
-    /// The address modifier.
+    /// Returns the address modifier of the request's code.
     pub fn am(&self) -> Am
         ensures { result ≡ self.now.am }
     {
         self.am
     }
 
-    /// The address of the first byte.
+    /// Returns the address of the first byte.
     pub fn addr(&self) -> u32
         ensures { result ≡ addr_of self.now.request }
     {
         self.request().addr()
     }
 
-    /// What the lines of datum `i` show before a slave answers.
+    /// Returns the signals of datum `i` before a slave replies (sections 2.3.6 and 2.3.7).
     ///
-    /// In a block the address lines, A01 and LWORD* stay those of the first datum; a slave that
-    /// counts the address on senses each datum's own location.
+    /// In a block, the address lines, A01 and LWORD* stay those of the first datum. A slave that
+    /// increments the address senses the location of each datum.
     #[tactic(auto, unfolding(crate::specs::Plans::signals_of))]
     pub fn signals(&self, i: u16) -> Signals
         requires { i < count_of self.now.request }
@@ -167,8 +171,8 @@ impl<'a> Plan<'a> {
         Signals::new(self.am(), request.addr(), location, read, lines)
     }
 
-    /// What the lines of a read-modify-write show in its write half, with these bytes driven. The
-    /// read half is `signals(0)`.
+    /// Returns the signals of the write half of a read-modify-write that drives these bytes
+    /// (section 2.3.8). Its read half is `signals(0)`.
     #[tactic(auto, unfolding(crate::specs::Plans::signals_of, crate::specs::Plans::write_half_of))]
     pub fn write_half(&self, bytes: &Datum) -> Signals
         requires modify { IsSome (function_of self.now.request) }
@@ -181,7 +185,7 @@ impl<'a> Plan<'a> {
         Signals::new(self.am(), request.addr(), location, false, lines)
     }
 
-    /// The location of datum `i` by itself.
+    /// The location of datum `i` on its own.
     #[tactic(auto, unfolding(crate::specs::Plans::location_from))]
     fn location(&self, i: u16) -> Location
         requires { i < count_of self.now.request }
@@ -198,8 +202,8 @@ impl<'a> Plan<'a> {
     }
 }
 
-/// The location whose strobes a datum shows: DS1* and DS0* are its own, A01 and LWORD* those of
-/// the first datum.
+/// The location whose strobes a datum shows: DS1* and DS0* are those of its own location, A01 and
+/// LWORD* those of the first datum.
 fn shown_location(first: Location, own: Location) -> Location
     requires len { (row_of first).len ≡ (row_of own).len }
     requires lword { (row_of first).strobes.lword ≡ (row_of own).strobes.lword }

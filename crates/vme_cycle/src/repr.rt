@@ -1,18 +1,18 @@
-//! Bytes that lie in the value itself, or on the heap.
+//! Bytes that lie in the value itself or on the heap.
 ghost use Rattle.std.specs.Prelude.{◌≡◌, ◌+◌, ◌≤◌, [], ◌++◌, length};
 ghost use Rattle.vme_cycle.specs.BlockReprs.{repr_bytes, repr_capacity, HasCapacity};
 
 use arrayvec::ArrayVec;
 
-/// How many bytes lie in the value itself: as many as a line of 80 bytes can spell.
+/// The number of bytes that lie in the value itself: as many as a line of 80 bytes can spell.
 pub const INLINE_LEN: usize = 40;
 
-/// Bytes, with the room that there is for them.
+/// Bytes and the capacity for them.
 #[derive(Debug, Drop)]
 pub(crate) enum Repr {
-    /// In the value itself.
+    /// Bytes in the value itself.
     Short(ArrayVec<u8, 40>),
-    /// On the heap, where so many have room.
+    /// Bytes on the heap, with a capacity of `capacity` bytes.
     Long { bytes: Vec<u8>, capacity: usize },
 }
 
@@ -26,7 +26,7 @@ impl Repr {
         }
     }
 
-    /// Appends bytes for which there is room.
+    /// Appends bytes within the capacity.
     pub(crate) fn extend_from_slice(&mut self, more: &[u8])
         requires capacity_fits { HasCapacity self.old }
         requires capacity { length (repr_bytes self.old) + length more.now ≤ repr_capacity self.old }

@@ -6,17 +6,17 @@ use crate::block::Block;
 use crate::modify::Modify;
 use vme_lanes::{Datum, Location};
 
-/// How many addresses lie between the boundaries that no block crosses.
+/// The distance between the addresses that no block crosses (section 2.3.7).
 const BOUNDARY: u64 = 256;
 
-/// As many where its data have eight bytes.
+/// This distance for blocks whose data have eight bytes.
 const WIDE_BOUNDARY: u64 = 2048;
 
-/// How many bytes a datum has with a code of eight-byte data.
+/// The number of bytes of a datum with a code of eight-byte data.
 const WIDE_LEN: u8 = 8;
 
-/// What a master asks of the bus. `am` is the address modifier code, `addr` the address of the
-/// first byte, `n` the number of bytes of each datum.
+/// A request of a master to the bus: `am` is the address modifier code, `addr` the address of the
+/// first byte, and `n` the number of bytes of each datum.
 #[derive(Debug, Drop)]
 pub enum Request {
     /// A read of `n` bytes.
@@ -31,14 +31,14 @@ pub enum Request {
         addr: u32,
         bytes: Datum,
     },
-    /// A block of `count` data, read.
+    /// A block read of `count` data.
     BlockRead {
         am: u8,
         addr: u32,
         n: u8,
         count: u16,
     },
-    /// A block write of these bytes, cut into data.
+    /// A block write of these bytes, split into data of `n` bytes.
     BlockWrite {
         am: u8,
         addr: u32,
@@ -53,7 +53,7 @@ pub enum Request {
         count: u16,
         bytes: Datum,
     },
-    /// A read-modify-write of `n` bytes.
+    /// A read-modify-write of `n` bytes with the function `f`.
     Modify {
         am: u8,
         addr: u32,
@@ -62,8 +62,8 @@ pub enum Request {
     },
 }
 
-/// The lengths of the data of a block, by whether its code is one of eight-byte data; without, they
-/// are those of a read-modify-write.
+/// Whether data of a block may have `n` bytes: eight with a code of eight-byte data, and otherwise
+/// as many as a read-modify-write.
 fn is_datum_len(wide: bool, n: u8) -> bool
     ensures { result ≡ is_datum_len wide n }
 {
@@ -74,7 +74,7 @@ fn is_datum_len(wide: bool, n: u8) -> bool
     }
 }
 
-/// The location of `n` bytes from an address on: eight bytes go with the strobes of BYTE(0-3).
+/// The location of `n` bytes that begin at an address. Eight bytes use the strobes of BYTE(0-3).
 pub(crate) fn location_for(addr: u32, n: u8) -> Option<Location>
     ensures { result ≡ location_for addr n }
 {
@@ -85,7 +85,7 @@ pub(crate) fn location_for(addr: u32, n: u8) -> Option<Location>
     }
 }
 
-/// The numbers of data of a block.
+/// Whether a block may have `count` data.
 fn is_block_count(count: usize) -> bool
     ensures { result ≡ is_block_count count }
 {
@@ -147,7 +147,7 @@ impl Request {
         }
     }
 
-    /// Whether it reads alone.
+    /// Whether the request only reads.
     pub(crate) fn reads(&self) -> bool
         ensures { result ≡ reads self.now }
     {
@@ -188,7 +188,8 @@ impl Request {
         }
     }
 
-    /// Whether its numbers and its bytes agree, where its code is one of eight-byte data or not.
+    /// Whether the numbers and the bytes of the request match. `wide` states whether its code is
+    /// one of eight-byte data.
     pub(crate) fn is_counted(&self, wide: bool) -> bool
         requires { is_wide_code (code_of self.now) ≡ wide }
         ensures { result ≡ is_counted self.now }
@@ -219,7 +220,7 @@ impl Request {
         }
     }
 
-    /// The bytes to write as datum `i`, of a write.
+    /// Returns the bytes that a write drives as datum `i`, and `None` for every other request.
     #[inline(always)]
     pub fn datum(&self, i: u16) -> Option<&[u8]>
         requires counted { IsTrue (is_counted self.now) }
@@ -239,7 +240,7 @@ impl Request {
         }
     }
 
-    /// The address after its last byte.
+    /// The address after the last byte.
     pub(crate) fn end(&self) -> u64
         requires { IsTrue (is_counted self.now) }
         ensures { result ≡ addr_of self.now + span_of self.now }
@@ -259,8 +260,8 @@ impl Request {
         location_for(self.addr(), self.datum_len())
     }
 
-    /// Whether a block's first and last byte lie in different units of 256 bytes, or of 2,048 where
-    /// its data have eight.
+    /// Whether the first and the last byte of a block lie in different units of 256 bytes, or of
+    /// 2,048 bytes where its data have eight bytes.
     pub(crate) fn crosses_boundary(&self) -> bool
         requires { IsTrue (is_counted self.now) }
         ensures { result ≡ crosses_boundary self.now }

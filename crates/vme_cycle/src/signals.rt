@@ -7,8 +7,9 @@ use std::marker::Model;
 use vme_am::Am;
 use vme_lanes::{DataLines, Location, Strobes, place, place_wide};
 
-/// The lines of one cycle: the address modifier, the address lines from A02 up, the strobes with
-/// A01 and LWORD*, WRITE*, and the data lines. The strobes are always those of a byte location.
+/// The signals of one cycle: the address modifier, the address lines from A02 up, the strobes with
+/// A01 and LWORD*, WRITE*, and the data lanes (section 2.2). The strobes always select a byte
+/// location.
 #[derive(Clone, Copy, Debug, PartialEq, Eq)]
 pub struct Signals {
     am: Am,
@@ -52,9 +53,10 @@ impl Model for Signals {
 impl Signals {
     ghost use Rattle.vme_cycle.specs.SignalLines.{row_len, answered_lines, sensed_at};
 
-    /// The signals that these lines show, or `None` where the strobes choose no bytes. `addr` has
-    /// the address lines from A02 up, as the address of a group of four; `write` is the level of
-    /// WRITE*, `true` for high, as in a read.
+    /// Returns the signals with these lines, or `None` where the strobes select no bytes.
+    ///
+    /// `addr` is the address lines from A02 up, as the address of a group of four. `write` is the
+    /// level of WRITE*: `true` is high, as in a read.
     pub fn from_lines(
         am: Am,
         addr: u32,
@@ -83,7 +85,7 @@ impl Signals {
         })
     }
 
-    /// The signals of a cycle at a byte location of the group of four that `addr` lies in.
+    /// The signals of a cycle at a byte location of the group of four that contains `addr`.
     pub(crate) fn new(
         am: Am,
         addr: u32,
@@ -109,14 +111,14 @@ impl Signals {
         }
     }
 
-    /// The address modifier.
+    /// Returns the address modifier.
     pub fn am(&self) -> Am
         ensures { result ≡ self.now.am }
     {
         self.am
     }
 
-    /// The address lines from A02 up, as the address of a group of four.
+    /// Returns the address lines from A02 up, as the address of a group of four.
     pub fn addr(&self) -> u32
         ensures value { result ≡ self.now.addr }
         ensures aligned { result % 4 ≡ 0 }
@@ -125,14 +127,14 @@ impl Signals {
         self.addr
     }
 
-    /// DS1*, DS0*, A01 and LWORD*.
+    /// Returns the levels of DS1*, DS0*, A01 and LWORD*.
     pub fn strobes(&self) -> Strobes
         ensures { result ≡ self.now.strobes }
     {
         Strobes::of(self.location)
     }
 
-    /// The byte location that the strobes choose.
+    /// Returns the byte location that the strobes select.
     #[tactic(auto, unfolding(vme_lanes::specs::Rows::location_sensed))]
     pub fn location(&self) -> Location
         ensures sensed { location_sensed self.now.strobes ≡ Some result }
@@ -141,8 +143,8 @@ impl Signals {
         self.location
     }
 
-    /// The byte location that a slave senses where it has counted the address to `at`, or `None`
-    /// where there is none: in a block it takes A01 from bit 1 of `at`.
+    /// Returns the byte location that a slave senses when its address counter is at `at`, or `None`
+    /// where there is none. In a block the slave takes A01 from bit 1 of `at` (section 2.3.7).
     pub fn sensed_at(&self, at: u32) -> Option<Location>
         ensures { result ≡ sensed_at self.now at }
     {
@@ -152,22 +154,22 @@ impl Signals {
         self.location.with_a01(at % 4 >= 2)
     }
 
-    /// The level of WRITE*: low, `false`, for a write.
+    /// Returns the level of WRITE*: `false`, low, for a write.
     pub fn write(&self) -> bool
         ensures { result ≡ self.now.write }
     {
         self.write
     }
 
-    /// The data lines.
+    /// Returns the data lanes.
     pub fn lines(&self) -> DataLines
         ensures { result.lanes ≡ self.now.lanes }
     {
         self.lines
     }
 
-    /// The signals once a slave has answered a read: the bytes on the lanes that code and strobes
-    /// choose.
+    /// Returns the signals after a slave has replied to a read: it drives the bytes on the lanes
+    /// that the code and the strobes select.
     pub fn answered(self, bytes: &[u8]) -> Signals
         requires { row_len self.am.wide self.strobes ≡ Some (length bytes.now) }
         ensures { result ≡ answered_lines self bytes.now }
@@ -177,7 +179,8 @@ impl Signals {
     }
 }
 
-/// Puts bytes on the lanes that code and location choose: on all with a code of eight-byte data.
+/// The lanes with bytes on those that the code and the location select: all lanes with a code of
+/// eight-byte data.
 pub(crate) fn placed(wide: bool, location: Location, bytes: &[u8]) -> DataLines
     requires { chosen_len wide location ≡ Some (length bytes.now) }
     ensures { result.lanes ≡ placed_lanes wide location bytes.now }

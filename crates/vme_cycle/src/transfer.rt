@@ -8,15 +8,14 @@ use crate::request::Request;
 use std::marker::Model;
 use vme_am::Am;
 
-/// A request that is lent to a transfer, or is its own.
+/// The request of a transfer, borrowed or owned.
 #[derive(Debug, Drop)]
 enum Kept<'a> {
     Lent(&'a Request),
     Own(Request),
 }
 
-/// A lawful request, for as long as it goes over the bus. Its plan can be had again at any time,
-/// and nothing is tested twice.
+/// A lawful request during its transfer. It gives its plan at any time without a further check.
 #[derive(Debug, Drop)]
 pub struct Transfer<'a> {
     am: Am,
@@ -35,7 +34,11 @@ impl<'a> Model for Transfer<'a> {
 }
 
 impl<'a> Transfer<'a> {
-    /// The transfer of a lawful request, which is lent to it, or else the first refusal.
+    /// Returns the transfer of a lawful request, which it borrows.
+    ///
+    /// # Errors
+    ///
+    /// The first refusal of the request.
     #[inline(always)]
     pub fn of(request: &'a Request) -> Result<Transfer<'a>, CycleFault>
         ensures { result ≡ transfer_of request.now }
@@ -47,7 +50,11 @@ impl<'a> Transfer<'a> {
         })
     }
 
-    /// The transfer of a lawful request, which is its own from then on, or else the first refusal.
+    /// Returns the transfer of a lawful request, which it owns.
+    ///
+    /// # Errors
+    ///
+    /// The first refusal of the request.
     pub fn of_own(request: Request) -> Result<Transfer<'a>, CycleFault>
         ensures { result ≡ transfer_of request }
     {
@@ -58,7 +65,7 @@ impl<'a> Transfer<'a> {
         })
     }
 
-    /// The plan.
+    /// Returns the plan of the request.
     #[inline(always)]
     pub fn plan(&self) -> Plan<'_>
         ensures value { result ≡ self.now }

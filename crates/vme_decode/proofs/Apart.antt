@@ -12,7 +12,7 @@ use Rattle.vme_cycle.specs.Refusals.{where_true, first_of}
 use Rattle.vme_decode.specs.Lawful.{entry_refusals, some_overlap, first_refusal}
 use Rattle.vme_decode.proofs.Ranges.{shared_overlap}
 
--- where nothing is refused, the last refusals are none too
+-- if a list has no first refusal, no suffix of it has one
 pub last_of_none : (prefix more : List (Option MapFault)) → first_of (prefix ++ more) ≡ None → first_of more ≡ None
 last_of_none [] more none = none
 last_of_none (None ∷ prefix) more none = last_of_none prefix more none
@@ -22,14 +22,14 @@ not_where_true : (test : Bool) (fault : MapFault) → first_of (where_true test 
 not_where_true true fault none = cc
 not_where_true false fault none = cc
 
--- the test for a shared address is the last of a map's refusals
+-- a lawful map has no overlap
 no_overlap : (entries : List Entry) → first_refusal entries ≡ None → some_overlap entries ≡ false
 unfolding first_refusal
 no_overlap entries none =
     not_where_true (some_overlap entries) Overlap
     (last_of_none (where_true (nat_lt 21 (length entries)) TooMany ∷ flat_map entry_refusals entries) _ none)
 
--- what no element passes, the one at a place does not
+-- if no element passes a test, the element at a position does not pass
 none_at : (test : Entry → Bool) (entries : List Entry) (i : ℕ) (entry : Entry)
     → list_any test entries ≡ false → slice_get entries i ≡ Some entry → test entry ≡ false
 none_at test [] i entry none there = cc
@@ -37,7 +37,7 @@ none_at test (e ∷ entries) zero entry none there = grind (arith, or_parts (tes
 none_at test (e ∷ entries) (suc i) entry none there =
     none_at test entries i entry (or_parts (test e) (list_any test entries) none).1 there
 
--- where none overlaps a later one, no two at different places overlap
+-- if no entry overlaps a later one, no two entries at different positions overlap
 apart : (entries : List Entry) (i j : ℕ) (a b : Entry) → some_overlap entries ≡ false → i < j
     → slice_get entries i ≡ Some a → slice_get entries j ≡ Some b → overlap a b ≡ false
 apart [] i j a b none lt at_i at_j = cc
@@ -49,7 +49,7 @@ apart (e ∷ entries) zero (suc j) a b none lt at_i at_j =
 apart (e ∷ entries) (suc i) (suc j) a b none lt at_i at_j =
     apart entries i j a b (or_parts (list_any (overlap e) entries) (some_overlap entries) none).1 (omega arith) at_i at_j
 
--- so two that cover one address stand at one place
+-- in a lawful map, two entries that cover one address have one position
 pub one_place : (entries : List Entry) (i j : ℕ) (a b : Entry) (space : Space) (addr : ℕ) → first_refusal entries ≡ None
     → slice_get entries i ≡ Some a → slice_get entries j ≡ Some b
     → covers a space addr ≡ true → covers b space addr ≡ true → i ≡ j

@@ -1,4 +1,4 @@
--- In a map without a refusal, the last row up to an address is the only one that can have it.
+-- In a lawful map, the last row up to an address is the only one whose entry can contain it.
 use Rattle.std.proofs.Common.{◌≡◌, ℕ, ◌-◌, ◌<◌, ◌≤◌, true, false, List, None, Some, ap, sym, subst, refl, arith}
 use Rattle.std.specs.Prelude.{slice_get}
 use Rattle.std.proofs.lemmas.List.Elements.{All-contains}
@@ -17,13 +17,13 @@ use Rattle.vme_decode.proofs.Apart.{one_place}
 use Rattle.vme_decode.proofs.Rows.{row_at, same_row}
 use Rattle.vme_decode.proofs.lemmas.Selection.{responding, selected_by, nothing_selected}
 
--- in a space, higher addresses stand higher
+-- in a space, greater addresses have greater ranks
 rank_le : (s : Space) (a b : ℕ) → a ≤ b → rank s a ≤ rank s b
 rank_le A16 a b le = omega arith
 rank_le A24 a b le = omega arith
 rank_le A32 a b le = omega arith
 
--- what stands between two addresses of a space is one of them
+-- an address whose rank lies between two ranks of a space is in that space
 record IsBetween (s t : Space) (a b c : ℕ) : Type 0 where
   space : t ≡ s
   above : a ≤ b
@@ -41,7 +41,7 @@ between A24 A32 a b c b_in c_in from to = absurd (omega arith)
 between A32 A16 a b c b_in c_in from to = absurd (omega arith)
 between A32 A24 a b c b_in c_in from to = absurd (omega arith)
 
--- an entry that responds has a row, which stands no higher than the address
+-- an entry that responds has a row with a rank up to the address
 responding_row : (entries : List Entry) (code : CodeRow) (addr place : ℕ) (entry : Entry)
     → slice_get entries place ≡ Some entry → responds entry code addr ≡ true
     → IsRow entries (row_at place entry) × (rank_of (row_at place entry) ≤ rank code.space addr)
@@ -51,7 +51,7 @@ responding_row entries code addr place entry there responds_is =
       subst (λ s. rank s entry.base ≤ rank code.space addr) (sym has.space_is) (rank_le code.space entry.base addr has.from),
     )
 
--- and the last row that stands no higher is that row
+-- the last row up to the address is the row of the entry that responds
 chosen_row : (entries : List Entry) (rows : List Row) (code : CodeRow) (addr place : ℕ) (entry : Entry) (last : Row)
     → first_refusal entries ≡ None → IsTable entries rows → IsLast rows (rank code.space addr) last
     → slice_get entries place ≡ Some entry → responds entry code addr ≡ true → row_at place entry ≡ last
@@ -72,7 +72,7 @@ chosen_row entries rows code addr place entry last lawful table is_last there re
     same_row entries (row_at place entry) last row.0 own
     (one_place entries place last.place entry last.entry space last.entry.base lawful there own.there covers_entry covers_last)
 
--- where all rows stand higher than an address, nothing is selected
+-- if each rank is greater than that of an address, nothing is selected
 pub none_up_to : (entries : List Entry) (rows : List Row) (code : CodeRow) (addr : ℕ) → IsTable entries rows
     → IsLastUpTo rows (rank code.space addr) None → selection_at entries code addr ≡ None
 none_up_to entries rows code addr table higher = nothing_selected entries code addr (λ place entry there responds_is.
@@ -80,7 +80,7 @@ none_up_to entries rows code addr table higher = nothing_selected entries code a
     let above = higher (row_at place entry) (table.whole (row_at place entry) row.0) in
     omega arith)
 
--- nor where the last row that stands no higher does not respond
+-- if the last row up to the address does not respond, nothing is selected
 pub last_fails : (entries : List Entry) (rows : List Row) (code : CodeRow) (addr : ℕ) (last : Row)
     → first_refusal entries ≡ None → IsTable entries rows → IsLast rows (rank code.space addr) last
     → responds last.entry code addr ≡ false → selection_at entries code addr ≡ None
@@ -90,7 +90,7 @@ last_fails entries rows code addr last lawful table is_last fails =
     let both = ap (λ (row : Row). responds row.entry code addr) same in
     cc)
 
--- where it responds it is selected
+-- if the last row up to the address responds, it is selected
 pub last_selected : (entries : List Entry) (rows : List Row) (code : CodeRow) (addr : ℕ) (last : Row)
     → first_refusal entries ≡ None → IsTable entries rows → IsLast rows (rank code.space addr) last
     → responds last.entry code addr ≡ true → selection_at entries code addr ≡ Some (last.place, addr - last.entry.base)

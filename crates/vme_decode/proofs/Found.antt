@@ -1,4 +1,4 @@
--- The first entry that passes a test, with its place.
+-- The first entry that passes a test, with its position.
 use Rattle.std.proofs.Common.{◌≡◌, ℕ, ◌+◌, zero, suc, add-zero, Bool, true, List, [], ◌∷◌, find, Option, Some, ap, sym, ◌∙◌, arith, inl, inr}
 use Rattle.std.specs.Prelude.{slice_get}
 use Rattle.std.specs.List.{enumerate_from}
@@ -6,11 +6,11 @@ use Rattle.std.proofs.lemmas.Bool.{cases_Bool}
 use Rattle.std.proofs.lemmas.Option.{same_Some}
 use Rattle.vme_decode.specs.declared.entry.Entry.{Entry}
 
--- the first entry that passes, with its place counted from n
+-- the first entry that passes, with its position counted from n
 unfoldable pub first_from : (Entry → Bool) → ℕ → List Entry → Option (ℕ × Entry)
 first_from test n entries = find (λ found. test found.1) (enumerate_from n entries)
 
--- an entry with its place counted from n is in the list, and passes
+-- an entry with its position counted from n is in the list and passes
 record Passes (test : Entry → Bool) (n : ℕ) (entries : List Entry) (found : ℕ × Entry) : Type 0 where
   k : ℕ
   place : found.0 ≡ n + k
@@ -23,7 +23,7 @@ one_later : (test : Entry → Bool) (n : ℕ) (e : Entry) (entries : List Entry)
 one_later test n e entries found later =
     record { k = suc later.k; place = omega (arith, later.place); there = later.there; passes = later.passes }
 
--- what is found passes
+-- the entry that is found passes
 found_passes : (test : Entry → Bool) (n : ℕ) (entries : List Entry) (found : ℕ × Entry)
     → first_from test n entries ≡ Some found → Passes test n entries found
 unfolding first_from
@@ -41,7 +41,7 @@ found_passes test n (e ∷ entries) found found_is =
       | inr fails ↦ one_later test n e entries found (found_passes test (n + 1) entries found (rw fails at found_is))
     ]
 
--- where an entry passes, one is found
+-- if an entry passes, one is found
 some_found : (test : Entry → Bool) (n : ℕ) (entries : List Entry) (k : ℕ) (entry : Entry)
     → slice_get entries k ≡ Some entry → test entry ≡ true → (found : ℕ × Entry) × (first_from test n entries ≡ Some found)
 unfolding first_from
@@ -55,7 +55,7 @@ some_found test n (e ∷ entries) (suc k) entry there passes =
       | inr fails ↦ let later = some_found test (n + 1) entries k entry there passes in (later.0, rw fails later.1)
     ]
 
--- what is found stands at its place, and passes
+-- the entry that is found is at its position and passes
 pub found_at : (test : Entry → Bool) (entries : List Entry) (place : ℕ) (entry : Entry)
     → first_from test 0 entries ≡ Some (place, entry) → (slice_get entries place ≡ Some entry) × (test entry ≡ true)
 found_at test entries place entry found_is =
@@ -63,7 +63,7 @@ found_at test entries place entry found_is =
     let same : passes.k ≡ place = omega (arith, passes.place) in
     (ap (slice_get entries) (sym same) ∙ passes.there, passes.passes)
 
--- an entry that passes is found where no entry at another place does
+-- an entry that passes is found if no entry at another position passes
 pub only_one : (test : Entry → Bool) (entries : List Entry) (place : ℕ) (entry : Entry)
     → slice_get entries place ≡ Some entry → test entry ≡ true
     → ((k : ℕ) (e : Entry) → slice_get entries k ≡ Some e → test e ≡ true → k ≡ place)

@@ -10,18 +10,18 @@ use Rattle.std.proofs.lemmas.List.{get_or_default}
 abbrev pub IsStep : ℕ → Type 0
 IsStep step = (step ≡ 16) ⊎ ((step ≡ 8) ⊎ ((step ≡ 4) ⊎ ((step ≡ 2) ⊎ ((step ≡ 1) ⊎ (step ≡ 0)))))
 
--- the ranks before a place are no higher than a number, and those from another on are higher
+-- the ranks before a place are at most top, and those from another place on are greater
 pub record Splits (ranks : List ℕ) (top from to : ℕ) : Type 0 where
   pub up_to : (k : ℕ) → k < from → get_or ranks k 0 ≤ top
   pub above : (k : ℕ) → to ≤ k → k < 31 → top < get_or ranks k 0
 
--- where a search has come to before a step
+-- the state of a search before a step
 pub record IsHalved (ranks : List ℕ) (top count step : ℕ) : Type 0 where
   pub is_step : IsStep step
   pub capacity : count + (2 * step - 1) ≤ 31
   pub split : IsPartitionedBy (λ r. leb r top) ranks → Splits ranks top count (count + (2 * step - 1))
 
--- half a step is a step, or nothing after the last
+-- half a step is the next step, and 0 after the last one
 half_step : (step : ℕ) → IsStep step → 0 < step → IsStep (step / 2) × (2 * (step / 2) - 1 ≡ step - 1)
 half_step step (inl is) some = (inr (inl (omega arith)), omega arith)
 half_step step (inr (inl is)) some = (inr (inr (inl (omega arith))), omega arith)
@@ -30,7 +30,7 @@ half_step step (inr (inr (inr (inl is)))) some = (inr (inr (inr (inr (inl (omega
 half_step step (inr (inr (inr (inr (inl is))))) some = (inr (inr (inr (inr (inr (omega arith))))), omega arith)
 half_step step (inr (inr (inr (inr (inr is))))) some = absurd (omega arith)
 
--- where the rank in the middle is no higher, neither are those before it
+-- if the rank in the middle is at most top, those before it are
 split_up : (ranks : List ℕ) (top count step : ℕ) → length ranks ≡ 31 → 0 < step → count + (2 * step - 1) ≤ 31
     → IsPartitionedBy (λ r. leb r top) ranks → Splits ranks top count (count + (2 * step - 1))
     → leb (get_or ranks (count + step - 1) 0) top ≡ true → Splits ranks top (count + step) (count + step + (step - 1))
@@ -39,7 +39,7 @@ split_up ranks top count step places some capacity parted splits here = record {
   above = λ k from within. splits.above k (omega arith) within;
 }
 
--- where it is higher, so are those after it
+-- if the rank in the middle is greater than top, those after it are
 split_down : (ranks : List ℕ) (top count step : ℕ) → length ranks ≡ 31 → 0 < step
     → IsPartitionedBy (λ r. leb r top) ranks → Splits ranks top count (count + (2 * step - 1))
     → leb (get_or ranks (count + step - 1) 0) top ≡ false → Splits ranks top count (count + (step - 1))
@@ -53,7 +53,7 @@ split_down ranks top count step places some parted splits here = record {
   ];
 }
 
--- so a step halves what is left
+-- a step halves the ranks that remain
 pub halved : (ranks : List ℕ) (top count step bit : ℕ) → length ranks ≡ 31 → 0 < step → IsHalved ranks top count step
     → bit ≡ bool_byte (leb (get_or ranks (count + step - 1) 0) top)
     → IsHalved ranks top (count + step * bit) (step / 2)
@@ -79,7 +79,7 @@ halved ranks top count step bit places some is bit_is =
           })
     ]
 
--- after the last step nothing is left
+-- after the last step no rank remains
 pub parted_at : (ranks : List ℕ) (top count : ℕ) → length ranks ≡ 31 → count ≤ 31 → Splits ranks top count count
     → IsPartitionPoint (λ r. r ≤ top) (λ r. top < r) ranks count
 parted_at ranks top count places capacity split = (

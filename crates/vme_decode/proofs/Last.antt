@@ -1,4 +1,4 @@
--- The last row of a table that stands no higher than a rank.
+-- The last row of a table up to a rank.
 use Rattle.std.proofs.Common.{◌≡◌, ℕ, ◌-◌, ◌<◌, ◌≤◌, Bor, List, Option, None, Some, length, get_or, ap, sym, ◌∙◌, arith, inl, inr}
 use Rattle.std.specs.Prelude.{nat_lt, slice_get, is_some, option_copied, Contains}
 use Rattle.std.specs.Option.{MatchOption}
@@ -10,11 +10,11 @@ use Rattle.vme_decode.specs.declared.table.Row.{Row}
 use Rattle.vme_decode.specs.Table.{rank_of, IsLast, IsLastUpTo}
 use Rattle.vme_decode.proofs.Ranks.{Turns}
 
--- a row of a table stands at a place
+-- a row of a table has a position
 at_place : (rows : List Row) (row : Row) (there : Contains rows row) → slice_get rows there.0 ≡ Some row
 at_place rows row there = slice_get-get_or rows there.0 row there.1 ∙ ap Some there.2
 
--- a row that stands no higher than the rank is before the place where the rows turn
+-- a row up to the rank is before the partition point
 before_end : (rows : List Row) (top end : ℕ) (row : Row) → Turns rows top end → rank_of row ≤ top
     → (there : Contains rows row) → there.0 < end
 before_end rows top end row turns up_to there =
@@ -23,11 +23,11 @@ before_end rows top end row turns up_to there =
       | inr past ↦ absurd (omega (arith, turns.above there.0 row past (at_place rows row there)))
     ]
 
--- so where there is no row before it, all stand higher
+-- if no row is before the partition point, each rank is greater
 pub none_up_to_rank : (rows : List Row) (top : ℕ) → Turns rows top 0 → IsLastUpTo rows top None
 none_up_to_rank rows top turns row there = turns.above there.0 row (omega arith) (at_place rows row there)
 
--- and else the one before it is the last
+-- the row before the partition point is the last up to the rank
 some_up_to : (rows : List Row) (top end : ℕ) (last : Row) → IsNonDecreasingBy rank_of rows → Turns rows top end → 0 < end
     → slice_get rows (end - 1) ≡ Some last → IsLast rows top last
 some_up_to rows top end last rising turns some found =
@@ -45,20 +45,20 @@ some_up_to rows top end last rising turns some found =
           omega arith;
     }
 
--- for there is one
+-- a row before the partition point exists
 not_none : (rows : List Row) (top end : ℕ) → Turns rows top end → 0 < end → None ≡ slice_get rows (end - 1)
     → IsLastUpTo rows top None
 not_none rows top end turns some found_is row there =
     let last = slice_get-get_or rows (end - 1) row (omega (arith, turns.within)) in
     cc
 
--- so it is what is found there
+-- the row that is found before the partition point is the last up to the rank
 pub last_at : (rows : List Row) (top end : ℕ) (found : Option Row) → IsNonDecreasingBy rank_of rows → Turns rows top end
     → 0 < end → found ≡ slice_get rows (end - 1) → IsLastUpTo rows top found
 last_at rows top end None rising turns some found_is = not_none rows top end turns some found_is
 last_at rows top end (Some last) rising turns some found_is = some_up_to rows top end last rising turns some (sym found_is)
 
--- what a row by its place is
+-- the row that an indexed access returns
 pub got : (rows : List Row) (k : ℕ) (found : Option (Bor Row)) → is_some found ≡ nat_lt k (length rows)
     → MatchOption found ⊤ (λ row. row.now ≡ get_or rows k row.now) → k < length rows → option_copied found ≡ slice_get rows k
 got rows k None is_there item within = let below = lt-ltb k (length rows) within in cc

@@ -1,4 +1,4 @@
--- What the tests on entries tell: the range of an entry, and the address that two entries share.
+-- The range of an entry, and the address that two entries share.
 use Rattle.std.proofs.Common.{◌≡◌, ℕ, ◌+◌, ◌<◌, ◌≤◌, max, min, ◌&&◌, true, refl, arith}
 use Rattle.std.specs.Prelude.{nat_le, nat_lt}
 use Rattle.std.proofs.lemmas.Bool.{and_parts, and_from, ltb-true, leb-true, lt-ltb, le-leb}
@@ -18,7 +18,7 @@ same_space_self A16 = refl
 same_space_self A24 = refl
 same_space_self A32 = refl
 
--- an address of a space is one of the entry's
+-- an address of a space is in the entry's range
 pub record Has (entry : Entry) (space : Space) (addr : ℕ) : Type 0 where
   pub space_is : entry.space ≡ space
   pub from : entry.base ≤ addr
@@ -39,7 +39,7 @@ covers_from_has entry space addr h =
     let same : same_space entry.space space ≡ true = rw h.space_is (same_space_self space) in
     and_from _ _ (and_from _ _ same (le-leb _ _ h.from)) (lt-ltb _ _ h.below)
 
--- the greater base is in both
+-- the greater base is in both ranges
 pub overlap_shared :
     (a b : Entry) → overlap a b ≡ true → (space : Space) × (addr : ℕ) × (covers a space addr ≡ true) × (covers b space addr ≡ true)
 overlap_shared a b h =
@@ -51,7 +51,7 @@ overlap_shared a b h =
       covers_from_has b _ _ (record { space_is = refl; from = omega arith; below = omega arith }),
     )
 
--- an address in both is between the greater base and the lesser end
+-- an address in both ranges is between the greater base and the lesser end
 pub shared_overlap :
     (a b : Entry) (space : Space) (addr : ℕ) → covers a space addr ≡ true → covers b space addr ≡ true → overlap a b ≡ true
 shared_overlap a b space addr ha hb =

@@ -1,4 +1,4 @@
--- The ranks of a table's rows in their places, and what a search among them tells of the rows.
+-- The ranks of a table's rows at their places, and what a search among them determines.
 use Rattle.std.proofs.Common.{◌≡◌, ℕ, ◌-◌, ◌^◌, ◌<◌, ◌≤◌, leb, List, length, get_or, replicate, refl, Some, ap, sym, ◌∙◌, arith, inl, inr}
 use Rattle.std.specs.Prelude.{slice_get}
 use Rattle.std.specs.List.Sorted.{IsNonDecreasingBy, IsPartitionedBy, IsPartitionPoint}
@@ -22,7 +22,7 @@ no_ranks rows = record {
   unused = λ k from within. get_or-replicate 31 k (2 ^ 64 - 1) 0 within;
 }
 
--- so at the end they are the ranks of the rows
+-- after the last row the places are the ranks of the rows
 pub all_ranks : (rows : List Row) (n : ℕ) (ranks : List ℕ) → length rows ≤ 31 → n ≡ length rows → HasRanksBelow rows n ranks
     → HasRanks rows ranks
 all_ranks rows n ranks few all has = record {
@@ -32,7 +32,7 @@ all_ranks rows n ranks few all has = record {
   unused = λ k from within. has.unused k (omega arith) (omega (arith, has.places));
 }
 
--- of the ranks, those no higher than a number come first
+-- the ranks up to a number come before the greater ones
 pub ranks_parted : (rows : List Row) (ranks : List ℕ) (top : ℕ) → IsNonDecreasingBy rank_of rows → HasRanks rows ranks
     → top < 2 ^ 64 - 1 → IsPartitionedBy (λ r. leb r top) ranks
 ranks_parted rows ranks top rising has below i j d le within up_to =
@@ -50,13 +50,13 @@ ranks_parted rows ranks top rising has below i j d le within up_to =
       | inr unused ↦ absurd (omega (arith, has.unused j unused.0 within))
     ]
 
--- the rows before a place stand no higher than a rank, those from it on do
+-- the rows before a place have ranks up to top, and the rows from it on have greater ranks
 pub record Turns (rows : List Row) (top end : ℕ) : Type 0 where
   pub within : end ≤ length rows
   pub up_to : (k : ℕ) (row : Row) → k < end → slice_get rows k ≡ Some row → rank_of row ≤ top
   pub above : (k : ℕ) (row : Row) → end ≤ k → slice_get rows k ≡ Some row → top < rank_of row
 
--- where the ranks turn, the rows do
+-- the partition point of the ranks is that of the rows
 pub rows_turn : (rows : List Row) (ranks : List ℕ) (top end : ℕ) → HasRanks rows ranks → top < 2 ^ 64 - 1 → end ≤ length ranks
     → IsPartitionPoint (λ r. r ≤ top) (λ r. top < r) ranks end → Turns rows top end
 rows_turn rows ranks top end has below places point = record {

@@ -1,4 +1,4 @@
--- How the rows of a table are gathered from a list of entries.
+-- The rows of a table, collected from a list of entries.
 use Rattle.std.proofs.Common.{◌≡◌, ℕ, ◌+◌, ◌<◌, ◌≤◌, List, [], ◌∷◌, ◌++◌, length, Some, ap, sym, ◌∙◌, subst, arith, inl, inr}
 use Rattle.std.specs.Prelude.{slice_get, All, Contains, IsPermutation}
 use Rattle.std.specs.List.Sorted.{IsNonDecreasingBy}
@@ -23,13 +23,13 @@ has_none entries = record { few = omega arith; own = All-nil (IsRow entries); wh
 abbrev pub row_at : ℕ → Entry → Row
 row_at place entry = record { place = place; entry = entry }
 
--- the row at a place has the entry there
+-- two rows of a list with one position are equal
 pub same_row : (entries : List Entry) (a b : Row) → IsRow entries a → IsRow entries b → a.place ≡ b.place → a ≡ b
 same_row entries a b is_a is_b same =
     let there : Some a.entry ≡ Some b.entry = sym is_a.there ∙ ap (slice_get entries) same ∙ is_b.there in
     ap (λ place. row_at place a.entry) same ∙ ap (row_at b.place) (same_Some _ _ there)
 
--- the next entry covers some address
+-- an entry that covers some address adds its row
 pub has_pushed : (entries : List Entry) (rows : List Row) (row : Row)
     → HasRows entries row.place rows → IsRow entries row → HasRows entries (row.place + 1) (rows ++ row ∷ [])
 has_pushed entries rows row has is_row = record {
@@ -43,7 +43,7 @@ has_pushed entries rows row has is_row = record {
   ];
 }
 
--- the next entry covers none
+-- an entry that covers no address adds no row
 pub has_skipped : (entries : List Entry) (rows : List Row) (n : ℕ) (entry : Entry)
     → HasRows entries n rows → slice_get entries n ≡ Some entry → entry.size ≡ 0 → HasRows entries (n + 1) rows
 has_skipped entries rows n entry has there empty = record {
@@ -58,7 +58,7 @@ has_skipped entries rows n entry has there empty = record {
   ];
 }
 
--- in their order, the rows of all entries are the table
+-- the sorted rows of all entries are the table
 pub table_from_rows : (entries : List Entry) (n : ℕ) (rows sorted : List Row) → length entries ≤ n → HasRows entries n rows
     → IsPermutation rows sorted → IsNonDecreasingBy rank_of sorted → IsTable entries sorted
 table_from_rows entries n rows sorted all has moved rising = record {

@@ -1,17 +1,17 @@
 use crate::fault::MapFault;
 use vme_am::{Am, Space};
 
-/// The addresses at which one board responds (section 2.3.5): `size` bytes of a space from `base`
-/// on.
+/// The addresses at which one board responds: `size` bytes of a space, from `base` up (section
+/// 2.3.5).
 #[derive(Clone, Copy, Debug, PartialEq, Eq)]
 pub struct Entry {
-    /// The space that the addresses are of.
+    /// The address space.
     pub space: Space,
-    /// The first address, a multiple of four in a lawful map.
+    /// The first address: a multiple of four in a lawful map.
     pub base: u32,
-    /// The number of bytes; with none the entry covers nothing.
+    /// The number of bytes. An entry of size 0 covers no address.
     pub size: u32,
-    /// Whether supervisory codes alone are admitted.
+    /// Whether only supervisory codes are admitted.
     pub supervisory: bool,
 }
 
@@ -30,14 +30,14 @@ impl Entry {
         u64::from(self.base) + u64::from(self.size)
     }
 
-    /// Whether an address of a space is one of the entry's.
+    /// Whether the entry covers an address of a space.
     fn covers(&self, space: Space, addr: u32) -> bool
         ensures { result ≡ covers self.now space addr }
     {
         self.space == space && self.base <= addr && u64::from(addr) < self.end()
     }
 
-    /// Whether the privilege of a code is enough.
+    /// Whether the entry admits the privilege of a code.
     fn admits(&self, am: Am) -> bool
         ensures { result ≡ admits self.now am }
     {
@@ -66,7 +66,7 @@ impl Entry {
         others.iter().any(|other| self.overlaps(other))
     }
 
-    /// The first fault of the entry by itself.
+    /// The first fault of the entry on its own: C3 before C2.
     pub(crate) fn check(&self) -> Result<(), MapFault>
         ensures lawful { IsOk result ↔ (first_of (entry_refusals self.now) ≡ None) }
         ensures refused { IfErr result (λ fault. first_of (entry_refusals self.now) ≡ Some fault) }

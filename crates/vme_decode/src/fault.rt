@@ -8,13 +8,13 @@ use std::alloc::AllocError;
 pub enum MapFault {
     /// C4: more than 21 entries.
     TooMany,
-    /// C3: a base that is no multiple of four.
+    /// C3: a base that is not a multiple of four.
     Misaligned,
-    /// C2: an entry that goes past the last address of its space.
+    /// C2: an entry that ends after the last address of its space.
     OutsideSpace,
     /// C1: two entries of one space that share an address.
     Overlap,
-    /// There is no memory for the entries.
+    /// An allocation failed.
     OutOfMemory,
 }
 

@@ -7,14 +7,14 @@ ghost use Rattle.vme_decode.specs.Entries.{covers, overlap};
 ghost use Rattle.vme_decode.specs.Lawful.{first_refusal};
 ghost use Rattle.vme_decode.specs.Select.{selection_at, selection, FallsTo, IsSelected};
 
-/// Two entries overlap exactly where both cover some address of some space.
+/// States that two entries overlap exactly where both cover some address of some space.
 #[tactic(auto, using(crate::proofs::Ranges::overlap_shared, crate::proofs::Ranges::shared_overlap))]
 pub fn overlap_is_a_shared_address()
     ensures { (a b : Entry) → IsTrue (overlap a b) ↔
         ((space : Space) × (addr : ℕ) × IsTrue (covers a space addr) × IsTrue (covers b space addr)) }
 {}
 
-/// In a map without a refusal, at most one entry covers an address of a space.
+/// States that in a map without a refusal at most one entry covers an address of a space.
 #[tactic(auto, using(crate::proofs::Apart::one_place))]
 pub fn one_entry_covers()
     ensures { (entries : List Entry) (i j : ℕ) (a b : Entry) (space : Space) (addr : ℕ) →
@@ -23,16 +23,17 @@ pub fn one_entry_covers()
         IsTrue (covers a space addr) → IsTrue (covers b space addr) → i ≡ j }
 {}
 
-/// In a map without a refusal, what is selected is the one entry that the cycle selects, wherever
-/// in the list it stands.
+/// States that in a map without a refusal `selection` is the one entry that the cycle selects, at
+/// any position in the list.
 pub fn selected_is_the_one()
     ensures { (entries : List Entry) (s : SignalLines) (place offset : ℕ) →
         first_refusal entries ≡ None →
         (selection entries s ≡ Some (place, offset)) ↔ IsSelected entries s place offset }
 {}
 
-/// What a cycle selects is told by its code and the address of its first byte: in a map without a
-/// refusal that is the one entry that they fall to, at an offset of the same remainder by four.
+/// States that the code of a cycle and the address of its first byte determine what the cycle
+/// selects. In a map without a refusal that is the one entry to which they fall, at an offset with
+/// the same remainder modulo four as the address.
 pub fn selection_goes_by_the_address()
     ensures first_byte { (entries : List Entry) (s : SignalLines) (addr : ℕ) →
         first_byte s ≡ Some addr → selection entries s ≡ selection_at entries s.am addr }

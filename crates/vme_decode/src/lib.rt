@@ -1,6 +1,6 @@
-//! Address maps: which board a cycle of the data transfer bus selects, by the ranges that boards
-//! have in the short, standard and extended address spaces (ANSI/IEEE Std 1014-1987, section
-//! 2.3.5). A map is refused where two ranges of a space share an address.
+//! Address maps: which board a cycle of the data transfer bus selects. Each board has a range in
+//! the short, standard or extended address space (ANSI/IEEE Std 1014-1987, section 2.3.5).
+//! [`AddressMap::new`] refuses a map in which two ranges of a space share an address.
 #![tactic(auto)]
 
 mod entry;

@@ -11,13 +11,14 @@ use std::marker::Model;
 use vme_am::Am;
 use vme_cycle::Signals;
 
-/// The number of entries that a map has at most: a backplane has 21 slots.
+/// The greatest number of entries of a map: a backplane has 21 slots.
 const MOST_ENTRIES: usize = 21;
 
-/// The entries of the boards on one bus, none of which covers an address of another.
+/// The entries of the boards on one bus. No two of them cover the same address.
 #[derive(Debug, Drop)]
 pub struct AddressMap {
-    /// As the caller gave them: of these the contracts speak. The first is asked before a search.
+    /// The entries in the caller's order, which is the model of the map. The first one is tried
+    /// before a search.
     entries: Vec<Entry>,
     table: Table,
 }
@@ -40,9 +41,13 @@ impl Model for AddressMap {
 }
 
 impl AddressMap {
-    /// The map of some entries, or else their first fault: C4; then entry by entry, in the caller's
-    /// order, C3 and C2 of that entry; then C1; and `OutOfMemory` where there is none of these. A
-    /// map without entries takes no memory.
+    /// Returns the map of some entries. A map without entries allocates nothing.
+    ///
+    /// # Errors
+    ///
+    /// The first fault in this order: `TooMany` (C4); entry by entry in the caller's order,
+    /// `Misaligned` (C3) and `OutsideSpace` (C2) of that entry; `Overlap` (C1). `OutOfMemory`:
+    /// there is no other fault, and an allocation failed.
     pub fn new(alloc: Global, entries: &[Entry]) -> Result<AddressMap, MapFault>
         ensures refused { IfSome (first_refusal entries.now) (λ fault. result ≡ Err fault) }
         ensures lawful { IfNone (first_refusal entries.now) (IsOkUnless result MapFault.OutOfMemory) }
@@ -60,16 +65,17 @@ impl AddressMap {
         })
     }
 
-    /// The entry that a code and the address of a first byte select (section 2.3.5), by its place in
-    /// the caller's order, and the offset in bytes of that address from its base; `None` where no
-    /// entry covers the address and admits the code.
+    /// Returns the position, in the caller's order, of the entry that a code and the address of a
+    /// first byte select, and the offset of that address from the entry's base in bytes (section
+    /// 2.3.5). Returns `None` where no entry covers the address and admits the code.
     pub fn select_at(&self, am: Am, addr: u32) -> Option<(usize, u32)>
         ensures value { result ≡ selection_at self.now am addr }
         ensures place { IfSome result (λ found. found.0 < length self.now) }
         ensures offset { IfSome result (λ found. found.1 ≤ addr) }
         ensures remainder { IfSome result (λ found. found.1 % 4 ≡ addr % 4) }
     {
-        // Where it responds nothing is left to search, and asking two is faster than a search.
+        // If the first entry responds, no search is needed. Up to two entries are tried one by one,
+        // which is faster than a search.
         let first = self.entries.first()?;
         if first.responds(am, addr) {
             return Some((0, addr - first.base));
@@ -84,7 +90,7 @@ impl AddressMap {
         None
     }
 
-    /// The entry that a cycle selects, as `select_at` of its code and of the address of its datum's
+    /// Returns the entry that a cycle selects: `select_at` of its code and of the address of its
     /// first byte.
     #[tactic(auto, unfolding(crate::specs::Select::selection))]
     pub fn select(&self, signals: &Signals) -> Option<(usize, u32)>
@@ -127,7 +133,7 @@ fn some_overlap(entries: &[Entry]) -> bool
     false
 }
 
-/// The address of the datum's first byte.
+/// The address of the first byte of the cycle.
 fn first_byte(signals: &Signals) -> u32
     ensures { first_byte signals.now ≡ Some result }
 {

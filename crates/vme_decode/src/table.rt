@@ -9,10 +9,11 @@ use crate::entry::Entry;
 use std::alloc::{AllocError, Global};
 use vme_am::{Am, Space};
 
-/// The places of a search: 21 entries need five halvings.
+/// The number of ranks of a search: five steps of halving search 31 ranks, and there are up to 21
+/// rows.
 const PLACES: usize = 31;
 
-/// An entry that covers some address, with its place in the caller's list.
+/// An entry that covers some address, with its position in the caller's list.
 #[derive(Clone, Copy, Debug)]
 pub(crate) struct Row {
     place: usize,
@@ -20,7 +21,7 @@ pub(crate) struct Row {
 }
 
 impl Row {
-    /// Where the row stands in a table.
+    /// The rank of the row: a table is sorted by rank.
     fn rank(&self) -> u64
         ensures { result ≡ rank_of self.now }
     {
@@ -28,7 +29,7 @@ impl Row {
     }
 }
 
-/// Where an address stands: by space, and in a space by address.
+/// The rank of an address: it orders addresses by space, and within a space by address.
 fn rank(space: Space, addr: u32) -> u64
     ensures value { result ≡ rank space addr }
     ensures below { result < 2 ^ 64 - 1 }
@@ -41,7 +42,7 @@ fn rank(space: Space, addr: u32) -> u64
     before + u64::from(addr)
 }
 
-/// The entries that cover some address, by space and then base, with their ranks for a search.
+/// The entries that cover some address, sorted by space and base, and their ranks for a search.
 #[derive(Debug, Drop)]
 pub(crate) struct Table {
     rows: Vec<Row>,
@@ -49,7 +50,7 @@ pub(crate) struct Table {
 }
 
 impl Table {
-    /// The table of some entries; without entries it takes no memory.
+    /// Makes the table of some entries. Without entries it allocates nothing.
     pub(crate) fn of(alloc: Global, entries: &[Entry]) -> Result<Table, AllocError>
         requires { length entries.now ≤ 31 }
         ensures table { IfOk result (λ table. IsTable entries.now table.rows.items) }
@@ -70,8 +71,8 @@ impl Table {
         Ok(Table { rows, ranks })
     }
 
-    /// The place of the entry that a code and an address select, and the address counted from its
-    /// base. Where an entry covers the address, no other begins between its base and the address.
+    /// The position of the entry that a code and an address select, and the offset from its base.
+    /// Where an entry covers the address, no other entry begins between its base and the address.
     pub(crate) fn find(&self, am: Am, addr: u32) -> Option<(usize, u32)>
         ensures { (entries : List Entry) → first_refusal entries ≡ None → IsTable entries self.now.rows.items →
             HasRanks self.now.rows.items self.now.ranks → result ≡ selection_at entries am addr }
@@ -83,7 +84,7 @@ impl Table {
         Some((row.place, addr - row.entry.base))
     }
 
-    /// The last row that stands no higher than a rank.
+    /// The last row whose rank is at most `top`.
     fn last_up_to(&self, top: u64) -> Option<&Row>
         requires { top < 2 ^ 64 - 1 }
         ensures { IsNonDecreasingBy rank_of self.now.rows.items → HasRanks self.now.rows.items self.now.ranks →
@@ -94,7 +95,7 @@ impl Table {
     }
 }
 
-/// The ranks of some rows, and the greatest number in the places that are left.
+/// The ranks of some rows, with the greatest number at the unused places.
 fn ranks_of(rows: &[Row]) -> [u64; PLACES]
     requires { length rows.now ≤ 31 }
     ensures { HasRanks rows.now result }
@@ -106,8 +107,8 @@ fn ranks_of(rows: &[Row]) -> [u64; PLACES]
     ranks
 }
 
-/// How many ranks are no higher than `top`, by halving. It adds and takes no branch, since which way
-/// it goes the processor could not foretell.
+/// The number of ranks up to `top`, found by halving. It adds the result of each comparison instead
+/// of branching on it, since the branch would be unpredictable.
 fn count_up_to(ranks: &[u64; PLACES], top: u64) -> usize
     ensures within { result ≤ 31 }
     ensures parted { IsPartitionedBy (λ r. nat_le r top) ranks.now →

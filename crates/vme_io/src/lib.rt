@@ -1,6 +1,6 @@
-//! Devices: sources of bytes and sinks for them. Each has a mark that a failure sets, and tells
-//! its bytes as a list or not at all, so that a contract can say what was read and written, and
-//! when a failure came.
+//! Devices: sources of bytes ([`Source`]) and sinks of bytes ([`Sink`]). Each has a mark that a
+//! failure sets. A device may have a byte model, a list of the bytes that are left or that were
+//! written; contracts then state which bytes were read and written.
 #![tactic(auto)]
 
 mod memory;

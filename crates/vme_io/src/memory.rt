@@ -4,8 +4,8 @@ use crate::sink::Sink;
 use crate::source::{Failed, Source};
 use std::alloc::{AllocError, Global};
 
-/// A source over bytes in memory, for tests: it gives at most `most` bytes a call, and fails at
-/// the first call after it has given `fails_after`.
+/// A source of bytes in memory, for tests. One call returns at most `most` bytes. The source fails
+/// after it has returned `fails_after` bytes.
 #[derive(Drop)]
 pub struct SliceSource<'a> {
     rest: &'a [u8],
@@ -18,7 +18,7 @@ pub struct SliceSource<'a> {
 impl<'a> SliceSource<'a> {
     ghost use Rattle.vme_io.specs.Devices.{most_given, left_to_give};
 
-    /// A source of these bytes, with the mark clear.
+    /// Returns a source of these bytes, with the mark clear.
     pub fn new(bytes: &'a [u8], most: usize, fails_after: usize) -> SliceSource<'a>
         requires { 0 < most }
         ensures bytes { ⟦<SliceSource<'a> as Source>⟧.remaining result ≡ Some bytes.now }
@@ -44,8 +44,8 @@ impl Source for SliceSource<'_> {
 
     ghost remaining = { λ s. Some s.rest.now };
 
-    /// Gives as many bytes as it has, as fit, as it gives in a call and as it gives before it
-    /// fails.
+    /// Reads as many bytes as there are, up to the length of `buffer`, the limit of one call and
+    /// the limit before the failure.
     fn read(&mut self, buffer: &mut [u8]) -> Result<usize, Failed>
         requires { 0 < length buffer.old }
         ensures count { IfOk result (λ n. n ≤ length buffer.new) }
@@ -56,7 +56,7 @@ impl Source for SliceSource<'_> {
         ensures unmarked { OnOk result (is_marked_source self.new ≡ is_marked_source self.old) }
         ensures marked { OnErr result (is_marked_source self.new ≡ true) }
 
-        // It fails just where it has given its bytes.
+        // It fails exactly when it has returned all bytes before its failure.
         ensures most { IfOk result (λ n. n ≤ most_given self.old) }
         ensures left { IfOk result (λ n. left_to_give self.new + n ≡ left_to_give self.old) }
         ensures gives { 0 < left_to_give self.old → IsOk result }
@@ -79,9 +79,8 @@ impl Source for SliceSource<'_> {
     }
 }
 
-/// A sink into memory, for tests: it takes at most `most` bytes a call, and fails at the first
-/// call after it has taken `room`. Its room is reserved when it is made, so that its writes take
-/// no memory.
+/// A sink into memory, for tests. One call takes at most `most` bytes. The sink fails after it has
+/// taken `capacity` bytes. Its memory is allocated when it is made, so a write allocates nothing.
 #[derive(Drop)]
 pub struct RoomSink {
     bytes: Vec<u8>,
@@ -95,7 +94,11 @@ pub struct RoomSink {
 impl RoomSink {
     ghost use Rattle.vme_io.specs.Devices.{most_taken, left_to_take};
 
-    /// An empty sink, with the mark clear.
+    /// Returns an empty sink, with the mark clear.
+    ///
+    /// # Errors
+    ///
+    /// An allocation failed.
     pub fn new(alloc: Global, most: usize, capacity: usize) -> Result<RoomSink, AllocError>
         requires { 0 < most }
         ensures empty { IfOk result (λ sink. ⟦<RoomSink as Sink>⟧.contents sink ≡ Some []) }
@@ -111,7 +114,7 @@ impl RoomSink {
         })
     }
 
-    /// The bytes that were written.
+    /// Returns the bytes that were written.
     pub fn bytes(&self) -> &[u8]
         ensures { ⟦<RoomSink as Sink>⟧.contents self.now ≡ Some result.now }
     {
@@ -128,7 +131,7 @@ impl Sink for RoomSink {
 
     ghost contents = { λ s. Some s.bytes.items };
 
-    /// Takes as many bytes as it takes in a call and before it fails.
+    /// Takes as many bytes as there are, up to the limit of one call and the remaining capacity.
     fn write(&mut self, bytes: &[u8]) -> Result<usize, Failed>
         requires { 0 < length bytes.now }
         ensures count { IfOk result (λ n. (1 ≤ n) × (n ≤ length bytes.now)) }
@@ -138,7 +141,7 @@ impl Sink for RoomSink {
         ensures unmarked { OnOk result (is_marked_sink self.new ≡ is_marked_sink self.old) }
         ensures marked { OnErr result (is_marked_sink self.new ≡ true) }
 
-        // It fails just where its room is full.
+        // It fails exactly when no capacity remains.
         ensures most { IfOk result (λ n. n ≤ most_taken self.old) }
         ensures left { IfOk result (λ n. left_to_take self.new + n ≡ left_to_take self.old) }
         ensures takes { 0 < left_to_take self.old → IsOk result }

@@ -4,15 +4,19 @@ ghost use Rattle.vme_io.specs.Prefixes.{AppendsPrefix};
 
 use crate::source::Failed;
 
-/// A sink for bytes.
+/// A sink of bytes.
 pub trait Sink {
     /// Whether a write has failed.
     ghost is_marked: { Self → Bool };
 
-    /// The bytes that were written, where the sink tells them.
+    /// The bytes that were written, or `None` for a sink without a byte model.
     ghost contents: { Self → Option (List ℕ) };
 
-    /// Writes bytes from the front of `bytes`, and answers how many: at least one.
+    /// Writes a prefix of `bytes` and returns its length, at least 1.
+    ///
+    /// # Errors
+    ///
+    /// The device failed. No byte is written, and the mark is set.
     fn write(&mut self, bytes: &[u8]) -> Result<usize, Failed>
         requires { 0 < length bytes.now }
         ensures count { IfOk result (λ n. (1 ≤ n) × (n ≤ length bytes.now)) }
@@ -23,7 +27,11 @@ pub trait Sink {
         ensures marked { OnErr result (is_marked self.new ≡ true) };
 }
 
-/// Writes all of the bytes, or a front of them before a failure.
+/// Writes all of the bytes.
+///
+/// # Errors
+///
+/// The device failed. A prefix of the bytes is written, and the mark is set.
 pub fn write_all<W: Sink>(writer: &mut W, bytes: &[u8]) -> Result<(), Failed>
     ensures bytes { OnOk result (Appends (W.contents writer.old) (W.contents writer.new) bytes.now) }
     ensures prefix { OnErr result (AppendsPrefix (W.contents writer.old) (W.contents writer.new) bytes.now) }

@@ -1,7 +1,7 @@
 ghost use Rattle.std.specs.Prelude.{◌≡◌, ℕ, ◌<◌, ◌≤◌, Bool, true, List, Option, Ok, length, take, IfOk, OnOk, OnErr};
 ghost use Rattle.std.specs.Io.KnownBytes.{Keeps, Consumes, IsAtEnd};
 
-/// A device has failed; its mark is set.
+/// A device has failed, and its mark is set.
 #[derive(Clone, Copy, Debug, PartialEq, Eq)]
 pub struct Failed;
 
@@ -10,10 +10,15 @@ pub trait Source {
     /// Whether a read has failed.
     ghost is_marked: { Self → Bool };
 
-    /// The bytes that are left, where the source tells them.
+    /// The bytes that are left, or `None` for a source without a byte model.
     ghost remaining: { Self → Option (List ℕ) };
 
-    /// Reads the next bytes into the front of `buffer`, and answers how many; 0 only at the end.
+    /// Reads the next bytes into the start of `buffer` and returns their number. The number is 0
+    /// only at the end.
+    ///
+    /// # Errors
+    ///
+    /// The device failed. No byte is lost, and the mark is set.
     fn read(&mut self, buffer: &mut [u8]) -> Result<usize, Failed>
         requires { 0 < length buffer.old }
         ensures count { IfOk result (λ n. n ≤ length buffer.new) }

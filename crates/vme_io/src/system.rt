@@ -4,8 +4,8 @@ use crate::sink::Sink;
 use crate::source::{Failed, Source};
 use std::io::{Read, Write};
 
-/// A reader or a writer of std as a device. It tells no bytes. It fails where the thing itself
-/// fails, an interrupted call included, and where a write takes no byte.
+/// A reader or a writer of std as a device. As a device it has no byte model. It fails where the
+/// reader or the writer fails, an interrupted call included, and where a write takes no byte.
 #[derive(Drop)]
 pub struct Io<T> {
     inner: T,
@@ -15,7 +15,7 @@ pub struct Io<T> {
 impl<T> Io<T> {
     ghost use Rattle.vme_io.specs.Devices.{mark_of, inner_of};
 
-    /// A device over a reader or a writer, with the mark clear.
+    /// Returns a device over a reader or a writer, with the mark clear.
     pub fn new(inner: T) -> Io<T>
         ensures unmarked { mark_of result ≡ false }
         ensures inner { inner_of result ≡ inner }
@@ -36,7 +36,7 @@ impl<T: Read> Source for Io<T> {
 
     ghost remaining = { λ _. None };
 
-    /// One read of the thing itself.
+    /// Reads once from the inner reader.
     fn read(&mut self, buffer: &mut [u8]) -> Result<usize, Failed>
         requires { 0 < length buffer.old }
         ensures count { IfOk result (λ n. n ≤ length buffer.new) }
@@ -67,7 +67,7 @@ impl<T: Write> Sink for Io<T> {
 
     ghost contents = { λ _. None };
 
-    /// One write of the thing itself.
+    /// Writes once to the inner writer.
     fn write(&mut self, bytes: &[u8]) -> Result<usize, Failed>
         requires { 0 < length bytes.now }
         ensures count { IfOk result (λ n. (1 ≤ n) × (n ≤ length bytes.now)) }

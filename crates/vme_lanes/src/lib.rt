@@ -1,7 +1,6 @@
-//! Byte locations: which strobes say which bytes of a group of four a cycle reaches, and which
-//! data lines carry them. The table is that of ANSI/IEEE Std 1014-1987, section 2.2.1 (byte
-//! locations, data strobes, A01 and LWORD*); strobes are computed from address and length, and the
-//! reverse. A datum of eight bytes, of this project's profile, has all eight lanes.
+//! Byte locations: which strobes select which bytes of a group of four, and which data lanes carry
+//! them (ANSI/IEEE Std 1014-1987, section 2.2.1). The code computes the strobes from the first byte
+//! and the length, and the reverse. A datum of eight bytes uses all eight lanes.
 #![tactic(auto)]
 
 mod lines;

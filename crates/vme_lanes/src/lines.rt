@@ -6,32 +6,33 @@ ghost use Rattle.vme_lanes.specs.Lanes.{lanes_with, wide_lanes, carries, carries
 use crate::location::Location;
 use arrayvec::ArrayVec;
 
-/// The bytes of one cycle, in order of address.
+/// The bytes of one cycle, in order of address: at most eight.
 pub type Datum = ArrayVec<u8, 8>;
 
-/// The same bytes once more. It takes no memory.
+/// Returns a copy of the bytes. It allocates nothing.
 pub fn copy_bytes<const N: usize>(bytes: &ArrayVec<u8, N>) -> ArrayVec<u8, N>
     ensures { result ≡ bytes.now }
 {
     ArrayVec::try_from(bytes.as_slice()).unwrap()
 }
 
-/// How many lanes go before D31-D24.
+/// The number of lanes before D31-D24.
 const UPPER: usize = 4;
 
-/// The data lines by lanes, from the most significant: each carries a byte or nothing.
+/// The data lanes of the bus, the most significant first. Each lane carries a byte or nothing
+/// (section 2.2.3).
 #[derive(Clone, Copy, Debug, PartialEq, Eq)]
 pub struct DataLines {
-    /// The address lines' four lanes, which carry data in a block of eight-byte data alone, D63 to
-    /// D32; then D31-D24, D23-D16, D15-D08 and D07-D00.
+    /// The four lanes of the address lines, D63 to D32, and then D31-D24, D23-D16, D15-D08 and
+    /// D07-D00. The address lines carry data only in a block of eight-byte data.
     pub lanes: [Option<u8>; 8],
 }
 
 impl DataLines {
-    /// The lines while nothing drives them.
+    /// The lanes when nothing drives them.
     pub const IDLE: DataLines = DataLines { lanes: [None; 8] };
 
-    /// Whether each lane of the location carries a byte.
+    /// Returns whether each lane of the location carries a byte.
     pub fn carries(&self, location: Location) -> bool
         ensures { result ≡ carries location self.now.lanes }
     {
@@ -42,7 +43,7 @@ impl DataLines {
             .all(|lane| lane.is_some())
     }
 
-    /// Whether every lane carries a byte.
+    /// Returns whether each of the eight lanes carries a byte.
     pub fn carries_all(&self) -> bool
         ensures { result ≡ carries_all self.now.lanes }
     {
@@ -50,7 +51,8 @@ impl DataLines {
     }
 }
 
-/// Puts bytes on the lanes of a location, in order of address; the other lanes carry nothing.
+/// Returns the lanes with bytes on those of a location, in order of address (section 2.2.3). The
+/// other lanes carry nothing.
 pub fn place(location: Location, bytes: &[u8]) -> DataLines
     requires { length bytes.now ≡ (row_of location).len }
     ensures { result.lanes ≡ lanes_with location bytes.now }
@@ -67,7 +69,7 @@ pub fn place(location: Location, bytes: &[u8]) -> DataLines
     }
 }
 
-/// These on the data lines' four lanes, and nothing on the address lines'.
+/// The four data lanes with these bytes. The address lines carry nothing.
 fn narrow(first: Option<u8>, second: Option<u8>, third: Option<u8>, last: Option<u8>) -> DataLines
     ensures { result.lanes ≡ None ∷ None ∷ None ∷ None ∷ first ∷ second ∷ third ∷ last ∷ [] }
 {
@@ -76,8 +78,9 @@ fn narrow(first: Option<u8>, second: Option<u8>, third: Option<u8>, last: Option
     }
 }
 
-/// Puts a datum of eight bytes on all lanes, in order of address.
-// Not inlined, so that what places four bytes at most does not carry it.
+/// Returns the lanes with a datum of eight bytes on all of them: the lowest address is on the most
+/// significant lane.
+// Not inlined: `place`, which has at most four bytes, would carry this code too.
 #[inline(never)]
 pub fn place_wide(bytes: &[u8]) -> DataLines
     requires { length bytes.now ≡ 8 }
@@ -100,7 +103,7 @@ pub fn place_wide(bytes: &[u8]) -> DataLines
     }
 }
 
-/// Takes the bytes from the lanes of a location, in order of address.
+/// Returns the bytes on the lanes of a location, in order of address (section 2.2.3).
 #[tactic(auto, using(crate::proofs::Full::length_bytes_of))]
 pub fn pick(location: Location, lines: DataLines) -> Datum
     requires { IsTrue (carries location lines.lanes) }
@@ -112,7 +115,7 @@ pub fn pick(location: Location, lines: DataLines) -> Datum
     bytes_of(&lines.lanes[first..first + len])
 }
 
-/// Takes a datum of eight bytes from all lanes, in order of address.
+/// Returns the datum of eight bytes on all lanes, in order of address.
 #[tactic(auto, using(crate::proofs::Full::length_bytes_of))]
 pub fn pick_wide(lines: DataLines) -> Datum
     requires { IsTrue (carries_all lines.lanes) }
@@ -136,7 +139,7 @@ fn bytes_of(lanes: &[Option<u8>]) -> Datum
     datum
 }
 
-/// What is placed on the lanes of a location is picked from them.
+/// States that `pick` returns the bytes that `place` put on the lanes of a location.
 #[tactic(auto, using(crate::proofs::lemmas::Placing::lanes_carry, crate::proofs::lemmas::Placing::bytes_again))]
 pub fn placed_is_picked()
     ensures carries { (l : Location) (bytes : List ℕ) →
@@ -145,7 +148,7 @@ pub fn placed_is_picked()
         length bytes ≡ (row_of l).len → bytes_on l (lanes_with l bytes) ≡ bytes }
 {}
 
-/// What is placed on all lanes is picked from them.
+/// States that `pick_wide` returns the eight bytes that `place_wide` put on all lanes.
 #[tactic(auto, using(crate::proofs::lemmas::Wide::all_carry, crate::proofs::lemmas::Wide::all_again))]
 pub fn wide_is_picked()
     ensures carries { (bytes : List ℕ) → IsTrue (carries_all (wide_lanes bytes)) }

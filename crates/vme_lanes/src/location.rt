@@ -1,7 +1,8 @@
 ghost use Rattle.std.specs.Prelude.{◌≡◌, ◌+◌, ◌%◌, ◌≤◌, ℕ, Some, IfSome};
 ghost use Rattle.vme_lanes.specs.Rows.{row_of, location_at, location_sensed};
 
-/// The bytes of a group of four that one cycle reaches, by their addresses modulo four.
+/// The bytes of a group of four that one cycle reaches, named by their addresses modulo four
+/// (section 2.2.1).
 #[derive(Clone, Copy, Debug, PartialEq, Eq)]
 pub enum Location {
     /// BYTE(0)
@@ -27,8 +28,8 @@ pub enum Location {
 }
 
 impl Location {
-    /// The location of `n` bytes from `addr` on, or `None` where no single cycle reaches these
-    /// bytes.
+    /// Returns the location of `n` bytes that begin at `addr`, or `None` where no single cycle
+    /// reaches these bytes.
     #[tactic(auto, unfolding(crate::specs::Rows::location_at))]
     pub fn of(addr: u32, n: u8) -> Option<Location>
         ensures value { result ≡ location_at addr n }
@@ -49,7 +50,8 @@ impl Location {
         }
     }
 
-    /// The location that a slave reads off the strobes, or `None` where they choose no bytes.
+    /// Returns the location that a slave senses from the strobes, or `None` where they select no
+    /// bytes.
     #[tactic(auto, unfolding(crate::specs::Rows::location_sensed, crate::specs::Rows::location_at))]
     pub fn sense(strobes: Strobes) -> Option<Location>
         ensures value { result ≡ location_sensed strobes }
@@ -68,8 +70,8 @@ impl Location {
         }
     }
 
-    /// The location that a slave reads off the strobes of this one with A01 at another level, or
-    /// `None` where they choose no bytes.
+    /// Returns the location that a slave senses from the strobes of this one with A01 at the level
+    /// `a01`. Returns `None` where these strobes select no bytes.
     #[tactic(auto, unfolding(crate::specs::Rows::location_sensed))]
     pub fn with_a01(self, a01: bool) -> Option<Location>
         ensures { result ≡ location_sensed (record (row_of self).strobes { a01 = a01 }) }
@@ -89,7 +91,7 @@ impl Location {
         }
     }
 
-    /// The address of its first byte, modulo four.
+    /// Returns the address of the first byte, modulo four.
     pub fn first(self) -> u8
         ensures { result ≡ (row_of self).first }
     {
@@ -101,7 +103,7 @@ impl Location {
         }
     }
 
-    /// How many bytes it has.
+    /// Returns the number of bytes, 1 to 4.
     pub fn len(self) -> u8
         ensures { result ≡ (row_of self).len }
     {
@@ -113,8 +115,9 @@ impl Location {
         }
     }
 
-    /// The lane of its first byte, counted from D31-D24: where LWORD* is low each byte has the lane
-    /// of its own place in the group of four, else an even byte has D15-D08 and an odd one D07-D00.
+    /// The lane of the first byte, counted from D31-D24. Where LWORD* is low, each byte uses the
+    /// lane of its place in the group of four. Otherwise an even byte uses D15-D08 and an odd byte
+    /// D07-D00.
     pub(crate) fn lane(self) -> usize
         ensures value { result ≡ (row_of self).lane }
         ensures fits { (row_of self).lane + (row_of self).len ≤ 4 }
@@ -127,7 +130,7 @@ impl Location {
     }
 }
 
-/// The levels of the lines that choose byte locations; `true` is high.
+/// The levels of the lines that select a byte location (section 2.2.1). `true` is high.
 #[derive(Clone, Copy, Debug, PartialEq, Eq)]
 pub struct Strobes {
     /// DS1*
@@ -141,12 +144,12 @@ pub struct Strobes {
 }
 
 impl Strobes {
-    /// The strobes of a location.
+    /// Returns the strobes of a location (section 2.2.1).
     ///
-    /// Where the bytes lie in one half of the group of four, LWORD* is high, A01 is high for the
-    /// upper half, DS1* is low for an even byte and DS0* for an odd one. Where they lie in both,
-    /// LWORD* is low, DS1* is high where byte 0 alone is left out, DS0* where byte 3 alone is, and
-    /// A01 where both are.
+    /// If the bytes lie in one half of the group of four, LWORD* is high and A01 is high for the
+    /// upper half. DS1* is then low for an even byte and DS0* for an odd byte. If the bytes lie in
+    /// both halves, LWORD* is low. DS1* is then high where only byte 0 is left out, DS0* where only
+    /// byte 3 is left out, and A01 where both are.
     pub fn of(location: Location) -> Strobes
         ensures { result ≡ (row_of location).strobes }
     {
@@ -161,14 +164,14 @@ impl Strobes {
     }
 }
 
-/// Each location is sensed from its own strobes: no two rows have the same.
+/// States that each location is sensed from its own strobes: no two rows have the same strobes.
 #[tactic(auto, using(crate::proofs::lemmas::Tables::own_sensed))]
 pub fn strobes_are_sensed()
     ensures { (l : Location) → location_sensed (row_of l).strobes ≡ Some l }
 {}
 
-/// Each location is found by its length, at any address with its place in the group of four: no two
-/// rows have the same first byte and the same length.
+/// States that each location is found by its length at every address with its place in the group of
+/// four: no two rows have the same first byte and the same length.
 #[tactic(auto, using(crate::proofs::lemmas::Tables::own_found))]
 pub fn places_are_found()
     ensures { (l : Location) (addr : ℕ) → (row_of l).first ≡ addr % 4 →

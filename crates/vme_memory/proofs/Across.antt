@@ -1,11 +1,11 @@
--- Bytes from any offset on, in one word of a board or in two.
+-- Bytes at any offset, in one word of a board or in two.
 use Rattle.std.proofs.Common.{◌≡◌, ℕ, zero, suc, ◌+◌, ◌-◌, ◌*◌, ◌/◌, ◌%◌, ◌^◌, ◌<◌, ◌≤◌, List, ◌++◌, length, take, get_or, set, slice_range, refl, ap, sym, ◌∙◌, arith}
 use Rattle.std.proofs.lemmas.List.{length-take-le}
 use Rattle.vme_memory.specs.Words.{bytes_after_write, word_bytes, bytes_of_words}
 use Rattle.vme_memory.proofs.Shifts.{halves}
 use Rattle.vme_memory.proofs.Words.{word_len, words_len, read_at, read_on, written_at, written_on}
 
--- bytes of the first word alone
+-- bytes of the first word only
 first_alone :
     (here next p n : ℕ) → 0 < n → p + n ≤ 4
     → slice_range (word_bytes here) p (p + n) ≡ take n (slice_range (word_bytes here ++ word_bytes next) p (p + 4))
@@ -36,7 +36,7 @@ both here next (suc (suc (suc zero))) (suc (suc (suc zero))) less over few = ref
 both here next (suc (suc (suc zero))) (suc (suc (suc (suc zero)))) less over few = refl
 both here next p n less over few = absurd (omega arith)
 
--- what a word begins with that was made of those at an offset, where they lie in one word
+-- bytes that lie in one word are the first bytes of the word that is read across
 pub begun_within :
     (words : List ℕ) (at n here next word : ℕ) → here ≡ get_or words (at / 4) here
     → at + n ≤ length (bytes_of_words words) → 0 < n → at % 4 + n ≤ 4
@@ -46,7 +46,7 @@ begun_within words at n here next word own within some few made =
     let there : at < length (bytes_of_words words) = omega arith in
     ap (take n) made ∙ sym (first_alone here next (at % 4) n some few) ∙ sym (read_at words at n here own there few)
 
--- and where they lie in two
+-- bytes that lie in two words are the first bytes of the word that is read across
 pub begun_over :
     (words : List ℕ) (at n here next word : ℕ) → here ≡ get_or words (at / 4) here → next ≡ get_or words (at / 4 + 1) next
     → at + n ≤ length (bytes_of_words words) → n ≤ 4
@@ -68,11 +68,11 @@ begun_over words at n here next word own own_next within few over made =
     ∙ ap (λ bytes. slice_range (bytes_of_words words) at (at + m) ++ bytes) (sym back)
     ∙ read_on (bytes_of_words words) at m n (omega arith)
 
--- where bytes lie in two words the second is there
+-- if bytes lie in two words, the second word exists
 pub next_there : (words : List ℕ) (at n : ℕ) → at + n ≤ length (bytes_of_words words) → 4 < at % 4 + n → at / 4 + 1 < length words
 next_there words at n within over = omega (arith, words_len words)
 
--- what is put within one word, among its words
+-- bytes that are written within one word, among the words of a board
 pub put_at :
     (words : List ℕ) (at len old word new : ℕ) → old ≡ get_or words (at / 4) old
     → at + len ≤ length (bytes_of_words words) → 0 < len
@@ -83,7 +83,7 @@ put_at words at len old word new own within some few changed =
     let short : length part ≡ len = length-take-le len (word_bytes new) (omega (arith, word_len new)) in
     written_at words part at old word own (omega arith) (omega arith) changed
 
--- the same from the first byte of a word on
+-- bytes that are written from the first byte of a word, among the words of a board
 pub put_first :
     (words : List ℕ) (at len old word new : ℕ) → old ≡ get_or words (at / 4) old
     → at + len ≤ length (bytes_of_words words) → at % 4 ≡ 0 → 0 < len → len ≤ 4
@@ -93,7 +93,7 @@ put_first words at len old word new own within first some few changed =
     put_at words at len old word new own within some (omega arith)
     (changed ∙ ap (λ p. bytes_after_write (word_bytes old) p (take len (word_bytes new))) (sym first))
 
--- so what is put in two words is put whole
+-- bytes that are written in two words are written whole
 pub put_over :
     (bytes : List ℕ) (at h n word : ℕ) → word < 2 ^ 32 → at + n ≤ length bytes → 0 < h → h < n → n ≤ 4
     → bytes_after_write (bytes_after_write bytes at (take h (word_bytes word))) (at + h)

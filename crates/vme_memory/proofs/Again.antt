@@ -1,4 +1,4 @@
--- What a command writes, a command reads again.
+-- The bytes that a command writes are those that a command reads again.
 use Rattle.std.proofs.Common.{◌≡◌, ℕ, ◌+◌, ◌≤◌, true, List, length, slice_range, refl, ap, ◌∙◌, arith, inl, inr}
 use Rattle.std.proofs.lemmas.Bool.{cases_Bool, and_parts, leb-true}
 use Rattle.std.proofs.lemmas.Grind.{common_steps}
@@ -12,18 +12,18 @@ same_bytes bytes new at fits = grind (arith, common_steps)
 same_len : (bytes new : List ℕ) (at : ℕ) → at + length new ≤ length bytes → length (bytes_after_write bytes at new) ≡ length bytes
 same_len bytes new at fits = grind (arith, common_steps)
 
--- the board after a write that it answers
+-- the board after a write that it carries out
 after : Board → ℕ → List ℕ → Board
 after board at new = record board { bytes = bytes_after_write board.bytes at new }
 
--- a write that is answered leaves the bytes there
+-- a write that the board carries out leaves the bytes at their offset
 left_there :
     (board : Board) (command : Command) (at : ℕ) (new : List ℕ) → can_answer board command ≡ true → effect_of board command ≡ write_at board at new
     → (step board command).1 ≡ after board at new
 unfolding after
 left_there board command at new can does = rw can (ap (λ p. p.1) does)
 
--- what is read there, where the read is answered
+-- the bytes that a read returns after a write at the same offset
 read_there :
     (board : Board) (command : Command) (at : ℕ) (new : List ℕ) → at + length new ≤ length board.bytes → can_answer (after board at new) command ≡ true
     → effect_of (after board at new) command ≡ read_at (after board at new) at (length new)

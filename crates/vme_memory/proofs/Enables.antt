@@ -1,4 +1,5 @@
--- A word that takes the bytes of a location from another one, under its byte enables; and the word that data lines carry.
+-- A word that takes the bytes of a location from another word under its byte enables, and the word that data lines
+-- carry.
 use Rattle.std.proofs.Common.{◌≡◌, ℕ, ◌+◌, ◌/◌, ◌%◌, ◌^◌, ◌<◌, ◌≤◌, [], ◌∷◌, length, refl, ap, sym, ◌∙◌, arith}
 use Rattle.std.specs.Prelude.{bit_or, bit_and}
 use Rattle.std.specs.Int.{w32, bit_not}
@@ -9,7 +10,7 @@ use Rattle.vme_lanes.specs.declared.location.Location.TheVariants.{Byte0, Byte1,
 use Rattle.vme_lanes.specs.Rows.{row_of}
 use Rattle.vme_memory.specs.Words.{bytes_after_write, word_bytes, part_of, enables_of}
 
--- the bytes of a number that has some bits of another
+-- the bytes of a number that takes some bits of another
 byte_or : (a b k : ℕ) → bit_or a b / 2 ^ k % 2 ^ 8 ≡ bit_or (a / 2 ^ k % 2 ^ 8) (b / 2 ^ k % 2 ^ 8)
 byte_or a b k = ap (λ n. n % 2 ^ 8) (or_shr a b k) ∙ or_mod (a / 2 ^ k) (b / 2 ^ k) 8
 
@@ -19,7 +20,7 @@ byte_and a b k = ap (λ n. n % 2 ^ 8) (and_shr a b k) ∙ and_mod (a / 2 ^ k) (b
 whole_byte : (n : ℕ) → bit_and (n % 2 ^ 8) 255 ≡ n % 2 ^ 8
 whole_byte n = and_mask (n % 2 ^ 8) 8 ∙ omega arith
 
--- the word with the bits of a mask from another one
+-- the word with the bits of a mask taken from another word
 abbrev pub merged : ℕ → ℕ → ℕ → ℕ
 merged word new mask = bit_or (bit_and word (bit_not w32 mask)) (bit_and new mask)
 
@@ -53,12 +54,12 @@ put_low :
     (word new mask : ℕ) → bit_not w32 mask / 2 ^ 0 % 2 ^ 8 ≡ 0 → mask / 2 ^ 0 % 2 ^ 8 ≡ 255 → merged word new mask % 256 ≡ new % 256
 put_low word new mask zeros ones = sym (low_byte (merged word new mask)) ∙ put_byte word new mask 0 zeros ones ∙ low_byte new
 
--- lists of four that agree place by place
+-- lists of four elements that agree at each place
 pub four :
     (a b c d e f g h : ℕ) → a ≡ e → b ≡ f → c ≡ g → d ≡ h → (a ∷ b ∷ c ∷ d ∷ []) ≡ (e ∷ f ∷ g ∷ h ∷ [])
 four a b c d e f g h p q r s = cc
 
--- under the byte enables of a location it takes the bytes of the location, and keeps all others
+-- a word merged under the byte enables of a location takes the location's bytes and keeps all others
 pub merged_bytes :
     (l : Location) (word new : ℕ)
     → word_bytes (merged word new (enables_of l))
@@ -95,7 +96,7 @@ merged_bytes Bytes12 word new =
     four _ _ _ _ _ _ _ _ (kept_byte word new (enables_of Bytes12) 24 refl refl) (put_byte word new (enables_of Bytes12) 16 refl refl)
     (put_byte word new (enables_of Bytes12) 8 refl refl) (kept_low word new (enables_of Bytes12) refl refl)
 
--- a location has some bytes of a word, and no more than are there
+-- a location has at least one byte of a word, and its bytes lie within the word
 pub row_within : (l : Location) → (0 < (row_of l).len) × ((row_of l).first + (row_of l).len ≤ 4)
 row_within Byte0 = (omega arith, omega arith)
 row_within Byte1 = (omega arith, omega arith)
@@ -108,7 +109,7 @@ row_within Bytes02 = (omega arith, omega arith)
 row_within Bytes13 = (omega arith, omega arith)
 row_within Bytes12 = (omega arith, omega arith)
 
--- its part of a word is as long as it is
+-- the part of a location in a word has the length of the location
 pub part_len : (l : Location) (word : ℕ) → length (part_of l word) ≡ (row_of l).len
 unfolding word_bytes
 part_len Byte0 word = refl

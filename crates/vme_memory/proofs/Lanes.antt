@@ -1,4 +1,4 @@
--- A location's own lanes are its part of a word: one with what D15-D00 carry in each half, or one with each lane at its own place.
+-- The lanes of a location are its part of a word, which has D15-D00 in both halves or each lane at its own place.
 use Rattle.std.proofs.Common.{◌≡◌, ℕ, true, false, List, [], ◌∷◌, length, slice_index_or, Option, None, Some, refl, ap, sym, ◌∙◌, arith}
 use Rattle.std.specs.Prelude.{unwrap_or}
 use Rattle.vme_lanes.specs.declared.location.Location.{Location}
@@ -70,6 +70,6 @@ pub by_places :
 by_places l (a ∷ b ∷ c ∷ d ∷ x ∷ y ∷ z ∷ w ∷ []) word eight low full made = at_places l a b c d x y z w word low full made
 by_places l lanes word eight low full made = absurd (omega (arith, eight))
 
--- and as many as the location has
+-- the lanes of a location carry as many bytes as the location has
 pub lanes_len : (l : Location) (lanes : List (Option ℕ)) (word : ℕ) → part_of l word ≡ bytes_on l lanes → length (bytes_on l lanes) ≡ (row_of l).len
 lanes_len l lanes word bytes = ap length (sym bytes) ∙ part_len l word

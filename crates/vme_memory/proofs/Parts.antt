@@ -1,4 +1,4 @@
--- A location's part of a word, among the words of a board: what a cycle reads, and what it leaves.
+-- A location's part of a word, among the words of a board, as a cycle reads it and as it writes it.
 use Rattle.std.proofs.Common.{◌≡◌, ℕ, ◌+◌, ◌/◌, ◌%◌, ◌<◌, ◌≤◌, List, length, get_or, set, slice_range, ap, sym, ◌∙◌, arith}
 use Rattle.vme_lanes.specs.declared.location.Location.{Location}
 use Rattle.vme_lanes.specs.Rows.{row_of}
@@ -6,7 +6,7 @@ use Rattle.vme_memory.specs.Words.{bytes_after_write, word_bytes, bytes_of_words
 use Rattle.vme_memory.proofs.Enables.{row_within, part_len}
 use Rattle.vme_memory.proofs.Words.{read_at, written_at}
 
--- a word that is merged, among its words
+-- a merged word, among the words of a board
 pub merged_at :
     (words : List ℕ) (l : Location) (at old word new : ℕ) → old ≡ get_or words (at / 4) old
     → (row_of l).first ≡ at % 4 → at + (row_of l).len ≤ length (bytes_of_words words)
@@ -20,7 +20,7 @@ merged_at words l at old word new own place within changed =
     let there : at < length (bytes_of_words words) = omega (arith, (row_within l).0, within) in
     written_at words part at old word own there few (changed ∙ ap (λ p. bytes_after_write (word_bytes old) p part) place)
 
--- the part of a location in its word, among its words
+-- the part of a location in its word, among the words of a board
 pub part_at :
     (words : List ℕ) (l : Location) (at word : ℕ) → word ≡ get_or words (at / 4) word
     → (row_of l).first ≡ at % 4 → at + (row_of l).len ≤ length (bytes_of_words words)

@@ -1,4 +1,4 @@
--- Words that are shifted: bytes from any place on in two words, one behind the other, and bytes put from a place on.
+-- Shifted words: bytes at any place in two consecutive words, and bytes that are written at a place.
 use Rattle.std.proofs.Common.{◌≡◌, ℕ, zero, suc, ◌+◌, ◌-◌, ◌*◌, ◌/◌, ◌%◌, ◌^◌, ◌<◌, ◌≤◌, List, [], ◌∷◌, ◌++◌, take, drop, slice_range, refl, ap, ◌∙◌, arith}
 use Rattle.std.specs.Prelude.{bit_or}
 use Rattle.std.specs.Int.{w32, rotate_right}
@@ -10,7 +10,7 @@ use Rattle.vme_lanes.specs.Rows.{row_of}
 use Rattle.vme_memory.specs.Words.{bytes_after_write, word_bytes, part_of, enables_of}
 use Rattle.vme_memory.proofs.Enables.{merged, merged_bytes, four}
 
--- lists that agree place by place
+-- lists that agree at each place
 one : (a e : ℕ) → a ≡ e → (a ∷ []) ≡ (e ∷ [])
 one a e p = cc
 
@@ -24,7 +24,7 @@ three a b c e f g p q r = cc
 abbrev pub upper : ℕ → ℕ → ℕ → ℕ
 upper here next place = (here * 4294967296 % 18446744073709551616 + next) * 2 ^ (8 * place) % 18446744073709551616 / 4294967296
 
--- it has the four bytes from that place on
+-- the upper half has the four bytes at that place
 pub upper_bytes :
     (here next place : ℕ) → here < 2 ^ 32 → next < 2 ^ 32 → place < 4
     → word_bytes (upper here next place) ≡ slice_range (word_bytes here ++ word_bytes next) place (place + 4)
@@ -43,7 +43,7 @@ upper_bytes here next (suc (suc (suc zero))) small little less =
     rw same (four _ _ _ _ _ _ _ _ (omega arith) (omega arith) (omega arith) (omega arith))
 upper_bytes here next (suc (suc (suc (suc place)))) small little less = absurd (omega arith)
 
--- a word that is shifted down to the place of a location has there what it began with
+-- a word shifted down to the place of a location has its first bytes there
 part_from : (l : Location) (new : ℕ) → part_of l (new / 2 ^ (8 * (row_of l).first)) ≡ take (row_of l).len (word_bytes new)
 unfolding word_bytes
 part_from Byte0 new = one _ _ (omega arith)
@@ -57,11 +57,11 @@ part_from Bytes02 new = three _ _ _ _ _ _ (omega arith) (omega arith) (omega ari
 part_from Bytes13 new = three _ _ _ _ _ _ (omega arith) (omega arith) (omega arith)
 part_from Bytes12 new = two _ _ _ _ (omega arith) (omega arith)
 
--- the mask of so many bytes from a place on
+-- the mask of len bytes at a place
 abbrev pub mask_of : ℕ → ℕ → ℕ
 mask_of place len = 4294967295 * 2 ^ (32 - 8 * len) % 4294967296 / 2 ^ (8 * place)
 
--- under it a word takes what another one begins with
+-- under the mask, a word takes the first bytes of another word
 merged_at_row :
     (l : Location) (word new : ℕ)
     → word_bytes (merged word (new / 2 ^ (8 * (row_of l).first)) (mask_of (row_of l).first (row_of l).len))
@@ -93,18 +93,18 @@ merged_from word new (suc (suc zero)) (suc (suc zero)) some few = merged_at_row 
 merged_from word new (suc (suc (suc zero))) (suc zero) some few = merged_at_row Byte3 word new
 merged_from word new place len some few = absurd (omega arith)
 
--- a word that is turned right by so many bytes
+-- a word rotated right by a number of bytes
 abbrev pub turned : ℕ → ℕ → ℕ
 turned new place = rotate_right w32 new (8 * place)
 
--- it has the low bits in front of the others
+-- a rotated word has its low bits before the others
 turned_at :
     (new low high : ℕ) → new / 2 ^ low < 2 ^ high → new * 2 ^ high % 2 ^ 32 ≡ new % 2 ^ low * 2 ^ high
     → bit_or (new / 2 ^ low) (new * 2 ^ high % 2 ^ 32) ≡ new % 2 ^ low * 2 ^ high + new / 2 ^ low
 turned_at new low high fits last =
     ap (bit_or (new / 2 ^ low)) last ∙ or_comm (new / 2 ^ low) (new % 2 ^ low * 2 ^ high) ∙ or_shifted (new % 2 ^ low) high (new / 2 ^ low) fits
 
--- so it has its last bytes in front of the others
+-- a rotated word has its last bytes before the others
 turned_bytes :
     (new place : ℕ) → new < 2 ^ 32 → place < 4
     → word_bytes (turned new place) ≡ drop (4 - place) (word_bytes new) ++ take (4 - place) (word_bytes new)
@@ -123,8 +123,8 @@ turned_bytes new (suc (suc (suc zero))) small less =
     rw same (four _ _ _ _ _ _ _ _ (omega arith) (omega arith) (omega arith) (omega arith))
 turned_bytes new (suc (suc (suc (suc place)))) small less = absurd (omega arith)
 
--- the bytes of two words that share a third one under the byte enables of a location: it gives its part to the first, and all
--- others to the second
+-- the bytes of two words that share a third one under the byte enables of a location: the first takes the location's
+-- part, the second all other bytes
 shared :
     (l : Location) (here next word : ℕ)
     → word_bytes (merged here word (enables_of l)) ++ word_bytes (merged word next (enables_of l))
@@ -133,12 +133,12 @@ shared l here next word =
     ap (λ bytes. bytes ++ word_bytes (merged word next (enables_of l))) (merged_bytes l here word)
     ∙ ap (λ bytes. bytes_after_write (word_bytes here) (row_of l).first (part_of l word) ++ bytes) (merged_bytes l word next)
 
--- the same bytes at a location that ends the word
+-- these bytes at a location that ends the word
 abbrev pub shared_from : List ℕ → List ℕ → List ℕ → ℕ → List ℕ
 shared_from here next word place =
     bytes_after_write here place (slice_range word place 4) ++ bytes_after_write word place (slice_range next place 4)
 
--- under the mask of the bytes from a place on two words take a turned word's bytes, four from that place on
+-- under the mask of the bytes at a place, two words take the four bytes of a rotated word
 pub merged_across :
     (here next place new : ℕ) → new < 2 ^ 32 → place < 4
     → word_bytes (merged here (turned new place) (4294967295 / 2 ^ (8 * place)))
@@ -159,7 +159,7 @@ merged_across here next (suc (suc (suc zero))) new small less =
     ∙ ap (λ bytes. shared_from (word_bytes here) (word_bytes next) bytes 3) (turned_bytes new 3 small less)
 merged_across here next (suc (suc (suc (suc place)))) new small less = absurd (omega arith)
 
--- what a word begins with, in two parts
+-- the first bytes of a word, in two parts
 pub halves :
     (word h n : ℕ) → word < 2 ^ 32 → 0 < h → h < n → n ≤ 4
     → take h (word_bytes word) ++ take (n - h) (word_bytes (word * 2 ^ (8 * h) % 4294967296)) ≡ take n (word_bytes word)

@@ -1,4 +1,4 @@
--- Two words, one behind the other: eight bytes at a multiple of four, and four bytes that lie over both.
+-- Two consecutive words: eight bytes at a multiple of four, and four bytes that lie in both.
 use Rattle.std.proofs.Common.{◌≡◌, ℕ, ◌+◌, ◌-◌, ◌*◌, ◌/◌, ◌%◌, ◌<◌, ◌≤◌, List, ◌++◌, length, get_or, set, slice_range, refl, ap, sym, ◌∙◌, arith}
 use Rattle.std.proofs.lemmas.List.{length-set}
 use Rattle.vme_memory.specs.Words.{bytes_after_write, word_bytes, bytes_of_words}
@@ -15,11 +15,11 @@ whole_read :
 whole_read words i word less own =
     read_in_word words i 0 4 word less (omega arith) ∙ ap (λ w. slice_range (word_bytes w) 0 (0 + 4)) (sym own) ∙ whole_word word
 
--- the word behind it is there
+-- the next word exists
 pub wide_there : (words : List ℕ) (at : ℕ) → at + 8 ≤ length (bytes_of_words words) → at % 4 ≡ 0 → at / 4 + 1 < length words
 wide_there words at within place = omega (arith, words_len words)
 
--- what two words have is read
+-- the bytes of two words are read
 pub wide_read :
     (words : List ℕ) (at here next : ℕ) → here ≡ get_or words (at / 4) here → next ≡ get_or words (at / 4 + 1) next
     → at + 8 ≤ length (bytes_of_words words) → at % 4 ≡ 0
@@ -36,7 +36,7 @@ wide_read words at here next own own_next within place =
     ∙ ap (λ bytes. slice_range (bytes_of_words words) at (at + 4) ++ bytes) (sym back)
     ∙ read_on (bytes_of_words words) at 4 8 (omega arith)
 
--- a word that is put in the place of another
+-- a word that replaces another
 whole_put : (old word : ℕ) → word_bytes word ≡ bytes_after_write (word_bytes old) 0 (word_bytes word)
 unfolding word_bytes
 whole_put old word = refl
@@ -46,7 +46,7 @@ whole_written :
     → bytes_of_words (set words i word) ≡ bytes_after_write (bytes_of_words words) (4 * i + 0) (word_bytes word)
 whole_written words i word less = word_changed words (word_bytes word) i 0 0 word less (omega (arith, word_len word)) (whole_put (get_or words i 0) word)
 
--- what is put in both is written
+-- bytes that are written to both words are written whole
 pub wide_written :
     (words : List ℕ) (at here next : ℕ) → at + 8 ≤ length (bytes_of_words words) → at % 4 ≡ 0
     → bytes_of_words (set (set words (at / 4) here) (at / 4 + 1) next)
@@ -64,11 +64,11 @@ wide_written words at here next within place =
     ∙ ap (λ bytes. bytes_after_write bytes (at + length (word_bytes here)) (word_bytes next)) prefix
     ∙ written_on (bytes_of_words words) (word_bytes here) (word_bytes next) at (omega (arith, word_len here, word_len next))
 
--- where four bytes lie over two words the second is there
+-- if four bytes lie in two words, the second word exists
 pub across_there : (words : List ℕ) (at : ℕ) → at + 4 ≤ length (bytes_of_words words) → 0 < at % 4 → at / 4 + 1 < length words
 across_there words at within over = omega (arith, words_len words)
 
--- what is put in both across them is written
+-- four bytes that are written across both words are written whole
 pub across_written :
     (words : List ℕ) (at here next put_here put_next new : ℕ) → here ≡ get_or words (at / 4) here → next ≡ get_or words (at / 4 + 1) next
     → at + 4 ≤ length (bytes_of_words words) → 0 < at % 4

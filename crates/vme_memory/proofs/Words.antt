@@ -1,4 +1,4 @@
--- Bytes in words: where a word's bytes are, and what one that is changed leaves.
+-- Bytes in words: the offsets of a word's bytes, and the effect of a change to one word.
 use Rattle.std.proofs.Common.{◌≡◌, ℕ, ◌+◌, ◌-◌, ◌*◌, ◌<◌, ◌≤◌, zero, suc, List, [], ◌∷◌, ◌++◌, length, take, drop, get_or, set, slice_range, replicate, None, min, refl, ap, sym, ◌∙◌, arith}
 use Rattle.std.specs.Prelude.{slice_get, ◌/◌, ◌%◌, ◌^◌}
 use Rattle.std.proofs.lemmas.Grind.{common_steps}
@@ -13,7 +13,7 @@ pub word_len : (word : ℕ) → length (word_bytes word) ≡ 4
 unfolding word_bytes
 word_len word = refl
 
--- words have four times as many
+-- words have four bytes each
 pub words_len : (words : List ℕ) → length (bytes_of_words words) ≡ 4 * length words
 words_len [] = refl
 words_len (word ∷ words) = grind (arith, common_steps, word_len word, words_len words)
@@ -26,7 +26,7 @@ parted words i d less =
     ap bytes_of_words (sym (take-append-drop i words) ∙ ap (λ rest. take i words ++ rest) (drop_more words i d less))
     ∙ flat_map-append word_bytes (take i words) (get_or words i d ∷ drop (i + 1) words)
 
--- and the length of those before it
+-- the number of bytes before a word
 prefix_len : (words : List ℕ) (i : ℕ) → i < length words → length (bytes_of_words (take i words)) ≡ 4 * i
 prefix_len words i less = words_len (take i words) ∙ ap (λ n. 4 * n) (length-take-le i words (omega arith))
 
@@ -36,7 +36,7 @@ drop_past before rest k p at = sym (drop-drop p k (before ++ rest)) ∙ ap (drop
 take_past : (before rest : List ℕ) (k p : ℕ) → length before ≡ k → take (k + p) (before ++ rest) ≡ before ++ take p rest
 take_past before rest k p at = ap (λ k. take (k + p) (before ++ rest)) (sym at) ∙ take-append-add before rest p
 
--- a part of what stands in the middle
+-- a part of the middle of three lists
 middle_read :
     (before own after : List ℕ) (k p n : ℕ) → length before ≡ k → p + n ≤ length own
     → take n (drop (k + p) (before ++ (own ++ after))) ≡ take n (drop p own)
@@ -59,7 +59,7 @@ middle_written before own after new k p at few =
 range_take : (bytes : List ℕ) (at n : ℕ) → slice_range bytes at (at + n) ≡ take n (drop at bytes)
 range_take bytes at n = let same : at + n - at ≡ n = omega arith in ap (λ j. take j (drop at bytes)) same
 
--- what is read of one word
+-- the bytes that are read from one word
 pub read_in_word :
     (words : List ℕ) (i p n d : ℕ) → i < length words → p + n ≤ 4
     → slice_range (bytes_of_words words) (4 * i + p) (4 * i + p + n) ≡ slice_range (word_bytes (get_or words i d)) p (p + n)
@@ -72,7 +72,7 @@ read_in_word words i p n d less few =
     ∙ middle_read before own after (4 * i) p n (prefix_len words i less) (omega (arith, word_len (get_or words i d)))
     ∙ sym (range_take own p n)
 
--- a word that is changed leaves all others
+-- a change to one word leaves all others
 pub word_changed :
     (words new : List ℕ) (i p d word : ℕ) → i < length words → p + length new ≤ 4
     → word_bytes word ≡ bytes_after_write (word_bytes (get_or words i d)) p new
@@ -90,7 +90,7 @@ word_changed words new i p d word less few changed =
     ∙ sym (middle_written before own after new (4 * i) p (prefix_len words i less) (omega (arith, word_len (get_or words i d))))
     ∙ ap (λ bytes. bytes_after_write bytes (4 * i + p) new) (sym (parted words i d less))
 
--- bytes that are read one after another
+-- consecutive reads are one read
 pub read_on :
     (bytes : List ℕ) (at m n : ℕ) → m ≤ n → slice_range bytes at (at + m) ++ slice_range bytes (at + m) (at + m + (n - m)) ≡ slice_range bytes at (at + n)
 read_on bytes at m n part =
@@ -103,7 +103,7 @@ read_on bytes at m n part =
     ∙ sym (ap (λ prefix. prefix ++ slice_range bytes (at + m) (at + m + rest)) (range_take bytes at m)
     ∙ ap (λ back. take m (drop at bytes) ++ back) (range_take bytes (at + m) rest)))
 
--- bytes that are written one after another
+-- consecutive writes are one write
 pub written_on :
     (bytes a b : List ℕ) (at : ℕ) → at + length a + length b ≤ length bytes
     → bytes_after_write (bytes_after_write bytes at a) (at + length a) b ≡ bytes_after_write bytes at (a ++ b)
@@ -119,7 +119,7 @@ written_on bytes a b at fits =
     let long : at + length (a ++ b) ≡ at + length a + length b = omega (arith, length-append a b) in
     rw (prefix, back, long) (simp append_assoc)
 
--- bytes that are written in some of those that are there
+-- a write inside bytes that are written
 pub written_inside :
     (bytes new : List ℕ) (at p n : ℕ) → at + n ≤ length bytes → p + length new ≤ n
     → bytes_after_write bytes at (bytes_after_write (slice_range bytes at (at + n)) p new) ≡ bytes_after_write bytes (at + p) new
@@ -140,7 +140,7 @@ written_inside bytes new at p n within few =
     ∙ sym (middle_written (take at bytes) own after new at p (length-take-le at bytes (omega arith)) (omega (arith, own_len)))
     ∙ ap (λ all. bytes_after_write all (at + p) new) whole
 
--- words that are left out, or taken, are bytes
+-- words that are dropped or taken are bytes that are dropped or taken
 pub drop_words : (words : List ℕ) (i : ℕ) → drop (4 * i) (bytes_of_words words) ≡ bytes_of_words (drop i words)
 unfolding word_bytes
 drop_words words zero = refl
@@ -181,11 +181,11 @@ zero_words (suc n) = let more : 4 * suc n ≡ suc (suc (suc (suc (4 * n)))) = om
 pub word_there : (words : List ℕ) (at : ℕ) → at < length (bytes_of_words words) → at / 4 < length words
 word_there words at less = omega (arith, words_len words)
 
--- the place of an offset: its word, and its place in that
+-- an offset by its word and its place in the word
 split_place : (at : ℕ) → at ≡ 4 * (at / 4) + at % 4
 split_place at = omega arith
 
--- what is read within one word, at any offset
+-- a read within one word, at any offset
 pub read_at :
     (words : List ℕ) (at n word : ℕ) → word ≡ get_or words (at / 4) word → at < length (bytes_of_words words) → at % 4 + n ≤ 4
     → slice_range (bytes_of_words words) at (at + n) ≡ slice_range (word_bytes word) (at % 4) (at % 4 + n)
@@ -194,7 +194,7 @@ read_at words at n word own less few =
     ∙ read_in_word words (at / 4) (at % 4) n word (word_there words at less) few
     ∙ ap (λ w. slice_range (word_bytes w) (at % 4) (at % 4 + n)) (sym own)
 
--- what is written within one word, at any offset
+-- a write within one word, at any offset
 pub written_at :
     (words new : List ℕ) (at old word : ℕ) → old ≡ get_or words (at / 4) old → at < length (bytes_of_words words) → at % 4 + length new ≤ 4
     → word_bytes word ≡ bytes_after_write (word_bytes old) (at % 4) new
@@ -204,7 +204,7 @@ written_at words new at old word own less few changed =
     (changed ∙ ap (λ w. bytes_after_write (word_bytes w) (at % 4) new) own)
     ∙ ap (λ j. bytes_after_write (bytes_of_words words) j new) (sym (split_place at))
 
--- a byte at any offset
+-- the byte at any offset
 pub byte_at :
     (words : List ℕ) (at word : ℕ) → word ≡ get_or words (at / 4) word → at / 4 < length words
     → slice_get (bytes_of_words words) at ≡ slice_get (word_bytes word) (at % 4)
@@ -212,11 +212,11 @@ byte_at words at word own less =
     let few : at % 4 < 4 = omega arith in
     ap (slice_get (bytes_of_words words)) (split_place at) ∙ byte_in_word words (at / 4) (at % 4) word less few ∙ ap (λ w. slice_get (word_bytes w) (at % 4)) (sym own)
 
--- and past the last word there is none
+-- there is no byte past the last word
 pub no_byte : (words : List ℕ) (at : ℕ) → length words ≤ at / 4 → slice_get (bytes_of_words words) at ≡ None
 no_byte words at past = slice_get_past (bytes_of_words words) at (omega (arith, words_len words))
 
--- a word more of a row
+-- one more word of a row
 pub row_more :
     (words : List ℕ) (first i word : ℕ) → first ≤ i → i < length words → word ≡ get_or words i word
     → bytes_of_words (take (i - first) (drop first words)) ++ word_bytes word ≡ bytes_of_words (take (i + 1 - first) (drop first words))
@@ -231,7 +231,7 @@ row_more words first i word from less own =
     ∙ flat_map-append word_bytes (take (i - first) rest) (word ∷ [])
     ∙ ap (λ last. bytes_of_words (take (i - first) rest) ++ last) (append-nil (word_bytes word)))
 
--- a row is four words, or those that are left
+-- a row is four words, or fewer at the end
 pub row_whole :
     (words : List ℕ) (at i : ℕ) → at % 4 ≡ 0 → i - at / 4 ≡ min 4 (length words - at / 4)
     → bytes_of_words (take (i - at / 4) (drop (at / 4) words)) ≡ take 16 (drop at (bytes_of_words words))

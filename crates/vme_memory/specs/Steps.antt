@@ -1,4 +1,4 @@
--- The step of a board's memory on a command, and the command that a cycle of the bus stands for.
+-- The step of a board's memory on a command, and the command of a cycle of the bus.
 use Rattle.std.specs.Prelude.{◌≡◌, ℕ, ◌+◌, ◌%◌, nat_le, Bool, true, false, not, ◌==◌, ◌&&◌, if◌then◌else◌, List, length, slice_range, Option, Some, None}
 use Rattle.std.specs.Option.{option_map, option_map_or, option_and_then}
 use Rattle.vme_lanes.specs.declared.location.Location.{Location}
@@ -15,8 +15,8 @@ use Rattle.vme_memory.specs.declared.reply.Reply.TheVariants.{Bytes, Done, Berr}
 use Rattle.vme_memory.specs.Classes.{answers, answers_quads, is_block_place, is_modify_place, is_local_len}
 use Rattle.vme_memory.specs.Boards.{Board, bytes_after_write}
 
--- a command, with the offset of its first byte: a read of so many bytes, a write of these, or a read-modify-write of so
--- many with a function, by the local port or by the bus; or one datum of a block (this project's own)
+-- a command with the offset of its first byte: a read of a number of bytes, a write, or a read-modify-write with a
+-- function, by the local port or by the bus; or one datum of a block
 pub data Command : Type 0 where
   LocalRead : ℕ → ℕ → Command
   LocalWrite : ℕ → List ℕ → Command
@@ -27,20 +27,21 @@ pub data Command : Type 0 where
   BlockRead : ℕ → ℕ → Command
   BlockWrite : ℕ → List ℕ → Command
 
--- whether bytes lie within a board (this project's own)
+-- whether len bytes at an offset lie within a board
 abbrev pub fits : Board → ℕ → ℕ → Bool
 fits board at len = nat_le (at + len) (length board.bytes)
 
--- whether some byte location has bytes, and the board's class is able to answer it (IEEE 1014, section 2.3.6)
+-- whether a byte location has these bytes and the board's class has its cycle;
+-- IEEE 1014-1987, 2.3.6 (basic data transfer)
 abbrev pub has_cycle : Board → ℕ → ℕ → Bool
 has_cycle board at len = option_map_or (answers board.class) (location_at at len) false
 
--- the same of one datum of a block; eight bytes want a class that answers quad bytes (this project's own)
+-- whether the board's class has the cycle of a datum of a block; eight bytes require a width with quad bytes
 abbrev pub has_block_cycle : Board → ℕ → ℕ → Bool
 has_block_cycle board at len = if is_wide_len len then answers_quads board.class.width else has_cycle board at len
 
--- whether a board answers a command: all bytes lie within it; the length is allowed there; its class has the cycle, for
--- which the local port does not ask; and the data of a function have that length (this project's own)
+-- whether a board carries out a command: its bytes lie within the board, its length is allowed there, and its function
+-- matches; by the bus, the class has the cycle too
 abbrev pub can_answer : Board → Command → Bool
 can_answer board (LocalRead at len) = fits board at len && is_local_len len
 can_answer board (LocalWrite at new) = fits board at (length new) && is_local_len (length new)
@@ -54,26 +55,26 @@ can_answer board (BlockRead at len) =
 can_answer board (BlockWrite at new) =
     fits board at (length new) && has_block_cycle board at (length new) && is_block_place at (length new) && board.class.blt
 
--- the bytes from an offset on (this project's own)
+-- the bytes of a board at an offset
 abbrev pub bytes_at : Board → ℕ → ℕ → List ℕ
 bytes_at board at len = slice_range board.bytes at (at + len)
 
--- what a read does (this project's own)
+-- the reply and the new memory of a read
 abbrev pub read_at : Board → ℕ → ℕ → Reply × Board
 read_at board at len = (Bytes (record { items = bytes_at board at len }), board)
 
--- what a write does (this project's own)
+-- the reply and the new memory of a write
 abbrev pub write_at : Board → ℕ → List ℕ → Reply × Board
 write_at board at new = (Done, record board { bytes = bytes_after_write board.bytes at new })
 
--- what a read-modify-write does: it replies the old bytes (this project's own)
+-- the reply, with the old bytes, and the new memory of a read-modify-write
 abbrev pub modify_at : Board → ℕ → ℕ → functions.Modify → Reply × Board
 modify_at board at len f = (
   Bytes (record { items = bytes_at board at len }),
   record board { bytes = bytes_after_write board.bytes at (value f (bytes_at board at len)) },
 )
 
--- what a command does that is answered (this project's own)
+-- the reply and the new memory of a command that the board carries out
 abbrev pub effect_of : Board → Command → Reply × Board
 effect_of board (LocalRead at len) = read_at board at len
 effect_of board (LocalWrite at new) = write_at board at new
@@ -84,69 +85,68 @@ effect_of board (Modify at len f) = modify_at board at len f
 effect_of board (BlockRead at len) = read_at board at len
 effect_of board (BlockWrite at new) = write_at board at new
 
--- the step of a board's memory: its reply, and the memory after it (this project's own)
+-- the step of a board's memory: the reply and the new memory; a bus error changes nothing
 abbrev pub step : Board → Command → Reply × Board
 step board command = if can_answer board command then effect_of board command else (Berr, board)
 
--- the bytes that the lanes of a location carry, if each of them carries one (this project's own)
+-- the bytes on the lanes of a location, if each of them carries one
 abbrev pub driven_bytes : Location → List (Option ℕ) → Option (List ℕ)
 driven_bytes l lanes = if carries l lanes then Some (bytes_on l lanes) else None
 
--- a read by itself or of a block (this project's own)
+-- a read, single or in a block
 abbrev pub read_command : Bool → ℕ → ℕ → Command
 read_command false at len = Read at len
 read_command true at len = BlockRead at len
 
--- a write by itself or of a block (this project's own)
+-- a write, single or in a block
 abbrev pub write_command : Bool → ℕ → List ℕ → Command
 write_command false at new = Write at new
 write_command true at new = BlockWrite at new
 
--- the write that the lanes of a location carry, if each of them carries a byte (this project's own)
+-- the write of the bytes on the lanes of a location, if each lane carries one
 abbrev pub driven_write : Bool → Location → ℕ → List (Option ℕ) → Option Command
 driven_write block l at lanes = option_map (write_command block at) (driven_bytes l lanes)
 
--- the command of a cycle at a location's own place, by whether its code is a block code, the level of WRITE*, and whether
--- it comes with a function, which only the read half of a cycle by itself does (IEEE 1014, section 2.2.4)
+-- the command of a cycle at a location, by block code, level of WRITE* and function; only a single read half has a
+-- function; IEEE 1014-1987, 2.2.4 (control lines)
 abbrev pub narrow_command : Bool → Bool → Option functions.Modify → ℕ → Location → List (Option ℕ) → Option Command
 narrow_command block write None at l lanes =
     if write then Some (read_command block at (row_of l).len) else driven_write block l at lanes
 narrow_command block write (Some f) at l lanes = if write && not block then Some (Modify at (row_of l).len f) else None
 
--- the write of the eight bytes that the lanes carry, if each of them carries one (this project's own)
+-- the write of the eight bytes on all lanes, if each lane carries one
 abbrev pub wide_write : ℕ → List (Option ℕ) → Option Command
 wide_write at lanes = if carries_all lanes then Some (BlockWrite at (bytes_of lanes)) else None
 
--- the same with a code of eight-byte data: a datum of a block at BYTE(0-3), and nothing else (this project's own)
+-- the command of a cycle with a code of eight-byte data: a datum of a block at BYTE(0-3), and none elsewhere
 abbrev pub wide_command : Bool → Option functions.Modify → ℕ → Location → List (Option ℕ) → Option Command
 wide_command write None at l lanes =
     if (row_of l).len == 4 then if write then Some (BlockRead at 8) else wide_write at lanes else None
 wide_command write (Some f) at l lanes = None
 
--- the same with any code (this project's own)
+-- the command of a cycle with any code at a location
 abbrev pub command_at : CodeRow → Bool → Option functions.Modify → ℕ → Location → List (Option ℕ) → Option Command
 command_at am write f at l lanes =
     if am.wide then wide_command write f at l lanes else narrow_command (is_block am.kind) write f at l lanes
 
--- the command that a cycle at an offset stands for, if any: by the location that the board senses there, at that location's
--- place in the group of four (IEEE 1014, sections 2.2.1 and 2.2.4)
+-- the command of a cycle at an offset, if any: of the location that the board senses, at that location's place;
+-- IEEE 1014-1987, 2.2.1 (address lines and data lines)
 abbrev pub command_of : SignalLines → ℕ → Option functions.Modify → Option Command
 command_of s at f =
     option_and_then
     (λ l. if (row_of l).first == at % 4 then command_at s.am s.write f at l s.lanes else None)
     (sensed_at s at)
 
--- what stands for no command is answered by a bus error (this project's own)
+-- the reply and the new memory for a command, if any; without one, the reply is a bus error
 abbrev pub answer : Board → Option Command → Reply × Board
 answer board (Some command) = step board command
 answer board None = (Berr, board)
 
--- what a board does in a cycle whose first byte is at an offset, perhaps with a function: its reply, and the memory after it
--- (this project's own)
+-- the reply and the new memory for a cycle whose first byte is at an offset, with a function if it has one
 unfoldable pub cycle : Board → SignalLines → ℕ → Option functions.Modify → Reply × Board
 cycle board s at f = answer board (command_of s at f)
 
--- a reply with bytes has so many (this project's own)
+-- a reply with bytes has len of them
 abbrev pub HasLen : Reply → ℕ → Type 0
 HasLen (Bytes datum) len = length datum.items ≡ len
 HasLen Done len = Unit {0}

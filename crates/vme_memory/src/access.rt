@@ -1,4 +1,4 @@
-//! Data of transfers as a slave takes them.
+//! Data of transfers as commands to a slave, without the lines of a cycle.
 ghost use Rattle.std.specs.Prelude.{◌≡◌, ◌%◌, IfSome};
 ghost use Rattle.vme_lanes.specs.Rows.{row_of, location_at};
 ghost use Rattle.vme_memory.specs.Steps.{read_command, write_command, step};
@@ -11,14 +11,14 @@ use crate::word::placed_word;
 use vme_cycle::Modify;
 use vme_lanes::Location;
 
-/// How many bytes a datum has at most that goes over four data lanes.
+/// The greatest number of bytes of a datum on four data lanes.
 const LANES: usize = 4;
 
-/// How many bytes a datum has that goes over all eight lanes.
+/// The number of bytes of a datum on all eight lanes.
 const WIDE_LEN: usize = 8;
 
-/// What one datum of a transfer asks of the slave that it selects, apart from the lines that tell the
-/// slave of it. `at` is the offset of its first byte; `block` tells whether it is one of a block.
+/// One datum of a transfer as a command to the selected slave, without the lines of its cycle. `at`
+/// is the offset of the first byte. `block` states whether the datum belongs to a block.
 #[derive(Debug, Drop)]
 pub enum Access<'a> {
     /// A read of `n` bytes.
@@ -42,8 +42,8 @@ pub enum Access<'a> {
 }
 
 impl ByteMemory {
-    /// Answers one datum of a transfer as it does the cycle that tells of it. The reply and the memory
-    /// after it are those of the command; after `Berr` nothing has changed.
+    /// Returns the reply to one datum of a transfer. The reply and the new memory are those of the
+    /// command (`step` in the specs). After `Berr` nothing has changed.
     #[inline(always)]
     pub fn access(&mut self, access: &Access<'_>) -> Reply
         ensures reply { result ≡ (step self.old (accessed access.now)).0 }
@@ -62,7 +62,7 @@ impl ByteMemory {
         ensures reply { result ≡ (step self.now (read_command block at n)).0 }
         ensures memory { self.now ≡ (step self.now (read_command block at n)).1 }
     {
-        // Lengths as literals, so that the compiler works out shifts.
+        // The lengths are literals, so that the compiler computes the shifts.
         match n {
             1 => self.read_whole(block, at, 1),
             2 if at % 2 == 0 => self.read_whole(block, at, 2),
@@ -71,7 +71,7 @@ impl ByteMemory {
         }
     }
 
-    /// Any read.
+    /// A read of any length at any offset.
     #[inline(never)]
     fn read_other(&self, block: bool, at: u32, n: u8) -> Reply
         ensures reply { result ≡ (step self.now (read_command block at n)).0 }
@@ -102,7 +102,7 @@ impl ByteMemory {
         }
     }
 
-    /// Any write.
+    /// A write of any length at any offset.
     #[inline(never)]
     fn write_other(&mut self, block: bool, at: u32, bytes: &[u8]) -> Reply
         ensures reply { result ≡ (step self.old (write_command block at bytes.now)).0 }
@@ -132,7 +132,7 @@ impl ByteMemory {
     }
 }
 
-/// The location of so many bytes at an offset, if a cycle over four lanes has them.
+/// The location of `len` bytes at an offset, if a cycle on four lanes reaches them.
 #[inline(always)]
 #[tactic(auto, using(crate::proofs::Places::none_longer))]
 fn location_of(at: u32, len: usize) -> Option<Location>

@@ -15,16 +15,16 @@ use std::marker::Model;
 use vme_cycle::{Modify, Signals};
 use vme_lanes::{DataLines, Datum, Location, pick_wide};
 
-/// Why there is no memory of a size.
+/// Why there is no memory of some size.
 #[derive(Clone, Copy, Debug, PartialEq, Eq)]
 pub enum MemoryFault {
-    /// C5: not from 4 to 1,048,576 bytes, or no multiple of four.
+    /// C5: the size is not from 4 to 1,048,576 bytes, or is not a multiple of four.
     BadSize,
-    /// There is no memory for the bytes.
+    /// An allocation failed.
     OutOfMemory,
 }
 
-/// The memory of a board, with what its slave is able to answer.
+/// The memory of a board, with the class of its slave.
 #[derive(Drop)]
 pub struct ByteMemory {
     storage: Storage,
@@ -46,7 +46,12 @@ impl ByteMemory {
     ghost use Rattle.vme_memory.specs.Steps.{fits, has_cycle, bytes_at, modify_at, step, answer, read_command, write_command, driven_write, wide_write, wide_command, cycle, HasLen};
     ghost use Rattle.vme_memory.specs.Locals.{answer_given};
 
-    /// A memory of `size` bytes, all zero.
+    /// Returns a memory of `size` bytes, all zero.
+    ///
+    /// # Errors
+    ///
+    /// `BadSize` (C5) exactly where the size is not from 4 to 1,048,576 or not a multiple of four.
+    /// `OutOfMemory`: an allocation failed.
     #[tactic(auto, unfolding(crate::specs::Boards::zeros))]
     pub fn new(alloc: Global, size: u32, class: Class) -> Result<ByteMemory, MemoryFault>
         ensures zero { IfOk result (λ m. m ≡ record { bytes = zeros size; class = class }) }
@@ -62,7 +67,7 @@ impl ByteMemory {
         }
     }
 
-    /// The number of bytes.
+    /// Returns the number of bytes.
     pub fn size(&self) -> u32
         ensures value { result ≡ length self.now.bytes }
         ensures size { is_board_size result ≡ true }
@@ -70,14 +75,15 @@ impl ByteMemory {
         self.storage.len()
     }
 
-    /// The byte at an offset, or `None` past the end.
+    /// Returns the byte at an offset, or `None` past the end.
     pub fn byte(&self, offset: u32) -> Option<u8>
         ensures { result ≡ slice_get self.now.bytes offset }
     {
         self.storage.byte(offset)
     }
 
-    /// The sixteen bytes from an offset on, or those that are left.
+    /// Returns the sixteen bytes that begin at `offset`, or those up to the end. `offset` is a
+    /// multiple of four.
     pub fn row(&self, offset: u32) -> Row
         requires aligned { offset % 4 ≡ 0 }
         requires within { offset ≤ length self.now.bytes }
@@ -86,12 +92,12 @@ impl ByteMemory {
         self.storage.row(offset)
     }
 
-    /// Answers the cycle that the signals show, with its first byte at offset `at`, and with the
-    /// function of a read-modify-write. The reply and the memory after it are those of the command
-    /// that the cycle stands for; after `Berr` nothing has changed.
+    /// Returns the reply to the cycle that the signals show, with its first byte at offset `at` and
+    /// the function of a read-modify-write (sections 2.3.6 to 2.3.9). The reply and the new memory
+    /// are those of the command of the cycle. After `Berr` nothing has changed.
     ///
-    /// Of a block this is one datum: the board counts the address on, and takes A01 from `at`. A
-    /// read-modify-write shows its read half, and is answered by the old bytes.
+    /// In a block, this is one datum: the slave increments the address and takes A01 from `at`. A
+    /// read-modify-write shows its read half, and the reply has the old bytes.
     #[inline(never)]
     #[tactic(auto, unfolding(crate::specs::Steps::cycle))]
     pub fn cycle(&mut self, signals: &Signals, at: u32, f: Option<&Modify>) -> Reply
@@ -118,9 +124,9 @@ impl ByteMemory {
         }
     }
 
-    /// Answers a command by the port that it names. The reply and the memory after it are those of
-    /// the command; after `Berr` nothing has changed. The local port asks for no switch of the
-    /// board's class, and takes any offset.
+    /// Returns the reply to a command by either port. The reply and the new memory are those of the
+    /// command. After `Berr` nothing has changed. The local port accepts any offset and ignores the
+    /// board's class.
     #[tactic(auto, unfolding(crate::specs::Locals::answer_given, crate::specs::Steps::cycle))]
     pub fn local(&mut self, command: &BoardCmd) -> Reply
         ensures reply { result ≡ (answer_given self.old command.now).0 }
@@ -135,7 +141,8 @@ impl ByteMemory {
         }
     }
 
-    /// A cycle with a code of eight-byte data: BYTE(0-3) stands for all eight.
+    /// The reply to a cycle with a code of eight-byte data, in which BYTE(0-3) stands for all eight
+    /// bytes.
     #[tactic(auto, using(crate::proofs::Places::quad_first))]
     fn wide_cycle(
         &mut self,
@@ -199,15 +206,14 @@ impl ByteMemory {
         Reply::Done
     }
 
-    /// Whether eight bytes from `at` on lie within the board and its class has the cycle.
+    /// Whether eight bytes at `at` lie within the board and its class has the cycle.
     fn reaches_wide(&self, at: u32) -> bool
         ensures { result ≡ (fits self.now at 8 && answers_quads self.now.class.width && self.now.class.blt) }
     {
         self.fits(at, 8) && self.class.width == Width8To32::D32 && self.class.blt
     }
 
-    /// Whether the bytes of a location, from `at` on, lie within the board and its class has the
-    /// cycle.
+    /// Whether the bytes of a location at `at` lie within the board and its class has the cycle.
     #[inline(always)]
     #[tactic(auto, using(crate::proofs::Places::place_found))]
     fn reaches(&self, location: Location, at: u32) -> bool
@@ -312,7 +318,7 @@ impl ByteMemory {
         Reply::Bytes(self.storage.datum(at, n))
     }
 
-    /// A write of so many bytes there.
+    /// A write of one, two or four bytes at a multiple of their number.
     #[inline(always)]
     pub(crate) fn write_whole(&mut self, block: bool, at: u32, n: u8, bytes: &[u8]) -> Reply
         requires place { is_modify_place at n ≡ true }
@@ -375,7 +381,7 @@ impl ByteMemory {
         Reply::Bytes(old)
     }
 
-    /// Whether the local port reaches `n` bytes from `at` on.
+    /// Whether the local port reaches `n` bytes at `at`.
     fn is_local_place(&self, at: u32, n: u8) -> bool
         ensures { result ≡ (fits self.now at n && is_local_len n) }
     {
@@ -383,7 +389,8 @@ impl ByteMemory {
     }
 }
 
-/// Where one datum of a block, or a read-modify-write, may be, of as many bytes as a location has.
+/// Whether a datum of a block, or a read-modify-write, with the length of a location may be at
+/// `at`.
 #[tactic(auto, using(crate::proofs::Places::not_wide))]
 fn is_whole_place(location: Location, at: u32) -> bool
     ensures block { result ≡ is_block_place at (row_of location).len }

@@ -1,26 +1,27 @@
 use vme_lanes::Location;
 
-/// How many data lines a slave uses; each width answers what the narrower ones do.
+/// The data width of a slave. Each width includes the narrower ones (section 2.3.6).
 #[derive(Clone, Copy, Debug, PartialEq, Eq)]
 pub enum Width8To32 {
-    /// Single even and odd bytes, D08(EO).
+    /// Single even and odd bytes: D08(EO).
     D08,
-    /// Double bytes too.
+    /// Also double bytes: D16.
     D16,
-    /// Quad bytes too.
+    /// Also quad bytes: D32.
     D32,
 }
 
-/// What a board's slave is able to answer.
+/// The cycles to which the slave of a board replies.
 #[derive(Clone, Copy, Debug, PartialEq, Eq)]
 pub struct Class {
-    /// How wide its cycles are at most.
+    /// The greatest data width.
     pub width: Width8To32,
-    /// Unaligned cycles: three bytes, and two in the middle of a group of four. They want D32 too.
+    /// Unaligned cycles: three bytes, and the two middle bytes of a group of four. They also
+    /// require D32 (section 2.3.9).
     pub uat: bool,
-    /// Block transfers.
+    /// Block transfers (section 2.3.7).
     pub blt: bool,
-    /// Read-modify-write cycles.
+    /// Read-modify-write cycles (section 2.3.8).
     pub rmw: bool,
 }
 
@@ -28,6 +29,7 @@ impl Class {
     ghost use Rattle.std.specs.Prelude.{◌≡◌};
     ghost use Rattle.vme_memory.specs.Classes.{answers, answers_whole};
 
+    /// Whether the class has the cycle of a location.
     pub(crate) fn answers(self, location: Location) -> bool
         ensures { result ≡ answers self location }
     {
@@ -40,7 +42,7 @@ impl Class {
             }
         }
     }
-    /// The same of one, two or four bytes at a multiple of their number, which have a location.
+    /// Whether the class has the cycle of one, two or four bytes at a multiple of their number.
     #[inline(always)]
     pub(crate) fn answers_whole(self, n: u8) -> bool
         ensures { result ≡ answers_whole self n }

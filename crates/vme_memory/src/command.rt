@@ -4,26 +4,26 @@ ghost use Rattle.std.specs.Option.{option_map};
 use vme_cycle::{Modify, Signals};
 use vme_lanes::{Datum, copy_bytes};
 
-/// A command to a board, by one of its two ports.
+/// A command to a board, by its local port or by the bus.
 #[derive(Debug, Drop, PartialEq, Eq)]
 pub enum BoardCmd {
-    /// A read of `n` bytes from `offset` on, by the local port: one, two or four.
+    /// A read of `n` bytes at `offset` by the local port. `n` is 1, 2 or 4.
     LocalRead {
         offset: u32,
         n: u8,
     },
-    /// A write of these bytes from `offset` on, by the local port: one, two or four.
+    /// A write of these bytes at `offset` by the local port. Their number is 1, 2 or 4.
     LocalWrite {
         offset: u32,
         bytes: Datum,
     },
-    /// A read-modify-write of `n` bytes from `offset` on, by the local port: one, two or four.
+    /// A read-modify-write of `n` bytes at `offset` by the local port. `n` is 1, 2 or 4.
     LocalModify {
         offset: u32,
         n: u8,
         f: Modify,
     },
-    /// A cycle of the bus whose first byte is at offset `at`, with a function where it is a
+    /// A cycle of the bus whose first byte is at offset `at`, with the function of a
     /// read-modify-write.
     Cycle {
         signals: Signals,
@@ -33,7 +33,7 @@ pub enum BoardCmd {
 }
 
 impl BoardCmd {
-    /// The same command once more. It takes no memory.
+    /// Returns a copy of the command. It allocates nothing.
     pub fn copy(&self) -> BoardCmd
         ensures { result ≡ self.now }
     {

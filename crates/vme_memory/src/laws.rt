@@ -7,7 +7,7 @@ ghost use Rattle.vme_memory.specs.Boards.{Board, bytes_after_write};
 ghost use Rattle.vme_memory.specs.Steps.{Command, command_of, step, cycle, LocalRead, LocalWrite, Read, Write, BlockRead, BlockWrite};
 ghost use Rattle.vme_memory.specs.Data.{datum_command, reply_len, datum_reply_len, has_form};
 
-/// What is written over some bytes is there, and all others stay.
+/// States that a write leaves the new bytes at their place and every other byte unchanged.
 pub fn bytes_are_overwritten()
     ensures same { (bytes new : List ℕ) (at : ℕ) → at + length new ≤ length bytes →
         slice_range (bytes_after_write bytes at new) at (at + length new) ≡ new }
@@ -18,8 +18,8 @@ pub fn bytes_are_overwritten()
         length (bytes_after_write bytes at new) ≡ length bytes }
 {}
 
-/// What a board was told to write, and answered as done, it reads again at the same place: by a
-/// cycle, in a block, and by the local port.
+/// States that a board that replied `Done` to a write returns the same bytes to a read at the same
+/// place: by a cycle, in a block, and by the local port.
 #[tactic(auto, using(crate::proofs::Again::written_again, crate::proofs::Again::block_again, crate::proofs::Again::local_again))]
 pub fn written_is_read()
     ensures single { (board : Board) (at : ℕ) (new : List ℕ) →
@@ -35,10 +35,9 @@ pub fn written_is_read()
         ≡ Bytes (record { items = new }) }
 {}
 
-/// The cycle of each datum of a lawful transfer is its request's own command, on any board: a read,
-/// a write or a read-modify-write of its bytes, by itself or in a block. `at` is the offset of the
-/// datum's first byte, which has the place in the group of four that its address has: in a block
-/// the board takes A01 from `at`.
+/// States that the cycle of each datum of a lawful transfer is the command of its request, on every
+/// board: a read, a write or a read-modify-write of its bytes, single or in a block. `at` is the
+/// offset of the datum's first byte and has the place of its address in the group of four.
 #[tactic(auto, using(crate::proofs::lemmas::Data::own_command, crate::proofs::lemmas::Data::own_cycle))]
 pub fn cycles_are_the_requests_own()
     ensures command { (t : Transfer) (i at : ℕ) → IsLawfulTransfer t → i < count_of t.request →
@@ -49,9 +48,9 @@ pub fn cycles_are_the_requests_own()
         cycle board (signals_of t i) at (function_of t.request) ≡ step board (datum_command t.request i at) }
 {}
 
-/// Each reply has the form that is wanted: to a read and to a read-modify-write as many bytes as it
-/// asked for, to a write that it was done, or to each of them a bus error. Of a datum of a lawful
-/// transfer this holds at any offset.
+/// States that each reply matches its command. A read and a read-modify-write have a reply with the
+/// requested number of bytes, a write has the reply `Done`, and each may have a bus error. For a
+/// datum of a lawful transfer this holds at any offset.
 #[tactic(auto, using(crate::proofs::lemmas::Data::reply_form, crate::proofs::lemmas::Data::datum_form))]
 pub fn replies_have_their_form()
     ensures command { (board : Board) (command : Command) →

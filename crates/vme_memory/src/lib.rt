@@ -1,5 +1,6 @@
-//! The memory of one board, and how its slave answers the cycles of the data transfer bus
-//! (ANSI/IEEE Std 1014-1987, section 2.3.6: D08(EO), D16 and D32 slaves).
+//! The memory of one board, and the replies of its slave to the cycles of the data transfer bus
+//! (ANSI/IEEE Std 1014-1987, section 2.3.6: D08(EO), D16 and D32 slaves). The bytes lie in words of
+//! 32 bits ([`merge`] and the other functions on words); contracts see a list of bytes.
 #![tactic(auto)]
 
 mod access;

@@ -13,11 +13,11 @@ use std::cmp::min;
 use std::marker::Model;
 use vme_lanes::{Datum, Location};
 
-/// Sixteen bytes of a memory, or those that are left.
+/// Sixteen bytes of a memory, or fewer at its end.
 pub type Row = ArrayVec<u8, 16>;
 
-/// The bytes of a board in words: word `i` has those at offsets 4 `i` to 4 `i` + 3, the lowest
-/// address most significant.
+/// The bytes of a board in words. Word `i` has the bytes at offsets 4 `i` to 4 `i` + 3, with the
+/// lowest address most significant.
 #[derive(Drop)]
 pub(crate) struct Storage {
     words: Vec<u32>,
@@ -64,7 +64,7 @@ impl Storage {
         Some(byte_in(*word, (offset % 4) as u8))
     }
 
-    /// The bytes of a row, from its offset on.
+    /// The bytes of a row that begins at `offset`.
     #[tactic(auto, using(crate::proofs::Words::row_more, crate::proofs::Words::row_whole, crate::proofs::Words::word_len, crate::proofs::Words::words_len))]
     pub(crate) fn row(&self, offset: u32) -> Row
         requires aligned { offset % 4 ≡ 0 }
@@ -79,7 +79,7 @@ impl Storage {
         row
     }
 
-    /// Reads the bytes of a location from one word. `at` is the offset of the first.
+    /// Reads the bytes of a location from one word. `at` is the offset of the first byte.
     #[inline(always)]
     #[tactic(auto, using(crate::proofs::Words::words_len, crate::proofs::Words::word_there, crate::proofs::Parts::part_at))]
     pub(crate) fn read(&self, location: Location, at: u32) -> Datum
@@ -92,8 +92,8 @@ impl Storage {
         bytes_at(location, self.words[(at / 4) as usize])
     }
 
-    /// Changes the bytes of a location in one word to those of another word. `at` is the offset of
-    /// the first.
+    /// Replaces the bytes of a location in one word by those of another word. `at` is the offset of
+    /// the first byte.
     #[inline(always)]
     #[tactic(auto, using(crate::proofs::Words::words_len, crate::proofs::Words::word_there, crate::proofs::Parts::merged_at))]
     pub(crate) fn write(&mut self, location: Location, at: u32, new: u32)
@@ -106,7 +106,7 @@ impl Storage {
         self.words[i] = merge(self.words[i], location, new);
     }
 
-    /// Reads eight bytes at a multiple of four: two words.
+    /// Reads the two words of eight bytes at a multiple of four.
     #[tactic(auto, using(crate::proofs::Words::words_len, crate::proofs::Wide::wide_there, crate::proofs::Wide::wide_read))]
     pub(crate) fn read_wide(&self, at: u32) -> Datum
         requires place { at % 4 ≡ 0 }
@@ -118,7 +118,7 @@ impl Storage {
         bytes_of_pair(self.words[i], self.words[i + 1])
     }
 
-    /// Changes eight bytes at a multiple of four to others: two words.
+    /// Replaces the two words of eight bytes at a multiple of four.
     #[tactic(auto, using(crate::proofs::Words::words_len, crate::proofs::Wide::wide_there, crate::proofs::Wide::wide_written))]
     pub(crate) fn write_wide(&mut self, at: u32, new: &[u8])
         requires place { at % 4 ≡ 0 }
@@ -133,7 +133,7 @@ impl Storage {
         self.words[i + 1] = next;
     }
 
-    /// Reads `len` bytes from any offset on: from one word or two.
+    /// Reads `len` bytes at any offset, from one word or two.
     pub(crate) fn datum(&self, at: u32, len: u8) -> Datum
         requires within { at + len ≤ length self.now }
         requires some { 0 < len }
@@ -144,7 +144,7 @@ impl Storage {
         first_bytes(self.word_from(at, len), len)
     }
 
-    /// The word whose first `len` bytes are those from any offset on.
+    /// The word whose first `len` bytes are those at an offset.
     #[tactic(auto, using(crate::proofs::Words::words_len, crate::proofs::Words::word_there, crate::proofs::Across::next_there, crate::proofs::Across::begun_within, crate::proofs::Across::begun_over))]
     fn word_from(&self, at: u32, len: u8) -> u32
         requires within { at + len ≤ length self.now }
@@ -162,14 +162,14 @@ impl Storage {
         word_across(self.words[i], next, place)
     }
 
-    /// Puts bytes in the place of those from any offset on: in one word or two. All others stay.
+    /// Replaces bytes at any offset, in one word or two. The other bytes stay.
     pub(crate) fn overwrite(&mut self, at: u32, new: &[u8])
         requires within { at + length new.now ≤ length self.old }
         requires some { 0 < length new.now }
         requires short { length new.now ≤ 4 }
         ensures { self.new ≡ bytes_after_write self.old at new.now }
     {
-        // Lengths as literals, so that the compiler works out the masks.
+        // The lengths are literals, so that the compiler computes the masks.
         match new {
             [a] => self.put(at, 1, word_of([*a, 0, 0, 0])),
             [a, b] if at % 4 <= 2 => self.put(at, 2, word_of([*a, *b, 0, 0])),
@@ -179,7 +179,7 @@ impl Storage {
         }
     }
 
-    /// Puts the four bytes of a word in the place of those from an offset on, over two words.
+    /// Replaces four bytes that lie in two words by the bytes of a word.
     #[inline(never)]
     #[tactic(auto, using(crate::proofs::Words::words_len, crate::proofs::Wide::across_there, crate::proofs::Wide::across_written))]
     fn put_across(&mut self, at: u32, new: u32)
@@ -194,7 +194,7 @@ impl Storage {
         self.words[i + 1] = next;
     }
 
-    /// Puts the first `len` bytes of a word in the place of those from any offset on.
+    /// Replaces `len` bytes at any offset by the first bytes of a word.
     #[inline(never)]
     #[tactic(auto, using(crate::proofs::Across::put_over))]
     fn put_over(&mut self, at: u32, len: u32, new: u32)
@@ -212,7 +212,7 @@ impl Storage {
         }
     }
 
-    /// Puts the first `len` bytes of a word in the place of those from an offset on, within one word.
+    /// Replaces `len` bytes within one word by the first bytes of another word.
     #[tactic(auto, using(crate::proofs::Words::words_len, crate::proofs::Words::word_there, crate::proofs::Across::put_at))]
     fn put(&mut self, at: u32, len: u32, new: u32)
         requires within { at + len ≤ length self.old }
@@ -225,7 +225,7 @@ impl Storage {
         self.words[i] = merge_from(self.words[i], at % 4, len, new);
     }
 
-    /// The same from the first byte of a word on.
+    /// Replaces the first `len` bytes of one word by the first bytes of another word.
     #[tactic(auto, using(crate::proofs::Words::words_len, crate::proofs::Words::word_there, crate::proofs::Across::put_first))]
     fn put_first(&mut self, at: u32, len: u32, new: u32)
         requires within { at + len ≤ length self.old }

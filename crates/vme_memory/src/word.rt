@@ -5,7 +5,7 @@ ghost use Rattle.vme_memory.specs.Words.{bytes_after_write, word_bytes, part_of,
 
 use vme_lanes::{DataLines, Datum, Location, Strobes};
 
-/// The byte enables of a location, as a mask of the word: all bits of each byte that it has.
+/// The byte enables of a location as a mask of the word: all bits of each of its bytes.
 fn enables(location: Location) -> u32
     ensures { result ≡ enables_of location }
 {
@@ -23,7 +23,7 @@ fn enables(location: Location) -> u32
     }
 }
 
-/// The word with the bytes of a location from another one; its other bytes stay.
+/// Returns `word` with the bytes of a location taken from `new`. The other bytes stay.
 pub fn merge(word: u32, location: Location, new: u32) -> u32
     ensures { word_bytes result ≡ bytes_after_write (word_bytes word) (row_of location).first (part_of location new) }
 {
@@ -31,7 +31,7 @@ pub fn merge(word: u32, location: Location, new: u32) -> u32
     word & !mask | new & mask
 }
 
-/// The word with the first `len` bytes of another one from a place on; its other bytes stay.
+/// Returns `word` with the first `len` bytes of `new` at `place`. The other bytes stay.
 pub fn merge_from(word: u32, place: u32, len: u32, new: u32) -> u32
     requires some { 0 < len }
     requires within { place + len ≤ 4 }
@@ -41,7 +41,7 @@ pub fn merge_from(word: u32, place: u32, len: u32, new: u32) -> u32
     word & !mask | (new >> (8 * place)) & mask
 }
 
-/// The word of the four bytes from a place on in two words, one behind the other.
+/// Returns the word of the four bytes at `place` in two consecutive words.
 pub fn word_across(here: u32, next: u32, place: u32) -> u32
     requires { place < 4 }
     ensures { word_bytes result ≡ slice_range (word_bytes here ++ word_bytes next) place (place + 4) }
@@ -50,7 +50,8 @@ pub fn word_across(here: u32, next: u32, place: u32) -> u32
     (pair << (8 * place) >> 32) as u32
 }
 
-/// Two words, one behind the other, with the four bytes of another one from a place on in the first.
+/// Returns two consecutive words with the four bytes of `new` at `place` in the first. The other
+/// bytes stay.
 #[tactic(auto, using(crate::proofs::Shifts::merged_across))]
 pub fn merge_across(here: u32, next: u32, place: u32, new: u32) -> (u32, u32)
     requires { place < 4 }
@@ -62,7 +63,7 @@ pub fn merge_across(here: u32, next: u32, place: u32, new: u32) -> (u32, u32)
     (here & !mask | turned & mask, turned & !mask | next & mask)
 }
 
-/// The four bytes of a word.
+/// Returns the four bytes of a word, the lowest address most significant.
 #[tactic(auto, unfolding(crate::specs::Words::word_bytes))]
 pub fn bytes_of(word: u32) -> [u8; 4]
     ensures { result ≡ word_bytes word }
@@ -70,15 +71,18 @@ pub fn bytes_of(word: u32) -> [u8; 4]
     word.to_be_bytes()
 }
 
-/// The word of four bytes.
+/// Returns the word of four bytes, the lowest address most significant.
 pub fn word_of(bytes: [u8; 4]) -> u32
     ensures { word_bytes result ≡ bytes }
 {
     u32::from_be_bytes(bytes)
 }
 
-/// The word that the data lines carry for a location: where LWORD* is low each lane is the byte of
-/// its own place, else both halves of the word are on D15-D00.
+/// Returns a word with the bytes that the data lines carry for a location, at the location's place
+/// (section 2.2.3).
+///
+/// Where LWORD* is low, each lane carries the byte of its own place. Otherwise both halves of the
+/// word take D15-D00.
 pub fn driven_word(location: Location, lines: DataLines) -> u32
     requires { IsTrue (carries location lines.lanes) }
     ensures bytes { part_of location result ≡ bytes_on location lines.lanes }
@@ -98,7 +102,7 @@ fn byte(lane: Option<u8>) -> u8
     lane.unwrap_or(0)
 }
 
-/// A word with these bytes at the place of a location, and zeros elsewhere.
+/// Returns a word with these bytes at the place of a location, and zeros elsewhere.
 pub fn placed_word(location: Location, bytes: &[u8]) -> u32
     requires { length bytes.now ≡ (row_of location).len }
     ensures { part_of location result ≡ bytes.now }
@@ -118,7 +122,7 @@ pub fn placed_word(location: Location, bytes: &[u8]) -> u32
     }
 }
 
-/// The word that begins with some bytes, with zeros behind them.
+/// Returns the word that begins with these bytes and continues with zeros.
 pub fn leading_word(bytes: &[u8]) -> u32
     requires some { 0 < length bytes.now }
     requires short { length bytes.now ≤ 4 }
@@ -133,7 +137,7 @@ pub fn leading_word(bytes: &[u8]) -> u32
     }
 }
 
-/// The first `len` bytes of a word.
+/// Returns the first `len` bytes of a word.
 #[tactic(auto, unfolding(crate::specs::Words::word_bytes))]
 pub fn first_bytes(word: u32, len: u8) -> Datum
     requires some { 0 < len }
@@ -151,7 +155,7 @@ pub fn first_bytes(word: u32, len: u8) -> Datum
     }
 }
 
-/// The bytes of a location in a word, in order of address.
+/// Returns the bytes of a location in a word, in order of address.
 #[tactic(auto, unfolding(crate::specs::Words::word_bytes))]
 pub fn bytes_at(location: Location, word: u32) -> Datum
     ensures value { result.items ≡ part_of location word }
@@ -172,7 +176,7 @@ pub fn bytes_at(location: Location, word: u32) -> Datum
     }
 }
 
-/// The eight bytes of two words, one behind the other.
+/// Returns the eight bytes of two consecutive words.
 #[tactic(auto, unfolding(crate::specs::Words::word_bytes))]
 pub fn bytes_of_pair(here: u32, next: u32) -> Datum
     ensures value { result.items ≡ word_bytes here ++ word_bytes next }
@@ -183,7 +187,7 @@ pub fn bytes_of_pair(here: u32, next: u32) -> Datum
     datum(&[a, b, c, d, e, f, g, h])
 }
 
-/// The two words of eight bytes, one behind the other.
+/// Returns the two consecutive words of eight bytes.
 pub fn pair_of(bytes: &[u8]) -> (u32, u32)
     requires { length bytes.now ≡ 8 }
     ensures { word_bytes result.0 ++ word_bytes result.1 ≡ bytes.now }
@@ -201,7 +205,7 @@ fn datum<const N: usize>(bytes: &[u8; N]) -> Datum
     Datum::try_from(bytes.as_slice()).unwrap()
 }
 
-/// The byte of a word at a place.
+/// Returns the byte of a word at `place`, 0 to 3.
 pub fn byte_in(word: u32, place: u8) -> u8
     requires { place < 4 }
     ensures { Some result ≡ slice_get (word_bytes word) place }

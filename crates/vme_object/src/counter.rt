@@ -1,18 +1,18 @@
 use crate::object::Object;
 
-/// A number that commands count up. After 2^64 - 1 it is 0 again.
+/// A number that commands increment. After 2^64 - 1 it is 0 again.
 #[derive(Drop)]
 pub struct Counter {
-    /// The number of this moment.
+    /// The current number.
     pub number: u64,
 }
 
-/// What a counter is told.
+/// A command to a counter.
 #[derive(Clone, Copy, Debug, PartialEq, Eq)]
 pub enum CounterCmd {
-    /// Count one up, and answer the number before it.
+    /// Increments the number. The reply is the number before.
     Bump,
-    /// Answer the number.
+    /// Leaves the number unchanged. The reply is the number.
     Show,
 }
 

@@ -8,11 +8,11 @@ use std::marker::Model;
 use std::sync::Arc;
 use std::sync::atomic::{AtomicBool, Ordering};
 
-/// How often a command looks for the release before it goes on without one.
+/// The number of times that a command checks for the release before it continues without one.
 const LOOKS: u32 = 10_000_000;
 
-/// A counter for tests of waiting: each command tells that it has begun, and then looks for a
-/// release, for a while. Contracts see it as the counter; what the two signs do is tested alone.
+/// A counter for tests of waiting. Each command sets `entered` and then waits for `release`, for a
+/// limited time. Contracts see it as the counter; only tests show the effect of the two flags.
 #[derive(Drop)]
 pub struct Held {
     counter: Counter,
@@ -29,7 +29,7 @@ impl Model for Held {
 }
 
 impl Held {
-    /// A counter at 0, with the sign that a command sets and the sign that it looks for.
+    /// Returns a counter at 0, with the flag that a command sets and the flag that it waits for.
     pub fn new(entered: Arc<AtomicBool, Global>, release: Arc<AtomicBool, Global>) -> Held
         ensures { result.number ≡ 0 }
     {
@@ -40,7 +40,7 @@ impl Held {
         }
     }
 
-    /// The number of this moment.
+    /// Returns the current number.
     pub fn number(&self) -> u64
         ensures { result ≡ self.now.number }
     {

@@ -1,10 +1,10 @@
-/// One event of a history: who gave a command, the command, and the reply. No program makes one:
-/// the views of shared objects are lists of them.
+/// An entry of a history: a command, its caller and its reply. No program makes an entry: contracts
+/// use lists of entries as the models of shared objects.
 pub struct Entry<C, R> {
-    /// The number of the one who gave the command.
+    /// The number of the caller.
     pub who: usize,
     /// The command.
     pub cmd: C,
-    /// The reply to it.
+    /// The reply to the command.
     pub reply: R,
 }

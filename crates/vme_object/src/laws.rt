@@ -4,8 +4,8 @@ ghost use Rattle.vme_object.specs.History.{replay, IsLegal, own};
 
 use crate::object::Object;
 
-/// Histories of an object compose: a second one goes on from where the first ends, and what begins
-/// a legal history is legal.
+/// States that histories of an object compose: a second history continues where the first ends, and
+/// a prefix of a legal history is legal.
 pub fn histories_compose<O: Object>()
     ensures replayed { (s : O) (a b : List (Entry O.Cmd O.Reply)) →
         replay O.step s (a ++ b) ≡ replay O.step (replay O.step s a) b }
@@ -15,8 +15,8 @@ pub fn histories_compose<O: Object>()
         IsLegal O.step s (a ++ b) → IsLegal O.step s a }
 {}
 
-/// The entries of one in two histories, one after the other, are those in the first and then those
-/// in the second; they are never more than all.
+/// States that the entries of one caller in two consecutive histories are those in the first,
+/// followed by those in the second. A caller has at most as many entries as the history.
 pub fn entries_of_one<O: Object>()
     ensures both { (who : ℕ) (a b : List (Entry O.Cmd O.Reply)) →
         own who (a ++ b) ≡ own who a ++ own who b }
@@ -24,8 +24,8 @@ pub fn entries_of_one<O: Object>()
         length (own who h) ≤ length h }
 {}
 
-/// A history is legal exactly where each of its replies is the step's at the replay of what stands
-/// before it.
+/// States that a history is legal exactly where each reply is that of the step at the replay of the
+/// entries before it.
 pub fn replies_are_the_steps<O: Object>()
     ensures { (s : O) (h : List (Entry O.Cmd O.Reply)) → IsLegal O.step s h ↔
         ((a b : List (Entry O.Cmd O.Reply)) (e : Entry O.Cmd O.Reply) → h ≡ a ++ e ∷ b →

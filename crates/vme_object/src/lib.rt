@@ -1,6 +1,6 @@
-//! Things that take one command at a time, and histories of such commands: the state after a
-//! history, whether each of its replies is the step's, and the part of one who made it. A counter
-//! is the smallest such thing.
+//! Objects that take one command at a time, and histories of their commands: the state after a
+//! history, whether each reply is that of the step, and the entries of one caller. [`Counter`] is
+//! the smallest object.
 #![tactic(auto)]
 
 mod count;

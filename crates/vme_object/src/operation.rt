@@ -2,17 +2,19 @@ ghost use Rattle.std.specs.Prelude.{◌≡◌};
 
 use crate::object::Object;
 
-/// What asks an object for the step of a command, which need not be laid out as one.
+/// An operation on an object: it performs one command, which need not exist as a value. `command`
+/// is that command.
 pub trait Operation<O: Object> {
     ghost command: { Self → O.Cmd };
 
-    /// Has the object take the command, as its step says.
+    /// Performs the command on the object. The new state and the reply are those of the object's
+    /// `step`.
     fn perform(&self, object: &mut O) -> O::Reply
         ensures state { object.new ≡ (O.step object.old (command self.now)).0 }
         ensures reply { result ≡ (O.step object.old (command self.now)).1 };
 }
 
-/// A command that is laid out.
+/// The operation of a command that exists as a value.
 #[derive(Drop)]
 pub struct CommandRef<'a, C> {
     /// The command.

@@ -1,4 +1,4 @@
--- The states that the arbiter comes to are orderly.
+-- Every reachable state of the arbiter is orderly.
 use Rattle.std.proofs.Common.{◌≡◌, ℕ, ◌-◌, true, false, List, [], ◌∷◌, Option, Some, None, ap, sym, ◌∙◌, refl, arith, eqb, inl, inr}
 use Rattle.std.specs.Prelude.{All}
 use Rattle.std.proofs.lemmas.Bool.{cases_Bool, and_parts, not-true, eqb-false, ne_eqb, or_from, lt-ltb, ltb-true}
@@ -17,13 +17,14 @@ use Rattle.vme_arbiter.specs.Orderly.{IsLawfulRequest, IsOrderly}
 use Rattle.vme_arbiter.proofs.Grants.{granted-pends, none-granted}
 use Rattle.vme_arbiter.proofs.Pending.{has_slot-with, has_slot-without_same, All-with, by_slot-with, by_slot-without}
 
--- what it is that a slot can ask on a level
+-- the parts of whether a slot can request the bus on a level
 pub record CanAsk (bus : Arbitration) (slot level : ℕ) : Type 0 where
   pub slot_ok : is_slot slot ≡ true
   pub level_ok : is_level level ≡ true
   pub not_holds : holds bus slot ≡ false
   pub not_pends : pends bus slot ≡ false
 
+-- a slot that can request the bus has each part of it
 pub can_ask-facts : (bus : Arbitration) (slot level : ℕ) → can_ask bus slot level ≡ true → CanAsk bus slot level
 can_ask-facts bus slot level can =
     let last = and_parts _ _ can in
@@ -31,7 +32,7 @@ can_ask-facts bus slot level can =
     let second = and_parts _ _ third.0 in
     record { slot_ok = second.0; level_ok = second.1; not_holds = not-true _ third.1; not_pends = not-true _ last.1 }
 
--- levels of requests in range
+-- the levels of lawful requests are in range
 pub levels_ok : (pending : List BusRequest) → All IsLawfulRequest pending → All (λ r. is_level r.level ≡ true) pending
 levels_ok pending requests = All-weaker IsLawfulRequest (λ r. is_level r.level ≡ true) (λ r lawful. lawful.1) pending requests
 
@@ -48,7 +49,7 @@ first-in_range Rotating level level_ok =
 first-priority : (kind : ArbiterKind) (level : ℕ) → kind ≡ Priority → first_after kind level ≡ 3
 first-priority kind level is = ap (λ k. first_after k level) is
 
--- a new request is taken up in order
+-- a new request leaves an orderly state
 taken-orderly : (holder : Option ℕ) (bus : Arbitration) (slot level : ℕ) → bus.holder ≡ holder → IsOrderly bus → CanAsk bus slot level
     → IsOrderly (lawful_ask holder bus (bus_request level slot)).0
 taken-orderly None bus slot level is orderly can =
@@ -73,7 +74,7 @@ taken-orderly (Some h) bus slot level is orderly can =
       free = λ nobody. cc;
     }
 
--- the bus is handed on in order
+-- a bus that is given back leaves an orderly state
 handed-orderly : (bus : Arbitration) (next : Option BusRequest) → next_of bus ≡ next → IsOrderly bus
     → IsOrderly (bus_after_release next bus)
 handed-orderly bus None is_next orderly =
@@ -97,7 +98,7 @@ handed-orderly bus (Some next) is_next orderly =
       free = λ nobody. cc;
     }
 
--- a request taken up and a bus handed on are of the same kind
+-- a new request and a bus that is given back keep the kind
 taken-kind : (holder : Option ℕ) (bus : Arbitration) (new : BusRequest) → (lawful_ask holder bus new).0.kind ≡ bus.kind
 taken-kind None bus new = refl
 taken-kind (Some h) bus new = refl
@@ -120,12 +121,12 @@ orderly-step bus (Done slot) orderly =
       | inr not_held ↦ rw not_held orderly
     ]
 
--- and so does each history
+-- each history leaves an orderly state
 pub orderly-replay : (bus : Arbitration) (h : List (Entry ArbCmd ArbReply)) → IsOrderly bus → IsOrderly (replay turn_step bus h)
 orderly-replay bus [] orderly = orderly
 orderly-replay bus (e ∷ h) orderly = orderly-replay (turn_step bus e.cmd).0 h (orderly-step bus e.cmd orderly)
 
--- an arbiter begins with an orderly state
+-- an arbiter begins in an orderly state
 pub orderly-opening : (kind : ArbiterKind) → IsOrderly (opening_bus kind)
 orderly-opening kind = record {
   first = refl;

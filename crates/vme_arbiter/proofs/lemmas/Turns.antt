@@ -1,4 +1,4 @@
--- Masters that go by the replies are never denied.
+-- Masters that follow the replies are never denied.
 use Rattle.std.proofs.Common.{◌≡◌, ◌≢◌, ℕ, ◌<◌, Bool, true, false, ◌||◌, List, [], ◌∷◌, Option, Some, None, ap, subst, sym, ◌∙◌, refl, cond, eqb, inl, inr, ◌⊎◌}
 use Rattle.std.specs.Prelude.{IsTrue, All}
 use Rattle.std.specs.Option.{option_map_or}
@@ -27,11 +27,11 @@ held_by-some : (holder : Option ℕ) (slot : ℕ) → is_held_by holder slot ≡
 held_by-some None slot held = cc
 held_by-some (Some h) slot held = ap (λ (s : ℕ). Some s) (eqb-true h slot held)
 
--- one that holds is the holder
+-- a slot that holds the bus is the holder
 pub holds-holder : (bus : Arbitration) (slot : ℕ) → holds bus slot ≡ true → bus.holder ≡ Some slot
 holds-holder bus slot held = held_by-some bus.holder slot held
 
--- a command that may be given names the slot
+-- a command that the master of a slot may give has that slot
 may_give-slot : (slot : ℕ) (last : Option ArbReply) (cmd : ArbCmd) → may_give slot last cmd ≡ true → slot_of cmd ≡ slot
 may_give-slot slot None (Ask s level) may = eqb-true s slot (and_parts _ _ may).0
 may_give-slot slot (Some Freed) (Ask s level) may = eqb-true s slot (and_parts _ _ may).0
@@ -39,7 +39,7 @@ may_give-slot slot (Some Waiting) (Look s) may = eqb-true s slot may
 may_give-slot slot (Some Granted) (Done s) may = eqb-true s slot may
 may_give-slot slot last cmd may = cc
 
--- a slot that stands nowhere and asks holds or pends after that
+-- a slot that neither holds nor waits holds or waits after its request, as the reply states
 taken-fits : (holder : Option ℕ) (bus : Arbitration) (slot level : ℕ)
     → StandsAsReplied (lawful_ask holder bus (bus_request level slot)).0 slot (Some (lawful_ask holder bus (bus_request level slot)).1)
 taken-fits None bus slot level = eq-eqb slot slot refl
@@ -53,7 +53,7 @@ ask-fits bus slot level slot_ok level_ok not_holds not_pends =
     and_from _ _ (and_from _ _ (and_from _ _ slot_ok level_ok) (not_from_false _ not_holds)) (not_from_false _ not_pends) in
     rw can (taken-fits bus.holder bus slot level)
 
--- a slot that does not pend stands nowhere when the bus is handed on
+-- a slot that does not wait neither holds nor waits after it gives the bus back
 handed-nowhere : (bus : Arbitration) (slot : ℕ) (next : Option BusRequest) → next_of bus ≡ next → has_slot slot bus.pending ≡ false
     → StandsAsReplied (bus_after_release next bus) slot (Some Freed)
 handed-nowhere bus slot None is_next none = (refl, none)
@@ -62,7 +62,7 @@ handed-nowhere bus slot (Some next) is_next none =
     λ same. false≢true (sym none ∙ ap (λ s. has_slot s bus.pending) (sym same) ∙ granted-has_slot (level_order bus.first) bus.pending next is_next) in
     (ne_eqb next.slot slot other, has_slot-without_other slot next.slot bus.pending (λ same. other (sym same)) ∙ none)
 
--- a slot that held nothing, and is granted now, fits what was told it
+-- a slot that is granted the bus while it waits matches its last reply
 promoted : (pending : Bool) (last : Option ArbReply) → pending ≡ true → IsAsReplied false pending last → (left : Bool) → IsAsReplied true left last
 promoted pending None one fits left = absurd (false≢true (sym fits.1 ∙ one))
 promoted pending (Some Freed) one fits left = absurd (false≢true (sym fits.1 ∙ one))
@@ -70,7 +70,7 @@ promoted pending (Some Waiting) one fits left = inl refl
 promoted pending (Some Granted) one fits left = refl
 promoted pending (Some Denied) one fits left = fits
 
--- another slot than the holder fits what was told it when the bus is handed on
+-- a slot other than the holder matches its last reply after the bus is given back
 handed-other : (bus : Arbitration) (slot : ℕ) (last : Option ArbReply) (next : Option BusRequest) → next_of bus ≡ next
     → IsAsReplied false (has_slot slot bus.pending) last → StandsAsReplied (bus_after_release next bus) slot last
 handed-other bus slot last None is_next fits = fits
@@ -87,7 +87,7 @@ handed-other bus slot last (Some next) is_next fits =
           rw (not_held, stays) fits
     ]
 
--- another slot fits what was told it when a request is taken up
+-- a slot matches its last reply after a request of another slot
 taken-other : (holder : Option ℕ) (bus : Arbitration) (asks level slot : ℕ) (last : Option ArbReply) → bus.holder ≡ holder → asks ≢ slot
     → StandsAsReplied bus slot last → StandsAsReplied (lawful_ask holder bus (bus_request level asks)).0 slot last
 taken-other None bus asks level slot last is other fits =
@@ -99,19 +99,19 @@ taken-other (Some h) bus asks level slot last is other fits =
     has_slot-with slot (bus_request level asks) bus.pending ∙ ap (λ b. b || has_slot slot bus.pending) not_slot in
     rw stays fits
 
--- of two slots one at most holds
+-- of two slots at most one holds the bus
 other-not_held : (holder : Option ℕ) (a b : ℕ) → is_held_by holder a ≡ true → a ≢ b → is_held_by holder b ≡ false
 other-not_held None a b held other = refl
 other-not_held (Some h) a b held other = ne_eqb h b (λ same. other (sym (eqb-true h a held) ∙ same))
 
--- one that holds does not pend
+-- the holder does not wait
 holder-not_pends : (holder : Option ℕ) (bus : Arbitration) (slot : ℕ) → bus.holder ≡ holder → IsLawfulHolder bus
     → is_held_by holder slot ≡ true → has_slot slot bus.pending ≡ false
 holder-not_pends None bus slot is lawful held = cc
 holder-not_pends (Some h) bus slot is lawful held =
     ap (λ s. has_slot s bus.pending) (sym (eqb-true h slot held)) ∙ (rw is at lawful).1
 
--- a slot that holds or pends and looks is told so
+-- a check of a slot that holds or waits has the reply that matches
 look-fits : (bus : Arbitration) (slot : ℕ) → (holds bus slot ≡ true) ⊎ (pends bus slot ≡ true)
     → StandsAsReplied (turn_step bus (Look slot)).0 slot (Some (turn_step bus (Look slot)).1)
 look-fits bus slot fits =
@@ -124,13 +124,13 @@ look-fits bus slot fits =
           ]
     ]
 
--- a slot that holds and is done stands nowhere after that
+-- a slot that gives the bus back neither holds nor waits afterwards
 done-fits : (bus : Arbitration) (slot : ℕ) → IsOrderly bus → holds bus slot ≡ true
     → StandsAsReplied (turn_step bus (Done slot)).0 slot (Some (turn_step bus (Done slot)).1)
 done-fits bus slot orderly held =
     rw held (handed-nowhere bus slot (next_of bus) refl (holder-not_pends bus.holder bus slot refl orderly.holder held))
 
--- a command that a slot may give leaves it where the reply says
+-- a command that a slot may give leaves it as the reply states
 pub own-turn : (bus : Arbitration) (slot : ℕ) (last : Option ArbReply) (cmd : ArbCmd) → IsOrderly bus → is_slot slot ≡ true
     → StandsAsReplied bus slot last → may_give slot last cmd ≡ true → StandsAsReplied (turn_step bus cmd).0 slot (Some (turn_step bus cmd).1)
 own-turn bus slot None (Ask s level) orderly slot_ok fits may =
@@ -143,7 +143,7 @@ own-turn bus slot (Some Waiting) (Look s) orderly slot_ok fits may = rw (eqb-tru
 own-turn bus slot (Some Granted) (Done s) orderly slot_ok fits may = rw (eqb-true s slot may) (done-fits bus slot orderly fits)
 own-turn bus slot last cmd orderly slot_ok fits may = cc
 
--- a command of another slot leaves it where the last reply said
+-- a command of another slot leaves a slot as its last reply states
 pub other-turn : (bus : Arbitration) (slot : ℕ) (last : Option ArbReply) (cmd : ArbCmd) → slot_of cmd ≢ slot → StandsAsReplied bus slot last
     → StandsAsReplied (turn_step bus cmd).0 slot last
 other-turn bus slot last (Ask asks level) other fits =
@@ -160,27 +160,27 @@ other-turn bus slot last (Done done) other fits =
       | inr not_held ↦ rw not_held fits
     ]
 
--- the last reply to each who, after an entry
+-- the last reply to each caller, after an entry
 reported_last : (ℕ → Option ArbReply) → Entry ArbCmd ArbReply → ℕ → Option ArbReply
 reported_last last e who = cond (eqb e.who who) (Some e.reply) (last who)
 
--- the first k who are masters of slots of their own
+-- the callers 0 to k - 1 are masters of slots of their own
 record AreMasters (k : ℕ) (slots : ℕ → ℕ) : Type 0 where
   in_range : (who : ℕ) → who < k → IsTrue (is_slot (slots who))
   apart : (v w : ℕ) → v < k → w < k → slots v ≡ slots w → v ≡ w
 
--- each of them stands where the last reply says, and goes by the replies from there on
+-- each master matches its last reply and follows the replies from there
 record AreFit (k : ℕ) (slots : ℕ → ℕ) (bus : Arbitration) (last : ℕ → Option ArbReply) (h : List (Entry ArbCmd ArbReply)) : Type 0 where
   fits : (who : ℕ) → who < k → StandsAsReplied bus (slots who) (last who)
   goes : (who : ℕ) → who < k → GoesByReplies (slots who) (last who) (own who h)
 
--- what one goes by before an entry of its own, and before one of another
+-- a master follows the replies after an entry of its own, and after an entry of another master
 goes_own : (slot : ℕ) (last : Option ArbReply) (e : Entry ArbCmd ArbReply) (h : List (Entry ArbCmd ArbReply))
     → GoesByReplies slot last (own e.who (e ∷ h))
     → (may_give slot last e.cmd ≡ true) × GoesByReplies slot (Some e.reply) (own e.who h)
 goes_own slot last e h goes = let same : eqb e.who e.who ≡ true = eq-eqb e.who e.who refl in rw same at goes
 
--- an entry that legally follows leaves each where its last reply says
+-- each master matches its last reply after the next legal entry
 fit_after : (k : ℕ) (slots : ℕ → ℕ) (bus : Arbitration) (last : ℕ → Option ArbReply) (e : Entry ArbCmd ArbReply)
     (h : List (Entry ArbCmd ArbReply)) → AreMasters k slots → IsOrderly bus → e.who < k → e.reply ≡ (turn_step bus e.cmd).1
     → AreFit k slots bus last (e ∷ h)
@@ -210,7 +210,7 @@ fit_after k slots bus last e h masters orderly within reply fit =
       },
     )
 
--- so no reply is a denial
+-- no reply of a legal history is Denied if the masters follow the replies
 none_denied : (k : ℕ) (slots : ℕ → ℕ) (bus : Arbitration) (last : ℕ → Option ArbReply) (h : List (Entry ArbCmd ArbReply))
     → AreMasters k slots → IsOrderly bus → All (λ e. e.who < k) h → IsLegal turn_step bus h → AreFit k slots bus last h
     → All (λ e. e.reply ≢ Denied) h
@@ -223,7 +223,7 @@ none_denied k slots bus last (e ∷ h) masters orderly known legal fit =
     (none_denied k slots (turn_step bus e.cmd).0 (reported_last last e) h masters (orderly-step bus e.cmd orderly)
     (All-tail (λ e. e.who < k) e h known) legal.1 after.1)
 
--- from the opening state too
+-- no reply of a legal history from the start is Denied if the masters follow the replies
 pub turns_granted : (kind : ArbiterKind) (k : ℕ) (slots : ℕ → ℕ) (h : List (Entry ArbCmd ArbReply))
     → IsLegal turn_step (opening_bus kind) h → TakeTurns k slots h → All (λ e. e.reply ≢ Denied) h
 turns_granted kind k slots h legal turns =

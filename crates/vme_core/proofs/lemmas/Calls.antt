@@ -1,4 +1,4 @@
--- A call of the machine is a run of one move.
+-- A call of the machine is a run of one transition.
 use Rattle.std.proofs.Common.{◌≡◌, ℕ, ◌+◌, ◌<◌, true, false, List, [], ◌∷◌, length, slice_index_or, set, Some, refl, ap, sym, subst, ◌∙◌, eqb, arith, inl, inr}
 use Rattle.std.specs.Prelude.{slice_get}
 use Rattle.std.proofs.lemmas.Bool.{cases_eq, eq-eqb, ne_eqb}
@@ -22,7 +22,7 @@ use Rattle.vme_core.specs.Calls.{call_of, counted_step, board_after, bus_after, 
 use Rattle.vme_core.specs.Machines.{IsThere}
 use Rattle.vme_core.proofs.lemmas.CountedStates.{went_nil}
 
--- a command that is counted is a history of one entry
+-- a counted command is a history of one entry
 pub counted_went : {S C R : Type 0} (step : S → C → S × R) (t : CountedState S) (who : ℕ) (cmd : C)
     → IsObjectRun step (entry who cmd (step t.object cmd).1 ∷ []) t (counted_step step t who cmd).0
 counted_went step t who cmd = record {
@@ -40,7 +40,7 @@ counted_went step t who cmd = record {
   ];
 }
 
--- a command to a board that is there
+-- a command to a board that exists is a run of one transition
 did_board : (m : Machine) (who x : ℕ) (cmd : BoardCmd) (b : CountedState Board) → slice_get m.boards x ≡ Some b
     → IsRun (move who (asked.Board x cmd) (board_after m who x (command_given cmd) (Some b)).1 ∷ []) m
     (board_after m who x (command_given cmd) (Some b)).0
@@ -58,7 +58,7 @@ did_board m who x cmd b there =
       bus = went_nil turn_step m.bus;
     }
 
--- a command to the arbiter
+-- a command to the arbiter is a run of one transition
 did_bus : (m : Machine) (who : ℕ) (cmd : ArbCmd)
     → IsRun (move who (asked.Bus cmd) (bus_after m who cmd).1 ∷ []) m (bus_after m who cmd).0
 did_bus m who cmd = record {
@@ -67,7 +67,7 @@ did_bus m who cmd = record {
   bus = counted_went turn_step m.bus who cmd;
 }
 
--- a call for an event is a run of one move
+-- a call of an event is a run of one transition
 pub did_call : (m : Machine) (who : ℕ) (event : Event) → IsThere m (target_of event)
     → IsRun (move who event (machine_step m who (call_of event)).1 ∷ []) m (machine_step m who (call_of event)).0
 did_call m who (asked.Board x cmd) there =
@@ -77,7 +77,7 @@ did_call m who (asked.Board x cmd) there =
     ]
 did_call m who (asked.Bus cmd) there = did_bus m who cmd
 
--- a board that took a command is put back in its place
+-- a board that took a command is stored in its place again
 pub board_applied : (m self : Machine) (event : Event) (who x : ℕ) (cmd : BoardCmd) (b new : CountedState Board) (reply : Reply) → m ≡ self
     → event ≡ asked.Board x cmd → IsThere self (target_of event) → b ≡ slice_index_or m.boards x b
     → (new, reply) ≡ counted_step board_step b who cmd

@@ -1,4 +1,4 @@
--- Going through a history composes.
+-- Runs of one object compose.
 use Rattle.std.proofs.Common.{ℕ, ◌+◌, ◌<◌, List, [], ◌++◌, length, refl, arith, ap, sym, subst, ◌∙◌, length-append}
 use Rattle.std.proofs.lemmas.List.{length-replicate, get_or-replicate}
 use Rattle.vme_object.specs.declared.history.Entry.{Entry}
@@ -6,11 +6,11 @@ use Rattle.vme_object.specs.History.{IsLegal, replay, own}
 use Rattle.vme_object.proofs.lemmas.Histories.{replay-append, legal-append, own-append}
 use Rattle.vme_core.specs.CountedStates.{CountedState, IsObjectRun, IsCountedReplay, fresh_count}
 
--- nothing was done
+-- an object that takes no command went through the empty history
 pub went_nil : {S C R : Type 0} (step : S → C → S × R) (t : CountedState S) → IsObjectRun step [] t t
 went_nil step t = record { legal = tt; object = refl; steps = omega arith; process_count = refl; made = λ w w<. omega arith }
 
--- one history was gone through, and then another
+-- consecutive histories of an object are one history
 pub went_trans :
     {S C R : Type 0} (step : S → C → S × R) (g h : List (Entry C R)) (t u v : CountedState S) → IsObjectRun step g t u → IsObjectRun step h u v
     → IsObjectRun step (g ++ h) t v
@@ -25,7 +25,7 @@ went_trans step g h t u v first then = record {
       rw (own-append w g h) (rw (length-append (own w g) (own w h)) (omega arith));
 }
 
--- what went through a history before any other step tells that history
+-- an object that went through a history from its first step is the replay of that history
 pub run_replays :
     {S C R : Type 0} (step : S → C → S × R) (start : S) (h : List (Entry C R)) (k : ℕ) (t : CountedState S) → IsObjectRun step h (fresh_count k start) t
     → IsCountedReplay step start h k t

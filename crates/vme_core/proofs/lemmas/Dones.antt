@@ -17,7 +17,7 @@ use Rattle.vme_core.specs.Machines.{HasApplied, HasRun, steps_of, opening}
 use Rattle.vme_core.specs.declared.fault.RunStop.TheVariants as stops
 use Rattle.vme_core.proofs.lemmas.CountedStates.{went_nil, went_trans, run_replays}
 
--- nothing was done
+-- the empty run leaves the machine unchanged
 pub did_nil : (m : Machine) → IsRun [] m m
 did_nil m = record {
   fitting = All-nil (λ m. IsReplyTo m.event m.reply);
@@ -25,7 +25,7 @@ did_nil m = record {
   bus = went_nil turn_step m.bus;
 }
 
--- one run was done, and then another
+-- consecutive runs are one run
 pub did_trans : (r s : List Transition) (a b c : Machine) → IsRun r a b → IsRun s b c → IsRun (r ++ s) a c
 did_trans r s a b c first then = record {
   fitting = All-append (λ m. IsReplyTo m.event m.reply) r s first.fitting then.fitting;
@@ -35,11 +35,11 @@ did_trans r s a b c first then = record {
   bus = rw (filter_map-append (λ m. bus_entry m.who m.event m.reply) r s) (went_trans turn_step (bus_part r) (bus_part s) a.bus b.bus c.bus first.bus then.bus);
 }
 
--- no event was done
+-- no event was performed yet
 pub done_nothing : (m : Machine) (old : List EventReply) → HasApplied [] m m old old
 done_nothing m old = record { run = []; asked = refl; reported = sym (append-nil old); did = did_nil m }
 
--- one event more was done
+-- one more event was performed
 pub done_more :
     (events : List (ℕ × Event)) (i : ℕ) (a b c : Machine) (old new : List EventReply) (who : ℕ) (event : Event) (reply : EventReply)
     → i < length events → slice_index_or events i (who, event) ≡ (who, event) → HasApplied (take i events) a b old new
@@ -56,13 +56,13 @@ done_more events i a b c old new who event reply i< here done one = record {
   did = did_trans done.run (move who event reply ∷ []) a b c done.did one;
 }
 
--- all events were done
+-- all events were performed
 pub run_all :
     (events : List (ℕ × Event)) (n : ℕ) (a b : Machine) (old new : List EventReply) (all : Unit {0}) → n ≡ length events
     → HasApplied (take n events) a b old new → HasRun events a b old new (Ok all)
 run_all events n a b old new all end done = record { done = n; has = done; ends = end }
 
--- the event after those that were done has an object that can count no further step
+-- the next event has an object that can count no further step
 pub run_spent :
     (events : List (ℕ × Event)) (n : ℕ) (a b : Machine) (old new : List EventReply) (who : ℕ) (event : Event) → n < length events
     → slice_index_or events n (who, event) ≡ (who, event) → steps_of b (target_of event) ≡ Some (2 ^ 64 - 1)
@@ -73,12 +73,12 @@ run_spent events n a b old new who event n< here spent done = record {
   ends = rw (slice_get-get_or events n (who, event) n<) (rw here spent);
 }
 
--- no event was done
+-- no event was performed, and the reservation failed
 pub run_none :
     (events : List (ℕ × Event)) (m : Machine) (old new : List EventReply) → new ≡ old → HasRun events m m old new (Err stops.OutOfMemory)
 run_none events m old new same = record { done = 0; has = rw same (done_nothing m old); ends = refl }
 
--- each board's part of a run from the opening
+-- each board is the replay of its own part of a run from an opening state
 pub opened_boards :
     (memories : List Board) (bus : Arbitration) (k : ℕ) (run : List Transition) (after : Machine) → IsRun run (opening memories bus k) after
     → AllAt (λ x memory b. IsCountedReplay board_step memory (board_part x run) k b) memories after.boards

@@ -1,4 +1,4 @@
--- What a slave senses of a datum, wherever it has counted to, is with the code as long as the datum.
+-- What a slave senses of a datum, at any counter, has with the code the length of the datum.
 use Rattle.std.proofs.Common.{◌≡◌, ℕ, ◌%◌, ◌<◌, zero, Bool, true, false, not, Some, ap, sym, ◌∙◌, arith, refl, inl, inr}
 use Rattle.std.specs.Option.{option_and_then}
 use Rattle.std.specs.Prelude.{◌==◌, nat_le}
@@ -22,7 +22,7 @@ use Rattle.vme_cycle.proofs.lemmas.Transfers.{own_is}
 abbrev counted_strobes : Location → Bool → Strobes
 counted_strobes own high = record (row_of own).strobes { a01 = high }
 
--- where LWORD* is high, A01 moves the bytes and does not change their number
+-- where LWORD* is high, A01 changes the place of the bytes but not their number
 moved_len : (own : Location) (high : Bool) → (row_of own).strobes.lword ≡ true → row_len false (counted_strobes own high) ≡ Some (row_of own).len
 unfolding location_sensed
 moved_len Byte0 true h = refl
@@ -42,7 +42,7 @@ moved_len Bytes02 high h = absurd cc
 moved_len Bytes13 high h = absurd cc
 moved_len Bytes12 high h = absurd cc
 
--- four bytes are at A01 low, and at A01 high two bytes are in the middle
+-- a location of four bytes has A01 low; with A01 high its strobes select the two middle bytes
 quad_len :
     (own l : Location) (r : ℕ) (high : Bool) → (row_of own).len ≡ 4 → nat_le 2 r ≡ high → location_sensed (counted_strobes own high) ≡ Some l
     → (row_of l).first ≡ r → (row_of l).len ≡ 4
@@ -60,7 +60,7 @@ quad_len Bytes02 l r high four is sensed first = absurd cc
 quad_len Bytes13 l r high four is sensed first = absurd cc
 quad_len Bytes12 l r high four is sensed first = absurd cc
 
--- what is sensed in a block is as long as the datum's own location
+-- what a slave senses in a block has the length of the datum's own location
 block_len :
     (own l : Location) (r : ℕ) → (row_of own).strobes.lword ≡ not ((row_of own).len == 4)
     → location_sensed (counted_strobes own (nat_le 2 r)) ≡ Some l → (row_of l).first ≡ r → (row_of l).len ≡ (row_of own).len
@@ -76,7 +76,7 @@ block_len own l r lword sensed first =
           cc
     ]
 
--- wherever a slave has counted to, what it senses there at its own place is as long as the datum
+-- what a slave senses at its own place, at any counter, has the length of the datum
 pub sensed_len :
     (t : Transfer) (i at : ℕ) (l : Location) → IsLawful t.am t.request → i < count_of t.request → sensed_at (signals_of t i) at ≡ Some l
     → (row_of l).first ≡ at % 4 → chosen_len t.am.wide l ≡ Some (datum_len t.request)

@@ -3,13 +3,13 @@ use Rattle.std.proofs.Common.{◌≡◌, ℕ, ◌+◌, ◌-◌, ◌/◌, ◌%◌
 use Rattle.std.proofs.Math.Nat.{pow-le-pow_right}
 use Rattle.vme_cycle.specs.Functions.{bytes_onto}
 
--- a number of so many digits is below that power of the base
+-- a number of i digits is below each higher power of the base
 pub below_power : (base n i most : ℕ) → 0 < base → n < base ^ i → i ≤ most → n < base ^ most
 below_power base n i most some small few =
     let high : base ^ i ≤ base ^ most = pow-le-pow_right {n = base} some {i = i} {j = most} few in
     omega (arith, high, small)
 
--- a byte more is spelled
+-- one more byte of a number is spelled
 pub byte_more :
     (len place rest : ℕ) (bytes new all : List ℕ) → place < len → bytes_onto (len - place) rest bytes ≡ all → new ≡ (rest % 256) ∷ bytes
     → bytes_onto (len - (place + 1)) (rest / 256) new ≡ all

@@ -1,4 +1,4 @@
--- Numbers and their bytes are inverse, and sums are modulo the power of the base.
+-- Numbers and their bytes are inverse, and sums are modulo a power of 256.
 use Rattle.std.proofs.Common.{◌≡◌, ℕ, ◌+◌, ◌*◌, ◌/◌, ◌%◌, ◌^◌, ◌<◌, zero, suc, List, [], ◌∷◌, ◌++◌, length, append-nil, refl, ap, sym, ◌∙◌, arith}
 use Rattle.std.specs.List.{All, AllByRecursion}
 use Rattle.std.proofs.Math.Nat.{pow-suc, mul_comm, div-div-eq-div-mul}
@@ -6,17 +6,17 @@ use Rattle.std.proofs.Math.Arith.{mod-mul, digits_div, digits_lt}
 use Rattle.std.proofs.lemmas.List.Elements.{recursion_from_All, All-from_recursion}
 use Rattle.vme_cycle.specs.Functions.{number_from, number_of, bytes_onto, number_bytes, sum_of}
 
--- a power of the base is some number
+-- a power of 256 is positive
 power_some : (len : ℕ) → 0 < 256 ^ len
 power_some zero = omega arith
 power_some (suc len) = rw pow-suc (let less = power_some len in omega (arith, less))
 
--- one digit more in what stands before
+-- one more digit in the higher part
 digit_more :
     (before high low p : ℕ) → 256 * (before * p + high) + low ≡ before * (p * 256) + (high * 256 + low)
 digit_more before high low p = grind arith
 
--- the bytes of a number spell its last digits, after what stands before them
+-- the bytes of a number spell its last digits, after the digits before them
 number_onto :
     (len n before : ℕ) (rest : List ℕ) → number_from before (bytes_onto len n rest) ≡ number_from (before * 256 ^ len + n % 256 ^ len) rest
 number_onto zero n before rest = ap (λ k. number_from k rest) (omega arith)
@@ -27,7 +27,7 @@ number_onto (suc len) n before rest =
     ∙ ap (λ low. before * (256 ^ len * 256) + low) (sym (mod-mul n (power_some len) (omega arith)))
     ∙ ap (λ p. before * p + n % p) (sym (pow-suc 256 len)))
 
--- the number of a number's bytes is its rest by the power of the base
+-- the number of a number's bytes is the number modulo a power of 256
 pub number_of-number_bytes : (len n : ℕ) → number_of (number_bytes len n) ≡ n % 256 ^ len
 number_of-number_bytes len n = number_onto len n 0 [] ∙ omega arith
 
@@ -35,7 +35,7 @@ onto_len : (len n : ℕ) (rest : List ℕ) → length (bytes_onto len n rest) �
 onto_len zero n rest = omega arith
 onto_len (suc len) n rest = onto_len len (n / 256) ((n % 256) ∷ rest) ∙ omega arith
 
--- there are as many bytes as were asked for
+-- a number is spelled in len bytes
 pub length-number_bytes : (len n : ℕ) → length (number_bytes len n) ≡ len
 length-number_bytes len n = onto_len len n [] ∙ omega arith
 
@@ -46,7 +46,7 @@ onto_small : (len n : ℕ) (rest : List ℕ) → AllByRecursion IsByte rest → 
 onto_small zero n rest small = small
 onto_small (suc len) n rest small = onto_small len (n / 256) ((n % 256) ∷ rest) (omega arith, small)
 
--- and each is a byte
+-- each of the bytes that spell a number is below 256
 pub number_bytes-small : (len n : ℕ) → All (λ byte. byte < 256) (number_bytes len n)
 number_bytes-small len n = All-from_recursion IsByte (number_bytes len n) (onto_small len n [] tt)
 
@@ -58,7 +58,7 @@ first_byte (suc len) n rest =
     ∙ ap (λ k. (k % 256) ∷ bytes_onto len (n / 256) ((n % 256) ∷ rest))
     (div-div-eq-div-mul n 256 (256 ^ len) ∙ ap (λ p. n / p) (mul_comm 256 (256 ^ len) ∙ sym (pow-suc 256 len)))
 
--- what stands before some bytes is their number's higher part
+-- the digits before some bytes are the higher part of the number
 number_before : (bytes : List ℕ) (before : ℕ) → number_from before bytes ≡ before * 256 ^ length bytes + number_of bytes
 number_before [] before = omega arith
 number_before (byte ∷ bytes) before =
@@ -78,11 +78,11 @@ number_small (byte ∷ bytes) small =
     let same : 256 * 0 + byte ≡ byte = omega arith in
     rw (same, mul_comm (256 ^ length bytes) 256) less)
 
--- so many bytes spell a number below that power of the base
+-- bytes spell a number below a power of 256
 pub number_of-small : (bytes : List ℕ) → All (λ byte. byte < 256) bytes → number_of bytes < 256 ^ length bytes
 number_of-small bytes small = number_small bytes (recursion_from_All IsByte bytes small)
 
--- bytes are those of their number, whatever stands before it
+-- bytes are those of their number, after any digits
 bytes_back :
     (bytes : List ℕ) (before : ℕ) (rest : List ℕ) → AllByRecursion IsByte bytes → bytes_onto (length bytes) (number_from before bytes) rest ≡ bytes ++ rest
 bytes_back [] before rest small = refl
@@ -95,16 +95,16 @@ bytes_back (byte ∷ bytes) before rest small =
     ∙ ap (λ k. k ∷ bytes_onto (length bytes) n rest) digit
     ∙ ap (λ more. byte ∷ more) (bytes_back bytes (256 * before + byte) rest small.1)
 
--- the bytes of a bytes' number are these bytes
+-- the bytes of the number that bytes spell are these bytes
 pub number_bytes-number_of : (bytes : List ℕ) → All (λ byte. byte < 256) bytes → number_bytes (length bytes) (number_of bytes) ≡ bytes
 number_bytes-number_of bytes small = bytes_back bytes 0 [] (recursion_from_All IsByte bytes small) ∙ append-nil bytes
 
--- a sum is modulo the power of the base
+-- a sum is modulo a power of 256
 pub number_of-sum_of : (a b : List ℕ) → number_of (sum_of a b) ≡ (number_of a + number_of b) % 256 ^ length a
 unfolding sum_of
 number_of-sum_of a b = number_of-number_bytes (length a) (number_of a + number_of b)
 
--- and as long as the first number
+-- a sum is as long as the first number
 pub length-sum_of : (a b : List ℕ) → length (sum_of a b) ≡ length a
 unfolding sum_of
 length-sum_of a b = length-number_bytes (length a) (number_of a + number_of b)

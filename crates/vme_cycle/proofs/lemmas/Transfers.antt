@@ -17,7 +17,7 @@ use Rattle.vme_cycle.specs.Plans.{location_from, own_location, signals_of}
 use Rattle.vme_cycle.proofs.Lawful.{lawful}
 use Rattle.vme_cycle.proofs.Blocks.{datum_found, datum_placed, counts_on}
 
--- what a transfer comes from
+-- the facts of the request from which a transfer was made
 pub record ComesFrom (request : Request) (t : Transfer) : Type 0 where
   pub same : t.request ≡ request
   pub row : read_code (code_of request) ≡ Ok t.am
@@ -32,6 +32,7 @@ comes_by request t None (Ok code) none row h =
     let whole : record { am = code; request = request } ≡ t = cc in
     record { same = sym (ap (λ (u : Transfer). u.request) whole); row = row ∙ ap (λ (u : Transfer). Ok u.am) whole; none = none }
 
+-- a transfer has the row and the request that it was made from
 pub comes_from : (request : Request) (t : Transfer) → transfer_of request ≡ Ok t → ComesFrom request t
 unfolding transfer_of
 comes_from request t h = comes_by request t (first_refusal request) (read_code (code_of request)) refl refl h
@@ -40,7 +41,7 @@ comes_from request t h = comes_by request t (first_refusal request) (read_code (
 pub transfer_is_lawful : (request : Request) (t : Transfer) → transfer_of request ≡ Ok t → IsLawfulTransfer t
 transfer_is_lawful request t h = ap transfer_of (comes_from request t h).same ∙ h
 
--- the same of a request that is the same
+-- equal requests have equal transfers
 pub same_transfer :
     (request same : Request) (code : CodeRow) (t : Transfer) → transfer_of request ≡ Ok t → code ≡ t.am → same ≡ request
     → transfer_of same ≡ Ok (record { am = code; request = same })
@@ -49,29 +50,29 @@ same_transfer request same code t h row copy =
     ∙ ap (λ (r : CodeRow). Ok (record { am = r; request = t.request })) (sym row)
     ∙ ap (λ (r : Request). Ok (record { am = code; request = r })) ((comes_from request t h).same ∙ sym copy)
 
--- the row of its code
+-- the code of a lawful transfer has the row of the transfer
 pub row_of_lawful : (t : Transfer) → IsLawfulTransfer t → read_code (code_of t.request) ≡ Ok t.am
 row_of_lawful t h = (comes_from t.request t h).row
 
--- it has no refusal
+-- the request of a lawful transfer has no refusal
 pub none_of_lawful : (t : Transfer) → IsLawfulTransfer t → first_refusal t.request ≡ None
 none_of_lawful t h = (comes_from t.request t h).none
 
--- part by part
+-- the request of a lawful transfer has each part of being lawful
 pub lawful_parts : (t : Transfer) → IsLawfulTransfer t → IsLawful t.am t.request
 lawful_parts t h = let from = comes_from t.request t h in lawful t.am t.request from.row from.none
 
--- the location of a datum that is found
+-- the location that is found for a datum is its own location
 pub own_is : (t : Transfer) (i : ℕ) (l : Location) → location_for (address_of t.request i) (datum_len t.request) ≡ Some l → own_location t i ≡ l
 unfolding location_from
 own_is t i l found = ap (λ at. unwrap_or at Byte0) found
 
--- a slave that has counted to another address in the same place of the group of four senses the same
+-- a slave senses alike at two addresses with the same place in the group of four
 sensed_alike : (s : SignalLines) (at addr : ℕ) → at % 4 ≡ addr % 4 → sensed_at s at ≡ sensed_at s addr
 sensed_alike s at addr h =
     ap (λ r. location_sensed (if is_block s.am.kind then record s.strobes { a01 = nat_le 2 r } else s.strobes)) h
 
--- what a slave senses of a datum at its own place in the group of four is the datum's own location
+-- at the place of a datum, a slave senses the datum's own location
 pub own_sensed_at :
     (t : Transfer) (i at : ℕ) → IsLawful t.am t.request → i < count_of t.request → at % 4 ≡ address_of t.request i % 4
     → sensed_at (signals_of t i) at ≡ Some (own_location t i)
@@ -86,7 +87,7 @@ own_sensed_at t i at is less same =
     ∙ counts_on t.am t.request i first.0 own.0 (signals_of t i) is less first.1 own.1 refl (rw (← first_is, ← here) refl)
     ∙ ap Some (sym here)
 
--- that location has the place of the datum, and with the code its length
+-- the own location of a datum has its place and, with the code, its length
 pub own_row :
     (t : Transfer) (i : ℕ) → IsLawful t.am t.request → i < count_of t.request
     → ((row_of (own_location t i)).first ≡ address_of t.request i % 4) × (chosen_len t.am.wide (own_location t i) ≡ Some (datum_len t.request))

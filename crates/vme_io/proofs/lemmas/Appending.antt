@@ -1,34 +1,34 @@
--- The laws of appended bytes: what told bytes have grown by, one step after another.
+-- Laws of appended bytes: how a byte model grows, step by step.
 use Rattle.std.proofs.Common.{◌≡◌, ℕ, List, [], ◌++◌, take, drop, Option, None, Some, append_assoc, take-append-drop, sym, ap, ◌∙◌}
 use Rattle.std.proofs.lemmas.List.{append-nil}
 use Rattle.std.specs.Io.KnownBytes.{Keeps, Appends}
 use Rattle.vme_io.specs.Prefixes.{AppendsPrefix}
 
--- nothing was appended
+-- a byte model appends no bytes to itself
 pub Appends-none : (a : Option (List ℕ)) → Appends a a []
 Appends-none None = tt
 Appends-none (Some s) = sym (append-nil s)
 
--- bytes were appended, and then more
+-- if bytes were appended and then more, all of them were appended in order
 pub Appends-more : (a b c : Option (List ℕ)) (x y : List ℕ) → Appends a b x → Appends b c y → Appends a c (x ++ y)
 Appends-more None b c x y first next = tt
 Appends-more (Some s) None c x y first next = absurd first
 Appends-more (Some s) (Some t) None x y first next = absurd next
 Appends-more (Some s) (Some t) (Some u) x y first next = next ∙ ap (λ t. t ++ y) first ∙ append_assoc s x y
 
--- bytes were appended, and then none
+-- if bytes were appended and then none, these bytes were appended
 pub Appends-kept : (a b c : Option (List ℕ)) (x : List ℕ) → Appends a b x → Keeps b c → Appends a c x
 Appends-kept None b c x first kept = tt
 Appends-kept (Some s) None c x first kept = absurd first
 Appends-kept (Some s) (Some t) None x first kept = absurd kept
 Appends-kept (Some s) (Some t) (Some u) x first kept = kept ∙ first
 
--- one front of some bytes was appended, and the front of their rest
+-- a prefix of some bytes followed by a prefix of the rest is a prefix of the bytes
 pub split_more : (bytes prefix rest : List ℕ) (n : ℕ) → bytes ≡ prefix ++ rest → bytes ≡ (prefix ++ take n rest) ++ drop n rest
 split_more bytes prefix rest n split =
     split ∙ ap (λ r. prefix ++ r) (sym (take-append-drop n rest)) ∙ sym (append_assoc prefix (take n rest) (drop n rest))
 
--- bytes were appended, and then a front of those that come next
+-- if bytes were appended and then a prefix of the next ones, a prefix of all of them was appended
 pub AppendsPrefix-more :
     (a b c : Option (List ℕ)) (prefix bytes rest all : List ℕ) → Appends a b prefix → AppendsPrefix b c bytes → (prefix ++ bytes) ++ rest ≡ all
     → AppendsPrefix a c all

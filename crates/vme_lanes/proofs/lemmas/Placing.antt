@@ -20,8 +20,10 @@ both Bytes13 (a ∷ b ∷ c ∷ []) h = (refl, refl)
 both Bytes12 (a ∷ b ∷ []) h = (refl, refl)
 both l bytes h = absurd (omega (arith, h))
 
+-- lanes with the bytes of a location carry a byte on each lane of the location
 pub lanes_carry : (l : Location) (bytes : List ℕ) → length bytes ≡ (row_of l).len → carries l (lanes_with l bytes) ≡ true
 lanes_carry l bytes h = (both l bytes h).0
 
+-- the bytes on the lanes of a location are the bytes that were placed there
 pub bytes_again : (l : Location) (bytes : List ℕ) → length bytes ≡ (row_of l).len → bytes_on l (lanes_with l bytes) ≡ bytes
 bytes_again l bytes h = (both l bytes h).1

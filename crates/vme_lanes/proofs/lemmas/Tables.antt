@@ -1,4 +1,4 @@
--- No two rows of the table have the same strobes, nor the same first byte and length.
+-- No two rows of the table have the same strobes, or the same first byte and length.
 use Rattle.std.proofs.Common.{◌≡◌, ℕ, ◌%◌, Bool, true, ◌&&◌, List, [], ◌∷◌, find, Some, Option, refl, ap, sym, ◌∙◌, inl, inr}
 use Rattle.std.specs.Prelude.{◌==◌}
 use Rattle.std.proofs.lemmas.Bool.{cases_Bool, and_parts, eqb-true}
@@ -42,7 +42,7 @@ pub own_found : (l : Location) (addr : ℕ) → (row_of l).first ≡ addr % 4 �
 unfolding row_from location_at
 own_found l addr h = ap (λ first. row_from first (row_of l).len) (sym h) ∙ own_row l
 
--- what is found passes the test
+-- the element that is found passes the test
 find_passes : (test : Location → Bool) (ls : List Location) (l : Location) → find test ls ≡ Some l → test l ≡ true
 find_passes test [] l h = absurd cc
 find_passes test (m ∷ ls) l h =
@@ -51,7 +51,7 @@ find_passes test (m ∷ ls) l h =
       | inr fails ↦ find_passes test ls l (rw fails at h)
     ]
 
--- a location that is found has the place and the length that were looked for
+-- a location that is found has the first byte and the length that were sought
 pub found_row : (addr n : ℕ) (l : Location) → location_at addr n ≡ Some l → ((row_of l).first ≡ addr % 4) × ((row_of l).len ≡ n)
 unfolding location_at
 found_row addr n l h =

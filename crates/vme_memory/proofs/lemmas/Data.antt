@@ -1,4 +1,5 @@
--- The cycle of a plan's datum is the request's own command, and the reply to it has the form that the request wants.
+-- The cycle of each datum of a lawful transfer is its request's own command, and the reply has the form of that
+-- command.
 use Rattle.std.proofs.Common.{◌≡◌, ℕ, ◌+◌, ◌*◌, ◌/◌, ◌%◌, ◌<◌, ◌≤◌, zero, suc, List, length, slice_range, Bool, true, false, is_none, Option, None, Some, option_map, ap, sym, ◌∙◌, arith, refl, inl, inr}
 use Rattle.std.specs.Prelude.{◌==◌, if◌then◌else◌}
 use Rattle.std.specs.Option.{option_and_then}
@@ -32,7 +33,7 @@ use Rattle.vme_memory.specs.Data.{datum_command, reply_len, datum_reply_len, has
 driven_again : (l : Location) (bytes : List ℕ) → length bytes ≡ (row_of l).len → driven_bytes l (lanes_with l bytes) ≡ Some bytes
 driven_again l bytes h = rw (lanes_carry l bytes h) (ap (λ new. Some new) (bytes_again l bytes h))
 
--- a block write is cut into data of n bytes
+-- each part of a block write that is split into data has n bytes
 cut_len : (bytes : List ℕ) (i n : ℕ) → 0 < n → i < length bytes / n → length (slice_range bytes (i * n) (i * n + n)) ≡ n
 cut_len bytes i n some less =
     let upto : n * suc i ≤ n * (length bytes / n) = mul-le-mul_left n less in
@@ -40,13 +41,13 @@ cut_len bytes i n some less =
     let within : i * n + n ≤ length bytes = omega (arith, upto, split, some) in
     grind (arith, common_steps)
 
--- a block's datum has a byte
+-- a datum of a block has at least one byte
 some_byte : (wide : Bool) (n : ℕ) → is_datum_len wide n ≡ true → 0 < n
 some_byte true zero h = absurd cc
 some_byte false zero h = absurd cc
 some_byte wide (suc n) h = omega arith
 
--- what a location is where code and location choose so many bytes
+-- eight bytes selected by code and location are at a location of four
 wide_chosen : (l : Location) (n : ℕ) → chosen_len true l ≡ Some n → ((row_of l).len ≡ 4) × (n ≡ 8)
 wide_chosen Bytes03 n h = (refl, cc)
 wide_chosen l n h = absurd cc
@@ -54,7 +55,7 @@ wide_chosen l n h = absurd cc
 narrow_chosen : (l : Location) (n : ℕ) → chosen_len false l ≡ Some n → (row_of l).len ≡ n
 narrow_chosen l n h = cc
 
--- a request's datum at a location of its length
+-- the command of a datum at a location of its length
 narrow_by :
     (request : Request) (i at : ℕ) (l : Location) → is_counted request ≡ true → i < count_of request → (row_of l).len ≡ datum_len request
     → narrow_command (is_block_request request) (is_none (datum_of request i)) (function_of request) at l (driven_lanes false l (datum_of request i))
@@ -69,7 +70,7 @@ narrow_by (requests.BlockFill am addr n count bytes) i at l counted less long =
     ap (option_map (BlockWrite at)) (driven_again l bytes.items (eqb-true _ _ (and_parts _ _ counted).1 ∙ sym long))
 narrow_by (requests.Modify am addr n f) i at l counted less long = ap (λ len. Some (Modify at len f)) long
 
--- a datum of eight bytes
+-- the command of a datum of eight bytes
 wide_by :
     (request : Request) (i at : ℕ) (l : Location) → is_counted request ≡ true → (row_of l).len ≡ 4 → datum_len request ≡ 8
     → wide_command (is_none (datum_of request i)) (function_of request) at l (driven_lanes true l (datum_of request i))
@@ -88,7 +89,7 @@ wide_by (requests.Modify am addr n f) i at l counted quad eight =
     let bad : is_modify_len 8 ≡ true = ap is_modify_len (sym eight) ∙ allowed in
     absurd cc
 
--- a datum with any code
+-- the command of a datum with any code
 command_by :
     (t : Transfer) (i at : ℕ) (l : Location) → IsLawful t.am t.request → i < count_of t.request
     → chosen_len t.am.wide l ≡ Some (datum_len t.request)
@@ -104,7 +105,7 @@ command_by t i at l is less chosen =
           rw (narrow, is.kind) (narrow_by t.request i at l is.counted less long)
     ]
 
--- the cycle of a datum, where it is at its own place in the group of four, stands for the request's own command
+-- the cycle of a datum, at its own place in the group of four, stands for the request's own command
 pub own_command :
     (t : Transfer) (i at : ℕ) → IsLawfulTransfer t → i < count_of t.request → at % 4 ≡ address_of t.request i % 4
     → command_of (signals_of t i) at (function_of t.request) ≡ Some (datum_command t.request i at)
@@ -115,29 +116,29 @@ own_command t i at lawful less place =
     let here : ((row_of (own_location t i)).first == at % 4) ≡ true = eq-eqb _ _ (row.0 ∙ sym place) in
     rw (own_sensed_at t i at is less place, here) (command_by t i at (own_location t i) is less row.1)
 
--- and does what that command does
+-- the cycle of a datum, at its own place in the group of four, has the step of the request's own command
 pub own_cycle :
     (t : Transfer) (board : Board) (i at : ℕ) → IsLawfulTransfer t → i < count_of t.request → at % 4 ≡ address_of t.request i % 4
     → cycle board (signals_of t i) at (function_of t.request) ≡ step board (datum_command t.request i at)
 unfolding cycle
 own_cycle t board i at lawful less place = ap (answer board) (own_command t i at lawful less place)
 
--- the bytes that are read on a board are as many as were asked for
+-- a read within the board returns as many bytes as requested
 read_len : (board : Board) (at len : ℕ) → fits board at len ≡ true → length (bytes_at board at len) ≡ len
 read_len board at len fit = let within = leb-true (at + len) (length board.bytes) fit in grind (arith, common_steps)
 
--- a reply that has bytes of the board
+-- the form of a reply with bytes of the board
 bytes_form : (board : Board) (at len : ℕ) → fits board at len ≡ true → has_form (Some len) (Bytes (record { items = bytes_at board at len })) ≡ true
 bytes_form board at len fit = eq-eqb _ _ (read_len board at len fit)
 
--- a command that a board answers, or does not
+-- the form of the reply to a command, whether or not the board carries it out
 form_by :
     (board : Board) (command : Command) (wanted : Option ℕ) → (can_answer board command ≡ true → has_form wanted (effect_of board command).0 ≡ true)
     → has_form wanted (step board command).0 ≡ true
 form_by board command wanted answered =
     elim (cases_Bool (can_answer board command)) [ inl can ↦ rw can (answered can) | inr refused ↦ rw refused refl ]
 
--- the reply to a command has its form
+-- the reply to each command has the form of the command
 pub reply_form : (board : Board) (command : Command) → has_form (reply_len command) (step board command).0 ≡ true
 reply_form board (LocalRead at len) = form_by board (LocalRead at len) (Some len) (λ can. bytes_form board at len (and_parts _ _ can).0)
 reply_form board (LocalWrite at new) = form_by board (LocalWrite at new) None (λ can. refl)
@@ -151,17 +152,17 @@ reply_form board (BlockRead at len) =
     form_by board (BlockRead at len) (Some len) (λ can. bytes_form board at len (and_parts _ _ (and_parts _ _ (and_parts _ _ can).0).0).0)
 reply_form board (BlockWrite at new) = form_by board (BlockWrite at new) None (λ can. refl)
 
--- a read, by itself or of a block, is replied as many bytes as it asks for
+-- a read, single or in a block, has a reply with the requested number of bytes
 read_form : (board : Board) (block : Bool) (at len : ℕ) → has_form (Some len) (step board (read_command block at len)).0 ≡ true
 read_form board false at len = reply_form board (Read at len)
 read_form board true at len = reply_form board (BlockRead at len)
 
--- and a write that it was done
+-- a write, single or in a block, has the reply Done
 write_form : (board : Board) (block : Bool) (at : ℕ) (new : List ℕ) → has_form None (step board (write_command block at new)).0 ≡ true
 write_form board false at new = reply_form board (Write at new)
 write_form board true at new = reply_form board (BlockWrite at new)
 
--- whatever the lanes carry
+-- the reply to a write has its form for any lanes of a location
 driven_form :
     (board : Board) (block : Bool) (l : Location) (at : ℕ) (lanes : List (Option ℕ))
     → has_form None (answer board (driven_write block l at lanes)).0 ≡ true
@@ -182,7 +183,7 @@ narrow_form board (requests.BlockFill am addr n count bytes) i at block l lanes 
 narrow_form board (requests.Modify am addr n f) i at true l lanes long = refl
 narrow_form board (requests.Modify am addr n f) i at false l lanes long = rw long (reply_form board (Modify at n f))
 
--- whatever all lanes carry
+-- the reply to a write of eight bytes has its form for any lanes
 wide_write_form : (board : Board) (at : ℕ) (lanes : List (Option ℕ)) → has_form None (answer board (wide_write at lanes)).0 ≡ true
 wide_write_form board at lanes =
     elim (cases_Bool (carries_all lanes)) [
@@ -200,7 +201,7 @@ wide_form board (requests.BlockWrite am addr n bytes) i at l lanes quad eight = 
 wide_form board (requests.BlockFill am addr n count bytes) i at l lanes quad eight = rw (eq-eqb _ _ quad) (wide_write_form board at lanes)
 wide_form board (requests.Modify am addr n f) i at l lanes quad eight = refl
 
--- a cycle at a location with which as many bytes go as the datum has
+-- the reply to a cycle at a location with as many bytes as the datum has the request's form
 form_at :
     (board : Board) (request : Request) (i at : ℕ) (am : CodeRow) (l : Location) (lanes : List (Option ℕ))
     → chosen_len am.wide l ≡ Some (datum_len request)
@@ -215,7 +216,7 @@ form_at board request i at am l lanes chosen =
           rw narrow (narrow_form board request i at (is_block am.kind) l lanes long)
     ]
 
--- a cycle at what is sensed, if anything is, at its own place
+-- the reply to a cycle at its own place has the request's form for any sensed location, or none
 sensed_form :
     (board : Board) (request : Request) (i at : ℕ) (am : CodeRow) (lanes : List (Option ℕ)) (sensed : Option Location)
     → ((l : Location) → sensed ≡ Some l → (row_of l).first ≡ at % 4 → chosen_len am.wide l ≡ Some (datum_len request))
@@ -231,7 +232,7 @@ sensed_form board request i at am lanes (Some l) chosen =
       | inr away ↦ rw away refl
     ]
 
--- the reply to a datum of a lawful transfer has the form that its request wants, at any offset
+-- the reply to a datum of a lawful transfer has the request's form at any offset
 pub datum_form :
     (t : Transfer) (board : Board) (i at : ℕ) → IsLawfulTransfer t → i < count_of t.request
     → has_form (datum_reply_len t.request) (cycle board (signals_of t i) at (function_of t.request)).0 ≡ true

@@ -1,4 +1,4 @@
--- Facts of every element with its place, as lists grow and change.
+-- Facts of every element with its position, when lists grow or change.
 use Rattle.std.proofs.Common.{◌≡◌, ◌≢◌, ℕ, ◌<◌, ◌⊎◌, List, [], ◌∷◌, ◌++◌, length, slice_index_or, set, refl, sym, subst, ◌∙◌, arith, inl, inr}
 use Rattle.std.proofs.lemmas.List.{get_or_default, get_or_append_left, get_or-set_same, get_or-set_other, length-set, length-append}
 use Rattle.std.proofs.lemmas.Bool.{cases_eq}
@@ -6,15 +6,15 @@ use Rattle.std.proofs.Math.Seq.{get_or-append_seam}
 use Rattle.std.proofs.Math.Nat.{eq-or-lt_of_le}
 use Rattle.vme_object.specs.Each.{Each, AllAt}
 
--- no element
+-- each element of the empty list has any property
 pub Each-nil : {A : Type 0} (P : ℕ → A → Type 0) → Each P []
 Each-nil P k d k< = absurd (omega arith)
 
--- the last element, or one before it
+-- a position of an extended list is the last one or one of the list
 last_or : {A : Type 0} (xs : List A) (x : A) (k : ℕ) → k < length (xs ++ x ∷ []) → (k ≡ length xs) ⊎ (k < length xs)
 last_or xs x k k< = eq-or-lt_of_le (omega (arith, length-append xs (x ∷ [])))
 
--- one element more, at the end
+-- a property of each element holds of an extended list if it holds of the new element
 pub Each-push : {A : Type 0} (P : ℕ → A → Type 0) (xs : List A) (x : A) → Each P xs → P (length xs) x → Each P (xs ++ x ∷ [])
 Each-push P xs x each here k d k< =
     elim (last_or xs x k k<) [
@@ -22,7 +22,7 @@ Each-push P xs x each here k d k< =
       | inr less ↦ subst (P k) (sym (get_or_append_left xs (x ∷ []) d k less)) (each k d less)
     ]
 
--- one element more in both lists, at the end
+-- related lists stay related when each is extended by one of two related elements
 pub AllAt-push :
     {A B : Type 0} (P : ℕ → A → B → Type 0) (xs : List A) (ys : List B) (x : A) (y : B) → AllAt P xs ys → P (length xs) x y
     → AllAt P (xs ++ x ∷ []) (ys ++ y ∷ [])
@@ -37,11 +37,11 @@ AllAt-push P xs ys x y all here = record {
       ];
 }
 
--- each element is as it was
+-- a list is related to itself if each element is related to itself
 pub AllAt-same : {A : Type 0} (P : ℕ → A → A → Type 0) (xs : List A) → ((k : ℕ) (x : A) → P k x x) → AllAt P xs xs
 AllAt-same P xs same = record { count = refl; each = λ k a b k<. subst (P k (slice_index_or xs k a)) (get_or_default xs k a b k<) (same k (slice_index_or xs k a)) }
 
--- one element is another now
+-- a list is related to itself with element i replaced, if the relation holds there and is reflexive elsewhere
 pub AllAt-set :
     {A : Type 0} (P : ℕ → A → A → Type 0) (xs : List A) (i : ℕ) (d y : A) → i < length xs → P i (slice_index_or xs i d) y
     → ((k : ℕ) (x : A) → k ≢ i → P k x x) → AllAt P xs (set xs i y)
@@ -54,7 +54,7 @@ AllAt-set P xs i d y i< here same = record {
       ];
 }
 
--- one fact of each two elements, and then another
+-- two relations of lists compose if those of their elements compose
 pub AllAt-trans :
     {A : Type 0} (P Q R : ℕ → A → A → Type 0) (xs ys zs : List A) → ((k : ℕ) (x y z : A) → P k x y → Q k y z → R k x z) → AllAt P xs ys
     → AllAt Q ys zs → AllAt R xs zs

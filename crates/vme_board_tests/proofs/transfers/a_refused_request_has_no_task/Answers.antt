@@ -1,4 +1,4 @@
--- Four bytes have room.
+-- The buffer has capacity for four bytes.
 use Rattle.std.proofs.Common.{◌≡◌, ap, arith}
 use Rattle.vme_cycle.specs.BlockBuffers.{BufferView}
 use Rattle.vme_cycle.specs.Requests.{read_len}

@@ -1,4 +1,4 @@
--- One byte has room.
+-- The buffer has capacity for one byte.
 use Rattle.std.proofs.Common.{◌≡◌, ap, arith}
 use Rattle.vme_cycle.specs.Requests.{read_len}
 use Rattle.vme_cycle.proofs.lemmas.Transfers.{comes_from}

@@ -1,4 +1,4 @@
--- What a run from the opening leaves.
+-- The state after a run from an opening state.
 use Rattle.vme_core.proofs.lemmas.Dones.{opened_boards}
 use Rattle.vme_core.proofs.laws.opening_is_replayed.Goals as goal
 

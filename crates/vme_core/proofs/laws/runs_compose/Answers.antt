@@ -1,4 +1,4 @@
--- A run that goes on from another one.
+-- A run that continues another one.
 use Rattle.vme_core.proofs.lemmas.Dones.{did_trans}
 use Rattle.vme_core.proofs.laws.runs_compose.Goals as goal
 

@@ -3,7 +3,8 @@ use Rattle.std.specs.Vec.Iter.{into_iter_items, into_iter_len}
 use Rattle.vme_core.specs.CountedStates.{fresh_count}
 use Rattle.vme_core.proofs.machine.fresh_boards.Given as goal
 
--- the boards so far, with those that the memories left make, are those of all memories, and there is room for them
+-- the boards so far, followed by those of the remaining memories, are those of all memories, and capacity for them
+-- remains
 abbrev pub invariant-loop-memory : goal.invariant-loop-memory
 invariant-loop-memory l =
     (l.boards.items ++ map (fresh_count l.fn.k) (into_iter_items l.memory-iterator) ≡ map (fresh_count l.fn.k) l.fn.memories.items)

@@ -1,4 +1,4 @@
--- There is room for a byte more.
+-- One more byte fits in the number.
 use Rattle.std.proofs.Common.{arith}
 use Rattle.vme_cycle.proofs.lemmas.Numbers.{below_power}
 use Rattle.vme_cycle.proofs.modify.number_of.Goals as goal

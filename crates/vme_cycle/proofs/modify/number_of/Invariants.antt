@@ -2,7 +2,7 @@ use Rattle.std.proofs.Common.{◌≡◌, ◌<◌, ◌^◌, drop}
 use Rattle.vme_cycle.specs.Functions.{number_from}
 use Rattle.vme_cycle.proofs.modify.number_of.Given as goal
 
--- the bytes that are left go on from the number so far
+-- the remaining bytes continue the number so far
 abbrev pub invariant-loop-byte : goal.invariant-loop-byte
 invariant-loop-byte l = record {
   number : number_from l.number (drop l.byte-index l.bytes) ≡ number_from 0 l.bytes;

@@ -1,4 +1,4 @@
--- A byte more is spelled.
+-- One more byte is spelled.
 use Rattle.std.proofs.Common.{arith, rules}
 use Rattle.vme_cycle.proofs.lemmas.Numbers.{byte_more}
 use Rattle.vme_cycle.proofs.modify.spelled.Goals as goal

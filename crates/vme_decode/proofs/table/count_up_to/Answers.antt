@@ -1,4 +1,4 @@
--- Each step halves what is left, and after the last one nothing is.
+-- Each step halves the ranks that remain, and after the last step none remains.
 use Rattle.std.proofs.Common.{◌≡◌, ◌+◌, ◌-◌, ◌*◌, subst, arith}
 use Rattle.vme_decode.proofs.Halving.{Splits, halved, parted_at}
 use Rattle.vme_decode.proofs.table.count_up_to.Goals as goal

@@ -2,7 +2,7 @@ use Rattle.std.proofs.Common.{◌≡◌, ℕ, List, ◌++◌, length}
 use Rattle.std.specs.Io.KnownBytes.{Appends}
 use Rattle.vme_io.proofs.sink.write_all.Given as goal
 
--- some front of the bytes was appended, and the rest of them is left
+-- a prefix of the bytes was appended, and the rest of them remains
 abbrev pub invariant-loop-rest : goal.invariant-loop-rest
 invariant-loop-rest g l =
     ((prefix : List ℕ) × (l.fn.bytes ≡ prefix ++ l.rest) × Appends (g.W.Sink.contents l.fn.writer) (g.W.Sink.contents l.writer) prefix)

@@ -1,4 +1,4 @@
--- What the lanes carry is a part of a word, as long as the location.
+-- The bytes on the lanes are the part of a word, and have the length of the location.
 use Rattle.std.proofs.Common.{rules}
 use Rattle.vme_memory.proofs.Lanes.{by_halves, by_places, lanes_len}
 use Rattle.vme_memory.proofs.word.driven_word.Goals as goal

@@ -1,4 +1,4 @@
--- The upper half of both words, shifted, has the bytes from a place on.
+-- The upper half of both words, shifted, has the bytes at a place.
 use Rattle.vme_memory.proofs.Shifts.{upper_bytes}
 use Rattle.std.proofs.Common.{arith}
 use Rattle.vme_memory.proofs.word.word_across.Goals as goal

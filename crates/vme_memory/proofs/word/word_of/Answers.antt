@@ -1,4 +1,4 @@
--- The bytes of a number that was made of four bytes are these.
+-- The bytes of the number that four bytes spell are these bytes.
 use Rattle.std.proofs.Common.{rules}
 use Rattle.std.proofs.lemmas.Nat.{be_bytes_4}
 use Rattle.vme_memory.specs.Words.{word_bytes}

@@ -1,4 +1,4 @@
--- Where the bits name a space and a kind, the table has that row.
+-- Where the bits select a space and a kind, the table has that row.
 use Rattle.std.proofs.Common.{sym, arith}
 use Rattle.vme_am.proofs.Bits.{row_by_bits, read_by_bits}
 use Rattle.vme_am.proofs.code.Am.from_code.Goals as goal

@@ -2,7 +2,7 @@ use Rattle.vme_memory.specs.Locals.{command_given, answer_given}
 use Rattle.vme_core.proofs.EventRefs.{board_made}
 use Rattle.vme_core.proofs.machine.Core.apply_board.Goals as goal
 
--- the board is put back in its place
+-- the board is stored in its place again
 pub returns-clause-step : goal.returns-clause-step
 unfolding answer_given
 returns-clause-step c =

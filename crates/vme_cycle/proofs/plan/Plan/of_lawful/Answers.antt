@@ -1,4 +1,4 @@
--- A request that is known to be lawful is.
+-- A request that is required to be lawful is lawful.
 use Rattle.vme_cycle.proofs.lemmas.Transfers.{row_of_lawful, none_of_lawful}
 use Rattle.vme_cycle.proofs.plan.Plan.of_lawful.Goals as goal
 

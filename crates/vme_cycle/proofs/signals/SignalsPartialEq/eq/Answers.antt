@@ -1,4 +1,4 @@
--- Locations are those of their strobes.
+-- Equal strobes have equal locations.
 use Rattle.std.proofs.Common.{arith}
 use Rattle.vme_cycle.specs.Inverse.{location_of-strobes}
 use Rattle.vme_cycle.proofs.Ands.{five_tests}

@@ -1,4 +1,4 @@
--- A lawful request that is lent stays lawful.
+-- A lawful request stays lawful when a transfer borrows it.
 use Rattle.std.proofs.Common.{sym, refl}
 use Rattle.vme_cycle.proofs.lemmas.Transfers.{same_transfer}
 use Rattle.vme_cycle.proofs.transfer.Transfer.of.Goals as goal

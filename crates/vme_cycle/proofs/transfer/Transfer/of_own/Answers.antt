@@ -1,4 +1,4 @@
--- A lawful request stays lawful as a transfer's own.
+-- A lawful request stays lawful when a transfer owns it.
 use Rattle.std.proofs.Common.{sym, refl}
 use Rattle.vme_cycle.proofs.lemmas.Transfers.{same_transfer}
 use Rattle.vme_cycle.proofs.transfer.Transfer.of_own.Goals as goal

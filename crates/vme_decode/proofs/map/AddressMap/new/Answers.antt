@@ -1,4 +1,4 @@
--- A list without a refusal has few enough entries for a table.
+-- A list without a refusal has at most as many entries as a table can have.
 use Rattle.std.proofs.Common.{refl, arith}
 use Rattle.vme_decode.proofs.Aligned.{few_entries}
 use Rattle.vme_decode.proofs.map.AddressMap.new.Goals as goal

@@ -1,4 +1,4 @@
--- An entry that responds is the one that is selected, and among more than two the table finds what the list tells.
+-- An entry that responds is the selected one, and among more than two the table finds the selection of the list.
 use Rattle.std.proofs.Common.{◌≡◌, None, Some, refl, sym, rules}
 use Rattle.std.specs.Prelude.{slice_get}
 use Rattle.std.proofs.lemmas.Bool.{ltb-true}

@@ -1,4 +1,4 @@
--- Whether the last row up to the address responds tells what is selected.
+-- The selection depends on whether the last row up to the address responds.
 use Rattle.std.proofs.Common.{◌≡◌, sym, ◌∙◌, rules}
 use Rattle.vme_decode.specs.Table.{rank}
 use Rattle.vme_decode.proofs.Chosen.{none_up_to, last_fails, last_selected}

@@ -1,4 +1,4 @@
--- The rows turn where their ranks do, and the last row up to there is the one before.
+-- The partition point of the ranks is that of the rows, and the last row up to the rank is the one before it.
 use Rattle.std.proofs.Common.{◌≡◌, ◌<◌, arith}
 use Rattle.vme_decode.proofs.Ranks.{ranks_parted, rows_turn}
 use Rattle.vme_decode.proofs.Last.{none_up_to_rank, last_at, got}

@@ -1,4 +1,4 @@
--- A sort moves the rows of all entries into their order.
+-- A sort permutes the rows of all entries into their order.
 use Rattle.std.proofs.Common.{arith, rules}
 use Rattle.std.proofs.lemmas.List.Sorted.{IsNonDecreasingBy-from_sort_by_key}
 use Rattle.vme_decode.specs.Table.{rank_of}

@@ -1,4 +1,4 @@
--- The bytes of the words so far.
+-- The row so far has the bytes of the words so far.
 use Rattle.std.proofs.Common.{◌≡◌, ◌≤◌, ◌-◌, ◌*◌, take, drop, length}
 use Rattle.vme_memory.specs.Words.{bytes_of_words}
 use Rattle.vme_memory.proofs.storage.Storage.row.Given as goal
