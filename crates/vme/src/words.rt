@@ -1,4 +1,4 @@
-//! The words of the command line.
+//! The forms of the command line.
 ghost use Rattle.std.specs.Prelude.{◌≡◌};
 ghost use Rattle.vme.specs.Words.{words_status_of};
 
@@ -7,7 +7,7 @@ use clap::{Arg, ArgMatches, Command};
 use std::alloc::{AllocError, Global};
 use thiserror::Error as Fault;
 
-/// What the program is asked to do.
+/// A form of the command line.
 #[derive(Debug, Drop, PartialEq)]
 pub enum Form {
     /// `vme cycles`
@@ -18,13 +18,13 @@ pub enum Form {
     Run(String),
 }
 
-/// Why the words ask for nothing.
+/// Why the command line has no form. Its `Display` text is what the program reports.
 #[derive(Clone, Copy, Debug, PartialEq, Eq, Fault)]
 pub enum WordsFault {
-    /// They are none of the forms.
+    /// The words match none of the forms.
     #[error("usage: vme cycles | vme step FILE | vme run FILE")]
     Usage,
-    /// There is no memory to read them.
+    /// An allocation failed.
     #[error("memory")]
     Memory,
 }
@@ -36,7 +36,7 @@ impl From<AllocError> for WordsFault {
 }
 
 impl WordsFault {
-    /// The exit status of the program.
+    /// Returns the program's exit status: 2 for `Usage`, 3 for `Memory`.
     pub fn exit_status(self) -> u8
         ensures { result ≡ words_status_of self }
     {
@@ -48,6 +48,10 @@ impl WordsFault {
 }
 
 /// Reads the words of a command line, the program's name first.
+///
+/// # Errors
+///
+/// `Usage`: the words match none of the forms. `Memory`: an allocation failed.
 pub fn read_words(alloc: Global, words: &[String]) -> Result<Form, WordsFault> {
     match parsed(alloc, words) {
         Ok(matches) => chosen(alloc, &matches),
@@ -65,7 +69,7 @@ fn parsed<'a>(alloc: Global, words: &'a [String]) -> Result<ArgMatches<'a>, Erro
         .try_get_matches_from(words)
 }
 
-/// A command that wants the path of a file.
+/// A command that requires the path of a file.
 fn of_a_file(alloc: Global, name: &str) -> Result<Command<'_>, AllocError> {
     let file = Arg::new(alloc, "FILE").required(true);
     Command::new(alloc, name).arg(file)
@@ -80,7 +84,7 @@ fn chosen(alloc: Global, matches: &ArgMatches<'_>) -> Result<Form, WordsFault> {
     }
 }
 
-/// The path of the file that a command is given.
+/// The path of the file that a command has.
 fn path_in(alloc: Global, command: &ArgMatches<'_>) -> Result<String, WordsFault> {
     match command.get_str("FILE") {
         Some(path) => Ok(String::from_str(alloc, path)?),

@@ -1,16 +1,16 @@
--- What a configuration file says, as plain values.
+-- The values of a configuration file, as plain data.
 use Rattle.std.specs.Prelude.{ℕ, Bool, List}
 use Rattle.vme_config_toml.specs.declared.file.ClassTable.{ClassTable}
 use Rattle.vme_config_toml.specs.declared.file.MailboxTable.{MailboxTable}
 
--- what a table says of the range of a board (this project's own)
+-- the values of a board's range
 pub record RangeValues : Type 0 where
   pub space : List ℕ
   pub base : ℕ
   pub size : ℕ
   pub supervisory : Bool
 
--- what a table of `board` says (this project's own)
+-- the values of a table `board`
 pub record BoardValues : Type 0 where
   pub slot : ℕ
   pub level : ℕ
@@ -18,7 +18,7 @@ pub record BoardValues : Type 0 where
   pub class : ClassTable
   pub script : List ℕ
 
--- what a file says (this project's own)
+-- the values of a file
 pub record FileValues : Type 0 where
   pub arbiter : List ℕ
   pub tries : ℕ

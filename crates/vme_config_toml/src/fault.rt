@@ -1,17 +1,18 @@
+//! The faults of a configuration file as a document.
 ghost use Rattle.std.specs.Prelude.{◌≡◌};
 ghost use Rattle.vme_config_toml.specs.declared.fault.DocumentFault.TheVariants.{OutOfMemory};
 
 use std::alloc::AllocFailed;
 
-/// Why a text does not say what a configuration file says.
+/// Why a text is not the document of a configuration file.
 #[derive(Clone, Copy, Debug, PartialEq, Eq)]
 pub enum DocumentFault {
-    /// The text is no TOML.
+    /// The text is not UTF-8, or not TOML.
     NotToml,
-    /// An unknown key, a required key that is absent, a value of another kind, or a number below 0
-    /// or above 2^32 - 1.
+    /// A key is unknown, a required key is absent, a value has another kind, or a whole number is
+    /// below 0 or above 2^32 - 1.
     BadKey,
-    /// There is no memory for what the file says.
+    /// An allocation failed.
     OutOfMemory,
 }
 

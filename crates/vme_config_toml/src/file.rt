@@ -1,8 +1,9 @@
-//! What a configuration file says, as plain values.
+//! The values of a configuration file, as plain data.
 
 use std::marker::Model;
 
-/// The range of a board, as its table says it.
+/// The values of a board's range: its space, base, size in bytes, and whether only supervisory
+/// codes select it.
 #[derive(Drop)]
 pub struct RangeTable<'a> {
     pub space: &'a str,
@@ -24,7 +25,8 @@ impl<'a> Model for RangeTable<'a> {
     } };
 }
 
-/// What a board's slave is able to answer, as its table says it.
+/// The values of a board's slave: its number of data lines, and whether it responds to unaligned
+/// transfers, block transfers and read-modify-writes.
 #[derive(Clone, Copy)]
 pub struct ClassTable {
     pub width: u32,
@@ -33,7 +35,7 @@ pub struct ClassTable {
     pub rmw: bool,
 }
 
-/// What a table of `board` says.
+/// The values of a table `board`.
 #[derive(Drop)]
 pub struct BoardTable<'a> {
     pub slot: u32,
@@ -57,7 +59,7 @@ impl<'a> Model for BoardTable<'a> {
     } };
 }
 
-/// What a table of `mailbox` says.
+/// The values of a table `mailbox`.
 #[derive(Clone, Copy)]
 pub struct MailboxTable {
     pub am: u32,
@@ -65,7 +67,7 @@ pub struct MailboxTable {
     pub slots: u32,
 }
 
-/// What a file says.
+/// The values of a file.
 #[derive(Drop)]
 pub struct FileTable<'a> {
     pub arbiter: &'a str,

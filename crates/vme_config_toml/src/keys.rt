@@ -1,4 +1,4 @@
-//! The keys of a configuration file.
+//! The keys of a configuration file, with the kind and the default of each.
 ghost use Rattle.std.specs.Prelude.{◌≡◌, [], codes};
 ghost use Rattle.toml.specs.View.{view, table_view, items_view};
 ghost use Rattle.vme_config_toml.specs.Answers.{Reads};
@@ -11,7 +11,7 @@ use crate::values::{required_whole, text_or, truth_or, value_at, whole, whole_or
 use std::alloc::Global;
 use toml::{Table, Value};
 
-/// Whether a board has a key of this name.
+/// Whether `name` is a key of a board.
 #[tactic(auto, unfolding(crate::specs::Keys::is_board_key))]
 fn is_board_key(name: &str) -> bool
     ensures { result ≡ is_board_key name.now }
@@ -32,14 +32,14 @@ fn is_board_key(name: &str) -> bool
     )
 }
 
-/// Whether a table has no keys but those of a board.
+/// Whether every key of a table is a key of a board.
 fn has_board_keys(table: &Table) -> bool
     ensures { result ≡ has_only is_board_key (table_view table.now) }
 {
     table.keys().all(|name| is_board_key(name.as_str()))
 }
 
-/// Whether a file has a key of this name at the top.
+/// Whether `name` is a key at the top of a file.
 #[tactic(auto, unfolding(crate::specs::Keys::is_file_key))]
 fn is_file_key(name: &str) -> bool
     ensures { result ≡ is_file_key name.now }
@@ -50,14 +50,14 @@ fn is_file_key(name: &str) -> bool
     )
 }
 
-/// Whether a table has no keys but those at the top of a file.
+/// Whether every key of a table is a key at the top of a file.
 fn has_file_keys(table: &Table) -> bool
     ensures { result ≡ has_only is_file_key (table_view table.now) }
 {
     table.keys().all(|name| is_file_key(name.as_str()))
 }
 
-/// What a table says of a board's range.
+/// The values of a board's range.
 #[tactic(auto, unfolding(crate::specs::Keys::range_values))]
 fn range_values(table: &Table) -> Option<RangeTable<'_>>
     ensures { result ≡ range_values (table_view table.now) }
@@ -74,7 +74,8 @@ fn range_values(table: &Table) -> Option<RangeTable<'_>>
     })
 }
 
-/// What a table says of a slave's class.
+/// The values of a slave's class. Without a key `uat`, only a slave of 32 data lines has unaligned
+/// transfers.
 #[tactic(auto, unfolding(crate::specs::Keys::class_values))]
 fn class_values(table: &Table) -> Option<ClassTable>
     ensures { result ≡ class_values (table_view table.now) }
@@ -91,7 +92,7 @@ fn class_values(table: &Table) -> Option<ClassTable>
     })
 }
 
-/// What a table says of a board, if its keys and their values are a board's.
+/// The values of a table `board`; `None` if a key or a value of it is faulty.
 #[tactic(auto, unfolding(crate::specs::Keys::board_values))]
 fn board_values(table: &Table) -> Option<BoardTable<'_>>
     ensures { result ≡ board_values (table_view table.now) }
@@ -113,7 +114,7 @@ fn board_values(table: &Table) -> Option<BoardTable<'_>>
     })
 }
 
-/// A board as an element of an array.
+/// The values of a board that is an element of an array.
 fn board(value: &Value) -> Option<BoardTable<'_>>
     ensures { result ≡ board (view value.now) }
 {
@@ -131,7 +132,7 @@ fn boards_in(alloc: Global, items: &Vec<Value>) -> Result<Vec<BoardTable<'_>>, D
     Ok(boards)
 }
 
-/// The boards of a file; a file without the key has none.
+/// The boards of a file; without the key there are none.
 #[tactic(auto, unfolding(crate::specs::Values::optional))]
 fn boards_of(alloc: Global, table: &Table) -> Result<Vec<BoardTable<'_>>, DocumentFault>
     ensures { Reads (λ boards. boards.items) result
@@ -143,7 +144,7 @@ fn boards_of(alloc: Global, table: &Table) -> Result<Vec<BoardTable<'_>>, Docume
     }
 }
 
-/// Whether a mailbox has a key of this name.
+/// Whether `name` is a key of a mailbox.
 #[tactic(auto, unfolding(crate::specs::Keys::is_mailbox_key))]
 fn is_mailbox_key(name: &str) -> bool
     ensures { result ≡ is_mailbox_key name.now }
@@ -151,14 +152,14 @@ fn is_mailbox_key(name: &str) -> bool
     matches!(name, "am" | "addr" | "slots")
 }
 
-/// Whether a table has no keys but those of a mailbox.
+/// Whether every key of a table is a key of a mailbox.
 fn has_mailbox_keys(table: &Table) -> bool
     ensures { result ≡ has_only is_mailbox_key (table_view table.now) }
 {
     table.keys().all(|name| is_mailbox_key(name.as_str()))
 }
 
-/// What a table says of a mailbox, if its keys and their values are a mailbox's.
+/// The values of a table `mailbox`; `None` if a key or a value of it is faulty.
 #[tactic(auto, unfolding(crate::specs::Keys::mailbox_values))]
 fn mailbox_values(table: &Table) -> Option<MailboxTable>
     ensures { result ≡ mailbox_values (table_view table.now) }
@@ -172,7 +173,7 @@ fn mailbox_values(table: &Table) -> Option<MailboxTable>
     Some(MailboxTable { am, addr, slots })
 }
 
-/// A mailbox as an element of an array.
+/// The values of a mailbox that is an element of an array.
 fn mailbox(value: &Value) -> Option<MailboxTable>
     ensures { result ≡ mailbox (view value.now) }
 {
@@ -190,7 +191,7 @@ fn mailboxes_in(alloc: Global, items: &Vec<Value>) -> Result<Vec<MailboxTable>, 
     Ok(mailboxes)
 }
 
-/// The mailboxes of a file; a file without the key has none.
+/// The mailboxes of a file; without the key there are none.
 #[tactic(auto, unfolding(crate::specs::Values::optional))]
 fn mailboxes_of(alloc: Global, table: &Table) -> Result<Vec<MailboxTable>, DocumentFault>
     ensures { Reads (λ mailboxes. mailboxes.items) result
@@ -202,7 +203,7 @@ fn mailboxes_of(alloc: Global, table: &Table) -> Result<Vec<MailboxTable>, Docum
     }
 }
 
-/// Two whole numbers.
+/// An array of exactly two whole numbers.
 #[tactic(auto, using(crate::proofs::Lists::pair_in_others), unfolding(crate::specs::Values::pair))]
 fn pair(value: &Value) -> Option<(u32, u32)>
     ensures { result ≡ pair (view value.now) }
@@ -224,7 +225,7 @@ fn pairs_in(alloc: Global, items: &Vec<Value>) -> Result<Vec<(u32, u32)>, Docume
     Ok(pairs)
 }
 
-/// The schedule of a file; a file without the key has none.
+/// The schedule of a file; without the key it is empty.
 #[tactic(auto, unfolding(crate::specs::Values::optional))]
 fn schedule_of(alloc: Global, table: &Table) -> Result<Vec<(u32, u32)>, DocumentFault>
     ensures { Reads (λ pairs. pairs.items) result
@@ -236,7 +237,12 @@ fn schedule_of(alloc: Global, table: &Table) -> Result<Vec<(u32, u32)>, Document
     }
 }
 
-/// What a file says, if its keys and their values are those of a configuration.
+/// Returns the values of a file's keys, with the default of each absent key.
+///
+/// # Errors
+///
+/// `BadKey`: a key is unknown, a required key is absent, a value has another kind, or a whole
+/// number is below 0 or above 2^32 - 1. `OutOfMemory`: an allocation failed.
 #[tactic(auto, unfolding(crate::specs::Keys::file_values))]
 pub fn file_values(alloc: Global, table: &Table) -> Result<FileTable<'_>, DocumentFault>
     ensures { Reads (λ file. file) result (file_values (table_view table.now)) }

@@ -1,6 +1,7 @@
-//! What a configuration file says, before any of it is judged: the values of its keys, each of its
-//! kind, or the defaults of those that are absent. A file is a TOML document. Its keys are this
-//! project's own.
+//! The values of the keys of a configuration file, as plain data.
+//!
+//! A file is a TOML document. Each value has the kind of its key, and an absent key has its
+//! default. The crate does not check slots, ranges, scripts or mailboxes.
 #![tactic(auto)]
 
 mod fault;

@@ -5,7 +5,7 @@ use std::test::Fail;
 use vme_engines::{INPUT_LIMIT, ProgramFault, Status, cycles_engine, exit_status};
 use vme_io::{RoomSink, SliceSource};
 
-/// Runs an input in memory and compares what it writes and how it ends.
+/// Runs an input in memory, and compares the output and the end of the run.
 pub fn check(
     rt: &impl Abort,
     alloc: Global,

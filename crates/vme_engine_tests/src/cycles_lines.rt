@@ -1,4 +1,4 @@
-//! Lines read, and texts printed, with values from this project's profile.
+//! Lines that are read and texts that are printed, with values of this project's profile.
 use std::test::Fail;
 use vme_cycle::{Modify, Request};
 use vme_grammar::{Line, LineFault, parse_line, print_berr};

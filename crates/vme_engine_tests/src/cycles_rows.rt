@@ -1,10 +1,10 @@
-//! Worked rows of `vme cycles`: inputs with what they write and how they end, with values from the
-//! tables of the standard and of this project's profile.
+//! Worked rows of `vme cycles`: inputs with their outputs and statuses, with values from the tables
+//! of the standard and of this project's profile.
 use crate::cycles::check;
 use std::test::Fail;
 use vme_engines::Status;
 
-/// A write of four bytes, and each of them read.
+/// A write of four bytes, and a read of each of them.
 static QUAD: &str = "w 0d 00000004 01020304
 r 0d 00000004 1
 r 0d 00000005 1
@@ -12,7 +12,7 @@ r 0d 00000006 1
 r 0d 00000007 1
 ";
 
-/// What it writes.
+/// The output of these lines.
 static QUAD_TEXT: &str = "am=0d a=00000004 ds1=0 ds0=0 a01=0 lword=0 write=0 data=01020304
 done
 am=0d a=00000004 ds1=0 ds0=1 a01=0 lword=1 write=1 data=----01--
@@ -324,7 +324,7 @@ fn fills_a_whole_unit(rt: HostRuntime) -> Result<(), Fail> {
     Ok(())
 }
 
-/// How a read of one byte ends with each of the codes from one to another.
+/// The outcome of a read of one byte with each code of a range.
 static CODES: [(u8, u8, &str); 18] = [
     (0x00, 0x07, "refused K1"),
     (0x08, 0x08, "refused K5"),

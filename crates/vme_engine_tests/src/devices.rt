@@ -9,8 +9,8 @@ use std::thread::Threads;
 use vme_engines::{ProgramFault, Status};
 use vme_io::{Io, RoomSink, SliceSource};
 
-/// Reads the input of a row, a byte a call, of which so many come before the reader fails: nothing
-/// is written.
+/// Reads the input of a row, a byte a call, from a reader that fails after a number of bytes.
+/// Nothing is written.
 fn expect_read_fault<R: Threads + Wait + Abort + Sync>(
     rt: &R,
     alloc: Global,
@@ -35,7 +35,7 @@ fn a_reader_fails_after_any_byte(rt: HostRuntime) -> Result<(), Fail> {
     Ok(())
 }
 
-/// How a row ends where so much of its text can be written.
+/// The end of a row's run if only `capacity` bytes of its text can be written.
 fn end_of(row: &Row, capacity: usize) -> Result<Status, ProgramFault> {
     if capacity < row.text.len() {
         Err(ProgramFault::Write)
@@ -44,8 +44,8 @@ fn end_of(row: &Row, capacity: usize) -> Result<Status, ProgramFault> {
     }
 }
 
-/// Writes the text of a row, a byte a call, of which so many are taken before the writer fails: just
-/// these were written. The input is read a byte a call.
+/// Writes the text of a row, a byte a call, to a writer that fails after a number of bytes. Exactly
+/// these bytes are written. The input is read a byte a call.
 fn expect_prefix<R: Threads + Wait + Abort + Sync>(
     rt: &R,
     alloc: Global,
@@ -70,7 +70,7 @@ fn a_writer_fails_after_any_byte(rt: HostRuntime) -> Result<(), Fail> {
     Ok(())
 }
 
-/// A writer of std that takes no byte once its room is full.
+/// A writer of std that accepts no byte once its capacity is full.
 #[derive(Drop)]
 struct Narrow {
     taken: Vec<u8>,
@@ -90,7 +90,7 @@ impl io::Write for Narrow {
     }
 }
 
-/// Writes the text of a row to a writer that takes so many bytes and then none.
+/// Writes the text of a row to a writer that accepts a number of bytes and then none.
 fn expect_narrow<R: Threads + Wait + Abort + Sync>(
     rt: &R,
     alloc: Global,

@@ -1,4 +1,4 @@
-//! Files that are damaged at any byte, and files that are no configuration, by the engine of `vme
+//! Files with each byte replaced, and files that are not a configuration, with the engine of `vme
 //! step`.
 use crate::rows::TORN_BLOCK;
 use std::alloc::{AllocError, Global};
@@ -7,7 +7,7 @@ use std::test::Fail;
 use vme_engines::{ProgramFault, Status, exit_status, step_engine};
 use vme_io::{RoomSink, SliceSource};
 
-/// Runs a damaged file: there is a report, or else it is no configuration and nothing is written.
+/// Runs a damaged file. The result is a report, or a refusal with nothing written.
 fn expect_report_or_refusal(rt: &impl Abort, alloc: Global, file: &[u8]) -> Result<(), AllocError> {
     let mut source = SliceSource::new(file, usize::MAX, usize::MAX);
     let mut sink = RoomSink::new(alloc, usize::MAX, 4096)?;
@@ -40,7 +40,7 @@ fn with_each_byte_changed_is_run_or_refused(rt: HostRuntime) -> Result<(), Fail>
     Ok(())
 }
 
-/// Runs a file that is refused: what is told of it, with nothing written.
+/// Runs a file that is refused, and compares the refusal. Nothing is written.
 fn expect_refusal(
     rt: &impl Abort,
     alloc: Global,
@@ -59,7 +59,7 @@ fn expect_refusal(
     Ok(())
 }
 
-/// Files of one board or none, and what is told of them.
+/// Files of one board or none, and their refusals.
 static REFUSED: [(&str, &str); 18] = [
     ("", "C11"),
     (
@@ -123,7 +123,7 @@ fn refuses_what_is_no_configuration(rt: HostRuntime) -> Result<(), Fail> {
     Ok(())
 }
 
-/// A file of one board, with a script of one line so many times.
+/// A file of one board, with a script that repeats one line.
 fn script_of(alloc: Global, line: &str, times: usize) -> Result<String, AllocError> {
     let mut text = String::new(alloc);
     text.push_str("[[board]]\nslot = 1\nbase = 0\nsize = 16\nscript = '''\n")?;
@@ -155,7 +155,7 @@ fn limits_scripts(rt: HostRuntime) -> Result<(), Fail> {
     Ok(())
 }
 
-/// A board whose last byte is the last of the space.
+/// A board whose last byte is the last of its space.
 static AT_THE_END: &str = "[[board]]\nslot = 1\nbase = 0xfffffffc\nsize = 4\n";
 
 #[test]

@@ -1,6 +1,5 @@
-//! Tests of the three engines in hostile use: devices that fail at any byte, files that are damaged
-//! at any byte or refused, and refused memory. They stand apart so that the engines are not proved
-//! twice.
+//! Tests of the three engines with devices that fail at any byte, damaged or refused files, and
+//! failed allocations, apart from `vme_engines` so that its proofs are not repeated.
 #![tactic(auto)]
 
 #[cfg(test)]

@@ -1,11 +1,11 @@
-//! A run on threads where memory is refused.
+//! A run on threads in which an allocation fails.
 use crate::rows::TWO_WRITERS;
 use std::test::Fail;
 use vme_engines::{ProgramFault, Status, exit_status, run_engine};
 use vme_io::{RoomSink, SliceSource};
 
-/// Run with memory refused: just that is told, or that a thread has none, with nothing written or a
-/// front of the report; else the whole report stands.
+/// If an allocation fails, the result is that fault, or that a thread could not be started, and
+/// nothing or a prefix of the report was written; otherwise the whole report was written.
 #[test]
 fn runs_or_lacks_memory(rt: HostRuntime) {
     let mut source = SliceSource::new(TWO_WRITERS.input.as_bytes(), usize::MAX, usize::MAX);

@@ -1,4 +1,4 @@
-//! The three engines, each with an input and what it writes of it.
+//! The three engines, each with an input and its output.
 ghost use Rattle.std.specs.Prelude.{◌≡◌, false};
 
 use std::alloc::Global;
@@ -33,7 +33,7 @@ pub fn run<T: Threads + Wait + Sync, R: Source, W: Sink>(
     }
 }
 
-/// An input of an engine, and what it writes of it, always the same.
+/// An input of an engine, and its output, which is the same in every run.
 #[derive(Drop)]
 pub struct Row {
     pub engine: Engine,
@@ -86,7 +86,8 @@ mem 1 00000000 00000000aabbccdd0000000000000000
 ",
 };
 
-/// Two processors that write to other bytes of one board, so that no order shows.
+/// Two processors that write to different bytes of one board, so that the order of their writes is
+/// not visible.
 pub const TWO_WRITERS: Row = Row {
     engine: Engine::Run,
     input: "[[board]]
@@ -114,5 +115,5 @@ mem 1 00000000 01020000030400000000000000000000
 ",
 };
 
-/// One of each engine.
+/// One row for each engine.
 pub const ROWS: [&Row; 3] = [&QUAD, &TORN_BLOCK, &TWO_WRITERS];

@@ -1,4 +1,4 @@
-//! Runs on threads, of whose reports some lines vary: what they begin with, and what they end with.
+//! Runs on threads whose reports vary in some lines: the beginning and the end of each report.
 use std::alloc::{AllocError, Global};
 use std::test::Fail;
 use vme_engines::{Status, run_engine};
@@ -22,7 +22,7 @@ await 09 00000000 01
 w 09 00000001 01'''
 ";
 
-/// What both are answered.
+/// The replies to both.
 static MET: &str = "1:1 done
 1:2 met
 2:1 met
@@ -39,7 +39,7 @@ fn two_wait_for_each_other(rt: HostRuntime) -> Result<(), Fail> {
     Ok(())
 }
 
-/// Four boards, the first of which has the word that all add to.
+/// Four boards. The first has the word to which all processors add.
 static BOARDS: [&str; 4] = [
     "slot = 1\nbase = 0x0000\n",
     "slot = 2\nbase = 0x1000\n",
@@ -47,10 +47,10 @@ static BOARDS: [&str; 4] = [
     "slot = 4\nbase = 0x3000\n",
 ];
 
-/// How often each adds one: as often as a script has lines at most.
+/// The number of times that each processor adds one: the greatest number of lines of a script.
 const LINES: usize = 1000;
 
-/// What the report ends with.
+/// The end of the report.
 static SUM: &str = "
 board 1 steps 4000 made 1000 1000 1000 1000
 board 2 steps 0 made 0 0 0 0

@@ -1,12 +1,12 @@
-//! Four boards ask for the bus at once, and each kind of arbiter serves them in its own order.
+//! Four processors request the bus at once, and each kind of arbiter grants it in its own order.
 use std::alloc::Global;
 use std::process::Abort;
 use std::test::Fail;
 use vme_engines::{Status, step_engine};
 use vme_io::{RoomSink, SliceSource};
 
-/// Slot 9 has the bus while the slots 1, 2 and 3 ask for it, on the levels 3, 1 and 2. Each adds one
-/// to the same word.
+/// The processor in slot 9 has the bus while those in slots 1, 2 and 3 request it, on levels 3, 1
+/// and 2. Each adds one to the same word.
 const FOUR_BOARDS: &str = "schedule = [[9, 1], [1, 1], [2, 1], [3, 1], [9, 2]]
 rounds = 9
 [[board]]
@@ -35,7 +35,7 @@ size = 16
 script = 'm 09 00000010 4 add 00000001'
 ";
 
-/// What is reported after the lines of the slots 1, 2 and 3, whatever their order was.
+/// The report after the lines of slots 1, 2 and 3, for every order of grants.
 const REST: &str = "9:1 old 00000000
 board 1 steps 4 made 1 1 1 1
 board 2 steps 0 made 0 0 0 0
@@ -44,7 +44,7 @@ board 9 steps 0 made 0 0 0 0
 mem 1 00000010 00000004000000000000000000000000
 ";
 
-/// Runs the four boards by a kind of arbiter, of which the first lines tell who came when.
+/// Runs the four boards with a kind of arbiter. The first lines show the order of the grants.
 fn check(rt: &impl Abort, alloc: Global, kind: &str, first_lines: &str) -> Result<(), Fail> {
     let file = format!(in alloc; "{kind}{FOUR_BOARDS}")?;
     let report = format!(in alloc; "{first_lines}{REST}")?;

@@ -1,4 +1,4 @@
-//! The engine of `vme step` at the limit of its input, and where memory is refused.
+//! The engine of `vme step` at the limit of its input, and with a failed allocation.
 use crate::step_rows::{TORN_BLOCK, TORN_BLOCK_REPORT};
 use std::test::Fail;
 use vme_engines::{FILE_LIMIT, ProgramFault, Status, exit_status, step_engine};
@@ -26,8 +26,8 @@ fn limits_its_input(rt: HostRuntime) -> Result<(), Fail> {
     Ok(())
 }
 
-/// Where memory is refused, just that is told, with nothing written or a front of the report; else
-/// the whole report stands.
+/// If an allocation fails, the result is that fault and nothing or a prefix of the report was
+/// written; otherwise the whole report was written.
 #[test]
 fn reports_or_lacks_memory(rt: HostRuntime) {
     let mut source = SliceSource::new(TORN_BLOCK.as_bytes(), usize::MAX, usize::MAX);

@@ -1,18 +1,18 @@
-//! Configuration files, and what is reported of their runs.
+//! Configuration files, and the reports of their runs.
 use std::alloc::Global;
 use std::process::Abort;
 use std::test::Fail;
 use vme_engines::{Status, step_engine};
 use vme_io::{RoomSink, SliceSource};
 
-/// A file, its report, and whether every line has a good answer.
+/// A file, its report, and the status of the run.
 pub struct Row {
     pub file: &'static str,
     pub report: &'static str,
     pub status: Status,
 }
 
-/// Runs a file in memory and compares its report and how the run ends.
+/// Runs a file in memory, and compares the report and the end of the run.
 pub fn check(rt: &impl Abort, alloc: Global, row: &Row) -> Result<(), Fail> {
     let mut source = SliceSource::new(row.file.as_bytes(), usize::MAX, usize::MAX);
     let mut sink = RoomSink::new(alloc, usize::MAX, 65_536)?;
@@ -56,7 +56,7 @@ size = 16
 script = 'br 0b 00000000 4 2'
 ";
 
-/// The report of that write.
+/// The report of that file.
 pub const TORN_BLOCK_REPORT: &str = "1:1 done
 2:1 read 00000000aabbccdd
 board 1 steps 3 made 1 2
@@ -70,7 +70,7 @@ const TORN: Row = Row {
     status: Status::Clean,
 };
 
-/// A read-modify-write over the bus and one by the local port, on one byte.
+/// A read-modify-write over the bus before one by the local port, on one byte.
 const BUS_FIRST: Row = Row {
     file: "schedule = [[2, 3], [1, 1]]
 [[board]]
@@ -93,7 +93,7 @@ mem 1 00000000 00000000000000008000000000000000
     status: Status::Clean,
 };
 
-/// The same in the other order.
+/// A read-modify-write by the local port before one over the bus, on one byte.
 const LOCAL_FIRST: Row = Row {
     file: "schedule = [[1, 1], [2, 3]]
 [[board]]
@@ -116,7 +116,7 @@ mem 1 00000000 00000000000000008000000000000000
     status: Status::Clean,
 };
 
-/// A board that admits supervisory codes alone, and an address of nobody.
+/// A board that only supervisory codes select, and an address of no board.
 const SUPERVISORY: Row = Row {
     file: "rounds = 7
 [[board]]
@@ -162,7 +162,7 @@ board 1 steps 1 made 1
     status: Status::Marked,
 };
 
-/// The same with a turn more.
+/// A local write past the end, and a line that has its turn.
 const FINISHED: Row = Row {
     file: "rounds = 2
 [[board]]
@@ -205,7 +205,7 @@ mem 1 00000000 01000000000000000000000000000000
     status: Status::Clean,
 };
 
-/// The same with one read.
+/// A byte that is awaited with one read, and written after it.
 const TIMED_OUT: Row = Row {
     file: "tries = 1
 schedule = [[2, 3], [1, 1], [2, 3]]
@@ -229,7 +229,7 @@ mem 1 00000000 01000000000000000000000000000000
     status: Status::Marked,
 };
 
-/// Refused requests take no turn of their own, but wait for one; line numbers count every line.
+/// Refused requests take no turn of their own, but wait for one. Line numbers count every line.
 const REFUSED: Row = Row {
     file: "schedule = [[1, 1], [7, 1]]
 [[board]]

@@ -1,9 +1,10 @@
-//! Files whose processors share a lock or a mailbox, with their reports.
+//! Files whose processors share a lock or a mailbox, and their reports.
 use crate::step_rows::{Row, check};
 use std::test::Fail;
 use vme_engines::Status;
 
-/// One takes the lock; the other finds it busy, and may try once; then the first gives it back.
+/// One processor takes the lock; the other finds it busy, and may try once; then the first frees
+/// it.
 const LOCKS: Row = Row {
     file: "tries = 1
 schedule = [[1, 3], [2, 3], [1, 3]]
@@ -30,7 +31,7 @@ board 2 steps 0 made 0 0
     status: Status::Marked,
 };
 
-/// Three words for a mailbox that has room for two, and three takes from it.
+/// Three words for a mailbox of two slots, and three takes from it.
 const THREE_WORDS: Row = Row {
     file: "tries = 1
 schedule = [[1, 48], [2, 48]]
@@ -71,8 +72,8 @@ mem 1 00000010 0000000a0000000b0000000000000000
     status: Status::Marked,
 };
 
-/// The same, and a line that names bytes of the mailbox, but is refused as a request: no bus has data
-/// of eight bytes.
+/// Three words for a mailbox of two slots, and a line that names bytes of the mailbox but is
+/// refused as a request because of its number of bytes.
 const REFUSED_AT_ITS_BYTES: Row = Row {
     file: "tries = 1
 schedule = [[1, 48], [2, 48]]
@@ -116,7 +117,7 @@ mem 1 00000010 0000000a0000000b0000000000000000
     status: Status::Marked,
 };
 
-/// The second word finds no room, and is tried again after the first was taken.
+/// The mailbox is full for the second word, which is put when the first was taken.
 const ROOM_LATER: Row = Row {
     file: "tries = 2
 schedule = [[1, 30], [2, 18], [1, 18], [2, 18]]
@@ -153,7 +154,7 @@ mem 1 00000010 00000002000000000000000000000000
     status: Status::Clean,
 };
 
-/// A request of a lock that no code allows, and a lock where no board is.
+/// A lock with a user-defined code, and a lock at an address of no board.
 const NO_LOCK: Row = Row {
     file: "rounds = 4
 [[board]]

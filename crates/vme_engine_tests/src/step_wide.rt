@@ -1,10 +1,11 @@
-//! Blocks of eight bytes a datum.
+//! Blocks of eight bytes a datum: the 64-bit multiplexed block transfer (MBLT) of VME64 (ANSI/VITA
+//! 1-1994), in this project's profile.
 use crate::step_rows::{Row, check};
 use std::test::Fail;
 use vme_engines::{Status, step_engine};
 use vme_io::{RoomSink, SliceSource};
 
-/// A datum of which the board has four bytes alone: the bus error is a step of it.
+/// A datum of which the board has only four bytes: the bus error is a step of the board.
 const HALF_PAST_THE_END: Row = Row {
     file: "rounds = 3
 [[board]]
@@ -24,7 +25,7 @@ board 2 steps 0 made 0 0
     status: Status::Marked,
 };
 
-/// A base that is 4 modulo 8: the datum lies at the offset 4.
+/// A base that is 4 modulo 8: the datum is at offset 4.
 const BASE_BETWEEN: Row = Row {
     file: "rounds = 3
 [[board]]
@@ -44,7 +45,8 @@ board 2 steps 0 made 0 0
     status: Status::Clean,
 };
 
-/// Two local writes after a datum that has both words: one event, so the read is not torn.
+/// Two local writes after a datum that contains both words. The datum is one event, so the read is
+/// not torn.
 const NOT_TORN: Row = Row {
     file: "schedule = [[2, 2], [1, 2], [2, 2]]
 [[board]]

@@ -1,4 +1,4 @@
--- The answer to a transfer, a datum at a time.
+-- The output of a transfer, datum by datum.
 use Rattle.std.proofs.Common.{◌≡◌, ℕ, ◌+◌, ◌*◌, ◌-◌, ◌<◌, ◌≤◌, suc, List, ◌++◌, ap, sym, ◌∙◌, append_assoc, arith}
 use Rattle.vme_cycle.specs.Lawful.{Transfer}
 use Rattle.vme_memory.specs.declared.reply.Reply.{Reply}
@@ -10,7 +10,7 @@ use Rattle.vme_engines.specs.Answers.{Answer, datum_text, reply_to, outcome_answ
 after_both : (first second : List ℕ) (answer : Answer) → after_text first (after_text second answer) ≡ after_text (first ++ second) answer
 after_both first second answer = ap (λ text. record answer { text = text }) (sym (append_assoc first second answer.text))
 
--- one datum more is answered
+-- one more datum is processed
 pub datum_more :
     (count i : ℕ) (board next : Board) (t : Transfer) (text new read : List ℕ) (reply : Reply) (all : Answer) → i < count
     → after_text text (data_answer (count - i) board t i read) ≡ all
@@ -24,7 +24,7 @@ datum_more count i board next t text new read reply all less whole printed repli
     (λ bytes. data_answer (count - (i + 1)) (reply_to board t i).1 t (i + 1) (read ++ bytes)) in
     rw (printed, replied, moved) (sym (after_both text line rest) ∙ opened)
 
--- and leaves as much room less
+-- one more datum leaves less capacity in the buffer
 pub buffer_more : (count i n read : ℕ) → i < count → read + n * (count - i) ≤ 2048 → (read + n) + n * (count - (i + 1)) ≤ 2048
 buffer_more count i n read less capacity =
     let left : count - i ≡ suc (count - (i + 1)) = omega (arith, less) in

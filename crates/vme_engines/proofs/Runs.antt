@@ -11,7 +11,7 @@ use Rattle.vme_threads.specs.declared.report.Report.{Report}
 use Rattle.vme_threads.specs.Reports.{IsReportOf}
 use Rattle.vme_engines.specs.RunTexts.{reported_report, IsRunText, WritesPrefix}
 
--- the text of such a report was written
+-- the text of a report was written
 pub text_written : (reported old new : Option (List ℕ)) (config : Configuration) (report : Report) (status : Status) → IfSome reported (λ input. Configures input config)
     → IsReportOf config report → status ≡ report_status (reported_report report) → Appends old new (report_text (reported_report report))
     → IfSome reported (λ input. (text : List ℕ) × IsRunText input text status × Appends old new text)
@@ -19,7 +19,7 @@ text_written None old new config report status configures run good written = tt
 text_written (Some input) old new config report status configures run good written =
     (report_text (reported_report report), record { config = config; configures = configures; report = report; run = run; whole = refl; good = good }, written)
 
--- a front of it was written
+-- a prefix of the text of a report was written
 prefix_of : (input : List ℕ) (old new : Option (List ℕ)) (config : Configuration) (report : Report) → Configures input config → IsReportOf config report
     → AppendsPrefix old new (report_text (reported_report report)) → WritesPrefix input old new
 prefix_of input old new config report configures run written =
@@ -30,7 +30,7 @@ prefix_of input old new config report configures run written =
       written,
     )
 
--- which is what is said of an end with a fault
+-- the prefix that was written is that of an end with a fault
 pub prefix_written : (reported old new : Option (List ℕ)) (end : Result Status ProgramFault) (config : Configuration) (report : Report)
     → IfSome reported (λ input. Configures input config) → IsReportOf config report → AppendsPrefix old new (report_text (reported_report report))
     → IfSome reported (λ input. OnErr end (WritesPrefix input old new))

@@ -1,4 +1,4 @@
--- The text of an input, a line or a piece at a time.
+-- The text of an input, line by line and piece by piece.
 use Rattle.std.proofs.Common.{◌≡◌, ℕ, List, [], ◌∷◌, ◌++◌, refl, ap, sym, ◌∙◌, append_assoc}
 use Rattle.std.proofs.lemmas.List.{append-nil}
 use Rattle.std.specs.Str.Lines.{lines}
@@ -9,7 +9,7 @@ use Rattle.vme_shared.specs.declared.status.Status.TheVariants.{Clean, Marked}
 use Rattle.vme_shared.specs.Statuses.{worse_of}
 use Rattle.vme_engines.specs.Cycles.{text_of, status_after}
 
--- one line more is answered
+-- one more line is processed
 pub text_more :
     (board next : Board) (prefix text new line rest after all : List ℕ) → (prefix ++ text) ++ text_of board (lines rest) ≡ all
     → lines rest ≡ line ∷ lines after → new ≡ text ++ (answer board line).text → next ≡ (answer board line).board
@@ -40,7 +40,7 @@ worse_of_assoc : (a b c : Status) → worse_of (worse_of a b) c ≡ worse_of a (
 worse_of_assoc Clean b c = refl
 worse_of_assoc Marked b c = refl
 
--- one line more is counted
+-- the status of one more line
 pub status_more :
     (board next : Board) (status new reported all : Status) (line rest after : List ℕ) → worse_of status (status_after board (lines rest)) ≡ all
     → lines rest ≡ line ∷ lines after → new ≡ worse_of status reported → reported ≡ (answer board line).status → next ≡ (answer board line).board

@@ -1,4 +1,4 @@
--- What a line is answered: its text, the board after it, and whether the reply is a good one.
+-- The output of `vme cycles` for a line: its text, the board after it, and its status.
 use Rattle.std.specs.Prelude.{ℕ, zero, suc, ◌+◌, ◌*◌, false, if◌then◌else◌, List, [], ◌∷◌, ◌++◌, is_some, option_map, Option, Some, None, Result, Ok, Err, codes}
 use Rattle.vme_am.specs.declared.code.Space.TheVariants.{A32}
 use Rattle.vme_cycle.specs.declared.request.Request.{Request}
@@ -22,81 +22,81 @@ use Rattle.vme_engines.specs.Lines.{request_of}
 use Rattle.vme_grammar.specs.Texts as outcomes
 use Rattle.vme_grammar.specs.Texts.{signals_text, OutcomeText, outcome_text, cycle_fault_text, line_fault_text, output_line}
 
--- what a line is answered (this project's own)
+-- the text of a line, the board after it, and its status
 pub record Answer : Type 0 where
   pub text : List ℕ
   pub board : Board
   pub status : Status
 
--- whether an outcome is a good one (this project's own)
+-- the status of an outcome: Clean unless it is a bus error
 abbrev pub status_of : OutcomeText → Status
 status_of (outcomes.Read bytes) = Clean
 status_of outcomes.Done = Clean
 status_of (outcomes.Old bytes) = Clean
 status_of (outcomes.Berr count bytes) = Marked
 
--- what the lines show in the end: in a read what the board drives, else what they showed before (this project's own)
+-- the signals at the end of a cycle: in a read, with the data that the board drives
 abbrev pub final_signals : SignalLines → Reply → SignalLines
 final_signals s (Bytes datum) = answered_lines s datum.items
 final_signals s Done = s
 final_signals s Berr = s
 
--- the map of the one board: 4,096 addresses from 0 on in the extended space, for all codes (this project's own)
+-- the map of the one board: 4,096 addresses from 0 on in the extended space, for all its codes
 abbrev pub board_map : List Entry
 board_map = record { space = A32; base = 0; size = 4096; supervisory = false } ∷ []
 
--- the offset of a transfer's first byte, if that byte selects the board (IEEE 1014, section 2.3.5)
+-- the offset of a transfer's first byte, if that byte selects the board (IEEE 1014-1987, 2.3.5 (addressing))
 abbrev pub offset_of : Transfer → Option ℕ
 offset_of t = option_map (λ found. found.1) (selection board_map (signals_of t 0))
 
--- the reply to datum i and the board after it, by where the transfer's first byte is; the bus timer drives BERR* where no
--- board is selected (IEEE 1014, section 2.3.3)
+-- the reply to datum i and the board after it, by the offset of the transfer; with no board selected, the bus timer
+-- drives BERR* (IEEE 1014-1987, 2.3.3 (data transfer acknowledge and bus error))
 abbrev pub reply_at : Board → Transfer → ℕ → Option ℕ → Reply × Board
 reply_at board t i None = (Berr, board)
 reply_at board t i (Some offset) = cycle board (signals_of t i) (offset + i * datum_len t.request) (function_of t.request)
 
--- the reply to datum i and the board after it (this project's own)
+-- the reply to datum i and the board after it
 abbrev pub reply_to : Board → Transfer → ℕ → Reply × Board
 reply_to board t i = reply_at board t i (offset_of t)
 
--- the write half of a read-modify-write that found some bytes (this project's own)
+-- the text of the write half of a read-modify-write that found bytes
 abbrev pub write_half_text : Transfer → Option Modify → Reply → List ℕ
 write_half_text t (Some f) (Bytes old) = output_line (signals_text (write_half_of t (value f old.items)))
 write_half_text t (Some f) Done = []
 write_half_text t (Some f) Berr = []
 write_half_text t None reply = []
 
--- the signals that are shown of datum i, by the reply to it (this project's own)
+-- the text of datum i, by the reply to it
 abbrev pub datum_text : Transfer → ℕ → Reply → List ℕ
 datum_text t i reply =
     output_line (signals_text (final_signals (signals_of t i) reply)) ++ write_half_text t (function_of t.request) reply
 
--- the answer that tells no more than an outcome (this project's own)
+-- the output that consists of an outcome
 abbrev pub outcome_answer : Board → OutcomeText → Answer
 outcome_answer board outcome = record { text = output_line (outcome_text outcome); board = board; status = status_of outcome }
 
--- the answer that tells no more than a refusal (this project's own)
+-- the output that consists of a refusal
 abbrev pub refusal_answer : Board → List ℕ → Answer
 refusal_answer board text = record { text = output_line text; board = board; status = Marked }
 
--- an answer after some text (this project's own)
+-- an output after some text
 abbrev pub after_text : List ℕ → Answer → Answer
 after_text text answer = record answer { text = text ++ answer.text }
 
--- the outcome of a transfer whose data were all answered, with what they replied (this project's own)
+-- the outcome of a transfer none of whose data ended with a bus error, with the bytes that it read
 abbrev pub outcome_of : Transfer → List ℕ → OutcomeText
 outcome_of t replied =
     if reads t.request then outcomes.Read replied else
     (if is_some (function_of t.request) then outcomes.Old replied else outcomes.Done)
 
--- how an answer goes on after a datum: it stops at a bus error, else what was read is handed on (this project's own)
+-- the output after a datum: `stopped` after a bus error, else `next` with the bytes that were read
 abbrev pub goes_on : Reply → Answer → (List ℕ → Answer) → Answer
 goes_on (Bytes datum) stopped next = next datum.items
 goes_on Done stopped next = next []
 goes_on Berr stopped next = stopped
 
--- the answer to the last data of a transfer, so many from datum i on, where some bytes were replied before: the signals of
--- each datum, and then the outcome (this project's own)
+-- the output of the last data of a transfer, from datum i on and with the bytes read before: the signals of each datum,
+-- and then the outcome
 abbrev pub data_answer : ℕ → Board → Transfer → ℕ → List ℕ → Answer
 data_answer zero board t i read = outcome_answer board (outcome_of t read)
 data_answer (suc left) board t i read =
@@ -105,25 +105,25 @@ data_answer (suc left) board t i read =
     (goes_on reply.0 (outcome_answer reply.1 (outcomes.Berr i read))
     (λ bytes. data_answer left reply.1 t (i + 1) (read ++ bytes)))
 
--- the answer to a lawful request (this project's own)
+-- the output of a lawful request
 unfoldable pub transfer_answer : Board → Transfer → Answer
 transfer_answer board t = data_answer (count_of t.request) board t 0 []
 
--- the answer to a plan, or the refusal: a refused request has no signals (this project's own)
+-- the output of a plan or of its refusal; a refused request has no signals
 abbrev pub planned_answer : Board → Result Transfer CycleFault → Answer
 planned_answer board (Ok t) = transfer_answer board t
 planned_answer board (Err fault) = refusal_answer board (codes "refused " ++ cycle_fault_text fault)
 
--- the answer to a request (this project's own)
+-- the output of a request
 abbrev pub request_answer : Board → Request → Answer
 request_answer board request = planned_answer board (transfer_of request)
 
--- the answer to what a line asks for, if for anything (this project's own)
+-- the output of a line, by the result of reading it
 abbrev pub line_answer : Board → Result (Option Request) LineFault → Answer
 line_answer board (Ok None) = record { text = []; board = board; status = Clean }
 line_answer board (Ok (Some request)) = request_answer board request
 line_answer board (Err fault) = refusal_answer board (codes "line refused " ++ line_fault_text fault)
 
--- the answer to a line (this project's own)
+-- the output of a line on a board
 unfoldable pub answer : Board → List ℕ → Answer
 answer board line = line_answer board (request_of line)

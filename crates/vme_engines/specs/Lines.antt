@@ -1,4 +1,4 @@
--- Which lines `vme cycles` knows: requests to the bus, and no others.
+-- The lines that `vme cycles` accepts: requests to the bus, and no others.
 use Rattle.std.specs.Prelude.{ℕ, nat_lt, if◌then◌else◌, Bool, false, not, List, [], ◌∷◌, length, slice_get, Option, Some, None, Result, Ok, Err, codes}
 use Rattle.std.specs.List.{list_any}
 use Rattle.std.specs.Str.{bytes_eq}
@@ -10,16 +10,16 @@ use Rattle.vme_grammar.specs.declared.line.Line.TheVariants.{Bus, Local, Await, 
 use Rattle.vme_lexer.specs.Words.{words_of}
 use Rattle.vme_grammar.specs.Grammar.{line_of}
 
--- whether a request begins with this word (this project's own)
+-- whether a word is the first word of a request
 abbrev pub is_request_word : List ℕ → Bool
 is_request_word word = list_any (bytes_eq word) (codes "r" ∷ codes "w" ∷ codes "br" ∷ codes "bw" ∷ codes "bf" ∷ codes "m" ∷ [])
 
--- whether a line's first word is another (this project's own)
+-- whether a line's first word is not that of a request
 abbrev pub is_other_word : Option (List ℕ) → Bool
 is_other_word None = false
 is_other_word (Some word) = not (is_request_word word)
 
--- the request alone that a line asks for (this project's own)
+-- the request of a line that was read; any other line is refused
 abbrev pub request_alone : Result (Option Line) LineFault → Result (Option Request) LineFault
 request_alone (Ok None) = Ok None
 request_alone (Ok (Some (Bus request))) = Ok (Some request)
@@ -31,8 +31,8 @@ request_alone (Ok (Some (Put mailbox number))) = Err UnknownWord
 request_alone (Ok (Some (Take mailbox))) = Err UnknownWord
 request_alone (Err fault) = Err fault
 
--- what a line asks for, if for anything: a word that only scripts know is unknown here, whatever follows it
--- (this project's own)
+-- the request of a line, None for a line without words, or its refusal: a first word that only scripts know is unknown,
+-- whatever follows it
 unfoldable pub request_of : List ℕ → Result (Option Request) LineFault
 request_of line =
     if nat_lt 80 (length line) then Err LineTooLong else

@@ -1,4 +1,4 @@
--- What is told of a run of threads.
+-- The text of a run on threads.
 use Rattle.std.specs.Prelude.{ℕ, ◌≡◌, List, [], ◌∷◌, ◌⊎◌, Option, map}
 use Rattle.vme_io.specs.Prefixes.{AppendsPrefix}
 use Rattle.vme_shared.specs.declared.reply.LineReply.{LineReply}
@@ -11,18 +11,18 @@ use Rattle.vme_threads.specs.declared.report.BoardReport.{BoardReport}
 use Rattle.vme_threads.specs.declared.report.Report.{Report}
 use Rattle.vme_threads.specs.Reports.{IsReportOf}
 
--- what is told of boards, by their ends and the lines of their processors (this project's own)
+-- the boards of a report, from the boards' ends and the replies to their processors' lines
 abbrev pub ends_reported : List BoardReport → List (List (ℕ × LineReply)) → List BoardText
 ends_reported (end ∷ ends) (lines ∷ more) =
     record { slot = end.slot; lines = lines; bytes = end.memory.bytes; steps = end.steps; made = end.made.items }
     ∷ ends_reported ends more
 ends_reported ends lines = []
 
--- what is told of a report (this project's own)
+-- the boards of a report
 abbrev pub reported_report : Report → List BoardText
 reported_report report = ends_reported report.boards.items (map (λ lines. lines.items) report.lines.items)
 
--- a text and a status are those of some report of a run of what the bytes of a file configure (this project's own)
+-- a text and a status are those of some report of a run of the configuration that the bytes of a file are
 pub record IsRunText (input text : List ℕ) (status : Status) : Type 0 where
   pub config : Configuration
   pub configures : Configures input config
@@ -31,7 +31,7 @@ pub record IsRunText (input text : List ℕ) (status : Status) : Type 0 where
   pub whole : text ≡ report_text (reported_report report)
   pub good : status ≡ report_status (reported_report report)
 
--- nothing was written, or a front of such a text (this project's own)
+-- nothing was written, or a prefix of the text of some report of a run
 abbrev pub WritesPrefix : List ℕ → Option (List ℕ) → Option (List ℕ) → Type 0
 WritesPrefix input old new =
     AppendsPrefix old new [] ⊎ ((text : List ℕ) × (status : Status) × IsRunText input text status × AppendsPrefix old new text)

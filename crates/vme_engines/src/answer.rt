@@ -1,4 +1,4 @@
-//! What a line is answered, and what it does to the board.
+//! The output of `vme cycles` for a line, and the effect of the line on the board.
 ghost use Rattle.std.specs.Prelude.{ℕ, ◌≡◌, ◌+◌, ◌++◌, ◌<◌, ◌≤◌, length, Some, IfOk, IfSome, OnOk};
 ghost use Rattle.vme_cycle.specs.BlockBuffers.{block_limit};
 ghost use Rattle.vme_cycle.specs.Requests.{addr_of, function_of, datum_len, count_of, address_of};
@@ -18,8 +18,8 @@ use vme_grammar::{
 use vme_memory::Reply;
 use vme_shared::Status;
 
-/// Answers a line: appends its text, and leaves the board as the line's cycle does. What the data
-/// of its transfer reply is gathered in a room that is used again for each line.
+/// Processes a line: appends its output, and leaves the board as the line's cycles do. `replied` is
+/// the buffer of the bytes that the transfer reads; it is reused for each line.
 #[tactic(auto, unfolding(crate::specs::Answers::answer))]
 pub(crate) fn answer_line(
     bus: &mut Bus,
@@ -65,7 +65,7 @@ fn answer_request(
     }
 }
 
-/// Answers each datum in turn, until the last or the first that is answered by a bus error.
+/// Makes the cycle of each datum, until the last one or the first that ends with a bus error.
 #[tactic(auto, unfolding(crate::specs::Answers::transfer_answer))]
 fn answer_data(
     bus: &mut Bus,
@@ -96,7 +96,7 @@ fn answer_data(
     Ok(Status::Clean)
 }
 
-/// The offset of the first byte of a plan, where it selects the board.
+/// The offset of a plan's first byte on the board, if that byte selects the board.
 fn offset_of(bus: &Bus, plan: &Plan<'_>) -> Option<u32>
     requires { 0 < count_of plan.now.request }
     ensures value { result ≡ offset_of plan.now }
@@ -132,7 +132,7 @@ fn answer_datum(
     Ok(reply)
 }
 
-/// Appends the write half of a read-modify-write that found some bytes.
+/// Appends the signals of the write half of a read-modify-write that found bytes.
 fn print_write_half(text: &mut Vec<u8>, plan: &Plan<'_>, reply: &Reply) -> Result<(), AllocError>
     requires { HasLen reply.now (datum_len plan.now.request) }
     ensures { OnOk result (text.new.items ≡ text.old.items
@@ -147,7 +147,8 @@ fn print_write_half(text: &mut Vec<u8>, plan: &Plan<'_>, reply: &Reply) -> Resul
     }
 }
 
-/// Appends the outcome of a transfer whose data were all answered, with what they replied.
+/// Appends the outcome of a transfer none of whose data ended with a bus error. `replied` contains
+/// the bytes that it read.
 fn print_outcome(text: &mut Vec<u8>, plan: &Plan<'_>, replied: &[u8]) -> Result<(), AllocError>
     ensures { OnOk result
         (text.new.items ≡ text.old.items ++ output_line (outcome_text (outcome_of plan.now replied.now))) }
@@ -161,7 +162,7 @@ fn print_outcome(text: &mut Vec<u8>, plan: &Plan<'_>, replied: &[u8]) -> Result<
     }
 }
 
-/// What the lines show in the end: in a read what the board drives.
+/// The signals at the end of a cycle: in a read, with the data that the board drives.
 fn final_signals(signals: Signals, reply: &Reply) -> Signals
     requires { (len : ℕ) × (row_len signals.am.wide signals.strobes ≡ Some len) × HasLen reply.now len }
     ensures { result ≡ final_signals signals reply.now }
@@ -172,7 +173,8 @@ fn final_signals(signals: Signals, reply: &Reply) -> Signals
     }
 }
 
-/// The reply to datum `i` of the board where it is selected, and else that of the bus timer.
+/// The reply to datum `i`: that of the board if it is selected, otherwise the bus error of the bus
+/// timer.
 fn reply_at(bus: &mut Bus, plan: &Plan<'_>, i: u16, offset: Option<u32>, signals: &Signals) -> Reply
     requires signals { signals.now ≡ signals_of plan.now i }
     requires in_count { i < count_of plan.now.request }

@@ -1,4 +1,4 @@
-//! The bus of `vme cycles`: one board, and the map that it is alone on.
+//! The bus of `vme cycles`: one board, and the address map that contains only it.
 ghost use Rattle.std.specs.Prelude.{ℕ, ◌≡◌, ◌<◌, Some, IfOk, IfErr, IfSome};
 ghost use Rattle.std.specs.Option.{option_map};
 ghost use Rattle.vme_engines.specs.Cycles.{fresh_board};
@@ -11,7 +11,7 @@ use vme_cycle::{Modify, Signals};
 use vme_decode::{AddressMap, Entry};
 use vme_memory::{ByteMemory, Class, Reply, Width8To32};
 
-/// The number of bytes of the board, which begins at address 0 of the extended space.
+/// The size of the board in bytes. It begins at address 0 of the extended space.
 const BOARD_SIZE: u32 = 4096;
 
 /// A bus with one board.
@@ -39,7 +39,7 @@ impl Bus {
     ghost use Rattle.vme_memory.specs.Steps.{cycle, HasLen};
     ghost use Rattle.vme_engines.specs.Answers.{board_map};
 
-    /// The bus with its board all zero.
+    /// A bus whose board is all zero.
     pub(crate) fn new(alloc: Global) -> Result<Bus, ProgramFault>
         ensures board { IfOk result (λ bus. bus ≡ fresh_board) }
         ensures faults { IfErr result (λ fault. fault ≡ ProgramFault.Memory) }
@@ -51,7 +51,7 @@ impl Bus {
         }
     }
 
-    /// The offset of the first byte of a cycle, where it selects the board.
+    /// The offset of a cycle's first byte on the board, if that byte selects the board.
     pub(crate) fn select(&self, signals: &Signals) -> Option<u32>
         ensures value { result ≡ option_map (λ found. found.1) (selection board_map signals.now) }
         ensures within { IfSome result (λ offset.
@@ -61,7 +61,7 @@ impl Bus {
         Some(offset)
     }
 
-    /// What the board replies to a cycle at an offset.
+    /// The board's reply to a cycle at an offset.
     pub(crate) fn cycle(&mut self, signals: &Signals, at: u32, f: Option<&Modify>) -> Reply
         ensures reply { result ≡ (cycle self.old signals.now at (option_map (λ f. f.now) f.entry)).0 }
         ensures board { self.new ≡ (cycle self.old signals.now at (option_map (λ f. f.now) f.entry)).1 }
@@ -71,7 +71,7 @@ impl Bus {
     }
 }
 
-/// Where the board is: it answers all codes of the extended space.
+/// The range of the board, which responds to all codes of the extended space.
 const ENTRY: Entry = Entry {
     space: Space::A32,
     base: 0,
@@ -79,7 +79,7 @@ const ENTRY: Entry = Entry {
     supervisory: false,
 };
 
-/// The board: all zero, width 32, all switches on.
+/// The board's memory: all zero, 32 data lines, and all three kinds of transfers.
 #[tactic(auto, unfolding(crate::specs::Cycles::fresh_board))]
 fn fresh_memory(alloc: Global) -> Result<ByteMemory, ProgramFault>
     ensures board { IfOk result (λ memory. memory ≡ fresh_board) }

@@ -19,13 +19,24 @@ use vme_shared::Status;
 /// The greatest number of bytes of an input.
 pub const INPUT_LIMIT: usize = 1_048_576;
 
-/// How many bytes of text are gathered before they are written.
+/// The number of bytes of text that are gathered before they are written.
 const WRITE_SIZE: usize = 65_536;
 
-/// Answers each line of the input, in order.
+/// Processes each line of the input in order, on one board of 4,096 bytes at address 0 of the
+/// extended space.
 ///
-/// The input is read first, to its end or to one byte past `INPUT_LIMIT`; nothing is written
-/// before that. Of a reader or a writer that tells no bytes only the faults are promised.
+/// For each line, the output contains the signals of its cycles and the outcome, or its refusal.
+/// Returns `Clean` if every outcome is a success, otherwise `Marked`.
+///
+/// The engine first reads the input, to its end or to one byte past `INPUT_LIMIT`; it writes
+/// nothing before that. If the reader has no byte model, only the fault clauses hold; if the writer
+/// has none, what is written is not stated.
+///
+/// # Errors
+///
+/// `Read` or `Write`: the reader or the writer failed. `TooLong`: the input has more than
+/// `INPUT_LIMIT` bytes. `Memory`: an allocation failed. After a fault, a prefix of the output was
+/// written.
 pub fn cycles_engine<R: Source, W: Sink>(
     alloc: Global,
     reader: &mut R,
@@ -34,7 +45,7 @@ pub fn cycles_engine<R: Source, W: Sink>(
     requires reader_unmarked { R.is_marked reader.old ≡ false }
     requires writer_unmarked { W.is_marked writer.old ≡ false }
 
-    // What is written is the text of the input, or a front of it before a fault.
+    // What is written is the text of the input, or a prefix of it before a fault.
     ensures text { IfSome (R.remaining reader.old) (λ input.
         OnOk result (Appends (W.contents writer.old) (W.contents writer.new) (cycles_text input))) }
     ensures prefix { IfSome (R.remaining reader.old) (λ input.
@@ -43,7 +54,7 @@ pub fn cycles_engine<R: Source, W: Sink>(
     ensures status { IfSome (R.remaining reader.old) (λ input.
         IfOk result (λ status. status ≡ cycles_status input)) }
 
-    // When each fault comes; `Memory` comes where a growth is refused.
+    // When each fault is returned. No clause states when `Memory` is.
     ensures read { R.is_marked reader.new ≡ is_read_failure result }
     ensures too_long { result ≡ Err ProgramFault.TooLong →
         IfSome (R.remaining reader.old) (λ input. INPUT_LIMIT < length input) }
@@ -58,7 +69,7 @@ pub fn cycles_engine<R: Source, W: Sink>(
     answer_all(alloc, input.as_slice(), writer)
 }
 
-/// Answers each line of a text. Its answers are gathered and written in large pieces.
+/// Processes each line of a text. The output is gathered and written in large pieces.
 fn answer_all<W: Sink>(alloc: Global, input: &[u8], writer: &mut W) -> Result<Status, ProgramFault>
     requires { W.is_marked writer.old ≡ false }
     ensures text { OnOk result

@@ -1,3 +1,4 @@
+//! Why a run of the program ends early, and its exit status.
 ghost use Rattle.std.specs.Prelude.{◌≡◌};
 ghost use Rattle.vme_engines.specs.declared.fault.ProgramFault.TheVariants.{Memory};
 ghost use Rattle.vme_engines.specs.Faults.{exit_status_of, fault_of_run};
@@ -8,28 +9,28 @@ use vme_report::RunFault;
 use vme_script::ConfigFault;
 use vme_shared::Status;
 
-/// Why a run ended early.
+/// Why a run ended early. Its `Display` text is what the program reports.
 #[derive(Clone, Copy, Debug, PartialEq, Eq, Error)]
 pub enum ProgramFault {
-    /// F1: the input can't be read.
+    /// F1: the input cannot be read.
     #[error("read")]
     Read,
-    /// F2: the input is longer than it may be.
+    /// F2: the input is longer than its limit.
     #[error("too long")]
     TooLong,
-    /// F3: the output can't be written.
+    /// F3: the output cannot be written.
     #[error("write")]
     Write,
-    /// F4: there is no memory.
+    /// F4: an allocation failed.
     #[error("memory")]
     Memory,
     /// F5: a thread could not be started.
     #[error("thread")]
     Thread,
-    /// F6: an object can count no further step.
+    /// F6: an object has taken as many steps as can be counted.
     #[error("spent")]
     Spent,
-    /// The input is no configuration.
+    /// The input is not a configuration, with its refusal.
     #[error("{0}")]
     Config(ConfigFault),
 }
@@ -55,8 +56,8 @@ impl From<RunFault> for ProgramFault {
     }
 }
 
-/// The exit status of the program for the end of a run: 0 where every reply is a good one, 1 where
-/// one is not, 2 where the input is no configuration, and 3 after any other fault.
+/// Returns the program's exit status for the end of a run: 0 for `Clean`, 1 for `Marked`, 2 if the
+/// input is not a configuration, and 3 after any other fault.
 pub fn exit_status(end: &Result<Status, ProgramFault>) -> u8
     ensures status { result ≡ exit_status_of end.now }
 {

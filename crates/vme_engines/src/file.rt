@@ -13,8 +13,12 @@ use vme_script::{Config, ConfigFault};
 /// The greatest number of bytes of a configuration file.
 pub const FILE_LIMIT: usize = 2_097_152;
 
-/// Reads a configuration file, to its end or to one byte past `FILE_LIMIT`. `Memory` comes where a
-/// growth is refused.
+/// Reads a configuration file, to its end or to one byte past `FILE_LIMIT`.
+///
+/// # Errors
+///
+/// `Config`: the bytes are not a configuration. `Read`: the reader failed. `TooLong`: the file has
+/// more than `FILE_LIMIT` bytes. `Memory`: an allocation failed.
 pub fn read_config<R: Source>(alloc: Global, reader: &mut R) -> Result<Config, ProgramFault>
     requires unmarked { R.is_marked reader.old ≡ false }
     ensures config { IfOk result (λ config.
@@ -34,7 +38,7 @@ pub fn read_config<R: Source>(alloc: Global, reader: &mut R) -> Result<Config, P
     configured(alloc, input.as_slice())
 }
 
-/// What the bytes of a file configure.
+/// The configuration that the bytes of a file are.
 fn configured(alloc: Global, input: &[u8]) -> Result<Config, ProgramFault>
     ensures config { IfOk result (Configures input.now) }
     ensures refused { (fault : ConfigFault) →

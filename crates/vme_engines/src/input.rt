@@ -1,4 +1,4 @@
-//! The input of an engine as a whole.
+//! The whole input of an engine.
 ghost use Rattle.std.specs.Prelude.{◌≡◌, ◌<◌, ◌≤◌, ◌^◌, Err, false, length, vec_len, IfOk, IfErr, IfSome};
 ghost use Rattle.vme_engines.specs.Faults.{IsInputFault, ReadsPastLimit, is_read_failure};
 
@@ -6,10 +6,15 @@ use crate::fault::ProgramFault;
 use std::alloc::Global;
 use vme_io::Source;
 
-/// How many bytes are read at a time.
+/// The number of bytes that are read at a time.
 const READ_SIZE: usize = 16_384;
 
-/// Reads to the end, or to one byte past the limit. `Memory` comes where a growth is refused.
+/// Reads all bytes of a reader, to the end or to one byte past `limit`.
+///
+/// # Errors
+///
+/// `Read`: the reader failed. `TooLong`: there are more than `limit` bytes. `Memory`: an allocation
+/// failed.
 pub fn read_input<R: Source>(
     alloc: Global,
     reader: &mut R,

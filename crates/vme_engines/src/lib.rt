@@ -1,5 +1,7 @@
-//! What the engines of the program share: how they read their input, why a run of them ends early,
-//! and with which status the program ends then. This project's own.
+//! The engines of the program: `vme cycles` makes the cycles of request lines, `vme step` runs the
+//! scripts of a configuration on one thread, and `vme run` runs them on threads.
+//!
+//! Each engine reads a source of bytes, writes to a sink, and returns a status or a fault.
 #![tactic(auto)]
 
 mod answer;

@@ -1,4 +1,4 @@
-//! Which lines `vme cycles` knows: requests to the bus, and no others.
+//! The lines that `vme cycles` accepts: requests to the bus, and no others.
 ghost use Rattle.std.specs.Prelude.{◌≡◌, slice_get};
 ghost use Rattle.vme_lexer.specs.Words.{words_of};
 ghost use Rattle.vme_engines.specs.Lines.{is_request_word, is_other_word, request_of};
@@ -7,7 +7,7 @@ use vme_cycle::Request;
 use vme_grammar::{LINE_LIMIT, Line, LineFault, parse_line};
 use vme_lexer::first_word;
 
-/// The request that a line asks for. A word that only scripts know is unknown, whatever follows it.
+/// The request of a line. A first word that only scripts know is unknown, whatever follows it.
 #[tactic(auto, unfolding(crate::specs::Lines::request_of))]
 pub(crate) fn request_of(line: &[u8]) -> Result<Option<Request>, LineFault>
     ensures { result ≡ request_of line.now }
@@ -25,7 +25,7 @@ pub(crate) fn request_of(line: &[u8]) -> Result<Option<Request>, LineFault>
     }
 }
 
-/// Whether a line's first word begins no request.
+/// Whether a line's first word is not that of a request.
 fn begins_otherwise(line: &[u8]) -> bool
     ensures { result ≡ is_other_word (slice_get (words_of line.now) 0) }
 {

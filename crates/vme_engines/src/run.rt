@@ -1,4 +1,5 @@
-//! From the bytes of a configuration file to the bytes of a report of its run.
+//! The engine of `vme run`: from the bytes of a configuration file to the report of its run on
+//! threads.
 ghost use Rattle.std.specs.Prelude.{ℕ, ◌≡◌, ◌<◌, ◌≤◌, List, Err, false, length, IfOk, IfErr, IfSome, OnOk, OnErr};
 ghost use Rattle.std.specs.Io.KnownBytes.{Appends};
 ghost use Rattle.vme_script.specs.declared.fault.ConfigFault.{ConfigFault};
@@ -16,7 +17,7 @@ use std::thread::Threads;
 use vme_io::{Sink, Source};
 use vme_threads::{Gate, run_threads};
 
-/// A gate that lets every line through.
+/// A gate that lets every line pass.
 #[derive(Clone, Copy, Debug)]
 struct OpenGate;
 
@@ -28,9 +29,19 @@ impl Gate for OpenGate {
 
 /// Runs the scripts of a configuration file, each on a thread of its own, and writes the report.
 ///
-/// The input is read first, to its end or to one byte past `FILE_LIMIT`; nothing is written before
-/// all threads are at their ends. Of a reader or a writer that tells no bytes only the faults are
-/// promised. That threads run at the same time, and that a call is ever served, no contract says.
+/// Returns `Clean` if every reply is a success, otherwise `Marked`.
+///
+/// The engine first reads the input, to its end or to one byte past `FILE_LIMIT`; it writes nothing
+/// before all threads have ended. If the reader has no byte model, only the fault clauses hold; if
+/// the writer has none, what is written is not stated. No contract states that threads run at the
+/// same time, or that a call is ever served.
+///
+/// # Errors
+///
+/// `Config`: the input is not a configuration. `Read` or `Write`: the reader or the writer failed.
+/// `TooLong`: the input has more than `FILE_LIMIT` bytes. `Memory`: an allocation failed. `Thread`:
+/// a thread could not be started. `Spent`: an object has taken as many steps as can be counted.
+/// After a fault, a prefix of a report was written, or nothing.
 pub fn run_engine<T: Threads + Wait + Sync, R: Source, W: Sink>(
     rt: &T,
     alloc: Global,
@@ -40,15 +51,14 @@ pub fn run_engine<T: Threads + Wait + Sync, R: Source, W: Sink>(
     requires reader_unmarked { R.is_marked reader.old ≡ false }
     requires writer_unmarked { W.is_marked writer.old ≡ false }
 
-    // What is written is the text of a report of such a run, or a front of it before a fault.
+    // What is written is the text of a report of the run, or a prefix of one before a fault.
     ensures text { IfSome (R.remaining reader.old) (λ input. IfOk result (λ status.
         (text : List ℕ) × IsRunText input text status × Appends (W.contents writer.old) (W.contents writer.new) text)) }
     ensures prefix { IfSome (R.remaining reader.old) (λ input.
         OnErr result (WritesPrefix input (W.contents writer.old) (W.contents writer.new))) }
     ensures nothing { IsReadingFault result → writer.new ≡ writer.old }
 
-    // When each fault comes; `Memory` comes where a growth is refused, `Thread` where a thread could
-    // not be started, and `Spent` where an object has made as many steps as can be counted.
+    // When each fault is returned. No clause states when `Memory`, `Thread` and `Spent` are.
     ensures refused { (fault : ConfigFault) → result ≡ Err (ProgramFault.Config fault) →
         IfSome (R.remaining reader.old) (λ input. IsRefusedAs input fault) }
     ensures read { R.is_marked reader.new ≡ is_read_failure result }

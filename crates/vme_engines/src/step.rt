@@ -1,4 +1,5 @@
-//! From the bytes of a configuration file to the bytes of the report.
+//! The engine of `vme step`: from the bytes of a configuration file to the report of its run on one
+//! thread.
 ghost use Rattle.std.specs.Prelude.{◌≡◌, ◌<◌, ◌≤◌, Err, false, length, IfOk, IfErr, IfSome, OnOk, OnErr};
 ghost use Rattle.std.specs.Io.KnownBytes.{Appends};
 ghost use Rattle.vme_io.specs.Prefixes.{AppendsPrefix};
@@ -17,11 +18,20 @@ use std::alloc::Global;
 use vme_io::{Sink, Source};
 use vme_stepper::run_configured;
 
-/// Runs the scripts of a configuration file by its schedule and then its rounds, and writes the
-/// report.
+/// Runs the scripts of a configuration file by the turns of its schedule and then by its rounds,
+/// and writes the report.
 ///
-/// The input is read first, to its end or to one byte past `FILE_LIMIT`; nothing is written before
-/// the run is at its end. Of a reader or a writer that tells no bytes only the faults are promised.
+/// Returns `Clean` if every reply is a success, otherwise `Marked`.
+///
+/// The engine first reads the input, to its end or to one byte past `FILE_LIMIT`; it writes nothing
+/// before the run has ended. If the reader has no byte model, only the fault clauses hold; if the
+/// writer has none, what is written is not stated.
+///
+/// # Errors
+///
+/// `Config`: the input is not a configuration. `Read` or `Write`: the reader or the writer failed.
+/// `TooLong`: the input has more than `FILE_LIMIT` bytes. `Memory`: an allocation failed. After a
+/// fault, a prefix of the report was written.
 pub fn step_engine<R: Source, W: Sink>(
     alloc: Global,
     reader: &mut R,
@@ -30,7 +40,8 @@ pub fn step_engine<R: Source, W: Sink>(
     requires reader_unmarked { R.is_marked reader.old ≡ false }
     requires writer_unmarked { W.is_marked writer.old ≡ false }
 
-    // What is written is the text of the run that the file asks for, or a front of it before a fault.
+    // What is written is the text of the run that the file configures, or a prefix of it before a
+    // fault.
     ensures read { IfSome (R.remaining reader.old) (λ input.
         IfOk result (λ _. (config : Configuration) × Configures input config)) }
     ensures text { (config : Configuration) → IfSome (R.remaining reader.old) (λ input. Configures input config →
@@ -41,7 +52,7 @@ pub fn step_engine<R: Source, W: Sink>(
         IfOk result (λ status. status ≡ run_status config (file_turns config))) }
     ensures nothing { IsReadingFault result → writer.new ≡ writer.old }
 
-    // When each fault comes; `Memory` comes where a growth is refused.
+    // When each fault is returned. No clause states when `Memory` is.
     ensures refused { (fault : ConfigFault) → result ≡ Err (ProgramFault.Config fault) →
         IfSome (R.remaining reader.old) (λ input. IsRefusedAs input fault) }
     ensures read_fault { R.is_marked reader.new ≡ is_read_failure result }

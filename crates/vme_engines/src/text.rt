@@ -1,4 +1,4 @@
-//! The text of a report.
+//! The text of a report of a run on threads.
 ghost use Rattle.std.specs.Prelude.{◌≡◌, ◌≢◌, false, length, map, IfOk, IfErr, OnOk, OnErr};
 ghost use Rattle.std.specs.Io.KnownBytes.{Appends};
 ghost use Rattle.vme_io.specs.Prefixes.{AppendsPrefix};
@@ -12,8 +12,14 @@ use vme_report::{BoardReportRef, RunFault, write_report};
 use vme_shared::{LineReply, Status};
 use vme_threads::{BoardReport, Report};
 
-/// Writes the text of a report, or a front of it before a fault. `Memory` comes where a growth is
-/// refused.
+/// Writes the text of a report.
+///
+/// Returns `Clean` if every reply is a success, otherwise `Marked`.
+///
+/// # Errors
+///
+/// `Write`: the sink failed. `Memory`: an allocation failed. In both cases a prefix of the text was
+/// written.
 pub fn report_text<W: Sink>(
     alloc: Global,
     report: &Report,
@@ -34,7 +40,7 @@ pub fn report_text<W: Sink>(
     Ok(status)
 }
 
-/// What is told of boards, by their ends and the lines of their processors.
+/// The boards of a report, from the boards' ends and the replies to their processors' lines.
 fn reported_ends<'a>(
     alloc: Global,
     ends: &'a [BoardReport],
@@ -57,7 +63,7 @@ fn reported_ends<'a>(
     Ok(boards)
 }
 
-/// What is told of a board.
+/// One board of a report.
 fn reported_end<'a>(end: &'a BoardReport, lines: &'a [(u16, LineReply)]) -> BoardReportRef<'a>
     ensures { result ≡ record {
       slot = end.now.slot;

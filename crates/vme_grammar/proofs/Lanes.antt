@@ -1,8 +1,8 @@
--- The text of lanes, two digits a lane.
+-- The text of data lanes, two digits a data lane.
 use Rattle.std.proofs.Common.{◌≡◌, ℕ, List, [], ◌∷◌, ◌++◌, length, Option, None, Some, true, false, slice_index_or, refl, ap, ◌∙◌, arith}
 use Rattle.vme_grammar.specs.Texts.{lane_text, lanes_text, reported_lanes}
 
--- a lane's two digits, and then a text
+-- a data lane's two digits, and then a text
 two_digits :
     (lane : Option ℕ) (rest : List ℕ) → slice_index_or (lane_text lane) 0 0 ∷ (slice_index_or (lane_text lane) 1 0 ∷ rest) ≡ lane_text lane ++ rest
 two_digits None rest = refl
@@ -19,7 +19,7 @@ digits_are (lane ∷ lanes) =
     ap (λ rest. slice_index_or (lane_text lane) 0 0 ∷ (slice_index_or (lane_text lane) 1 0 ∷ rest)) (digits_are lanes)
     ∙ two_digits lane (lanes_text lanes)
 
--- the digits of a lane that were taken
+-- the digits of a data lane that were taken
 abbrev taken : List ℕ → List ℕ → List ℕ
 taken text rest = slice_index_or text 0 0 ∷ (slice_index_or text 1 0 ∷ rest)
 

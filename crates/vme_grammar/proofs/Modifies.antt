@@ -1,4 +1,4 @@
--- What the words of a read-modify-write ask for is what the table of forms says.
+-- The words of a read-modify-write spell what the table of forms says.
 use Rattle.std.proofs.Common.{◌≡◌, ℕ, ◌+◌, true, List, [], ◌∷◌, length, map, drop, None, Some, Result, Ok, Err, refl, ◌∙◌, inl, inr, arith}
 use Rattle.std.specs.Prelude.{◌==◌, slice_get}
 use Rattle.std.proofs.lemmas.Bool.{cases_Bool, eqb-true}
@@ -21,7 +21,7 @@ use Rattle.vme_grammar.specs.Naming.{function_of, line_by, line_named}
 use Rattle.vme_grammar.specs.Modifies.{field_place, operand_count, modify_of, modify_line, local_modify_line}
 use Rattle.vme_grammar.proofs.Cases.{cases_Option, cases_Result, same_count}
 
--- the places behind the name of a function are those of its data
+-- the places after the name of a function are those of its data
 bus_places : (function : Function) → length (drop 1 (fields_of (form.Modify function))) ≡ operand_count function + 4
 bus_places Set = refl
 bus_places Exchange = refl
@@ -34,7 +34,7 @@ local_places Exchange = refl
 local_places Add = refl
 local_places Compare = refl
 
--- a line that is asked for
+-- a line that is read
 abbrev reported : Line → Result Line LineFault
 reported line = Ok line
 
@@ -74,7 +74,7 @@ data_read whole Compare o name (x ∷ y ∷ []) count =
     ]
 data_read whole Compare o name (x ∷ y ∷ z ∷ rest) count = absurd (omega (arith, eqb-true (length (x ∷ y ∷ z ∷ rest)) 2 count))
 
--- AM ADDR N FUNC, where the name of the function is known
+-- AM ADDR N FUNC, with the name of the function known
 modify_by :
     (function : Function) (a b c name : List ℕ) (rest : List (List ℕ)) → function_of (Some name) ≡ Ok function
     → modify_line (a ∷ b ∷ c ∷ name ∷ rest) ≡ line_by (form.Modify function) (a ∷ b ∷ c ∷ name ∷ rest)
@@ -100,7 +100,7 @@ modify_by function a b c name rest is =
       ]
     ]
 
--- OFF N FUNC, where the name of the function is known
+-- OFF N FUNC, with the name of the function known
 local_modify_by :
     (function : Function) (a b name : List ℕ) (rest : List (List ℕ)) → function_of (Some name) ≡ Ok function
     → local_modify_line (a ∷ b ∷ name ∷ rest) ≡ line_by (form.LocalModify function) (a ∷ b ∷ name ∷ rest)
@@ -123,7 +123,7 @@ local_modify_by function a b name rest is =
       ]
     ]
 
--- a function that is not there
+-- a function that is absent
 no_function : function_of None ≡ Err WordCount
 unfolding function_of
 no_function = refl
@@ -141,7 +141,7 @@ local_named :
 unfolding line_named
 local_named first function words is = rw is refl
 
--- what the words after `m` ask for
+-- the line that the words after `m` spell
 pub modify_is_named : (words : List (List ℕ)) (first : Function) → modify_line words ≡ line_named (form.Modify first) words
 unfolding modify_line line_named
 modify_is_named [] first = rw no_function refl
@@ -154,7 +154,7 @@ modify_is_named (a ∷ b ∷ c ∷ name ∷ rest) first =
       | inr (function, is) ↦ modify_by function a b c name rest is ∙ bus_named first function (a ∷ b ∷ c ∷ name ∷ rest) is
     ]
 
--- what the words after `lm` ask for
+-- the line that the words after `lm` spell
 pub local_modify_is_named : (words : List (List ℕ)) (first : Function) → local_modify_line words ≡ line_named (form.LocalModify first) words
 unfolding local_modify_line line_named
 local_modify_is_named [] first = rw no_function refl

@@ -30,13 +30,13 @@ unlock_named (p ∷ q ∷ r ∷ s ∷ t ∷ []) long short u n l o c k = absurd 
 unlock_named (p ∷ q ∷ r ∷ s ∷ t ∷ v ∷ []) long short u n l o c k = rw (u, n, l, o, c, k) refl
 unlock_named (p ∷ q ∷ r ∷ s ∷ t ∷ v ∷ w ∷ more) long short u n l o c k = absurd (omega (arith, short))
 
--- where no words are left, none goes against a place
+-- no words match every list of places
 go_by_none : (more : List Place) → go_by true more [] ≡ true
 go_by_none [] = refl
 go_by_none (Word text ∷ more) = go_by_none more
 go_by_none (Of field ∷ more) = go_by_none more
 
--- where the first word is another, more words do not help
+-- if the first word does not match, more words do not help
 first_fails :
     (some : List Place) (word : List ℕ) (words : List (List ℕ)) → go_by true some (word ∷ []) ≡ false
     → go_by true some (word ∷ words) ≡ false
@@ -58,12 +58,12 @@ none_named (form ∷ some) word words none =
       | inr miss ↦ rw (first_fails (places form) word words miss) (none_named some word words (rw miss at none))
     ]
 
--- a word that no form begins with is unknown, whatever follows it
+-- a word that begins no form is unknown, whatever follows it
 pub unnamed : (word : List ℕ) (words : List (List ℕ)) → form_named word ≡ None → form_of (word ∷ words) ≡ Err UnknownWord
 unfolding form_named form_of
 unnamed word words none = rw (none_named forms word words none) refl
 
--- the test that a form was found by
+-- the test by which a form was found
 pub find_passes : (p : LineForm → Bool) (some : List LineForm) (form : LineForm) → find p some ≡ Some form → p form ≡ true
 find_passes p [] form found = absurd (cc)
 find_passes p (x ∷ some) form found =
@@ -72,7 +72,7 @@ find_passes p (x ∷ some) form found =
       | inr miss ↦ find_passes p some form (rw miss at found)
     ]
 
--- a first word that goes by a certain word is that word
+-- a first word that matches a fixed word is that word
 first_is :
     (text : List ℕ) (some : List Place) (word : List ℕ) → slice_get some 0 ≡ Some (Word text) → go_by true some (word ∷ []) ≡ true
     → word ≡ text
@@ -142,7 +142,7 @@ word_of Unlock = codes "unlock"
 word_of Put = codes "put"
 word_of Take = codes "take"
 
--- its places begin with it
+-- the places of a form begin with its first word
 own_first : (form : LineForm) → slice_get (places form) 0 ≡ Some (Word (word_of form))
 own_first Read = refl
 own_first Write = refl
@@ -159,7 +159,7 @@ own_first Unlock = refl
 own_first Put = refl
 own_first Take = refl
 
--- a line that begins with it has that form, if it names its function
+-- a line that begins with the first word of a form has that form, if it names its function
 pub own_word : (form : LineForm) (words : List (List ℕ)) → form_of (word_of form ∷ words) ≡ with_function form words
 unfolding form_of
 own_word Read words = refl
@@ -177,7 +177,7 @@ own_word Unlock words = refl
 own_word Put words = refl
 own_word Take words = refl
 
--- the form that a word names is that of the line, if it names its function
+-- the form that a word names is that of the line, if the line names its function
 pub named :
     (word : List ℕ) (words : List (List ℕ)) (form : LineForm) → form_named word ≡ Some form
     → form_of (word ∷ words) ≡ with_function form words
@@ -186,14 +186,14 @@ named word words form found =
     let passes = find_passes (λ form. go_by true (places form) (word ∷ [])) forms form found in
     rw (first_is (word_of form) (places form) word (own_first form) passes) (own_word form words)
 
--- of a word that is certain nothing is left to read
+-- for a fixed word, there is nothing left to read
 by_more :
     (more : List Field) (word : List ℕ) (words : List (List ℕ)) → operands_of (Name ∷ more) (word ∷ words) ≡ operands_of more words
 unfolding operands_of with_field
 by_more more word words =
     rw (same_count (length words) (length more) 1 (length (word ∷ words)) (length (Name ∷ more)) (omega arith) (omega arith)) refl
 
--- what the words of a form give, without its first word
+-- the operands of a form, without its first word
 by_first :
     (form : LineForm) (word : List ℕ) (words : List (List ℕ))
     → operands_of (fields_of form) (word ∷ words) ≡ operands_of (drop 1 (fields_of form)) words
@@ -212,7 +212,7 @@ by_first Unlock word words = by_more _ word words
 by_first Put word words = by_more _ word words
 by_first Take word words = by_more _ word words
 
--- a line whose first word names a form asks for what a line of that form does
+-- a line whose first word names a form is read as a line of that form
 pub line_is_named :
     (word : List ℕ) (words : List (List ℕ)) (form : LineForm) → form_named word ≡ Some form
     → line_of_words (word ∷ words) ≡ line_named form words
@@ -223,7 +223,7 @@ line_is_named word words form found =
       | inr (own, is) ↦ rw (named word words form found, is, by_first own word words) refl
     ]
 
--- a line whose first word names none is refused
+-- a line whose first word names no form is refused
 pub line_is_unnamed : (word : List ℕ) (words : List (List ℕ)) → form_named word ≡ None → line_of_words (word ∷ words) ≡ Err UnknownWord
 unfolding line_of_words
 line_is_unnamed word words none = rw (unnamed word words none) refl

@@ -1,4 +1,4 @@
--- Words of digits: they have no space, so that each is one word of a line.
+-- Words of digits: they contain no space, so each is one word of a line.
 use Rattle.std.proofs.Common.{◌≡◌, ℕ, ◌+◌, ◌*◌, ◌<◌, Bool, false, true, List, [], ◌∷◌, ◌++◌, length, filter, Option, None, Some, refl, ap, ◌∙◌, arith, inl, inr}
 use Rattle.std.specs.Prelude.{◌==◌, if◌then◌else◌, codes}
 use Rattle.std.specs.List.{All}
@@ -11,16 +11,16 @@ use Rattle.vme_grammar.proofs.Cases.{cases_Option}
 use Rattle.vme_lexer.specs.Words.{words, is_nonempty}
 use Rattle.vme_lexer.specs.Numbers.{hex_digit, hex_from, hex_number, hex_pairs, hex_bytes, exact_bytes, local_bytes, small_number, local_number, decimal_digit, decimal_from, decimal_number}
 
--- a word with some bytes, none of them a space
+-- a nonempty word without a space
 pub record IsWord (word : List ℕ) : Type 0 where
   pub unspaced : All (λ b. (b == 32) ≡ false) word
   pub some : 0 < length word
 
--- a word is the only one of itself
+-- the words of a word are that word alone
 pub only_word : (word : List ℕ) → IsWord word → words word ≡ word ∷ []
 only_word word is = ap (filter is_nonempty) (slice_split_none (λ b. b == 32) word is.unspaced) ∙ rw (lt-ltb 0 (length word) is.some) refl
 
--- a word before a space is the first of the text
+-- a word before a space is the first word of the text
 pub first_word : (word rest : List ℕ) → IsWord word → words (word ++ 32 ∷ rest) ≡ word ∷ words rest
 first_word word rest is =
     ap (filter is_nonempty) (slice_split_at (λ b. b == 32) word 32 rest is.unspaced refl) ∙ rw (lt-ltb 0 (length word) is.some) refl
@@ -35,7 +35,7 @@ one_more c cs first more = All-cons (λ b. (b == 32) ≡ false) c cs first more
 none_spaced : Unspaced []
 none_spaced = λ k d less. absurd (omega arith)
 
--- a digit is no space
+-- a hexadecimal digit is not a space
 hex_digit_is_no_space : (c d : ℕ) → hex_digit c ≡ Some d → (c == 32) ≡ false
 hex_digit_is_no_space c d digit =
     elim (cases_eq c 32) [
@@ -83,19 +83,19 @@ hex_pairs_unspaced bytes (c ∷ d ∷ cs) read =
       ]
     ]
 
--- a value that is there where a test passes
+-- the value of a conditional that is present: the test holds
 cond_is : {A : Type 0} (b : Bool) (value : Option A) (x : A) → (if b then value else None) ≡ Some x → (b ≡ true) × (value ≡ Some x)
 cond_is true value x is = (refl, is)
 cond_is false value x is = absurd (cc)
 
--- a number of hexadecimal digits is a word
+-- a spelled hexadecimal number is one word
 pub hex_is_word : (len n : ℕ) (word : List ℕ) → 0 < len → hex_number len word ≡ Some n → IsWord word
 unfolding hex_number
 hex_is_word len n word some read =
     let both = cond_is (length word == len) (hex_from 0 word) n read in
     record { unspaced = hex_from_unspaced 0 n word both.1; some = omega (arith, eqb-true (length word) len both.0) }
 
--- bytes are a word
+-- spelled bytes are one word
 pub bytes_is_word : (most : ℕ) (bytes word : List ℕ) → hex_bytes most word ≡ Some bytes → IsWord word
 unfolding hex_bytes
 bytes_is_word most bytes [] read = absurd (cc)
@@ -103,12 +103,12 @@ bytes_is_word most bytes (c ∷ cs) read =
     let both = cond_is _ (hex_pairs (c ∷ cs)) bytes read in
     record { unspaced = hex_pairs_unspaced bytes (c ∷ cs) both.1; some = omega arith }
 
--- so are just so many of them
+-- spelled bytes of an exact number are one word
 pub exact_is_word : (len : ℕ) (bytes word : List ℕ) → exact_bytes len word ≡ Some bytes → IsWord word
 unfolding exact_bytes
 exact_is_word len bytes word read = bytes_is_word 8 bytes word (cond_is _ (hex_bytes 8 word) bytes read).1
 
--- and those of the local port
+-- spelled bytes for the local port are one word
 pub local_bytes_is_word : (bytes word : List ℕ) → local_bytes word ≡ Some bytes → IsWord word
 unfolding local_bytes
 local_bytes_is_word bytes word read =
@@ -117,7 +117,7 @@ local_bytes_is_word bytes word read =
       | inr (all, spelled) ↦ bytes_is_word 8 all word spelled
     ]
 
--- a decimal number is a word
+-- a spelled decimal number is one word
 pub decimal_is_word : (most n : ℕ) (word : List ℕ) → decimal_number most word ≡ Some n → IsWord word
 unfolding decimal_number
 decimal_is_word most n [] read = absurd (cc)
@@ -125,7 +125,7 @@ decimal_is_word most n (c ∷ cs) read =
     let both = cond_is _ (decimal_from 0 (c ∷ cs)) n read in
     record { unspaced = decimal_from_unspaced 0 n (c ∷ cs) both.1; some = omega arith }
 
--- a digit from 1 to 8 is a word
+-- a digit from 1 to 8 is one word
 pub small_is_word : (n : ℕ) (word : List ℕ) → small_number word ≡ Some n → IsWord word
 unfolding small_number
 small_is_word n [] read = absurd (cc)
@@ -139,7 +139,7 @@ small_is_word n (c ∷ d ∷ cs) read = absurd (let long : (length (c ∷ d ∷ 
 digit_is_word : (c : ℕ) → (c == 32) ≡ false → IsWord (c ∷ [])
 digit_is_word c other = record { unspaced = one_more c [] other none_spaced; some = omega arith }
 
--- a digit 1, 2 or 4 is a word
+-- a digit 1, 2 or 4 is one word
 pub local_is_word : (n : ℕ) (word : List ℕ) → local_number word ≡ Some n → IsWord word
 unfolding local_number
 local_is_word n word read =

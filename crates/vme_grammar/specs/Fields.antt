@@ -1,4 +1,4 @@
--- The fields of a line: what each reads, and what it gives.
+-- The fields of a line: what each reads, and what it adds to the operands.
 use Rattle.std.specs.Prelude.{ℕ, List, Option, Some}
 use Rattle.std.specs.Option.{option_map}
 use Rattle.vme_grammar.specs.declared.fault.LineFault.{LineFault}
@@ -6,11 +6,8 @@ use Rattle.vme_grammar.specs.declared.fault.LineFault.TheVariants.{UnknownWord, 
 use Rattle.vme_grammar.specs.Operands.{Operands}
 use Rattle.vme_lexer.specs.Numbers.{hex_number, hex_bytes, exact_bytes, local_bytes, small_number, local_number, decimal_number}
 
--- what stands in a place of a line after its first word: the name of a function, by which the line's form is known already; the
--- code of an address modifier; an address; an offset of the local port; the number of bytes of a datum, on the bus and on the
--- local port; the number of data; the bytes of a datum, on the bus and on the local port; the bytes of a block; a datum of the
--- length given before, that is expected or that is written; the number of a mailbox; and a word of four bytes, the first most
--- significant (this project's own)
+-- a field of a line; Name is a function's name, which the form gives already; Expected and Datum have the length given
+-- before; FourBytes is a word of a mailbox, the most significant byte first
 pub data Field : Type 0 where
   Name : Field
   Code : Field
@@ -27,8 +24,8 @@ pub data Field : Type 0 where
   Mailbox : Field
   FourBytes : Field
 
--- what fields give, with that of one more, if a word spells it: AM, ADDR, OFF, N, COUNT, HEX and BOX; a block has at most as
--- many bytes as a line of 80 bytes can spell (this project's own)
+-- the operands with those of one more field, if a word spells it; a block has at most as many bytes as a line of 80
+-- bytes can spell
 unfoldable pub with_field : Field → List ℕ → Operands → Option Operands
 with_field Name word o = Some o
 with_field Code word o = option_map (λ am. record o { am = am }) (hex_number 2 word)
@@ -45,7 +42,7 @@ with_field Datum word o = option_map (λ bytes. record o { bytes = bytes }) (exa
 with_field Mailbox word o = option_map (λ mailbox. record o { mailbox = mailbox }) (decimal_number 2 word)
 with_field FourBytes word o = option_map (λ number. record o { word = number }) (hex_number 8 word)
 
--- the refusal of a word that spells no such field (this project's own)
+-- the refusal of a word that does not spell the field
 abbrev pub fault_of : Field → LineFault
 fault_of Name = UnknownWord
 fault_of Code = BadCode

@@ -1,4 +1,4 @@
--- The table of the forms of lines: the words and fields of each, and what it asks for.
+-- The table of the forms of lines: the words and fields of each, and the line that they spell.
 use Rattle.std.specs.Prelude.{ℕ, List, [], ◌∷◌, ◌++◌, map, codes}
 use Rattle.vme_cycle.specs.declared.modify.Modify as modify
 use Rattle.vme_cycle.specs.declared.modify.Modify.TheVariants as modifies
@@ -13,30 +13,30 @@ use Rattle.vme_grammar.specs.declared.function.Function.TheVariants.{Set, Exchan
 use Rattle.vme_grammar.specs.Operands.{Operands}
 use Rattle.vme_grammar.specs.Fields.{Field, Name, Code, Address, Offset, Length, LocalLength, Count, Bytes, LocalBytes, BlockBytes, Expected, Datum, Mailbox, FourBytes}
 
--- what stands in a place of a line: one certain word, or a field (this project's own)
+-- what is at a place of a line: a fixed word, or a field
 pub data Place : Type 0 where
   Word : List ℕ → Place
   Of : Field → Place
 
--- some fields, one after another (this project's own)
+-- a list of fields as places
 abbrev pub fields : List Field → List Place
 fields list = map Of list
 
--- the name of a function (this project's own)
+-- the name of a function
 abbrev pub name_of : Function → List ℕ
 name_of Set = codes "set"
 name_of Exchange = codes "xchg"
 name_of Add = codes "add"
 name_of Compare = codes "cas"
 
--- FUNC: its name, and its data of N bytes (this project's own)
+-- FUNC: the name of a function, and its data of N bytes
 abbrev pub function_places : Function → List Place
 function_places Set = Word (name_of Set) ∷ []
 function_places Exchange = Word (name_of Exchange) ∷ fields (Datum ∷ [])
 function_places Add = Word (name_of Add) ∷ fields (Datum ∷ [])
 function_places Compare = Word (name_of Compare) ∷ fields (Expected ∷ Datum ∷ [])
 
--- the forms of lines, one row a word (this project's own)
+-- the table of forms: the places of each, one word a place
 abbrev pub places : LineForm → List Place
 places Read = Word (codes "r") ∷ fields (Code ∷ Address ∷ Length ∷ [])
 places Write = Word (codes "w") ∷ fields (Code ∷ Address ∷ Bytes ∷ [])
@@ -53,33 +53,33 @@ places Unlock = Word (codes "unlock") ∷ fields (Code ∷ Address ∷ [])
 places Put = Word (codes "put") ∷ fields (Mailbox ∷ FourBytes ∷ [])
 places Take = Word (codes "take") ∷ fields (Mailbox ∷ [])
 
--- the field that a place is read as: of a certain word nothing is left to read (this project's own)
+-- the field that a place is read as; for a fixed word there is nothing left to read
 abbrev pub field_at : Place → Field
 field_at (Word text) = Name
 field_at (Of field) = field
 
--- the fields of a form, a certain word among them (this project's own)
+-- the fields of a form, its fixed words included
 abbrev pub fields_of : LineForm → List Field
 fields_of form = map field_at (places form)
 
--- all functions, so that a look-up computes (this project's own)
+-- all functions, as a list that a search computes on
 abbrev pub functions : List Function
 functions = Set ∷ Exchange ∷ Add ∷ Compare ∷ []
 
--- all forms (this project's own)
+-- all forms
 abbrev pub forms : List LineForm
 forms =
     Read ∷ Write ∷ BlockRead ∷ BlockWrite ∷ BlockFill ∷ LocalRead ∷ LocalWrite ∷ Await ∷ Lock ∷ Unlock ∷ Put ∷ Take
     ∷ map Modify functions ++ map LocalModify functions
 
--- a function with its data (this project's own)
+-- a function with its data from the operands
 abbrev pub function_at : Function → Operands → modify.Modify
 function_at Set o = modifies.Set
 function_at Exchange o = modifies.Exchange (record { items = o.bytes })
 function_at Add o = modifies.Add (record { items = o.bytes })
 function_at Compare o = modifies.Compare (record { items = o.expected }) (record { items = o.bytes })
 
--- what a line asks for, by its form and what its fields give (this project's own)
+-- the line that a form and its operands make
 abbrev pub line_at : LineForm → Operands → Line
 line_at Read o = lines.Bus (requests.Read o.am o.addr o.n)
 line_at Write o = lines.Bus (requests.Write o.am o.addr (record { items = o.bytes }))

@@ -1,4 +1,4 @@
--- The grammar of a line: which lines ask for what, and which refusal another line has.
+-- The grammar of a line: which lines are read as what, and which refusal any other line has.
 use Rattle.std.specs.Prelude.{◌≡◌, ℕ, nat_lt, ◌==◌, ◌&&◌, if◌then◌else◌, Bool, true, false, not, List, [], ◌∷◌, length, drop, find, slice_get, Option, Some, None, Result, Ok, Err}
 use Rattle.std.specs.List.{list_any}
 use Rattle.std.specs.Str.{bytes_eq}
@@ -15,31 +15,32 @@ use Rattle.vme_grammar.specs.Fields.{Field, with_field, fault_of}
 use Rattle.vme_grammar.specs.Forms.{Place, Word, Of, places, fields_of, forms, line_at}
 
 infixl 10 ◌>>=◌
--- one refusal after another: the first that is met is told (this project's own)
+-- one check after another: the first refusal is the result
 abbrev pub ◌>>=◌ : {A B : Type 0} → Result A LineFault → (A → Result B LineFault) → Result B LineFault
 (Ok x) >>= f = f x
 (Err fault) >>= f = Err fault
 
--- a refusal, where it holds (this project's own)
+-- the given refusal, if the test holds
 abbrev pub refuse : Bool → LineFault → Result (Unit {0}) LineFault
 refuse true fault = Err fault
 refuse false fault = Ok tt
 
--- whether words go by the certain words among some places, where a word that is absent counts as told (this project's own)
+-- whether words match the fixed words among some places; an absent word counts as `absent`
 abbrev pub go_by : Bool → List Place → List (List ℕ) → Bool
 go_by absent [] words = true
 go_by absent (Word text ∷ more) words =
     option_map_or (λ word. bytes_eq word text) (slice_get words 0) absent && go_by absent more (drop 1 words)
 go_by absent (Of field ∷ more) words = go_by absent more (drop 1 words)
 
--- the form of a line: a word is unknown where the words, as far as they go, go by no form; and there are too few where they
--- have the certain words of none (this project's own)
+-- the form of a line: UnknownWord if the words, as far as they go, match no form; WordCount if none has all its fixed
+-- words
 unfoldable pub form_of : List (List ℕ) → Result LineForm LineFault
 form_of words = do
   _ ← refuse (not (list_any (λ form. go_by true (places form) words) forms)) UnknownWord
   ok_or (find (λ form. go_by false (places form) words) forms) WordCount
 
--- what fields give, a word each; the first from the left whose word spells no such field is told (this project's own)
+-- the operands that fields give, one word a field; the refusal is that of the first word from the left that is
+-- malformed
 abbrev pub fields_read : List Field → List (List ℕ) → Operands → Result Operands LineFault
 fields_read [] words o = Ok o
 fields_read (field ∷ fields) [] o = Ok o
@@ -47,31 +48,31 @@ fields_read (field ∷ fields) (word ∷ words) o = do
   operands ← ok_or (with_field field word o) (fault_of field)
   fields_read fields words operands
 
--- what fields give; a wrong number of words is told before any of them (this project's own)
+-- the operands that fields give; a wrong number of words is refused before any malformed word
 unfoldable pub operands_of : List Field → List (List ℕ) → Result Operands LineFault
 operands_of fields words = do
   _ ← refuse (not (length words == length fields)) WordCount
   fields_read fields words no_operands
 
--- what words ask for, by their form (this project's own)
+-- the line that words spell, by their form
 unfoldable pub line_of_words : List (List ℕ) → Result Line LineFault
 line_of_words words = do
   form ← form_of words
   operands ← operands_of (fields_of form) words
   Ok (line_at form operands)
 
--- what the words of a line ask for, if there are any (this project's own)
+-- the line that words spell, if there are any words
 abbrev pub line_if_any : List (List ℕ) → Result (Option Line) LineFault
 line_if_any [] = Ok None
 line_if_any (word ∷ words) = do
   line ← line_of_words (word ∷ words)
   Ok (Some line)
 
--- what a line asks for, if for anything (this project's own)
+-- the line that a text is read as, None for a line without words, or its refusal
 unfoldable pub line_of : List ℕ → Result (Option Line) LineFault
 line_of line = if nat_lt 80 (length line) then Err LineTooLong else line_if_any (words_of line)
 
--- words that fill places, one each: a certain word is just that, and a field's word gives what it spells (this project's own)
+-- words fill places, one word a place: a fixed word equals its place, and a field's word adds what it spells
 pub data Fill : List Place → List (List ℕ) → Operands → Operands → Type 0 where
   no_place : {o : Operands} → Fill [] [] o o
   word : {more : List Place} {words : List (List ℕ)} {text : List ℕ} {o given : Operands}
@@ -79,14 +80,14 @@ pub data Fill : List Place → List (List ℕ) → Operands → Operands → Typ
   field : {more : List Place} {words : List (List ℕ)} {text : List ℕ} {o next given : Operands} {kind : Field}
       → with_field kind text o ≡ Some next → Fill more words next given → Fill (Of kind ∷ more) (text ∷ words) o given
 
--- the words of a line spell what it asks for: they fill the places of a form (this project's own)
+-- words spell a line: they fill the places of a form
 pub record Spell (words : List (List ℕ)) (line : Line) : Type 0 where
   pub form : LineForm
   pub operands : Operands
   pub places_filled : Fill (places form) words no_operands operands
   pub same : line ≡ line_at form operands
 
--- a line that a script can ask for: the local port has no cycles of the bus (this project's own)
+-- a line that a script can have: none commands the local port to do a bus cycle
 abbrev pub IsOwnLine : Line → Type 0
 IsOwnLine (Bus request) = Unit {0}
 IsOwnLine (Local (LocalRead offset n)) = Unit {0}

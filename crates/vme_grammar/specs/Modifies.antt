@@ -16,14 +16,14 @@ use Rattle.vme_lexer.specs.Numbers.{hex_number, small_number, local_number, exac
 use Rattle.vme_grammar.specs.Grammar.{◌>>=◌, refuse}
 use Rattle.vme_grammar.specs.Naming.{function_of}
 
--- three words, and the words after them (this project's own)
+-- the first three words, and the words after them
 abbrev pub three_and_more : List (List ℕ) → Option (List ℕ × List ℕ × List ℕ × List (List ℕ))
 three_and_more [] = None
 three_and_more (a ∷ []) = None
 three_and_more (a ∷ b ∷ []) = None
 three_and_more (a ∷ b ∷ c ∷ more) = Some (a, b, c, more)
 
--- four words, and the words after them (this project's own)
+-- the first four words, and the words after them
 abbrev pub four_and_more : List (List ℕ) → Option (List ℕ × List ℕ × List ℕ × List ℕ × List (List ℕ))
 four_and_more [] = None
 four_and_more (a ∷ []) = None
@@ -31,27 +31,27 @@ four_and_more (a ∷ b ∷ []) = None
 four_and_more (a ∷ b ∷ c ∷ []) = None
 four_and_more (a ∷ b ∷ c ∷ d ∷ more) = Some (a, b, c, d, more)
 
--- the code and the address that two words spell: AM ADDR (this project's own)
+-- the code and the address that two words spell: AM ADDR
 unfoldable pub field_place : List ℕ → List ℕ → Result (ℕ × ℕ) LineFault
 field_place am addr = do
   code ← ok_or (hex_number 2 am) BadCode
   address ← ok_or (hex_number 8 addr) BadAddress
   Ok (code, address)
 
--- how many data a function has (this project's own)
+-- the number of data that a function takes
 abbrev pub operand_count : Function → ℕ
 operand_count Set = 0
 operand_count Exchange = 1
 operand_count Add = 1
 operand_count Compare = 2
 
--- the datum of n bytes that a word spells, if there is a word (this project's own)
+-- the datum of n bytes that a word spells, if there is a word
 abbrev pub operand : ℕ → Option (List ℕ) → Result (ArrayVec ℕ) LineFault
 operand n word = do
   bytes ← ok_or (option_and_then (λ hex. exact_bytes n hex) word) BadBytes
   Ok (record { items = bytes })
 
--- a function with its data, of n bytes each (this project's own)
+-- a function with its data, of n bytes each
 unfoldable pub modify_of : Function → ℕ → List (List ℕ) → Result modify.Modify LineFault
 modify_of Set n operands = Ok modifies.Set
 modify_of Exchange n operands = do
@@ -65,7 +65,7 @@ modify_of Compare n operands = do
   put ← operand n (slice_get operands 1)
   Ok (modifies.Compare expect put)
 
--- what the words after `m` ask for: AM ADDR N, and a function's name and data (this project's own)
+-- the line that the words after `m` spell: AM ADDR N, and a function's name and data
 unfoldable pub modify_line : List (List ℕ) → Result Line LineFault
 modify_line words = do
   parts ← ok_or (four_and_more words) WordCount
@@ -76,7 +76,7 @@ modify_line words = do
   f ← modify_of function n parts.4
   Ok (lines.Bus (requests.Modify place.0 place.1 n f))
 
--- what the words after `lm` ask for: OFF N, and a function's name and data (this project's own)
+-- the line that the words after `lm` spell: OFF N, and a function's name and data
 unfoldable pub local_modify_line : List (List ℕ) → Result Line LineFault
 local_modify_line words = do
   parts ← ok_or (three_and_more words) WordCount

@@ -1,4 +1,4 @@
--- How a line is read: its form is found word by word, and then what the words after the first ask for.
+-- Lines by their first word: the form that it names, and the line that the words after it spell.
 use Rattle.std.specs.Prelude.{ℕ, true, List, [], ◌∷◌, drop, find, slice_get, Option, Some, None, Result, Ok, Err}
 use Rattle.std.specs.Option.{ok_or}
 use Rattle.std.specs.Str.{bytes_eq}
@@ -11,16 +11,16 @@ use Rattle.vme_grammar.specs.declared.function.Function.{Function}
 use Rattle.vme_grammar.specs.Forms.{name_of, functions, places, fields_of, forms, line_at}
 use Rattle.vme_grammar.specs.Grammar.{◌>>=◌, go_by, operands_of}
 
--- the first form whose first word this is (this project's own)
+-- the first form that begins with a word
 unfoldable pub form_named : List ℕ → Option LineForm
 form_named word = find (λ form. go_by true (places form) (word ∷ [])) forms
 
--- the function that a word names, if there is a word (this project's own)
+-- the function that a word names, if there is a word
 unfoldable pub function_of : Option (List ℕ) → Result Function LineFault
 function_of None = Err WordCount
 function_of (Some word) = ok_or (find (λ function. bytes_eq word (name_of function)) functions) UnknownWord
 
--- a form, with the function that the words after the first name in its place, if it has one (this project's own)
+-- a form with the function that the words after the first name at its place, if it has one
 abbrev pub with_function : LineForm → List (List ℕ) → Result LineForm LineFault
 with_function (Modify first) words = do
   function ← function_of (slice_get words 3)
@@ -41,13 +41,13 @@ with_function Unlock words = Ok Unlock
 with_function Put words = Ok Put
 with_function Take words = Ok Take
 
--- what a line of a form asks for, by the words after its first (this project's own)
+-- the line of a form, by the words after the first
 unfoldable pub line_by : LineForm → List (List ℕ) → Result Line LineFault
 line_by form words = do
   operands ← operands_of (drop 1 (fields_of form)) words
   Ok (line_at form operands)
 
--- what a line of a form asks for, whose function its words name (this project's own)
+-- the line of a form whose function the words after the first name
 unfoldable pub line_named : LineForm → List (List ℕ) → Result Line LineFault
 line_named first words = do
   form ← with_function first words

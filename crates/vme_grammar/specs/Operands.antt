@@ -1,8 +1,8 @@
--- What the fields of a line give.
+-- The operands of a line: what its fields give.
 use Rattle.std.specs.Prelude.{ℕ, List, []}
 
--- the numbers and bytes of a line: the code, the address or offset, the number of bytes, the number of data, a datum, the
--- datum that is expected, the data of a block, the number of a mailbox, and a word for it (this project's own)
+-- the numbers and bytes of a line: code, address or offset, number of bytes, number of data, datum, expected datum,
+-- data of a block, number of a mailbox, and the word for it
 pub record Operands : Type 0 where
   pub am : ℕ
   pub addr : ℕ
@@ -14,6 +14,6 @@ pub record Operands : Type 0 where
   pub mailbox : ℕ
   pub word : ℕ
 
--- before any field is read (this project's own)
+-- the operands before any field is read
 abbrev pub no_operands : Operands
 no_operands = record { am = 0; addr = 0; n = 0; count = 0; bytes = []; expected = []; block = []; mailbox = 0; word = 0 }

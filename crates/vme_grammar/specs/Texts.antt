@@ -1,4 +1,4 @@
--- The text of signals, replies and refusals.
+-- The texts of signals, outcomes and refusals.
 use Rattle.std.specs.Prelude.{ℕ, ◌/◌, ◌%◌, Bool, true, false, List, [], ◌∷◌, ◌++◌, flat_map, drop, slice_index, Option, Some, None, codes}
 use Rattle.std.specs.Fmt.{decimal}
 use Rattle.std.specs.Int.{w32, to_be_bytes}
@@ -10,84 +10,84 @@ use Rattle.vme_lanes.specs.declared.location.Strobes.{Strobes}
 use Rattle.vme_grammar.specs.declared.fault.LineFault.{LineFault}
 use Rattle.vme_grammar.specs.declared.fault.LineFault.TheVariants.{LineTooLong, UnknownWord, WordCount, BadCode, BadAddress, BadNumber, BadBytes, MailboxBytes}
 
--- the digit of a number below 16, in lower case (this project's own)
+-- the digit of a number below 16, in lower case
 abbrev pub digit : ℕ → ℕ
 digit n = slice_index (codes "0123456789abcdef") n
 
--- a byte as two digits (this project's own)
+-- a byte as two digits
 abbrev pub hex_byte : ℕ → List ℕ
 hex_byte byte = digit (byte / 16) ∷ digit (byte % 16) ∷ []
 
--- bytes as two digits each (this project's own)
+-- two digits for each byte
 abbrev pub hex_text : List ℕ → List ℕ
 hex_text bytes = flat_map hex_byte bytes
 
--- the level of a line: 0 is low, 1 is high (this project's own)
+-- the character of a line's level: 0 is low, 1 is high
 abbrev pub level : Bool → ℕ
 level true = 49
 level false = 48
 
--- a name and the level of the line that has it (this project's own)
+-- the name of a signal and its level
 abbrev pub level_text : List ℕ → Bool → List ℕ
 level_text name high = name ++ level high ∷ []
 
--- a lane: two digits, or two dashes where the cycle carries nothing (this project's own)
+-- a data lane: two digits, or two dashes if the cycle carries nothing there
 abbrev pub lane_text : Option ℕ → List ℕ
 lane_text None = codes "--"
 lane_text (Some byte) = hex_byte byte
 
--- some lanes, from the most significant (this project's own)
+-- a list of data lanes, the most significant first
 abbrev pub lanes_text : List (Option ℕ) → List ℕ
 lanes_text lanes = flat_map lane_text lanes
 
--- the lanes that are told: all eight with a code of eight-byte data, else the last four, D31-D24 to D07-D00 (this project's own)
+-- the data lanes that are reported: all eight with a code of eight-byte data, else the last four, D31-D24 to D07-D00
 abbrev pub reported_lanes : Bool → List (Option ℕ) → List (Option ℕ)
 reported_lanes true lanes = lanes
 reported_lanes false lanes = drop 4 lanes
 
--- the code, and the address lines as an address of eight digits (this project's own)
+-- the code, and the address lines as an address of eight digits
 unfoldable pub address_text : ℕ → ℕ → List ℕ
 address_text code addr = codes "am=" ++ (hex_byte code ++ (codes " a=" ++ hex_text (to_be_bytes w32 addr)))
 
--- the levels of the data strobes, A01 and LWORD* (this project's own)
+-- the levels of the data strobes, A01 and LWORD*
 unfoldable pub strobes_text : Strobes → List ℕ
 strobes_text s =
     level_text (codes " ds1=") s.ds1 ++ (level_text (codes " ds0=") s.ds0
     ++ (level_text (codes " a01=") s.a01 ++ level_text (codes " lword=") s.lword))
 
--- the levels of the strobes, A01, LWORD* and WRITE* (this project's own)
+-- the levels of the data strobes, A01, LWORD* and WRITE*
 unfoldable pub levels_text : SignalLines → List ℕ
 levels_text s = strobes_text s.strobes ++ level_text (codes " write=") s.write
 
--- the data lines, by whether the code is one of eight-byte data (this project's own)
+-- the data lines; `wide` says whether the code is one of eight-byte data
 unfoldable pub data_text : Bool → List (Option ℕ) → List ℕ
 data_text wide lanes = codes " data=" ++ lanes_text (reported_lanes wide lanes)
 
--- the signals of a cycle (this project's own)
+-- the signals of a cycle
 unfoldable pub signals_text : SignalLines → List ℕ
 signals_text s = address_text s.am.code s.addr ++ (levels_text s ++ data_text s.am.wide s.lanes)
 
--- how a transfer ends: with all bytes that were read, with all data written, with the old bytes of a read-modify-write, or
--- with a bus error after so many data, and what was read by then (this project's own)
+-- how a transfer ends: with all bytes read, with all data written, with the old bytes of a read-modify-write, or with a
+-- bus error after a number of data, with the bytes read before it
 pub data OutcomeText : Type 0 where
   Read : List ℕ → OutcomeText
   Done : OutcomeText
   Old : List ℕ → OutcomeText
   Berr : ℕ → List ℕ → OutcomeText
 
--- a space and bytes, where there are any (this project's own)
+-- a space and bytes, or nothing if there are no bytes
 abbrev pub more_bytes : List ℕ → List ℕ
 more_bytes [] = []
 more_bytes (byte ∷ bytes) = 32 ∷ hex_text (byte ∷ bytes)
 
--- what the end of a transfer is told as (this project's own)
+-- the text of the end of a transfer
 unfoldable pub outcome_text : OutcomeText → List ℕ
 outcome_text (Read bytes) = codes "read " ++ hex_text bytes
 outcome_text Done = codes "done"
 outcome_text (Old bytes) = codes "old " ++ hex_text bytes
 outcome_text (Berr count bytes) = codes "berr " ++ (decimal count ++ more_bytes bytes)
 
--- the numbers of the refusals of a request (this project's own)
+-- the number of the refusal of a request
 abbrev pub cycle_fault_text : CycleFault → List ℕ
 cycle_fault_text (Code TooLarge) = codes "K9"
 cycle_fault_text (Code UserDefined) = codes "K2"
@@ -99,7 +99,7 @@ cycle_fault_text OutsideSpace = codes "K4"
 cycle_fault_text NoCycle = codes "K3"
 cycle_fault_text CrossesBoundary = codes "K6"
 
--- the numbers of the refusals of a line (this project's own)
+-- the number of the refusal of a line
 abbrev pub line_fault_text : LineFault → List ℕ
 line_fault_text LineTooLong = codes "S1"
 line_fault_text UnknownWord = codes "S2"
@@ -110,6 +110,6 @@ line_fault_text BadNumber = codes "S6"
 line_fault_text BadBytes = codes "S7"
 line_fault_text MailboxBytes = codes "S9"
 
--- a line of output: a text and LF (this project's own)
+-- a line of output: a text and LF
 abbrev pub output_line : List ℕ → List ℕ
 output_line text = text ++ 10 ∷ []

@@ -1,4 +1,5 @@
-//! Lines in canonical form, with one space between words, parsed in one pass.
+//! Lines in canonical form, with one space between words and none at either end, parsed in one
+//! pass.
 
 mod bytes;
 mod commands;

@@ -1,4 +1,5 @@
-//! Lines that ask the own board for something by its local port, by the words after their first.
+//! Lines that command the processor's own board through its local port, by the words after the
+//! first.
 ghost use Rattle.std.specs.Prelude.{◌≡◌};
 ghost use Rattle.vme_grammar.specs.declared.form.LineForm.TheVariants as form;
 ghost use Rattle.vme_lexer.specs.Words.{words};
@@ -12,7 +13,7 @@ use crate::line::Line;
 use vme_lexer::{Words, hex_number, local_bytes, local_number};
 use vme_memory::BoardCmd;
 
-/// `lr`
+/// `lr OFF N`: a read by the local port.
 #[inline(always)]
 #[tactic(auto, unfolding(crate::specs::Naming::line_by, crate::specs::Grammar::operands_of, crate::specs::Fields::with_field))]
 pub(crate) fn local_read(operands: Words<'_>) -> Result<Line, LineFault>
@@ -24,7 +25,7 @@ pub(crate) fn local_read(operands: Words<'_>) -> Result<Line, LineFault>
     Ok(Line::Local(BoardCmd::LocalRead { offset, n }))
 }
 
-/// `lw`
+/// `lw OFF HEX`: a write by the local port.
 #[inline(always)]
 #[tactic(auto, unfolding(crate::specs::Naming::line_by, crate::specs::Grammar::operands_of, crate::specs::Fields::with_field))]
 pub(crate) fn local_write(operands: Words<'_>) -> Result<Line, LineFault>
@@ -36,7 +37,7 @@ pub(crate) fn local_write(operands: Words<'_>) -> Result<Line, LineFault>
     Ok(Line::Local(BoardCmd::LocalWrite { offset, bytes }))
 }
 
-/// `lm`
+/// `lm OFF N FUNC`: a read-modify-write by the local port.
 #[inline(always)]
 #[tactic(auto, unfolding(crate::specs::Modifies::local_modify_line))]
 pub(crate) fn local_modify(operands: Words<'_>) -> Result<Line, LineFault>

@@ -1,4 +1,4 @@
-//! Words counted: just so many of them, or so many and those after them.
+//! The words of a line, counted: an exact number of words, or the first ones and the rest.
 ghost use Rattle.std.specs.Prelude.{◌≡◌, ◌==◌, ◌∷◌, [], false, MatchOption, length};
 ghost use Rattle.std.specs.Option.{option_map};
 ghost use Rattle.vme_lexer.specs.Words.{words};
@@ -76,7 +76,7 @@ pub(crate) fn five_words(mut operands: Words<'_>) -> Option<(&[u8], &[u8], &[u8]
     Some((a, b, c, d, e))
 }
 
-/// Three words, and those after them.
+/// The first three words, and an iterator over the rest.
 #[inline(always)]
 pub(crate) fn three_and_more(mut operands: Words<'_>) -> Option<(&[u8], &[u8], &[u8], Words<'_>)>
     ensures { option_map (λ w. (w.0.now, w.1.now, w.2.now, words w.3.rest.now)) result
@@ -88,7 +88,7 @@ pub(crate) fn three_and_more(mut operands: Words<'_>) -> Option<(&[u8], &[u8], &
     Some((a, b, c, operands))
 }
 
-/// Four words, and those after them.
+/// The first four words, and an iterator over the rest.
 #[inline(always)]
 pub(crate) fn four_and_more(
     mut operands: Words<'_>,

@@ -1,4 +1,5 @@
-//! The forms of lines.
+//! The forms of lines: one for each command word, and for a read-modify-write one for each
+//! function.
 ghost use Rattle.std.specs.Prelude.{◌≡◌, ◌∷◌};
 ghost use Rattle.vme_lexer.specs.Words.{words};
 ghost use Rattle.vme_grammar.specs.Grammar.{line_of_words};
@@ -12,7 +13,8 @@ use crate::requests::{await_bytes, block_fill, block_read, block_write, modify, 
 use crate::shared::{lock, put, take, unlock};
 use vme_lexer::Words;
 
-/// The form of a line: what its first word says and, where it names a function, that.
+/// The form of a line: its first word says which and, for a read-modify-write, the name of the
+/// function.
 #[derive(Clone, Copy)]
 pub(crate) enum LineForm {
     Read,
@@ -32,7 +34,8 @@ pub(crate) enum LineForm {
 }
 
 impl LineForm {
-    /// The first form whose first word this is.
+    /// The first form that begins with `word`. For a read-modify-write, the function is not yet
+    /// known.
     #[inline(always)]
     #[tactic(auto, unfolding(crate::specs::Naming::form_named), using(crate::proofs::Naming::unlock_named))]
     fn named(word: &[u8]) -> Option<LineForm>
@@ -57,7 +60,8 @@ impl LineForm {
         }
     }
 
-    /// What a line of this form asks for, by the words after its first. These name its function.
+    /// The line of this form, by the words after the first. For a read-modify-write, these words
+    /// name the function; the function of `self` is ignored.
     #[inline(always)]
     #[tactic(auto, unfolding(crate::specs::Naming::line_named))]
     fn line(self, operands: Words<'_>) -> Result<Line, LineFault>
@@ -82,7 +86,7 @@ impl LineForm {
     }
 }
 
-/// What a line asks for, by its first word and those after it.
+/// The line that the first word and the words after it spell.
 #[inline(always)]
 #[tactic(auto, using(crate::proofs::Naming::line_is_named, crate::proofs::Naming::line_is_unnamed))]
 pub(crate) fn line_of_words(word: &[u8], operands: Words<'_>) -> Result<Line, LineFault>

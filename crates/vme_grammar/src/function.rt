@@ -1,4 +1,4 @@
-//! The functions of a read-modify-write, as words name them.
+//! The functions of a read-modify-write and their names.
 ghost use Rattle.std.specs.Prelude.{◌≡◌, ◌==◌, Some, length};
 ghost use Rattle.std.specs.Option.{option_map};
 ghost use Rattle.vme_lexer.specs.Words.{words};
@@ -10,7 +10,7 @@ use vme_cycle::Modify;
 use vme_lanes::Datum;
 use vme_lexer::{Words, exact_bytes};
 
-/// The function of a read-modify-write.
+/// A function of a read-modify-write, without its data.
 #[derive(Clone, Copy)]
 pub(crate) enum Function {
     Set,
@@ -20,7 +20,7 @@ pub(crate) enum Function {
 }
 
 impl Function {
-    /// The function that a word names.
+    /// The function that `word` names: `set`, `xchg`, `add` or `cas`.
     #[tactic(auto, unfolding(crate::specs::Naming::function_of))]
     pub(crate) fn of(word: &[u8]) -> Result<Function, LineFault>
         ensures { result ≡ function_of (Some word.now) }
@@ -34,7 +34,7 @@ impl Function {
         }
     }
 
-    /// Whether there are just as many words as data of the function.
+    /// Whether the number of words is the number of data that the function takes.
     pub(crate) fn has_operands(self, mut operands: Words<'_>) -> bool
         ensures { result ≡ (length (words operands.entry.rest.now) == operand_count self) }
     {
@@ -64,7 +64,7 @@ impl Function {
     }
 }
 
-/// The datum of `n` bytes that a word spells.
+/// The datum of `n` bytes that `word` spells.
 fn operand(n: u8, word: Option<&[u8]>) -> Result<Datum, LineFault>
     ensures { result ≡ operand n (option_map (λ word. word.now) word.entry) }
 {

@@ -1,5 +1,8 @@
-//! Lines of requests: what each line asks of the data transfer bus (ANSI/IEEE Std 1014-1987,
-//! chapter 2), and the texts of signals, outcomes and refusals. It knows no board and no device.
+//! The grammar of request lines: what each line requests of the data transfer bus (ANSI/IEEE Std
+//! 1014-1987, chapter 2), of the local port, of a lock or of a mailbox.
+//!
+//! The crate parses lines, and prints signals, outcomes and refusals. It knows no board and no
+//! device.
 #![tactic(auto)]
 
 mod canonical;

@@ -1,4 +1,4 @@
-//! What a line asks for.
+//! A parsed line, and the parser that reads word by word.
 ghost use Rattle.std.specs.Prelude.{◌≡◌};
 ghost use Rattle.vme_grammar.specs.Grammar.{line_of};
 
@@ -12,26 +12,33 @@ use vme_memory::BoardCmd;
 /// The greatest number of bytes of a line, without its end.
 pub const LINE_LIMIT: usize = 80;
 
-/// What a line asks for.
+/// A parsed line: what a processor requests.
 #[derive(Debug, Drop)]
 pub enum Line {
     /// A request to the bus.
     Bus(Request),
-    /// A command to the own board, by its local port.
+    /// A command to the processor's own board, through its local port.
     Local(BoardCmd),
-    /// Reads of the bus, one after another, until these bytes are found.
+    /// Reads of the bus at `addr` with code `am`, repeated until they return `bytes`.
     Await { am: u8, addr: u32, bytes: Datum },
-    /// A lock's byte is to be taken.
+    /// Take the lock whose byte is at `addr`.
     Lock { am: u8, addr: u32 },
-    /// A lock's byte is to be freed.
+    /// Free the lock whose byte is at `addr`.
     Unlock { am: u8, addr: u32 },
-    /// A word is to be put into a mailbox, which is told by its number.
+    /// Put `word` into the mailbox with number `mailbox`.
     Put { mailbox: u8, word: u32 },
-    /// A word is to be taken from a mailbox, which is told by its number.
+    /// Take a word from the mailbox with number `mailbox`.
     Take { mailbox: u8 },
 }
 
-/// Reads a line, without its end. An empty line, a line of spaces and a comment ask for nothing.
+/// Parses a line, without its end, word by word.
+///
+/// Returns `None` for an empty line, a line of spaces and a comment.
+///
+/// # Errors
+///
+/// The first refusal of the grammar: `LineTooLong`; then `UnknownWord`; then `WordCount`; then the
+/// fault of the first malformed field from the left.
 #[inline(always)]
 #[tactic(auto, unfolding(crate::specs::Grammar::line_of))]
 pub fn parse_words(line: &[u8]) -> Result<Option<Line>, LineFault>

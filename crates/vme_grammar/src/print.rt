@@ -1,5 +1,5 @@
-//! The text of signals, outcomes and refusals, appended to a buffer: a whole line, or nothing where
-//! there is no memory for it.
+//! The texts of signals, outcomes and refusals, appended to a buffer. Each function appends a whole
+//! line, or leaves the buffer's text as it was if an allocation fails.
 ghost use Rattle.std.specs.Prelude.{◌≡◌, ◌+◌, ◌*◌, ◌<◌, ◌≤◌, ◌++◌, length, true, false, vec_len, vec_capacity, OnOk, OnErr, codes};
 ghost use Rattle.std.specs.Int.{w32, to_be_bytes};
 ghost use Rattle.vme_lanes.specs.Rows.{row_of};
@@ -20,7 +20,7 @@ fn digit(n: u8) -> u8
     DIGITS[usize::from(n)]
 }
 
-/// Takes room for so many bytes and for two digits for each of some others.
+/// Reserves capacity for `fixed` bytes and for two digits for each of `bytes`.
 fn take_buffer(text: &mut Vec<u8>, fixed: usize, bytes: &[u8]) -> Result<(), AllocError>
     ensures capacity { OnOk result
         (vec_len text.new + (fixed + 2 * length bytes.now) ≤ vec_capacity text.new) }
@@ -31,7 +31,7 @@ fn take_buffer(text: &mut Vec<u8>, fixed: usize, bytes: &[u8]) -> Result<(), All
     text.reserve(capacity)
 }
 
-/// Appends a text for which there is room.
+/// Appends a text for which there is capacity.
 fn push_text(text: &mut Vec<u8>, more: &[u8])
     requires { vec_len text.old + length more.now ≤ vec_capacity text.old }
     ensures items { text.new.items ≡ text.old.items ++ more.now }
@@ -41,7 +41,7 @@ fn push_text(text: &mut Vec<u8>, more: &[u8])
     text.extend_from_slice(more).unwrap();
 }
 
-/// Appends bytes for whose digits there is room.
+/// Appends two digits for each byte. There is capacity for them.
 fn push_hex_bytes(text: &mut Vec<u8>, bytes: &[u8])
     requires { vec_len text.old + 2 * length bytes.now ≤ vec_capacity text.old }
     ensures items { text.new.items ≡ text.old.items ++ hex_text bytes.now }
@@ -53,7 +53,11 @@ fn push_hex_bytes(text: &mut Vec<u8>, bytes: &[u8])
     }
 }
 
-/// Appends bytes as two digits each.
+/// Appends two lower-case hexadecimal digits for each byte.
+///
+/// # Errors
+///
+/// `AllocError`: an allocation failed; the text is unchanged.
 pub fn print_hex(text: &mut Vec<u8>, bytes: &[u8]) -> Result<(), AllocError>
     ensures text { OnOk result (text.new.items ≡ text.old.items ++ hex_text bytes.now) }
     ensures kept { OnErr result (text.new.items ≡ text.old.items) }
@@ -69,7 +73,7 @@ fn hex_digits(byte: u8) -> [u8; 2]
     [digit(byte / 16), digit(byte % 16)]
 }
 
-/// The code, and the name of the address lines behind it, in one piece.
+/// The code, and the name of the address lines after it, in one piece.
 #[rattlefmt::skip]
 fn code_text(code: u8) -> [u8; 8]
     ensures { result ≡ codes "am=" ++ (hex_byte code ++ codes " a=") }
@@ -89,7 +93,7 @@ fn address_digits(addr: u32) -> [u8; 8]
     ]
 }
 
-/// Appends the code and the address lines, for which there is room.
+/// Appends the code and the address lines. There is capacity for them.
 #[tactic(auto, unfolding(crate::specs::Texts::address_text))]
 fn push_address(text: &mut Vec<u8>, code: u8, addr: u32)
     requires { vec_len text.old + 16 ≤ vec_capacity text.old }
@@ -120,7 +124,7 @@ fn strobes_text(location: Location) -> &'static [u8; 26]
     }
 }
 
-/// The level of WRITE*, and the name of the data lines behind it, in one piece.
+/// The level of WRITE*, and the name of the data lines after it, in one piece.
 fn write_text(high: bool) -> &'static [u8; 14]
     ensures { result.now ≡ level_text (codes " write=") high ++ codes " data=" }
 {
@@ -140,7 +144,7 @@ fn lane_digits(lane: Option<u8>) -> [u8; 2]
     }
 }
 
-/// The digits of the last four lanes.
+/// The digits of the last four data lanes.
 #[rattlefmt::skip]
 fn last_lanes(lines: DataLines) -> [u8; 8]
     ensures { result ≡ lanes_text (reported_lanes false lines.lanes) }
@@ -151,7 +155,7 @@ fn last_lanes(lines: DataLines) -> [u8; 8]
     [first[0], first[1], second[0], second[1], third[0], third[1], last[0], last[1]]
 }
 
-/// The digits of all lanes.
+/// The digits of all eight data lanes.
 #[rattlefmt::skip]
 #[inline(never)]
 fn all_lanes(lines: DataLines) -> [u8; 16]
@@ -168,10 +172,18 @@ fn all_lanes(lines: DataLines) -> [u8; 16]
     ]
 }
 
-/// The greatest length of the line of the signals of a cycle.
+/// The greatest length of the line of a cycle's signals.
 const SIGNALS_LEN: usize = 73;
 
-/// Appends the line of the signals of a cycle.
+/// Appends the line of a cycle's signals: the code, the address, the levels of the data strobes,
+/// A01, LWORD* and WRITE*, and the data lines.
+///
+/// The data lines are sixteen digits with a code of eight-byte data, otherwise the eight of the
+/// last four data lanes; a data lane that carries nothing is `--`.
+///
+/// # Errors
+///
+/// `AllocError`: an allocation failed; the text is unchanged.
 #[tactic(auto, unfolding(crate::specs::Texts::signals_text, crate::specs::Texts::levels_text, crate::specs::Texts::data_text))]
 pub fn print_signals(text: &mut Vec<u8>, signals: &Signals) -> Result<(), AllocError>
     ensures text { OnOk result
@@ -191,7 +203,11 @@ pub fn print_signals(text: &mut Vec<u8>, signals: &Signals) -> Result<(), AllocE
     Ok(())
 }
 
-/// Appends the line of a transfer that read these bytes.
+/// Appends the line of a transfer that read `bytes`: `read` and the bytes.
+///
+/// # Errors
+///
+/// `AllocError`: an allocation failed; the text is unchanged.
 #[tactic(auto, unfolding(crate::specs::Texts::outcome_text))]
 pub fn print_read(text: &mut Vec<u8>, bytes: &[u8]) -> Result<(), AllocError>
     ensures text { OnOk result
@@ -205,7 +221,11 @@ pub fn print_read(text: &mut Vec<u8>, bytes: &[u8]) -> Result<(), AllocError>
     Ok(())
 }
 
-/// Appends the line of a read-modify-write that found these bytes.
+/// Appends the line of a read-modify-write that found `bytes`: `old` and the bytes.
+///
+/// # Errors
+///
+/// `AllocError`: an allocation failed; the text is unchanged.
 #[tactic(auto, unfolding(crate::specs::Texts::outcome_text))]
 pub fn print_old(text: &mut Vec<u8>, bytes: &[u8]) -> Result<(), AllocError>
     ensures text { OnOk result
@@ -219,7 +239,11 @@ pub fn print_old(text: &mut Vec<u8>, bytes: &[u8]) -> Result<(), AllocError>
     Ok(())
 }
 
-/// Appends the line of a transfer that wrote all its data.
+/// Appends the line of a transfer that wrote all its data: `done`.
+///
+/// # Errors
+///
+/// `AllocError`: an allocation failed; the text is unchanged.
 #[tactic(auto, unfolding(crate::specs::Texts::outcome_text))]
 pub fn print_done(text: &mut Vec<u8>) -> Result<(), AllocError>
     ensures text { OnOk result (text.new.items ≡ text.old.items ++ output_line (outcome_text Done)) }
@@ -228,8 +252,12 @@ pub fn print_done(text: &mut Vec<u8>) -> Result<(), AllocError>
     text.extend_from_slice(b"done\n")
 }
 
-/// Appends the line of a transfer that ended with a bus error after `count` data, and what it had
-/// read by then.
+/// Appends the line of a transfer that ended with a bus error after `count` data: `berr`, the count
+/// in decimal, and the bytes that were read before, if any.
+///
+/// # Errors
+///
+/// `AllocError`: an allocation failed; the text is unchanged.
 #[tactic(auto, unfolding(crate::specs::Texts::outcome_text))]
 pub fn print_berr(text: &mut Vec<u8>, count: u16, bytes: &[u8]) -> Result<(), AllocError>
     ensures text { OnOk result
@@ -246,7 +274,7 @@ pub fn print_berr(text: &mut Vec<u8>, count: u16, bytes: &[u8]) -> Result<(), Al
     Ok(())
 }
 
-/// Appends a space and some bytes, where there are any.
+/// Appends a space and the bytes, if there are any.
 fn push_more_bytes(text: &mut Vec<u8>, bytes: &[u8])
     requires { vec_len text.old + (1 + 2 * length bytes.now) ≤ vec_capacity text.old }
     ensures items { text.new.items ≡ text.old.items ++ more_bytes bytes.now }
@@ -259,7 +287,11 @@ fn push_more_bytes(text: &mut Vec<u8>, bytes: &[u8])
     }
 }
 
-/// Appends the line that tells why a request is refused.
+/// Appends the line of a refused request: `refused` and the number of the refusal, K1 to K9.
+///
+/// # Errors
+///
+/// `AllocError`: an allocation failed; the text is unchanged.
 pub fn print_refusal(text: &mut Vec<u8>, fault: CycleFault) -> Result<(), AllocError>
     ensures text { OnOk result
         (text.new.items ≡ text.old.items ++ output_line (codes "refused " ++ cycle_fault_text fault)) }
@@ -284,7 +316,12 @@ fn refusal(fault: CycleFault) -> [u8; 11]
     }
 }
 
-/// Appends the line that tells why a line is refused.
+/// Appends the line of a refused line: `line refused` and the number of the refusal, S1 to S7 or
+/// S9.
+///
+/// # Errors
+///
+/// `AllocError`: an allocation failed; the text is unchanged.
 pub fn print_line_refusal(text: &mut Vec<u8>, fault: LineFault) -> Result<(), AllocError>
     ensures text { OnOk result (text.new.items
         ≡ text.old.items ++ output_line (codes "line refused " ++ line_fault_text fault)) }

@@ -1,4 +1,4 @@
-//! Lines that ask the bus for something, by the words after their first.
+//! Lines that request the bus, by the words after the first.
 ghost use Rattle.std.specs.Prelude.{◌≡◌};
 ghost use Rattle.vme_grammar.specs.declared.form.LineForm.TheVariants as form;
 ghost use Rattle.vme_lexer.specs.Words.{words};
@@ -23,7 +23,7 @@ pub(crate) fn field_place(am: &[u8], addr: &[u8]) -> Result<(u8, u32), LineFault
     Ok((am, addr))
 }
 
-/// `r`
+/// `r AM ADDR N`: a read.
 #[inline(always)]
 #[tactic(auto, unfolding(crate::specs::Naming::line_by, crate::specs::Grammar::operands_of, crate::specs::Fields::with_field, crate::specs::Modifies::field_place))]
 pub(crate) fn read(operands: Words<'_>) -> Result<Line, LineFault>
@@ -35,7 +35,7 @@ pub(crate) fn read(operands: Words<'_>) -> Result<Line, LineFault>
     Ok(Line::Bus(Request::Read { am, addr, n }))
 }
 
-/// `w`
+/// `w AM ADDR HEX`: a write.
 #[inline(always)]
 #[tactic(auto, unfolding(crate::specs::Naming::line_by, crate::specs::Grammar::operands_of, crate::specs::Fields::with_field, crate::specs::Modifies::field_place))]
 pub(crate) fn write(operands: Words<'_>) -> Result<Line, LineFault>
@@ -47,7 +47,7 @@ pub(crate) fn write(operands: Words<'_>) -> Result<Line, LineFault>
     Ok(Line::Bus(Request::Write { am, addr, bytes }))
 }
 
-/// `br`
+/// `br AM ADDR N COUNT`: a block read.
 #[inline(always)]
 #[tactic(auto, unfolding(crate::specs::Naming::line_by, crate::specs::Grammar::operands_of, crate::specs::Fields::with_field, crate::specs::Modifies::field_place))]
 pub(crate) fn block_read(operands: Words<'_>) -> Result<Line, LineFault>
@@ -60,7 +60,7 @@ pub(crate) fn block_read(operands: Words<'_>) -> Result<Line, LineFault>
     Ok(Line::Bus(Request::BlockRead { am, addr, n, count }))
 }
 
-/// `bw`
+/// `bw AM ADDR N HEX`: a block write.
 #[inline(always)]
 #[tactic(auto, unfolding(crate::specs::Naming::line_by, crate::specs::Grammar::operands_of, crate::specs::Fields::with_field, crate::specs::Modifies::field_place))]
 pub(crate) fn block_write(operands: Words<'_>) -> Result<Line, LineFault>
@@ -73,7 +73,7 @@ pub(crate) fn block_write(operands: Words<'_>) -> Result<Line, LineFault>
     Ok(Line::Bus(Request::BlockWrite { am, addr, n, bytes }))
 }
 
-/// `bf`
+/// `bf AM ADDR N COUNT HEX`: a block write of one datum, `COUNT` times.
 #[inline(always)]
 #[tactic(auto, unfolding(crate::specs::Naming::line_by, crate::specs::Grammar::operands_of, crate::specs::Fields::with_field, crate::specs::Modifies::field_place))]
 pub(crate) fn block_fill(operands: Words<'_>) -> Result<Line, LineFault>
@@ -93,7 +93,7 @@ pub(crate) fn block_fill(operands: Words<'_>) -> Result<Line, LineFault>
     }))
 }
 
-/// `m`
+/// `m AM ADDR N FUNC`: a read-modify-write.
 #[inline(always)]
 #[tactic(auto, unfolding(crate::specs::Modifies::modify_line))]
 pub(crate) fn modify(operands: Words<'_>) -> Result<Line, LineFault>
@@ -110,7 +110,7 @@ pub(crate) fn modify(operands: Words<'_>) -> Result<Line, LineFault>
     Ok(Line::Bus(Request::Modify { am, addr, n, f }))
 }
 
-/// `await`
+/// `await AM ADDR HEX`: reads until the bytes are found.
 #[inline(always)]
 #[tactic(auto, unfolding(crate::specs::Naming::line_by, crate::specs::Grammar::operands_of, crate::specs::Fields::with_field, crate::specs::Modifies::field_place))]
 pub(crate) fn await_bytes(operands: Words<'_>) -> Result<Line, LineFault>

@@ -1,4 +1,4 @@
-//! Lines that ask for a lock or a mailbox, by the words after their first.
+//! Lines of locks and mailboxes, by the words after the first.
 ghost use Rattle.std.specs.Prelude.{◌≡◌};
 ghost use Rattle.std.specs.Option.{ok_or};
 ghost use Rattle.vme_grammar.specs.declared.form.LineForm.TheVariants as form;
@@ -12,7 +12,7 @@ use crate::line::Line;
 use crate::requests::field_place;
 use vme_lexer::{Words, decimal_number, hex_number};
 
-/// The number of a mailbox.
+/// The number of a mailbox, of one or two decimal digits.
 #[inline(always)]
 fn mailbox_of(number: &[u8]) -> Result<u8, LineFault>
     ensures { result ≡ ok_or (decimal_number 2 number.now) LineFault.BadNumber }
@@ -21,7 +21,7 @@ fn mailbox_of(number: &[u8]) -> Result<u8, LineFault>
     Ok(mailbox as u8)
 }
 
-/// `lock`
+/// `lock AM ADDR`: take a lock.
 #[inline(always)]
 #[tactic(auto, unfolding(crate::specs::Naming::line_by, crate::specs::Grammar::operands_of, crate::specs::Fields::with_field, crate::specs::Modifies::field_place))]
 pub(crate) fn lock(operands: Words<'_>) -> Result<Line, LineFault>
@@ -32,7 +32,7 @@ pub(crate) fn lock(operands: Words<'_>) -> Result<Line, LineFault>
     Ok(Line::Lock { am, addr })
 }
 
-/// `unlock`
+/// `unlock AM ADDR`: free a lock.
 #[inline(always)]
 #[tactic(auto, unfolding(crate::specs::Naming::line_by, crate::specs::Grammar::operands_of, crate::specs::Fields::with_field, crate::specs::Modifies::field_place))]
 pub(crate) fn unlock(operands: Words<'_>) -> Result<Line, LineFault>
@@ -43,7 +43,7 @@ pub(crate) fn unlock(operands: Words<'_>) -> Result<Line, LineFault>
     Ok(Line::Unlock { am, addr })
 }
 
-/// `put`
+/// `put BOX HEX`: put a word into a mailbox.
 #[inline(always)]
 #[tactic(auto, unfolding(crate::specs::Naming::line_by, crate::specs::Grammar::operands_of, crate::specs::Fields::with_field))]
 pub(crate) fn put(operands: Words<'_>) -> Result<Line, LineFault>
@@ -55,7 +55,7 @@ pub(crate) fn put(operands: Words<'_>) -> Result<Line, LineFault>
     Ok(Line::Put { mailbox, word })
 }
 
-/// `take`
+/// `take BOX`: take a word from a mailbox.
 #[inline(always)]
 #[tactic(auto, unfolding(crate::specs::Naming::line_by, crate::specs::Grammar::operands_of, crate::specs::Fields::with_field))]
 pub(crate) fn take(operands: Words<'_>) -> Result<Line, LineFault>

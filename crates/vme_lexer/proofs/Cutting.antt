@@ -20,7 +20,7 @@ position_is p xs i place =
     let lt = ltb-true (position_or_len p xs) (length xs) found.0 in
     (omega (arith, lt, found.1), found.1)
 
--- the first such place, as a search of the byte tells it
+-- the first place that a search for the byte finds is std's `position`
 pub place_found : (byte : ℕ) (text : List ℕ) (found : Option ℕ) → IsFirstByte (λ b. b == byte) text found → found ≡ position (λ b. b == byte) text
 place_found byte text None none =
     elim (cases_lt (position_or_len (is_byte byte) text) (length text)) [
@@ -33,7 +33,7 @@ place_found byte text (Some k) found =
     let at : position_or_len (is_byte byte) text ≡ k = position_or_len_is (is_byte byte) text k 0 (omega (arith, found.0.high)) before (λ _. found.1) in
     rw (at, lt-ltb k (length text) found.0.high) refl
 
--- the parts round the first such byte
+-- the parts around the first occurrence of the byte
 pub cut_at :
     (byte end : ℕ) (text before after : List ℕ) → position (λ b. b == byte) text ≡ Some end → before ≡ take end text → after ≡ drop (end + 1) text
     → IsCut byte text before after
@@ -44,7 +44,7 @@ cut_at byte end text before after place prefix back =
       shorter = omega (arith, ap length back, length-drop (end + 1) text, at.0);
     }
 
--- where no element passes, the list is one part
+-- a list in which no element passes the test is one part
 one_part : (p : ℕ → Bool) (xs : List ℕ) → length xs ≤ position_or_len p xs → slice_split p xs ≡ xs ∷ []
 one_part p [] none = refl
 one_part p (x ∷ xs) none =
@@ -53,7 +53,7 @@ one_part p (x ∷ xs) none =
       | inr miss ↦ slice_split-cons_no p x xs miss ∙ ap (onto_first x) (one_part p xs (let rest = simp miss at none in omega arith))
     ]
 
--- no such byte is there
+-- a text without the byte is uncut
 pub uncut : (byte : ℕ) (text : List ℕ) → position (λ b. b == byte) text ≡ None → IsUncut byte text
 uncut byte text place =
     elim (cases_lt (position_or_len (is_byte byte) text) (length text)) [
@@ -75,11 +75,11 @@ lines_cut text before after cut =
 pub lines_uncut : (text : List ℕ) → IsUncut 10 text → 0 < length text → lines text ≡ text ∷ []
 lines_uncut text whole some = ap lines_of_parts whole ∙ rw (ne_eqb (length text) 0 (λ e. omega arith)) refl
 
--- a part that is not empty is a word
+-- a nonempty part is a word
 pub words_cut : (text before after : List ℕ) → IsCut 32 text before after → 0 < length before → words text ≡ before ∷ words after
 words_cut text before after cut some = ap (filter is_nonempty) cut.parts ∙ rw (lt-ltb 0 (length before) some) refl
 
--- an empty part is none
+-- an empty part is not a word
 pub words_cut_empty : (text before after : List ℕ) → IsCut 32 text before after → length before ≡ 0 → words text ≡ words after
 words_cut_empty text before after cut none = ap (filter is_nonempty) cut.parts ∙ rw none refl
 

@@ -6,11 +6,11 @@ use Rattle.std.proofs.Math.Nat.{pow-succ', pow-le-pow_right}
 use Rattle.vme_cycle.proofs.lemmas.Numbers.{below_power}
 use Rattle.vme_lexer.specs.Numbers.{hex_digit, hex_from, hex_pairs, hex_bytes}
 
--- what a byte counts as: its digit, or more than eight digits spell
+-- what a byte counts as: the value of its digit, or 2 ^ 32 if it is no digit
 abbrev pub Counts : Option ℕ → ℕ → Type 0
 Counts digit count = MatchOption digit (count ≡ 2 ^ 32) (λ d. (count ≡ d) × (d < 16))
 
--- whether it counts as that
+-- the decision of `Counts`
 abbrev pub is_count : Option ℕ → ℕ → Bool
 is_count None count = nat_eq count 4294967296
 is_count (Some d) count = nat_eq count d && nat_lt d 16
@@ -21,7 +21,7 @@ both_true true false both = cc
 both_true false true both = cc
 both_true false false both = cc
 
--- a table counts each byte below n as it should
+-- a table counts each byte below n correctly
 unfoldable pub counts_below : List ℕ → ℕ → Bool
 counts_below table zero = true
 counts_below table (suc n) = is_count (hex_digit n) (get_or table n 0) && counts_below table n
@@ -34,7 +34,7 @@ count_of : (digit : Option ℕ) (count : ℕ) → is_count digit count ≡ true 
 count_of None count is = eqb-true count 4294967296 is
 count_of (Some d) count is = let both = both_true (nat_eq count d) (nat_lt d 16) is in (eqb-true count d both.0, ltb-true d 16 both.1)
 
--- so it counts each byte
+-- a correct table counts each byte
 pub counts_at : (table : List ℕ) (n c : ℕ) → counts_below table n ≡ true → c < n → Counts (hex_digit c) (get_or table c 0)
 unfolding counts_below
 counts_at table zero c all less = absurd (omega arith)
@@ -42,7 +42,7 @@ counts_at table (suc n) c all less =
     let both = both_true (is_count (hex_digit n) (get_or table n 0)) (counts_below table n) all in
     elim (cases_eq c n) [ inl same ↦ rw same (count_of (hex_digit n) (get_or table n 0) both.0) | inr other ↦ counts_at table n c both.1 (omega arith) ]
 
--- a number below 2 ^ 32 is that of k digits; one that is not tells of a byte that is no digit
+-- a number below 2 ^ 32 is that of k digits; for any other number, a byte of the word is no digit
 pub record IsRead (n k : ℕ) (rest word : List ℕ) : Type 0 where
   pub read : n < 2 ^ 32 → hex_from n rest ≡ hex_from 0 word
   pub small : n < 2 ^ 32 → n < 16 ^ k
@@ -73,28 +73,28 @@ read_by n k c count rest word (Some d) few some counts so =
       capacity = omega (arith, counts.0, counts.1, so.capacity, more);
     }
 
--- the number has room for a digit more
+-- one more digit does not overflow
 pub buffer_for : (n k count : ℕ) (digit : Option ℕ) → k < 8 → Counts digit count → n + 2 ^ 32 ≤ 2 ^ 32 * 16 ^ k → 16 * n + count < 2 ^ 64
 buffer_for n k count digit few counts capacity =
     let high : 16 ^ k ≤ 16 ^ 7 = pow-le-pow_right {n = 16} (omega arith) {i = k} {j = 7} (omega (arith, few)) in
     let low : count ≤ 2 ^ 32 = most_count digit count counts in
     omega (arith, high, capacity, low)
 
--- a byte more is read
+-- one more byte is read
 pub read_more :
     (n k c count : ℕ) (rest word : List ℕ) → k < 8 → Counts (hex_digit c) count → IsRead n k (c ∷ rest) word → IsRead (16 * n + count) (k + 1) rest word
 read_more n k c count rest word few counts so = read_by n k c count rest word (hex_digit c) few refl counts so
 
--- some bytes, and then those that were read
+-- the bytes of a prefix, and then those that were read
 abbrev pub with_prefix : List ℕ → Option (List ℕ) → Option (List ℕ)
 with_prefix prefix bytes = option_map (λ bs. prefix ++ bs) bytes
 
--- bytes before the bytes that were read
+-- a prefix of two parts is two prefixes
 with_prefix-append : (prefix bytes : List ℕ) (read : Option (List ℕ)) → with_prefix (prefix ++ bytes) read ≡ with_prefix prefix (with_prefix bytes read)
 with_prefix-append prefix bytes None = refl
 with_prefix-append prefix bytes (Some bs) = ap Some (append_assoc prefix bytes bs)
 
--- a pair of digits is one byte more
+-- a pair of digits is one more byte
 pub hex_pairs-more :
     (bytes new rest tail : List ℕ) (high low : ℕ) → 2 ≤ length rest → hex_digit (get_or rest 0 0) ≡ Some high → hex_digit (get_or rest 1 0) ≡ Some low
     → new ≡ bytes ++ (16 * high + low) ∷ [] → tail ≡ drop 2 rest → with_prefix new (hex_pairs tail) ≡ with_prefix bytes (hex_pairs rest)
@@ -106,14 +106,15 @@ hex_pairs-more bytes new (c ∷ d ∷ cs) tail high low long first second pushed
     ∙ with_prefix-append bytes ((16 * high + low) ∷ []) (hex_pairs cs)
     ∙ rw (first, second) refl
 
--- a sum below 2 ^ 32 is that of bytes, which go on as the rest; one that is not tells of a byte of the word that is no digit
+-- a sum below 2 ^ 32 is that of bytes, and the rest spells those after them; for any other sum, a byte of the word is
+-- no digit
 pub record IsSpelled (bytes : List ℕ) (sum : ℕ) (rest word : List ℕ) : Type 0 where
   pub spelled : sum < 2 ^ 32 → with_prefix bytes (hex_pairs rest) ≡ hex_pairs word
   pub small : sum < 2 ^ 32 → sum ≤ 255 * length bytes
   pub unspelled : 2 ^ 32 ≤ sum → hex_pairs word ≡ None
   pub capacity : sum ≤ 17 * 2 ^ 32 * length bytes
 
--- two bytes that are no pair of digits
+-- two bytes that are not a pair of digits
 unpaired :
     (rest : List ℕ) (first second : Option ℕ) → 2 ≤ length rest → hex_digit (get_or rest 0 0) ≡ first → hex_digit (get_or rest 1 0) ≡ second
     → (first ≡ None) ⊎ (second ≡ None) → hex_pairs rest ≡ None
@@ -124,7 +125,7 @@ unpaired (c ∷ d ∷ cs) (Some a) None long one two none = rw (one, two) refl
 unpaired (c ∷ d ∷ cs) (Some a) (Some b) long one two (inl none) = cc
 unpaired (c ∷ d ∷ cs) (Some a) (Some b) long one two (inr none) = cc
 
--- a pair that is none
+-- a pair that spells no byte
 spelled_none :
     (bytes new : List ℕ) (sum pair : ℕ) (rest tail word : List ℕ) → 2 ^ 32 ≤ pair → pair ≤ 17 * 2 ^ 32 → hex_pairs rest ≡ None → length new ≡ length bytes + 1
     → IsSpelled bytes sum rest word → IsSpelled new (sum + pair) tail word
@@ -158,7 +159,7 @@ spelled_by bytes new sum high low rest tail word (Some a) (Some b) few long one 
       capacity = omega (arith, so.capacity, longer, high_is.0, high_is.1, low_is.0, low_is.1);
     }
 
--- a pair more is spelled
+-- one more pair is spelled
 pub spelled_more :
     (bytes new : List ℕ) (sum high low : ℕ) (rest tail word : List ℕ) → length bytes < 256 → 2 ≤ length rest → Counts (hex_digit (get_or rest 0 0)) high
     → Counts (hex_digit (get_or rest 1 0)) low → new ≡ bytes ++ ((16 * high + low) % 256) ∷ [] → tail ≡ drop 2 rest → length new ≡ length bytes + 1
@@ -166,7 +167,7 @@ pub spelled_more :
 spelled_more bytes new sum high low rest tail word few long high_is low_is pushed cut longer so =
     spelled_by bytes new sum high low rest tail word _ _ few long refl refl high_is low_is pushed cut longer so
 
--- a word is none of bytes where its last digit is alone, or a byte of it is no digit
+-- a word spells no bytes if its last digit is alone or a byte of it is no digit
 pub unspelled_word :
     (bytes : List ℕ) (sum : ℕ) (rest word : List ℕ) → length rest < 2 → (length rest ≡ 0 → 2 ^ 32 ≤ sum) → IsSpelled bytes sum rest word
     → hex_pairs word ≡ None
@@ -179,7 +180,7 @@ either_none : (b : Bool) (bytes : Option (List ℕ)) → bytes ≡ None → (if 
 either_none true bytes none = none
 either_none false bytes none = refl
 
--- so it spells none of any number of bytes
+-- a word whose pairs spell no bytes spells none of any number
 pub unspelled_bytes : (most : ℕ) (word : List ℕ) → hex_pairs word ≡ None → hex_bytes most word ≡ None
 unfolding hex_bytes
 unspelled_bytes most word none = either_none _ (hex_pairs word) none

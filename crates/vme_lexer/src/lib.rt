@@ -1,5 +1,7 @@
-//! Texts cut into lines, and lines into words, as the requests to the data transfer bus (ANSI/IEEE Std
-//! 1014-1987, chapter 2) are written. What a line and a word are is this project's own.
+//! Texts cut into lines, lines cut into words, and words read as numbers or bytes.
+//!
+//! A text is a byte slice. A line ends at LF, words are separated by spaces, and a line that begins
+//! with `#` is a comment. The crate does not know what a line means.
 #![tactic(auto)]
 
 mod lines;

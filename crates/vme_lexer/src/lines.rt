@@ -1,4 +1,4 @@
-//! Texts cut into lines.
+//! The lines of a text.
 ghost use Rattle.std.specs.Prelude.{◌≡◌, ◌<◌, ◌∷◌, length};
 ghost use Rattle.std.specs.Str.Lines.{lines, strip_carriage_return};
 ghost use Rattle.std.specs.Iterator.{YieldsFirstRef, item_count};
@@ -16,7 +16,7 @@ fn without_return(line: &[u8]) -> &[u8]
     }
 }
 
-/// The first line, and the text after it.
+/// The first line without its end, and the text after it.
 #[tactic(auto, using(crate::proofs::Cutting::lines_cut, crate::proofs::Cutting::lines_uncut))]
 fn split_line(text: &[u8]) -> (&[u8], &[u8])
     requires { 0 < length text.now }
@@ -29,15 +29,18 @@ fn split_line(text: &[u8]) -> (&[u8], &[u8])
     }
 }
 
-/// The lines of a text: each ends at LF or at the end of the text, and loses one CR before LF.
+/// An iterator over the lines of a text, in order.
+///
+/// A line ends at LF or at the end of the text. It does not contain the LF, nor one CR before the
+/// LF. No line begins at the end of the text.
 #[derive(Clone, Copy)]
 pub struct Lines<'a> {
-    /// The text that is left.
+    /// The text that is not yet read.
     pub rest: &'a [u8],
 }
 
 impl<'a> Lines<'a> {
-    /// The lines of a text.
+    /// Returns an iterator over the lines of `text`.
     pub fn new(text: &'a [u8]) -> Lines<'a>
         ensures text { result.rest.now ≡ text.now }
     {

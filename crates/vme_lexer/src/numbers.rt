@@ -1,4 +1,4 @@
-//! Numbers and bytes as words of a line.
+//! Words of a line read as numbers and as bytes.
 ghost use Rattle.std.specs.Prelude.{◌≡◌, ◌<◌, ◌≤◌, ◌^◌, IfSome, MatchOption};
 ghost use Rattle.std.specs.Option.{option_map};
 ghost use Rattle.vme_lexer.specs.Numbers.{hex_digit, hex_number, hex_bytes, exact_bytes, small_number, local_number, local_bytes, decimal_digit, decimal_number};
@@ -6,11 +6,11 @@ ghost use Rattle.vme_lexer.specs.Numbers.{hex_digit, hex_number, hex_bytes, exac
 use arrayvec::ArrayVec;
 use vme_lanes::Datum;
 
-/// What a byte that is no digit counts as. It is more than eight digits spell, and no digits after
-/// it make it less.
+/// The value of a byte that is not a hexadecimal digit: 2^32, which is more than any eight digits
+/// spell. A sum that contains it stays at least 2^32.
 const X: u64 = 1 << 32;
 
-/// The value of each byte as a hexadecimal digit of either case.
+/// The value of each byte as a hexadecimal digit of either case, or `X`.
 static DIGITS: [u64; 256] = [
     X, X, X, X, X, X, X, X, X, X, X, X, X, X, X, X, X, X, X, X, X, X, X, X, X, X, X, X, X, X, X, X,
     X, X, X, X, X, X, X, X, X, X, X, X, X, X, X, X, 0, 1, 2, 3, 4, 5, 6, 7, 8, 9, X, X, X, X, X, X,
@@ -23,14 +23,16 @@ static DIGITS: [u64; 256] = [
     X, X, X, X,
 ];
 
-/// The value of a byte as a digit.
+/// The value of `c` as a hexadecimal digit, or `X` if it is not a digit.
 fn hex_digit(c: u8) -> u64
     ensures digit { MatchOption (hex_digit c) (result ≡ 2 ^ 32) (λ d. (result ≡ d) × (d < 16)) }
 {
     DIGITS[c as usize]
 }
 
-/// The number that a word of `len` hexadecimal digits spells.
+/// Returns the number that `word` spells in exactly `len` hexadecimal digits of either case.
+///
+/// Returns `None` if the length differs or a byte is not a digit. `len` is at most 8.
 #[tactic(auto, unfolding(crate::specs::Numbers::hex_number))]
 pub fn hex_number(len: usize, word: &[u8]) -> Option<u32>
     requires { len ≤ 8 }
@@ -51,7 +53,10 @@ pub fn hex_number(len: usize, word: &[u8]) -> Option<u32>
     }
 }
 
-/// The one to `MOST` bytes that a word spells.
+/// Returns the bytes that `word` spells, two hexadecimal digits a byte.
+///
+/// Returns `None` if the word has no bytes or more than `MOST`, an odd number of digits, or a byte
+/// that is not a digit. `MOST` is at most 256.
 #[tactic(auto, unfolding(crate::specs::Numbers::hex_bytes))]
 pub fn hex_bytes<const MOST: usize>(word: &[u8]) -> Option<ArrayVec<u8, MOST>>
     requires { MOST ≤ 256 }
@@ -76,7 +81,9 @@ pub fn hex_bytes<const MOST: usize>(word: &[u8]) -> Option<ArrayVec<u8, MOST>>
     }
 }
 
-/// The `len` bytes that a word spells, at most eight.
+/// Returns the bytes that `word` spells if they are exactly `len`, two hexadecimal digits a byte.
+///
+/// Returns `None` otherwise, and where `len` is 0 or more than 8.
 #[tactic(auto, unfolding(crate::specs::Numbers::exact_bytes))]
 pub fn exact_bytes(len: u8, word: &[u8]) -> Option<Datum>
     ensures { option_map (λ bytes. bytes.items) result ≡ exact_bytes len word.now }
@@ -87,7 +94,7 @@ pub fn exact_bytes(len: u8, word: &[u8]) -> Option<Datum>
     hex_bytes(word)
 }
 
-/// The number that one digit from 1 to 8 spells.
+/// Returns the number that `word` spells if it is one digit from 1 to 8, otherwise `None`.
 #[tactic(auto, unfolding(crate::specs::Numbers::small_number))]
 pub fn small_number(word: &[u8]) -> Option<u8>
     ensures { result ≡ small_number word.now }
@@ -98,7 +105,7 @@ pub fn small_number(word: &[u8]) -> Option<u8>
     }
 }
 
-/// The number that a digit 1, 2 or 4 spells.
+/// Returns the number that `word` spells if it is one of the digits 1, 2 and 4, otherwise `None`.
 #[tactic(auto, unfolding(crate::specs::Numbers::local_number))]
 pub fn local_number(word: &[u8]) -> Option<u8>
     ensures { result ≡ local_number word.now }
@@ -111,7 +118,7 @@ pub fn local_number(word: &[u8]) -> Option<u8>
     }
 }
 
-/// The one, two or four bytes that a word spells.
+/// Returns the bytes that `word` spells if they are one, two or four, otherwise `None`.
 #[tactic(auto, unfolding(crate::specs::Numbers::local_bytes))]
 pub fn local_bytes(word: &[u8]) -> Option<Datum>
     ensures { option_map (λ bytes. bytes.items) result ≡ local_bytes word.now }
@@ -133,7 +140,10 @@ fn decimal_digit(c: u8) -> Option<u8>
     }
 }
 
-/// The number that one to `most` decimal digits spell.
+/// Returns the number that `word` spells in one to `most` decimal digits.
+///
+/// Returns `None` if the word is empty, has more digits, or contains a byte that is not a digit.
+/// `most` is at most 4.
 #[tactic(auto, unfolding(crate::specs::Numbers::decimal_number))]
 pub fn decimal_number(most: usize, word: &[u8]) -> Option<u16>
     requires { most ≤ 4 }

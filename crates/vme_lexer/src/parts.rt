@@ -5,14 +5,14 @@ ghost use Rattle.vme_lexer.specs.Words.{IsCut, IsUncut};
 
 use memchr::memchr;
 
-/// The place of the first such byte, one by one.
+/// The index of the first `byte` in `text`, compared byte by byte.
 fn first_place(text: &[u8], byte: u8) -> Option<usize>
     ensures { result ≡ position (λ b. b == byte) text.now }
 {
     text.iter().position(|b| *b == byte)
 }
 
-/// The place of the first such byte of a short text, eight by eight.
+/// The index of the first `byte` in `text`, eight bytes at a time: quick for short texts.
 fn first_near_place(text: &[u8], byte: u8) -> Option<usize>
     ensures { result ≡ position (λ b. b == byte) text.now }
 {
@@ -31,7 +31,7 @@ fn first_near_place(text: &[u8], byte: u8) -> Option<usize>
     }
 }
 
-/// What stands before the first such byte, and after it.
+/// The text before the first `byte`, and the text after it; `None` if `byte` is not there.
 #[tactic(auto, using(crate::proofs::Cutting::cut_at, crate::proofs::Cutting::uncut))]
 pub(crate) fn cut(text: &[u8], byte: u8) -> Option<(&[u8], &[u8])>
     ensures { MatchOption result (IsUncut byte text.now) (λ parts.
@@ -41,7 +41,7 @@ pub(crate) fn cut(text: &[u8], byte: u8) -> Option<(&[u8], &[u8])>
     Some((text.split_at(end).0, text.split_at(end + 1).1))
 }
 
-/// The place of the first such byte of a long text.
+/// The index of the first `byte` in `text`, by `memchr`: quick for long texts.
 #[tactic(auto, using(crate::proofs::Cutting::place_found))]
 fn first_far_place(text: &[u8], byte: u8) -> Option<usize>
     ensures { result ≡ position (λ b. b == byte) text.now }
@@ -49,7 +49,8 @@ fn first_far_place(text: &[u8], byte: u8) -> Option<usize>
     memchr(byte, text)
 }
 
-/// What stands before the first such byte of a long text, and after it.
+/// The text before the first `byte`, and the text after it, searched by `memchr`; `None` if `byte`
+/// is not there.
 #[tactic(auto, using(crate::proofs::Cutting::cut_at, crate::proofs::Cutting::uncut))]
 pub(crate) fn cut_far(text: &[u8], byte: u8) -> Option<(&[u8], &[u8])>
     ensures { MatchOption result (IsUncut byte text.now) (λ parts.

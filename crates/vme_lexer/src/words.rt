@@ -1,4 +1,4 @@
-//! Lines cut into words.
+//! The words of a line.
 ghost use Rattle.std.specs.Prelude.{◌≡◌, [], ◌∷◌, MatchOption, slice_get};
 ghost use Rattle.std.specs.Option.{option_map};
 ghost use Rattle.std.specs.Iterator.{YieldsFirstRef, item_count};
@@ -8,7 +8,7 @@ use crate::parts::cut;
 
 const SPACE: u8 = b' ';
 
-/// The first word, and the line after it.
+/// The first word, and the rest of the line after it.
 #[tactic(auto, using(crate::proofs::Cutting::words_cut, crate::proofs::Cutting::words_cut_empty, crate::proofs::Cutting::words_uncut))]
 fn split_word(line: &[u8]) -> Option<(&[u8], &[u8])>
     ensures { MatchOption result (words line.now ≡ []) (λ w. words line.now ≡ w.0.now ∷ words w.1.now) }
@@ -27,15 +27,15 @@ fn split_word(line: &[u8]) -> Option<(&[u8], &[u8])>
     }
 }
 
-/// The words of a line: the longest runs of bytes other than space.
+/// An iterator over the words of a line, in order: its longest runs of bytes other than space.
 #[derive(Clone, Copy)]
 pub struct Words<'a> {
-    /// What is left of the line.
+    /// The part of the line that is not yet read.
     pub rest: &'a [u8],
 }
 
 impl<'a> Words<'a> {
-    /// The words of a line.
+    /// Returns an iterator over the words of `line`, even if the line is a comment.
     pub fn new(line: &'a [u8]) -> Words<'a>
         ensures line { result.rest.now ≡ line.now }
     {
@@ -64,7 +64,7 @@ impl<'a> Iterator for Words<'a> {
     }
 }
 
-/// The words of a line: a comment has none.
+/// Returns an iterator over the words of `line`. A comment (a line that begins with `#`) has none.
 pub fn words_of(line: &[u8]) -> Words<'_>
     ensures words { words result.rest.now ≡ words_of line.now }
 {
@@ -74,7 +74,7 @@ pub fn words_of(line: &[u8]) -> Words<'_>
     Words::new(line)
 }
 
-/// The first word of a line, unless it is a comment.
+/// Returns the first word of `line`, or `None` if the line has no words or is a comment.
 pub fn first_word(line: &[u8]) -> Option<&[u8]>
     ensures word { option_map (λ word. word.now) result ≡ slice_get (words_of line.now) 0 }
 {

@@ -1,4 +1,4 @@
--- The parts of a report, one after another, and where the sink fails in one.
+-- The parts of a report, one after another, and a failure of the sink in each.
 use Rattle.std.proofs.Common.{◌≡◌, ℕ, List, [], ◌++◌, Option, refl, sym}
 use Rattle.std.proofs.lemmas.List.{append-nil}
 use Rattle.std.specs.List.{flat_map}
@@ -23,7 +23,7 @@ module _ (boards : List BoardText) where
   unfolding report_text
   by_parts = refl
 
-  -- the replies are told
+  -- the replies are reported
   pub replies_reported :
       (old new : Option (List ℕ)) (before after : List ℕ) → before ≡ [] → Gathers old new before after replies
       → SoFar old new after (counts ++ memories) (report_text boards)
@@ -31,14 +31,14 @@ module _ (boards : List BoardText) where
       so_far_more old old new before after replies (report_text boards) (counts ++ memories) (report_text boards)
       (so_far_none old before (report_text boards) none) by_parts reported
 
-  -- then the counts
+  -- then the counts are reported
   pub counts_reported :
       (old mid new : Option (List ℕ)) (before after : List ℕ) → SoFar old mid before (counts ++ memories) (report_text boards)
       → Gathers mid new before after counts → SoFar old new after memories (report_text boards)
   counts_reported old mid new before after so_far reported =
       so_far_more old mid new before after counts (counts ++ memories) memories (report_text boards) so_far refl reported
 
-  -- then the memories
+  -- then the memories are reported
   pub memory_reported :
       (old mid new : Option (List ℕ)) (before after : List ℕ) → SoFar old mid before memories (report_text boards)
       → Gathers mid new before after memories → SoFar old new after [] (report_text boards)
@@ -52,14 +52,14 @@ module _ (boards : List BoardText) where
       so_far_fails old old new before replies (report_text boards) (counts ++ memories) (report_text boards)
       (so_far_none old before (report_text boards) none) by_parts failed
 
-  -- or in the counts
+  -- the sink fails in the counts
   pub counts_cut :
       (old mid new : Option (List ℕ)) (before : List ℕ) → SoFar old mid before (counts ++ memories) (report_text boards)
       → AppendsPrefix mid new (before ++ counts) → AppendsPrefix old new (report_text boards)
   counts_cut old mid new before so_far failed =
       so_far_fails old mid new before counts (counts ++ memories) memories (report_text boards) so_far refl failed
 
-  -- or in the memories
+  -- the sink fails in the memories
   pub memory_cut :
       (old mid new : Option (List ℕ)) (before : List ℕ) → SoFar old mid before memories (report_text boards)
       → AppendsPrefix mid new (before ++ memories) → AppendsPrefix old new (report_text boards)

@@ -1,4 +1,4 @@
--- Which is worse, of several.
+-- The worst of several statuses.
 use Rattle.std.proofs.Common.{◌≡◌, refl}
 use Rattle.vme_shared.specs.declared.status.Status.{Status}
 use Rattle.vme_shared.specs.declared.status.Status.TheVariants.{Clean, Marked}

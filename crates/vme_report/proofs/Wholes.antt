@@ -1,4 +1,4 @@
--- Texts that are gathered one after another, until a whole is told.
+-- Texts that are gathered one after another, until a whole is written.
 use Rattle.std.proofs.Common.{◌≡◌, ℕ, ◌+◌, ◌-◌, ◌*◌, ◌<◌, suc, List, [], ◌++◌, length, drop, get_or, Option, sym, ap, ◌∙◌, append_assoc, arith}
 use Rattle.std.proofs.lemmas.List.{append-nil, drop_more}
 use Rattle.std.specs.List.{flat_map, range_with_len}
@@ -9,7 +9,7 @@ use Rattle.vme_shared.specs.declared.reply.LineReply.{LineReply}
 use Rattle.vme_report.specs.Ends.{Gathers}
 use Rattle.vme_report.specs.Texts.{line_text, replies_text, row, row_text, row_count}
 
--- a front of a whole went to the sink; behind it come what is gathered and what is left
+-- a prefix of a whole was written to the sink; after it come what is gathered and what is left
 pub record SoFar (old new : Option (List ℕ)) (gathered left whole : List ℕ) : Type 0 where
   pub prefix : List ℕ
   pub appends : Appends old new prefix
@@ -60,7 +60,7 @@ pub item_first :
     → flat_map f (drop i xs) ≡ f x ++ flat_map f (drop (i + 1) xs)
 item_first f xs i x within is = ap (flat_map f) (drop_more xs i x within) ∙ ap (λ y. f y ++ flat_map f (drop (i + 1) xs)) (sym is)
 
--- so does that of the lines of a script
+-- the text of the lines of a script from one on begins with its own
 pub reply_first :
     (slot : ℕ) (lines : List (ℕ × LineReply)) (i : ℕ) (line : ℕ × LineReply) → i < length lines → line ≡ get_or lines i line
     → replies_text slot (drop i lines) ≡ line_text slot line.0 line.1 ++ replies_text slot (drop (i + 1) lines)
@@ -73,7 +73,7 @@ number_first f i n within = ap (λ k. flat_map f (range_with_len i k)) one_more
     one_more : n - i ≡ suc (n - (i + 1))
     one_more = omega (arith, within)
 
--- and that of the rows of a memory
+-- the text of the rows of a memory from one on begins with its own
 pub row_first :
     (slot i : ℕ) (bytes own : List ℕ) → i < row_count bytes → own ≡ row bytes i
     → flat_map (λ k. row_text slot (16 * k) (row bytes k)) (range_with_len i (row_count bytes - i))

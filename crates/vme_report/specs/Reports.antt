@@ -1,4 +1,4 @@
--- A report as a whole: its text, and whether all of its replies are good ones.
+-- A whole report: its text, and its status.
 use Rattle.std.specs.Prelude.{ℕ, List, ◌++◌, map, flat_map}
 use Rattle.vme_shared.specs.declared.reply.LineReply.{LineReply}
 use Rattle.vme_shared.specs.declared.status.Status.{Status}
@@ -8,22 +8,21 @@ use Rattle.vme_report.specs.declared.part.Part.TheVariants.{Replies, Counts, Mem
 use Rattle.vme_report.specs.Boards.{BoardText}
 use Rattle.vme_report.specs.Texts.{replies_text, counts_text, memory_text}
 
--- what a part of a report tells of a board (this project's own)
+-- the text of one part of a report for one board
 abbrev pub part_text : Part → BoardText → List ℕ
 part_text Replies board = replies_text board.slot board.lines
 part_text Counts board = counts_text board.slot board.steps board.made
 part_text Memory board = memory_text board.slot board.bytes
 
 -- the text of a report: the replies of all boards, then the counts of all boards, then the memories of all boards
--- (this project's own)
 unfoldable pub report_text : List BoardText → List ℕ
 report_text boards =
     flat_map (part_text Replies) boards ++ (flat_map (part_text Counts) boards ++ flat_map (part_text Memory) boards)
 
--- marked where a reply to a script is no good one (this project's own)
+-- Marked if a reply to one script is not a success
 abbrev pub board_status : List (ℕ × LineReply) → Status
 board_status lines = worst (map (λ line. reply_status line.1) lines)
 
--- marked where a reply to one of the scripts is no good one (this project's own)
+-- Marked if a reply to any script is not a success
 abbrev pub report_status : List BoardText → Status
 report_status boards = worst (map (λ board. board_status board.lines) boards)

@@ -1,19 +1,21 @@
+//! A board of a report.
 use std::marker::Model;
 use vme_memory::ByteMemory;
 use vme_shared::LineReply;
 
-/// What a report tells of a board. It lends everything, so that nothing is copied.
+/// A board as a report describes it. It borrows its parts, so that nothing is copied.
 #[derive(Drop)]
 pub struct BoardReportRef<'a> {
     /// The slot of the board.
     pub slot: u16,
-    /// The number of each line of its script that asks for something, with what it was answered.
+    /// The number of each line of its processor's script that requests something, with the line's
+    /// reply.
     pub lines: &'a [(u16, LineReply)],
-    /// Its memory after the run.
+    /// The board's memory after the run.
     pub memory: &'a ByteMemory,
-    /// How many steps it took.
+    /// The number of steps that the board took.
     pub steps: u64,
-    /// How many of them each board's processor made, in order of slots.
+    /// The number of these steps that each board's processor made, in order of slots.
     pub made: &'a [u64],
 }
 

@@ -1,3 +1,4 @@
+//! The faults of a report and of a run of scripts.
 ghost use Rattle.std.specs.Prelude.{◌≡◌};
 ghost use Rattle.vme_report.specs.declared.fault.ReportFault.TheVariants.{Memory};
 ghost use Rattle.vme_report.specs.declared.fault.RunFault.TheVariants as run;
@@ -9,7 +10,7 @@ use thiserror::Error;
 /// Why a report ended early.
 #[derive(Clone, Copy, Debug, PartialEq, Eq)]
 pub enum ReportFault {
-    /// There is no memory.
+    /// An allocation failed.
     Memory,
     /// The sink failed.
     Write,
@@ -29,10 +30,10 @@ pub enum RunFault {
     /// U1: a thread could not be started.
     #[error("U1")]
     Thread,
-    /// U2: there is no memory.
+    /// U2: an allocation failed.
     #[error("U2")]
     Memory,
-    /// U3: an object has made as many steps as can be counted.
+    /// U3: an object has taken as many steps as can be counted.
     #[error("U3")]
     Spent,
     /// U4: the sink failed.

@@ -1,4 +1,4 @@
-//! The parts of a report, line by line: what is gathered goes to a sink in large pieces.
+//! The parts of a report, line by line: the text is gathered and written to a sink in large pieces.
 ghost use Rattle.std.specs.Prelude.{◌≡◌, ◌≤◌, ◌*◌, ◌++◌, [], false, length, take, drop, flat_map, OnOk, OnErr, IfErr};
 ghost use Rattle.std.specs.Io.KnownBytes.{Appends};
 ghost use Rattle.vme_io.specs.Prefixes.{AppendsPrefix};
@@ -16,13 +16,13 @@ use vme_io::{Sink, write_all};
 use vme_memory::ByteMemory;
 use vme_shared::LineReply;
 
-/// How many bytes of text are gathered before they are written.
+/// The number of bytes of text that are gathered before they are written.
 pub(crate) const WRITE_SIZE: usize = 65_536;
 
-/// How many bytes a row of memory has.
+/// The number of bytes in a row of memory.
 const ROW_SIZE: u32 = 16;
 
-/// Gathers one part of a report.
+/// Gathers one part of a report, for all boards.
 pub(crate) fn gather_boards<W: Sink>(
     part: Part,
     boards: &[BoardReportRef<'_>],
@@ -42,7 +42,7 @@ pub(crate) fn gather_boards<W: Sink>(
     Ok(())
 }
 
-/// Gathers what a part of a report tells of a board.
+/// Gathers one part of a report, for one board.
 fn gather_board<W: Sink>(
     part: Part,
     board: &BoardReportRef<'_>,
@@ -160,7 +160,7 @@ fn gather_row<W: Sink>(
     pass_on(text, writer)
 }
 
-/// Writes what is gathered where it is a large piece.
+/// Writes the gathered text if it is a large piece.
 fn pass_on<W: Sink>(text: &mut Vec<u8>, writer: &mut W) -> Result<(), ReportFault>
     requires { W.is_marked writer.old ≡ false }
     ensures gathers { OnOk result (Gathers (W.contents writer.old) (W.contents writer.new)
@@ -176,7 +176,7 @@ fn pass_on<W: Sink>(text: &mut Vec<u8>, writer: &mut W) -> Result<(), ReportFaul
     Ok(())
 }
 
-/// Writes a text, or a front of it before a failure.
+/// Writes a text, or a prefix of it before a failure.
 pub(crate) fn write_text<W: Sink>(text: &[u8], writer: &mut W) -> Result<(), ReportFault>
     requires { W.is_marked writer.old ≡ false }
     ensures bytes { OnOk result (Appends (W.contents writer.old) (W.contents writer.new) text.now) }

@@ -1,6 +1,7 @@
-//! The report of a run: what each line of each script was answered, how many steps each board took
-//! and who made them, and what its memory holds, as a text that goes to a sink piece by piece. The
-//! text is this project's own.
+//! The report of a run: the reply to each line of each script, the number of steps of each board
+//! and which processors made them, and the contents of the memories.
+//!
+//! The report is text. It goes to a sink in large pieces.
 #![tactic(auto)]
 
 mod board;

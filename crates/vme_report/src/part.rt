@@ -1,9 +1,10 @@
-/// The parts of a report, each of which goes over all boards.
+//! The parts of a report.
+/// The parts of a report. Each part contains all boards.
 #[derive(Clone, Copy, Debug, PartialEq, Eq)]
 pub(crate) enum Part {
-    /// What the lines of the scripts were answered.
+    /// The replies to the lines of the scripts.
     Replies,
-    /// The steps, and who made them.
+    /// The steps of the boards, and which processors made them.
     Counts,
     /// The rows of the memories.
     Memory,

@@ -10,8 +10,11 @@ use vme_grammar::{print_berr, print_done, print_hex, print_old, print_read, prin
 use vme_master::Outcome;
 use vme_shared::{LineReply, SharedOutcome};
 
-/// Appends the whole line that tells what a line of a slot's script was answered, or nothing where
-/// there is no memory for it.
+/// Appends the line of the reply to line `line` of the script in slot `slot`.
+///
+/// # Errors
+///
+/// `AllocError`: an allocation failed; the text is unchanged.
 #[tactic(auto, unfolding(crate::specs::Texts::line_text))]
 pub fn reply_line(
     slot: u16,
@@ -30,7 +33,7 @@ pub fn reply_line(
     end
 }
 
-/// Appends a line, or a front of it.
+/// Appends the line of a reply, or a prefix of it if an allocation fails.
 #[tactic(auto, unfolding(crate::specs::Texts::line_text))]
 fn print_line(slot: u16, line: u16, reply: &LineReply, text: &mut Vec<u8>) -> Result<(), AllocError>
     ensures text { OnOk result (text.new.items ≡ text.old.items ++ line_text slot line reply.now) }
@@ -114,7 +117,7 @@ fn print_number(number: u64, text: &mut Vec<u8>) -> Result<(), AllocError>
     text.extend_from_slice(buffer.format(number).as_bytes())
 }
 
-/// Appends the line of a board's steps and of who made them.
+/// Appends the line of a board's steps and of the steps that each processor made.
 #[tactic(auto, unfolding(crate::specs::Texts::counts_text))]
 pub(crate) fn print_counts(
     slot: u16,

@@ -1,4 +1,4 @@
-//! A report as a whole.
+//! A whole report.
 ghost use Rattle.std.specs.Prelude.{◌≡◌, false, IfOk, OnOk, OnErr};
 ghost use Rattle.std.specs.Io.KnownBytes.{Appends};
 ghost use Rattle.vme_io.specs.Prefixes.{AppendsPrefix};
@@ -14,11 +14,17 @@ use std::alloc::Global;
 use vme_io::Sink;
 use vme_shared::Status;
 
-/// Writes the report of these boards, in order: a line for each reply, a line for each board's
-/// steps, and a line for each row of memory that is not all zero.
+/// Writes the report of `boards`, in order: a line for each reply, a line for each board's steps,
+/// and a line for each row of memory that is not all zero.
 ///
-/// Before a fault a front of the report is written. Of a writer that tells no bytes only the
-/// faults are promised. `Memory` comes where a growth is refused.
+/// Returns `Clean` if every reply is a success, otherwise `Marked`.
+///
+/// If the writer has no byte model, only the fault clauses hold.
+///
+/// # Errors
+///
+/// `Write`: the writer failed. `Memory`: an allocation failed. In both cases a prefix of the report
+/// was written.
 pub fn write_report<W: Sink>(
     alloc: Global,
     boards: &[BoardReportRef<'_>],

@@ -1,4 +1,4 @@
-//! Whether the replies of a report are good ones.
+//! The status of a report: whether every reply is a success.
 ghost use Rattle.std.specs.Prelude.{◌≡◌};
 ghost use Rattle.vme_report.specs.Reports.{board_status, report_status};
 

@@ -1,4 +1,4 @@
-//! Tests of the text of a report. They stand apart so that `vme_report` is not proved twice.
+//! Tests of the text of a report, apart from `vme_report` so that its proofs are not repeated.
 #![tactic(auto)]
 
 #[cfg(test)]

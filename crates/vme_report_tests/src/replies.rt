@@ -1,4 +1,4 @@
-//! What each reply is told as.
+//! The text of each reply.
 use arrayvec::ArrayVec;
 use std::process::Abort;
 use std::test::Fail;
@@ -80,7 +80,7 @@ fn reports_each_reply(rt: HostRuntime) -> Result<(), Fail> {
     Ok(())
 }
 
-/// Where memory is refused the text is as it was, and the line can be told once more.
+/// If an allocation fails, the text is unchanged, and the line can be appended again.
 #[test]
 fn reports_each_reply_once_more_where_memory_lacks(rt: HostRuntime) -> Result<(), Fail> {
     let mut text = Vec::new(rt.alloc());

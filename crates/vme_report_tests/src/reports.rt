@@ -1,4 +1,4 @@
-//! Reports of two boards, whole and cut off by a sink that fails.
+//! Reports of two boards, whole and truncated by a sink that fails.
 ghost use Rattle.std.specs.Prelude.{◌≡◌, false};
 ghost use Rattle.vme_io.specs.Devices.{is_marked_sink};
 
@@ -19,8 +19,8 @@ const CLASS: Class = Class {
     rmw: true,
 };
 
-/// The first board's second row is all zero and its last is short; the second board's last row is
-/// sixteen zero bytes.
+/// The first board's second row is all zero, and its last row is short. The second board's last row
+/// is sixteen zero bytes.
 static TEXT: &str = "1:1 done
 1:3 met
 2:2 done
@@ -31,7 +31,7 @@ mem 1 00000020 aa000000
 mem 2 00000000 aa000000000000000000000000000000
 ";
 
-/// A memory of so many bytes, all zero but for one.
+/// A memory of `size` bytes, all zero but one.
 fn memory(alloc: Global, size: u32, offset: u32, byte: u8) -> Result<ByteMemory, AllocError> {
     let Ok(mut memory) = ByteMemory::new(alloc, size, CLASS) else {
         return Err(AllocError);
@@ -61,7 +61,7 @@ fn board<'a>(
     }
 }
 
-/// Writes the report of the two boards, the last line answered so, into a sink with so much room.
+/// Writes the report of the two boards into `sink`. `last` is the reply to the last line.
 fn report(
     alloc: Global,
     last: LineReply,
@@ -108,7 +108,8 @@ fn stops_where_the_sink_fails(rt: HostRuntime) -> Result<(), Fail> {
     Ok(())
 }
 
-/// Where memory is refused, just that is told and a front is written; else the whole report stands.
+/// If an allocation fails, the result is that fault and a prefix was written; otherwise the whole
+/// report was written.
 #[test]
 fn is_written_or_lacks_memory(rt: HostRuntime) {
     let Ok(mut sink) = RoomSink::new(rt.alloc(), usize::MAX, 4096) else {

@@ -1,4 +1,4 @@
-//! Runs by listed turns, with their reports.
+//! Runs by listed turns, and their reports.
 use std::alloc::Global;
 use std::process::Abort;
 use std::test::Fail;
@@ -8,7 +8,8 @@ use vme_script::Config;
 use vme_shared::Status;
 use vme_stepper::{run_configured, run_steps};
 
-/// A refused line, a transfer and a local write, on a board of 16 bytes; a block on the other board.
+/// A refused line, a transfer and a local write, on a board of 16 bytes; a block on the other
+/// board.
 static FILE: &str = "schedule = [[5, 1], [9, 2]]
 rounds = 2
 [[board]]
@@ -30,7 +31,7 @@ size = 16
 script = 'br 0b 00000000 4 2'
 ";
 
-/// No turn.
+/// The report after no turn.
 static NONE: &str = "5:1 unfinished
 5:4 unfinished
 5:5 unfinished
@@ -40,7 +41,7 @@ board 5 steps 0 made 0 0
 board 9 steps 0 made 0 0
 ";
 
-/// One turn of the first board: the refused line is answered, and the bus is asked for.
+/// The report after one turn of slot 5: the refused line has its reply, and the bus is requested.
 static FIRST: &str = "5:1 refused K2
 5:4 unfinished
 5:5 unfinished
@@ -50,7 +51,8 @@ board 5 steps 0 made 0 0
 board 9 steps 0 made 0 0
 ";
 
-/// Both to their ends: the block waits while the other holds the bus.
+/// The report after the ends of both scripts: the block waits while the other processor holds the
+/// bus.
 static ALL: &str = "5:1 refused K2
 5:4 done
 5:5 done
@@ -62,7 +64,8 @@ mem 5 00000000 00000000aabbccdd0000000000000000
 mem 9 00000000 7f000000000000000000000000000000
 ";
 
-/// By the file's own turns, the second slot looks for the bus three times before it is free.
+/// The report after the file's own turns: slot 9's processor polls the arbiter three times before
+/// the bus is free.
 static OWN: &str = "5:1 refused K2
 5:4 done
 5:5 unfinished
@@ -73,7 +76,7 @@ board 9 steps 1 made 1 0
 mem 9 00000000 7f000000000000000000000000000000
 ";
 
-/// There is no board in slot 7, and the last line asks for nothing of the bus.
+/// There is no board in slot 7, and the last line does not request the bus.
 static ALL_SLOTS: [u16; 11] = [5, 9, 5, 5, 9, 7, 5, 9, 9, 9, 5];
 
 static OWN_SLOTS: [u16; 7] = [5, 9, 9, 5, 9, 5, 9];
@@ -121,8 +124,8 @@ fn writes_a_prefix_where_the_sink_fails(rt: HostRuntime) -> Result<(), Fail> {
     Ok(())
 }
 
-/// Where memory is refused, just that is told, with nothing written or a front of the report; else
-/// the whole report stands.
+/// If an allocation fails, the result is that fault and nothing or a prefix was written; otherwise
+/// the whole report was written.
 #[test]
 fn reports_or_lacks_memory(rt: HostRuntime) {
     let Ok(config) = Config::read(rt.alloc(), FILE.as_bytes()) else {

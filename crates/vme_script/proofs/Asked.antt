@@ -1,4 +1,4 @@
--- What a line asks for by rules, by what was read of it.
+-- The result of a line in a context, by the result of parsing it.
 use Rattle.std.proofs.Common.{◌≡◌, ℕ, List, None, Some, Ok, Err, refl}
 use Rattle.vme_grammar.specs.declared.line.Line.{Line}
 use Rattle.vme_grammar.specs.declared.fault.LineFault.{LineFault}
@@ -11,19 +11,19 @@ pub refused : (rules : ScriptContext) (text : List ℕ) (fault : LineFault) → 
 unfolding line_within
 refused rules text fault read = rw read refl
 
--- a line that asks for nothing
+-- a line that requests nothing
 pub empty : (rules : ScriptContext) (text : List ℕ) → line_of text ≡ Ok None → line_within rules text ≡ Ok None
 unfolding line_within
 empty rules text read = rw read refl
 
--- a line that may not be asked
+-- a line that its context refuses
 pub forbidden :
     (rules : ScriptContext) (text : List ℕ) (line : Line) (fault : LineFault) → line_of text ≡ Ok (Some line) → refusal_of rules line ≡ Some fault
     → line_within rules text ≡ Err fault
 unfolding line_within
 forbidden rules text line fault read refusal = rw (read, refusal) refl
 
--- a line that may be asked
+-- a line that its context allows
 pub allowed :
     (rules : ScriptContext) (text : List ℕ) (line : Line) → line_of text ≡ Ok (Some line) → refusal_of rules line ≡ None
     → line_within rules text ≡ Ok (Some line)

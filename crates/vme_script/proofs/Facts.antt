@@ -1,4 +1,4 @@
--- What is known of boards that are configured.
+-- Facts about configured boards.
 use Rattle.std.proofs.Common.{◌≡◌, ℕ, suc, Bool, true, false, List, [], ◌∷◌, length, Result, Ok, Err, refl, ap, subst}
 use Rattle.std.specs.List.{list_all}
 use Rattle.std.proofs.lemmas.Bool.{and_parts}
@@ -18,7 +18,7 @@ pub true_from_not : (b : Bool) → not b ≡ false → b ≡ true
 true_from_not true e = refl
 true_from_not false e = cc
 
--- the parts of a board that is configured: none of its refusals holds
+-- the parts of a configured board: none of its refusals holds
 record Parts (slot level : Bool) (range : Entry → Result (Unit {0}) ConfigFault) (make : Entry → Class → BoardConfig) (config : BoardConfig) : Type 0 where
   entry : Entry
   class : Class
@@ -61,23 +61,23 @@ more_parts (Err fault) others boards e = cc
 more_parts (Ok x) (Err fault) boards e = cc
 more_parts (Ok x) (Ok xs) boards e = (x, xs, refl, refl, cc)
 
--- slots that ascend from above this one on
+-- slots that ascend and are above the given one
 abbrev pub ascend : ℕ → List BoardConfig → Bool
 ascend before [] = true
 ascend before (board ∷ more) = nat_lt before board.slot && ascend board.slot more
 
--- whether a board is in one of 21 slots, on one of four levels, and its range is not refused by itself
+-- whether a board is in one of 21 slots, on one of four levels, and its range is lawful by itself
 abbrev pub is_lawful : BoardConfig → Bool
 is_lawful board = nat_le board.slot 21 && not (nat_lt 3 board.level) && is_ok (range_refused board.entry)
 
--- what is known of boards that are configured
+-- the facts about configured boards
 pub record Known (before : ℕ) (values : List BoardValues) (boards : List BoardConfig) : Type 0 where
   pub count : length boards ≡ length values
   pub lawful : list_all is_lawful boards ≡ true
   pub ascending : ascend before boards ≡ true
   pub slots : has_slots values ≡ true
 
--- what is known of one more
+-- the facts about one more board
 one_more :
     (before : ℕ) (value : BoardValues) (values : List BoardValues) (x : BoardConfig) (xs : List BoardConfig)
     → board_config before value ≡ Ok x → Known value.slot values xs → Known before (value ∷ values) (x ∷ xs)
@@ -99,7 +99,7 @@ boards_known before (value ∷ values) boards e =
     let p = more_parts (board_config before value) (boards_after value.slot values) boards e in
     subst (λ bs. Known before (value ∷ values) bs) p.4 (one_more before value values p.0 p.1 p.2 (boards_known value.slot values p.1 p.3))
 
--- the range of each lawful board is not refused
+-- the range of each lawful board is lawful
 pub ranges_known : (boards : List BoardConfig) → list_all is_lawful boards ≡ true → have_ranges boards ≡ true
 ranges_known [] lawful = refl
 ranges_known (board ∷ boards) lawful =
@@ -107,7 +107,7 @@ ranges_known (board ∷ boards) lawful =
     let q = and_parts (nat_le board.slot 21 && not (nat_lt 3 board.level)) (is_ok (range_refused board.entry)) p.0 in
     rw q.1 (ranges_known boards p.1)
 
--- a map is that of the ranges
+-- a map equals the ranges that it was made of
 pub map_known : (entries map : List Entry) → map_of entries ≡ Ok map → map ≡ entries
 unfolding map_of
 map_known entries map e = made (some_overlap entries) entries map e

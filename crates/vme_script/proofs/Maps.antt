@@ -1,4 +1,4 @@
--- Ranges that are not refused by themselves are refused together only where they share an address.
+-- Ranges that are each lawful are refused together only if two share an address.
 use Rattle.std.proofs.Common.{◌≡◌, ◌≤◌, Bool, true, false, List, [], ◌∷◌, ◌++◌, length, Option, None, Some, is_ok, refl, ◌∙◌, arith}
 use Rattle.std.proofs.lemmas.List.{length-map}
 use Rattle.std.specs.Prelude.{nat_lt, flat_map, ◌%◌, not, ◌==◌}
@@ -16,20 +16,20 @@ use Rattle.vme_script.specs.declared.fault.ConfigFault.{ConfigFault}
 use Rattle.vme_script.specs.Answers.{◌>>=◌, refuse}
 use Rattle.vme_script.specs.Boards.{range_refused, entries_of, have_ranges}
 
--- refusals of which none holds are passed over
+-- refusals none of which holds can be dropped
 first_of-append : (none more : List (Option MapFault)) → first_of none ≡ None → first_of (none ++ more) ≡ first_of more
 first_of-append [] more clear = refl
 first_of-append (None ∷ none) more clear = first_of-append none more clear
 first_of-append (Some fault ∷ none) more clear = cc
 
--- where none of three refusals holds, none of the last two does
+-- if none of three refusals holds, none of the last two does
 last_two : (a b c : Bool) (e f g : ConfigFault) → is_ok (refuse a e >>= (λ _. refuse b f >>= (λ _. refuse c g))) ≡ true → (b ≡ false) × (c ≡ false)
 last_two true b c e f g ok = absurd (false≢true ok)
 last_two false true c e f g ok = absurd (false≢true ok)
 last_two false false true e f g ok = absurd (false≢true ok)
 last_two false false false e f g ok = (refl, refl)
 
--- a range that is not refused by itself has no refusal in a map
+-- a range that is lawful by itself has no refusal in a map
 own_refusals : (entry : Entry) → is_ok (range_refused entry) ≡ true → first_of (entry_refusals entry) ≡ None
 unfolding range_refused
 own_refusals entry ok =
@@ -42,7 +42,7 @@ no_refusals (board ∷ boards) ok =
     let parts = and_parts (is_ok (range_refused board.entry)) (have_ranges boards) ok in
     first_of-append (entry_refusals board.entry) _ (own_refusals board.entry parts.0) ∙ no_refusals boards parts.1
 
--- the refusal of such ranges, if there is one
+-- the refusal of lawful ranges, if there is one
 pub refusal_of_lawful :
     (boards : List BoardConfig) → length boards ≤ 21 → have_ranges boards ≡ true
     → first_refusal (entries_of boards) ≡ first_of (where_true (some_overlap (entries_of boards)) Overlap ∷ [])
@@ -54,7 +54,7 @@ refusal_of_lawful boards few ok =
     let clear : first_of (where_true (nat_lt 21 (length entries)) TooMany ∷ flat_map entry_refusals entries) ≡ None = rw many (no_refusals boards ok) in
     first_of-append (where_true (nat_lt 21 (length entries)) TooMany ∷ flat_map entry_refusals entries) _ clear
 
--- a range that is not refused by itself is as long as a board is
+-- a lawful range has a board's size
 pub size_of_range : (entry : Entry) → is_ok (range_refused entry) ≡ true → is_board_size entry.size ≡ true
 unfolding range_refused
 size_of_range entry ok =
@@ -64,7 +64,7 @@ size_of_range entry ok =
     first_one true b c e f g ok = refl
     first_one false b c e f g ok = absurd (false≢true ok)
 
--- and ends within its space
+-- a lawful range ends within its space
 pub end_of_range : (entry : Entry) → is_ok (range_refused entry) ≡ true → end_of entry ≤ addresses_of entry.space
 unfolding range_refused
 end_of_range entry ok =

@@ -7,7 +7,7 @@ use Rattle.vme_config_toml.specs.Keys.{◌>>=◌, when}
 use Rattle.vme_shared.specs.declared.mailbox.Mailbox.{Mailbox}
 use Rattle.vme_script.specs.MailboxTables.{is_mailbox_code, mailbox_from_table, HasNumbers}
 
--- what passes three tests passes each
+-- if three tests hold together, each holds
 three_tests :
     (a b c : Bool) (made found : Mailbox) → (when a >>= (λ _. when b >>= (λ _. when c >>= (λ _. Some made)))) ≡ Some found
     → (a ≡ true) × (b ≡ true) × (c ≡ true) × (made ≡ found)
@@ -16,7 +16,7 @@ three_tests true false c made found e = cc
 three_tests true true false made found e = cc
 three_tests true true true made found e = (refl, refl, refl, cc)
 
--- a mailbox that a table tells has the numbers of one
+-- a mailbox made from a table has lawful numbers
 pub numbers_known : (table : MailboxTable) (mailbox : Mailbox) → mailbox_from_table table ≡ Some mailbox → HasNumbers mailbox
 unfolding mailbox_from_table
 numbers_known table mailbox reported =

@@ -1,4 +1,4 @@
--- Where bytes lie.
+-- Ranges of bytes on the boards.
 use Rattle.std.proofs.Common.{◌≡◌, ℕ, ◌+◌, ◌^◌, ◌≤◌, List, Option, None, Some, Result, Ok, Err, refl, ap, ◌∙◌, arith}
 use Rattle.std.specs.Prelude.{nat_lt, ◌==◌, ◌&&◌, max, min, slice_get}
 use Rattle.std.specs.Option.{option_map}
@@ -15,7 +15,7 @@ use Rattle.vme_decode.proofs.lemmas.Selection.{place_falls}
 use Rattle.vme_script.specs.declared.board_range.BoardRange.{BoardRange}
 use Rattle.vme_script.specs.BoardRanges.{range_by, range_at, share}
 
--- bytes share one with others as those share one with them
+-- sharing a byte is symmetric
 pub shared_both_ways : (a b : BoardRange) → share a b ≡ share b a
 shared_both_ways a b =
     ap (λ same. same && nat_lt (max a.offset b.offset) (min (a.offset + a.len) (b.offset + b.len))) (same_board a.board b.board)
@@ -48,7 +48,7 @@ by_code entries (Ok code) addr len place e =
     let found = selected entries code addr len place (selection_at entries code addr) refl e in
     (code, found.0, found.1)
 
--- bytes that end within an entry which itself ends within its space end within the addresses
+-- bytes that end within an entry that ends within its space have addresses below 2 ^ 32
 pub ends_within :
     (entries : List Entry) (am addr len : ℕ) (place : BoardRange) (entry : Entry) → range_at entries am addr len ≡ Some place
     → slice_get entries place.board ≡ Some entry → end_of entry ≤ addresses_of entry.space → place.offset + place.len ≤ entry.size

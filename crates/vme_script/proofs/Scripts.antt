@@ -21,7 +21,7 @@ use Rattle.vme_script.specs.Answers.{◌>>=◌}
 use Rattle.vme_config_toml.specs.Files.{BoardValues}
 use Rattle.vme_script.specs.Scripts.{asked_at, line_before, lines_from, script_within, script_in, rules_of, scripts_from, scripts_of}
 
--- whether a script is no longer than its text may be
+-- whether a script is not too long
 abbrev pub is_short : List ScriptLine → Bool
 is_short script = nat_le (length script) 1000
 
@@ -81,7 +81,7 @@ scripts_known entries mailboxes place (board ∷ more) scripts e =
 abbrev AllOf : (Line → Type 0) → List ScriptLine → Type 0
 AllOf P script = (j : ℕ) (line : ScriptLine) → slice_get script j ≡ Some line → P line.line
 
--- what is read of a line has it
+-- each line that is read has a property
 abbrev AllRead : (Line → Type 0) → ScriptContext → Type 0
 AllRead P rules = (text : List ℕ) (line : Line) → line_within rules text ≡ Ok (Some line) → P line
 
@@ -120,7 +120,7 @@ all_script P rules text script own e =
       | inr few ↦ all_lines P rules 1 (lines text) script own (rw (le-ltb 1000 (length (lines text)) few) at e)
     ]
 
--- each line of each script has a property that goes by the place of its board
+-- each line of each script has a property that depends on the index of its board
 abbrev AllIn : (ℕ → Line → Type 0) → ℕ → List (List ScriptLine) → Type 0
 AllIn P place scripts = (i : ℕ) (script : List ScriptLine) → slice_get scripts i ≡ Some script → AllOf (P (place + i)) script
 
@@ -148,7 +148,7 @@ all_scripts P entries mailboxes place (board ∷ more) scripts own e =
     (all_in_first P place parts.0 parts.1 (all_script (P place) rules board.script parts.0 (own place) parts.2)
     (all_scripts P entries mailboxes (place + 1) more parts.1 own parts.3))
 
--- a line that is read is asked by the rules
+-- a line that is read in a context is allowed by it
 read_within :
     (rules : ScriptContext) (read : Result (Option Line) LineFault) (line : Line) → asked_within rules read ≡ Ok (Some line)
     → (read ≡ Ok (Some line)) × (may_ask (boxes_of rules) line ≡ true) × (touches rules line ≡ false)
@@ -177,7 +177,7 @@ line_free : (rules : ScriptContext) → AllRead (λ line. touches rules line ≡
 unfolding line_within
 line_free rules text line e = (read_within rules (line_of text) line e).2
 
--- what is known of each line of the scripts of a file
+-- the facts about each line of the scripts of a file
 pub record EachLine (entries : List Entry) (mailboxes : List Mailbox) (i : ℕ) (line : Line) : Type 0 where
   pub own : IsOwnLine line
   pub named : may_ask (Declared (length mailboxes)) line ≡ true
@@ -188,7 +188,8 @@ each_read entries mailboxes k text line e =
     let rules = rules_of entries mailboxes k in
     record { own = line_own rules text line e; named = line_may rules text line e; free = line_free rules text line e }
 
--- no line of a script asks the local port for a cycle of the bus, names a mailbox that is not there, or bytes of one that is
+-- no line of a script commands the local port to do a bus cycle, names an undeclared mailbox, or accesses bytes of a
+-- declared one
 pub each_line :
     (entries : List Entry) (mailboxes : List Mailbox) (boards : List BoardValues) (scripts : List (List ScriptLine))
     → scripts_of entries mailboxes boards ≡ Ok scripts → (i j : ℕ) (script : List ScriptLine) (line : ScriptLine)

@@ -1,4 +1,4 @@
--- What holds of every mailbox that is declared.
+-- What holds of every declared mailbox.
 use Rattle.std.proofs.Common.{◌≡◌, ℕ, zero, suc, ◌+◌, ◌≤◌, Bool, true, false, List, [], ◌∷◌, ◌++◌, length, Option, None, Some, Result, Ok, Err, refl, ap, subst, sym, ◌∙◌, arith}
 use Rattle.std.specs.Prelude.{nat_lt, ◌||◌, not, is_ok, slice_get}
 use Rattle.std.specs.Option.{ok_or}
@@ -34,7 +34,7 @@ kept : {B : Type 0} (wrong : Bool) (rest : Result B ConfigFault) (c : B) → (re
 kept true rest c e = cc
 kept false rest c e = (refl, e)
 
--- the last tests of a mailbox, where its place and its board are known
+-- the last checks of a mailbox, with its range and its board known
 abbrev with_board : List BoardRange → Mailbox → BoardRange → BoardConfig → Result (Mailbox × BoardRange) ConfigFault
 with_board earlier mailbox place board =
     refuse (not (is_within place board.entry.size)) BadMailbox >>= (λ _. refuse (not (supports_mailboxes board.class)) BadMailbox >>= (λ _.
@@ -46,7 +46,7 @@ with_place boards earlier mailbox place = ok_or (slice_get boards place.board) B
 abbrev with_mailbox : List BoardConfig → List BoardRange → Mailbox → Result (Mailbox × BoardRange) ConfigFault
 with_mailbox boards earlier mailbox = ok_or (range_of (entries_of boards) mailbox) BadMailbox >>= with_place boards earlier mailbox
 
--- what is known of a mailbox that is declared
+-- the facts about a declared mailbox
 record Sited (boards : List BoardConfig) (earlier : List BoardRange) (table : MailboxTable) (mailbox : Mailbox) (place : BoardRange) : Type 0 where
   reported : mailbox_from_table table ≡ Some mailbox
   placed : range_of (entries_of boards) mailbox ≡ Some place
@@ -79,7 +79,7 @@ sited boards earlier table found e =
       apart = apart.0;
     })
 
--- the range of a lawful board is not refused by itself
+-- the range of a lawful board is lawful by itself
 range_at :
     (boards : List BoardConfig) (i : ℕ) (board : BoardConfig) → list_all is_lawful boards ≡ true → slice_get boards i ≡ Some board
     → is_ok (range_refused board.entry) ≡ true
@@ -135,7 +135,7 @@ more_parts (Ok x) others mailboxes e =
     let p = rest_parts x (others x.1) mailboxes e in
     (x, p.0, refl, p.1, p.2)
 
--- where a mailbox lies on the boards
+-- the range of a mailbox on the boards
 abbrev LiesAt : List BoardConfig → Mailbox → BoardRange → Type 0
 LiesAt boards mailbox place = range_of (entries_of boards) mailbox ≡ Some place
 
@@ -147,7 +147,7 @@ record Each (boards : List BoardConfig) (earlier : List BoardRange) (mailboxes :
       (j k : ℕ) (a b : Mailbox) (p q : BoardRange) → slice_get mailboxes j ≡ Some a → slice_get mailboxes k ≡ Some b
       → LiesAt boards a p → LiesAt boards b q → share p q ≡ true → j ≡ k
 
--- what is new among more is new among fewer
+-- a range that is new among more ranges is new among fewer
 new_among : (p first : BoardRange) (earlier : List BoardRange) → list_any (share p) (earlier ++ first ∷ []) ≡ false → (list_any (share p) earlier ≡ false) × (share p first ≡ false)
 new_among p first earlier none =
     let split : (list_any (share p) earlier || (share p first || false)) ≡ false = rw (← list_any-append (share p) earlier (first ∷ [])) none in
@@ -161,7 +161,7 @@ new_among p first earlier none =
 one_place : (boards : List BoardConfig) (m : Mailbox) (p q : BoardRange) → LiesAt boards m p → LiesAt boards m q → p ≡ q
 one_place boards m p q here there = let same : Some p ≡ Some q = sym here ∙ there in cc
 
--- the first one, and those after it
+-- the first mailbox, and those after it
 one_more :
     (boards : List BoardConfig) (earlier : List BoardRange) (table : MailboxTable) (m : Mailbox) (p : BoardRange) (ms : List Mailbox)
     → list_all is_lawful boards ≡ true → Sited boards earlier table m p → Each boards (earlier ++ p ∷ []) ms → Each boards earlier (m ∷ ms)
@@ -222,7 +222,7 @@ count_known boards earlier (table ∷ more) mailboxes e =
     let parts = more_parts (declared_mailbox boards earlier table) (λ place. mailboxes_after boards (earlier ++ place ∷ []) more) mailboxes e in
     sym (ap length parts.4) ∙ ap suc (count_known boards (earlier ++ parts.0.1 ∷ []) more parts.1 parts.3)
 
--- what is known of the mailboxes of a file
+-- the facts about the mailboxes of a file
 pub record Known (boards : List BoardConfig) (mailboxes : List Mailbox) : Type 0 where
   pub few : length mailboxes ≤ 16
   pub lawful : (k : ℕ) (m : Mailbox) → slice_get mailboxes k ≡ Some m → IsLawfulMailbox boards m

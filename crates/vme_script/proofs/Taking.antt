@@ -1,4 +1,4 @@
--- Lines taken one by one are those of the script.
+-- Lines processed one by one give the script.
 use Rattle.std.proofs.Common.{◌≡◌, ℕ, ◌+◌, List, [], ◌∷◌, ◌++◌, Option, None, Some, Result, Ok, Err, refl, sym, ap, ◌∙◌, append_assoc}
 use Rattle.std.proofs.lemmas.List.{append-nil}
 use Rattle.vme_grammar.specs.declared.line.Line.{Line}
@@ -20,7 +20,7 @@ pub kept :
 kept rules number text line before after None read added is = (Some line, allowed rules text line read (sym is), added)
 kept rules number text line before after (Some fault) read added is = forbidden rules text line fault read (sym is)
 
--- a line that asks for nothing
+-- a line that requests nothing
 pub passed_over :
     (rules : ScriptContext) (number : ℕ) (text : List ℕ) (before after : List ScriptLine) → line_of text ≡ Ok None → after ≡ before
     → IsTaken rules number text before after None
@@ -33,7 +33,7 @@ with_line-append :
 with_line-append first second (Ok others) = ap Ok (append_assoc first second others)
 with_line-append first second (Err refusal) = refl
 
--- a line more that was taken
+-- one more line was processed
 pub taken :
     (rules : ScriptContext) (number : ℕ) (text : List ℕ) (more : List (List ℕ)) (before after : List ScriptLine) (refusal : Option LineFault)
     → refusal ≡ None → IsTaken rules number text before after refusal

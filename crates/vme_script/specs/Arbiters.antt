@@ -6,7 +6,7 @@ use Rattle.vme_arbiter.specs.declared.kind.ArbiterKind.TheVariants.{Priority, Ro
 use Rattle.vme_script.specs.declared.fault.ConfigFault.{ConfigFault}
 use Rattle.vme_script.specs.declared.fault.ConfigFault.TheVariants.{BadWord}
 
--- the kind of arbiter that a word names; another word is refused (this project's own)
+-- the kind of arbiter that a word names; any other word is refused
 unfoldable pub kind_named : List ℕ → Result ArbiterKind ConfigFault
 kind_named word =
     if bytes_eq word (codes "priority") then Ok Priority else

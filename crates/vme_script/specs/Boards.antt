@@ -1,4 +1,4 @@
--- Lawful boards: what a board is configured as, or the first refusal of it.
+-- The boards of a configuration: what each is configured as, or its first refusal.
 use Rattle.std.specs.Prelude.{ℕ, ◌%◌, nat_lt, nat_le, Bool, not, ◌==◌, ◌&&◌, if◌then◌else◌, List, [], ◌∷◌, map, Option, Some, None, Result, Ok, is_ok, codes}
 use Rattle.std.specs.Option.{ok_or}
 use Rattle.std.specs.List.{list_all}
@@ -20,40 +20,39 @@ use Rattle.vme_script.specs.Answers.{◌>>=◌, refuse}
 use Rattle.vme_config_toml.specs.declared.file.ClassTable.{ClassTable}
 use Rattle.vme_config_toml.specs.Files.{RangeValues, BoardValues}
 
--- the space that a word names: short, standard or extended (IEEE 1014, section 2.3.5)
+-- the space that a word names: short, standard or extended (IEEE 1014-1987, 2.3.5 (addressing))
 unfoldable pub space_named : List ℕ → Option Space
 space_named word =
     if bytes_eq word (codes "a16") then Some A16 else
     (if bytes_eq word (codes "a24") then Some A24 else
     (if bytes_eq word (codes "a32") then Some A32 else None))
 
--- the slave that uses so many data lines (IEEE 1014, section 2.3.6: D08(EO), D16 and D32 slaves)
+-- the slave that uses this number of data lines: D08(EO), D16 or D32 (IEEE 1014-1987, 2.3.6 (basic data transfer))
 unfoldable pub width_of : ℕ → Option Width8To32
 width_of lines = if lines == 8 then Some D08 else (if lines == 16 then Some D16 else (if lines == 32 then Some D32 else None))
 
--- the range of a board, whose word names a space (this project's own)
+-- the range of a board, whose word names a space
 unfoldable pub entry_of : RangeValues → Result Entry ConfigFault
 entry_of range = do
   space ← ok_or (space_named range.space) BadWord
   Ok (record { space = space; base = range.base; size = range.size; supervisory = range.supervisory })
 
--- the class of a board: a slave uses 8, 16 or 32 data lines, and unaligned cycles want all 32 (this project's own)
+-- the class of a board: a slave uses 8, 16 or 32 data lines, and only one that uses 32 has unaligned transfers
 unfoldable pub class_of : ClassTable → Result Class ConfigFault
 class_of class = do
   width ← ok_or (width_of class.width) BadWord
   _ ← refuse (class.uat && not (class.width == 32)) BadWord
   Ok (record { width = width; uat = class.uat; blt = class.blt; rmw = class.rmw })
 
--- whether a range is refused: its size is none that a board has; it does not begin at a multiple of four; it does not end
--- within its space (this project's own)
+-- the refusal of a range: by its size, by a base that is not a multiple of four, or by an end past its space
 unfoldable pub range_refused : Entry → Result (Unit {0}) ConfigFault
 range_refused entry = do
   _ ← refuse (not (is_board_size entry.size)) BadSize
   _ ← refuse (not (entry.base % 4 == 0)) Misaligned
   refuse (nat_lt (addresses_of entry.space) (end_of entry)) OutsideSpace
 
--- what a board is configured as, or its first refusal: its slot comes after that of the board before, and is one of the 21 of
--- a backplane; its level is one of the four; its words are refused before its range (this project's own)
+-- the configuration of a board, or its first refusal: by its slot, which is above that of the board before and at most
+-- 21, by its level, by its words, and by its range
 unfoldable pub board_config : ℕ → BoardValues → Result BoardConfig ConfigFault
 board_config before board = do
   _ ← refuse (not (nat_lt before board.slot && nat_le board.slot 21)) BadSlot
@@ -63,7 +62,7 @@ board_config before board = do
   _ ← range_refused entry
   Ok (record { slot = board.slot; level = board.level; entry = entry; class = class })
 
--- what boards are configured as, each after the one before (this project's own)
+-- the configurations of boards, each after the one before
 abbrev pub boards_after : ℕ → List BoardValues → Result (List BoardConfig) ConfigFault
 boards_after before [] = Ok []
 boards_after before (board ∷ more) = do
@@ -71,15 +70,15 @@ boards_after before (board ∷ more) = do
   others ← boards_after board.slot more
   Ok (first ∷ others)
 
--- the ranges of boards, in order of slots (this project's own)
+-- the ranges of boards, in order of slots
 abbrev pub entries_of : List BoardConfig → List Entry
 entries_of boards = map (λ board. board.entry) boards
 
--- whether the range of each board is not refused by itself (this project's own)
+-- whether the range of each board is lawful by itself
 abbrev pub have_ranges : List BoardConfig → Bool
 have_ranges boards = list_all (λ board. is_ok (range_refused board.entry)) boards
 
--- ranges that share no address (this project's own)
+-- the ranges, if no two share an address
 unfoldable pub map_of : List Entry → Result (List Entry) ConfigFault
 map_of entries = do
   _ ← refuse (some_overlap entries) Overlap

@@ -1,4 +1,4 @@
--- Which bytes of a board a line names.
+-- The bytes of a board that a line accesses.
 use Rattle.std.specs.Prelude.{ℕ, length, Option, Some, None, Result, Ok, Err, List}
 use Rattle.std.specs.Option.{option_map}
 use Rattle.vme_cycle.specs.declared.fault.CycleFault.{CycleFault}
@@ -15,27 +15,27 @@ use Rattle.vme_grammar.specs.declared.line.Line.TheVariants.{Bus, Local, Await, 
 use Rattle.vme_shared.specs.Mailboxes.{set_lock, clear_lock}
 use Rattle.vme_script.specs.declared.board_range.BoardRange.{BoardRange}
 
--- the bytes of a lawful request, whatever it is answered: all of them count on the board that the first one selects, and a
--- request that is refused has none (this project's own)
+-- the bytes of a lawful request, whatever its reply: all of them count on the board that the first one selects; a
+-- refused request has none
 abbrev pub transfer_bytes : List Entry → Result Transfer CycleFault → Option BoardRange
 transfer_bytes entries (Ok t) =
     option_map (λ found. record { board = found.0; offset = found.1; len = span_of t.request })
     (selection_at entries t.am (addr_of t.request))
 transfer_bytes entries (Err fault) = None
 
--- the bytes of a request over the bus (this project's own)
+-- the bytes of a request to the bus
 unfoldable pub request_bytes : List Entry → Request → Option BoardRange
 request_bytes entries request = transfer_bytes entries (transfer_of request)
 
--- the bytes of a command to the local port of a board (this project's own)
+-- the bytes of a command to the local port of a board
 abbrev pub local_bytes : ℕ → BoardCmd → Option BoardRange
 local_bytes board (LocalRead offset n) = Some (record { board = board; offset = offset; len = n })
 local_bytes board (LocalWrite offset bytes) = Some (record { board = board; offset = offset; len = length bytes.items })
 local_bytes board (LocalModify offset n f) = Some (record { board = board; offset = offset; len = n })
 local_bytes board (Cycle signals at f) = None
 
--- the bytes that a line of the processor of a board names: a read that waits, a lock and an unlock name those of their
--- transfers; a put and a take name a mailbox, and no byte (this project's own)
+-- the bytes that a line of a board's processor accesses: a wait, a lock and an unlock access those of their transfers;
+-- a put and a take name a mailbox and count as no bytes
 abbrev pub line_bytes : List Entry → ℕ → Line → Option BoardRange
 line_bytes entries board (Bus request) = request_bytes entries request
 line_bytes entries board (Local command) = local_bytes board command

@@ -1,4 +1,4 @@
--- Configurations: what a file configures, or the first refusal of it.
+-- Configurations: what a file configures, or its first refusal.
 use Rattle.std.specs.Prelude.{ℕ, nat_lt, ◌==◌, List, length, Result, Ok}
 use Rattle.vme_arbiter.specs.declared.kind.ArbiterKind.{ArbiterKind}
 use Rattle.vme_memory.specs.Boards.{Board, zeros}
@@ -15,8 +15,8 @@ use Rattle.vme_shared.specs.declared.mailbox.Mailbox.{Mailbox}
 use Rattle.vme_script.specs.MailboxRefusals.{mailboxes_of}
 use Rattle.vme_script.specs.Scripts.{scripts_of}
 
--- boards in order of slots, the scripts of their processors beside them, how these are driven, and the mailboxes that scripts
--- name by the numbers from 1 on (this project's own)
+-- boards in order of slots, the scripts of their processors in the same order, arbiter, tries, schedule and rounds, and
+-- the mailboxes, which scripts name by numbers from 1
 pub record Configuration : Type 0 where
   pub boards : List BoardConfig
   pub scripts : List (List ScriptLine)
@@ -26,7 +26,7 @@ pub record Configuration : Type 0 where
   pub rounds : ℕ
   pub mailboxes : List Mailbox
 
--- what a file configures: the refusals are looked for in this order (this project's own)
+-- the configuration of a file, or its first refusal, in this order
 unfoldable pub configuration_of : FileValues → Result Configuration ConfigFault
 configuration_of file = do
   _ ← refuse (length file.boards == 0) NoBoard
@@ -47,6 +47,6 @@ configuration_of file = do
     mailboxes = mailboxes;
   })
 
--- the memory of a board before anything is written: all its bytes are zero (this project's own)
+-- the memory of a board before anything is written: all its bytes are zero
 abbrev pub opening_memory : BoardConfig → Board
 opening_memory board = record { bytes = zeros board.entry.size; class = board.class }

@@ -19,16 +19,15 @@ use Rattle.vme_script.specs.Schedules.{has_boards, turns_of}
 use Rattle.vme_script.specs.Scripts.{rules_of}
 use Rattle.vme_script.specs.Configurations.{Configuration}
 
--- a board in one of the 21 slots of a backplane, on one of the four request levels, of a size that boards have
--- (this project's own)
+-- a board in one of the 21 slots of a backplane, on one of the four request levels, and of a lawful size
 pub record IsLawfulBoard (board : BoardConfig) : Type 0 where
   pub first_slot : 1 ≤ board.slot
   pub last_slot : board.slot ≤ 21
   pub level : board.level ≤ 3
   pub size : is_board_size board.entry.size ≡ true
 
--- a mailbox among boards: it is reached by data or short access and has the numbers of one, and its bytes lie wholly within one
--- board that its code selects, which answers quad bytes and read-modify-writes (this project's own)
+-- a mailbox with a lawful code and lawful numbers, whose bytes are wholly within one board that its code selects, which
+-- has quad bytes and read-modify-writes
 pub record IsLawfulMailbox (boards : List BoardConfig) (mailbox : Mailbox) : Type 0 where
   pub code : is_mailbox_code mailbox.am ≡ true
   pub numbers : IsMailbox mailbox
@@ -39,10 +38,8 @@ pub record IsLawfulMailbox (boards : List BoardConfig) (mailbox : Mailbox) : Typ
   pub inside : place.offset + place.len ≤ board.entry.size
   pub able : supports_mailboxes board.class ≡ true
 
--- one to 21 lawful boards, each in a slot of its own; ranges that share no address; a script for each board, of at most 1,000
--- lines, none of which asks the local port for a cycle of the bus, names a mailbox that is not there, or a byte of one that is
--- other than by a put or a take; tries and rounds within their limits; a schedule of such boards' turns, within its limit; and at
--- most sixteen lawful mailboxes, which share no byte (this project's own)
+-- lawful boards, each in a slot of its own, whose ranges share no address; their scripts, in which each line is
+-- allowed; lawful numbers and schedule; and lawful mailboxes that share no byte
 pub record IsLawful (config : Configuration) : Type 0 where
   pub some : 0 < length config.boards
   pub most : length config.boards ≤ 21

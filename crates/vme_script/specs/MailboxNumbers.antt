@@ -1,16 +1,16 @@
--- Which mailboxes a line may name: in a file, those that it declares.
+-- The numbers by which a line may name mailboxes: in a file, those of the declared mailboxes.
 use Rattle.std.specs.Prelude.{ℕ, nat_le, Bool, true, ◌&&◌}
 use Rattle.vme_grammar.specs.declared.line.Line.{Line}
 use Rattle.vme_grammar.specs.declared.line.Line.TheVariants.{Bus, Local, Await, Lock, Unlock, Put, Take}
 use Rattle.vme_script.specs.declared.mailbox_numbers.MailboxNumbers.{MailboxNumbers}
 use Rattle.vme_script.specs.declared.mailbox_numbers.MailboxNumbers.TheVariants.{Any, Declared}
 
--- whether a mailbox may be named by this number: the declared ones have the numbers from 1 on (this project's own)
+-- whether a number names a mailbox: the declared mailboxes have the numbers from 1 on
 abbrev pub has_box : MailboxNumbers → ℕ → Bool
 has_box Any number = true
 has_box (Declared count) number = nat_le 1 number && nat_le number count
 
--- whether a line may be asked, as far as it names a mailbox: only a put and a take do (this project's own)
+-- whether a line names only mailboxes that it may name; only a put and a take name one
 abbrev pub may_ask : MailboxNumbers → Line → Bool
 may_ask boxes (Bus request) = true
 may_ask boxes (Local command) = true

@@ -1,4 +1,4 @@
--- Lawful mailboxes: those that a file declares, or the refusal of them.
+-- The mailboxes of a configuration: those that a file declares, or their refusal.
 use Rattle.std.specs.Prelude.{nat_lt, not, List, [], ◌∷◌, ◌++◌, length, slice_get, Result, Ok}
 use Rattle.std.specs.List.{list_any}
 use Rattle.std.specs.Option.{ok_or}
@@ -13,9 +13,8 @@ use Rattle.vme_script.specs.declared.fault.ConfigFault.TheVariants.{BadMailbox}
 use Rattle.vme_script.specs.Answers.{◌>>=◌, refuse}
 use Rattle.vme_script.specs.Boards.{entries_of}
 
--- the mailbox that a table declares beside some bytes that others have, with its own bytes. It is refused for its code, its
--- address and its slots; where its bytes do not lie wholly within one board that its code selects; where that board is not able
--- to hold it; and where it shares a byte with an earlier one (this project's own)
+-- the mailbox that a table declares, and its bytes; it is refused for its numbers, for bytes that are not within one
+-- able board, and for a byte of an earlier mailbox
 unfoldable pub declared_mailbox : List BoardConfig → List BoardRange → MailboxTable → Result (Mailbox × BoardRange) ConfigFault
 declared_mailbox boards earlier table = do
   mailbox ← ok_or (mailbox_from_table table) BadMailbox
@@ -26,7 +25,7 @@ declared_mailbox boards earlier table = do
   _ ← refuse (list_any (share place) earlier) BadMailbox
   Ok (mailbox, place)
 
--- the mailboxes that tables declare, each beside those before it (this project's own)
+-- the mailboxes that tables declare, each checked against those before it
 abbrev pub mailboxes_after : List BoardConfig → List BoardRange → List MailboxTable → Result (List Mailbox) ConfigFault
 mailboxes_after boards earlier [] = Ok []
 mailboxes_after boards earlier (table ∷ more) = do
@@ -34,7 +33,7 @@ mailboxes_after boards earlier (table ∷ more) = do
   others ← mailboxes_after boards (earlier ++ first.1 ∷ []) more
   Ok (first.0 ∷ others)
 
--- the mailboxes of a file: at most sixteen (this project's own)
+-- the mailboxes of a file, at most sixteen
 unfoldable pub mailboxes_of : List BoardConfig → List MailboxTable → Result (List Mailbox) ConfigFault
 mailboxes_of boards tables = do
   _ ← refuse (nat_lt 16 (length tables)) BadMailbox

@@ -1,4 +1,4 @@
--- What the text of a file reads as.
+-- The configuration that the text of a file is.
 use Rattle.std.specs.Prelude.{Option, Result}
 use Rattle.std.specs.Option.{ok_or}
 use Rattle.toml.specs.Data.{Members}
@@ -8,7 +8,7 @@ use Rattle.vme_script.specs.Answers.{◌>>=◌}
 use Rattle.vme_config_toml.specs.Keys.{file_values}
 use Rattle.vme_script.specs.Configurations.{Configuration, configuration_of}
 
--- what the document that a text is configures, or the first refusal (this project's own)
+-- the configuration of a document, or its first refusal; None is a text that is not a document
 unfoldable pub configuration_in : Option Members → Result Configuration ConfigFault
 configuration_in document = do
   keys ← ok_or document NotToml

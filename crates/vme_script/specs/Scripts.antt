@@ -1,4 +1,4 @@
--- Scripts: what the lines of a text ask for, each with its number, or the first refusal.
+-- Scripts: the lines of a text that request something, each with its number, or the first refusal.
 use Rattle.std.specs.Prelude.{◌≡◌, ℕ, ◌+◌, nat_lt, nat_le, Bool, if◌then◌else◌, List, [], ◌∷◌, ◌++◌, length, Option, Some, None, Result, Ok, Err}
 use Rattle.std.specs.List.{list_all}
 use Rattle.std.specs.Str.Lines.{lines}
@@ -19,63 +19,63 @@ use Rattle.vme_script.specs.declared.script.ScriptLine.{ScriptLine}
 use Rattle.vme_script.specs.Answers.{◌>>=◌}
 use Rattle.vme_config_toml.specs.Files.{BoardValues}
 
--- what a line adds to the lines that ask for something (this project's own)
+-- the entry of a line in a script; a line that requests nothing has none
 abbrev pub numbered : ℕ → Option Line → List ScriptLine
 numbered number None = []
 numbered number (Some line) = record { number = number; line = line } ∷ []
 
--- a line before others: it adds itself to theirs, unless one of them is refused (this project's own)
+-- a line's entry before those of the lines after it, unless one of these is refused
 abbrev pub with_line : List ScriptLine → Result (List ScriptLine) ScriptRefusal → Result (List ScriptLine) ScriptRefusal
 with_line first (Ok others) = Ok (first ++ others)
 with_line first (Err refusal) = Err refusal
 
--- what a line asks for, or its refusal by its number (this project's own)
+-- the result of a line, with the line's number if it is refused
 abbrev pub asked_at : ℕ → Result (Option Line) LineFault → Result (Option Line) ScriptRefusal
 asked_at number (Ok line) = Ok line
 asked_at number (Err fault) = Err (BadLine number fault)
 
--- the same with the lines after it: a line that is refused is told before those (this project's own)
+-- the result of a line and the lines after it: its own refusal comes first
 abbrev pub line_before :
     ℕ → Result (Option Line) ScriptRefusal → Result (List ScriptLine) ScriptRefusal → Result (List ScriptLine) ScriptRefusal
 line_before number (Ok line) others = with_line (numbered number line) others
 line_before number (Err refusal) others = Err refusal
 
--- the lines that ask for something, with numbers from this one on, or the first line that is refused (this project's own)
+-- the entries of lines, numbered from the given number on, or the first line that is refused
 abbrev pub lines_from : ScriptContext → ℕ → List (List ℕ) → Result (List ScriptLine) ScriptRefusal
 lines_from rules number [] = Ok []
 lines_from rules number (line ∷ more) =
     line_before number (asked_at number (line_within rules line)) (lines_from rules (number + 1) more)
 
--- a line by rules was taken among others: what it asks for stands behind them under its number, or it has this refusal
--- (this project's own)
+-- a line was processed in a context: its entry, if it has one, was appended with its number, or the line has the given
+-- refusal
 abbrev pub IsTaken : ScriptContext → ℕ → List ℕ → List ScriptLine → List ScriptLine → Option LineFault → Type 0
 IsTaken rules number text before after None =
     (asked : Option Line) × (line_within rules text ≡ Ok asked) × (after ≡ before ++ numbered number asked)
 IsTaken rules number text before after (Some fault) = line_within rules text ≡ Err fault
 
--- the script that a text is, whose lines go by rules: it has at most 1,000 lines, whatever they are (this project's own)
+-- the script of a text in a context: the text has at most 1,000 lines, empty lines and comments included
 unfoldable pub script_within : ScriptContext → List ℕ → Result (List ScriptLine) ScriptRefusal
 script_within rules text = if nat_lt 1000 (length (lines text)) then Err TooManyLines else lines_from rules 1 (lines text)
 
--- the script that a text is by itself: of the mailboxes that it names nothing is known (this project's own)
+-- the script of a text by itself, whose mailboxes are unknown
 abbrev pub script_of : List ℕ → Result (List ScriptLine) ScriptRefusal
 script_of text = script_within Alone text
 
--- a fault is the refusal of a script; where memory was refused nothing is said (this project's own)
+-- a fault is the expected refusal of a script; after a failed allocation nothing is stated
 abbrev pub IsRefusalOf : Result (List ScriptLine) ScriptRefusal → ScriptFault → Type 0
 IsRefusalOf expected (Refused refusal) = expected ≡ Err refusal
 IsRefusalOf expected OutOfMemory = Unit {0}
 
--- the refusal of a script is told with the slot of its processor (this project's own)
+-- the result of a script, with the slot of its processor if it is refused
 abbrev pub script_in : ℕ → Result (List ScriptLine) ScriptRefusal → Result (List ScriptLine) ConfigFault
 script_in slot (Ok script) = Ok script
 script_in slot (Err refusal) = Err (BadScript slot refusal)
 
--- the rules of the script of a board, where these ranges and mailboxes are declared (this project's own)
+-- the context of the script of a board, with the declared ranges and mailboxes
 abbrev pub rules_of : List Entry → List Mailbox → ℕ → ScriptContext
 rules_of entries mailboxes board = InFile (record { entries = entries; mailboxes = mailboxes; board = board })
 
--- the scripts of boards from a place on, in order of slots, each by the rules of its board (this project's own)
+-- the scripts of boards from an index on, in order of slots, each in the context of its board
 abbrev pub scripts_from : List Entry → List Mailbox → ℕ → List BoardValues → Result (List (List ScriptLine)) ConfigFault
 scripts_from entries mailboxes place [] = Ok []
 scripts_from entries mailboxes place (board ∷ more) = do
@@ -83,10 +83,10 @@ scripts_from entries mailboxes place (board ∷ more) = do
   others ← scripts_from entries mailboxes (place + 1) more
   Ok (first ∷ others)
 
--- the scripts of all boards (this project's own)
+-- the scripts of all boards
 abbrev pub scripts_of : List Entry → List Mailbox → List BoardValues → Result (List (List ScriptLine)) ConfigFault
 scripts_of entries mailboxes boards = scripts_from entries mailboxes 0 boards
 
--- whether boards are in slots of a backplane (this project's own)
+-- whether each board's slot is one of a backplane
 abbrev pub has_slots : List BoardValues → Bool
 has_slots boards = list_all (λ board. nat_le board.slot 21) boards

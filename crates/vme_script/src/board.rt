@@ -1,4 +1,4 @@
-//! Lawful boards.
+//! The boards of a configuration, and the checks of each.
 ghost use Rattle.std.specs.Prelude.{◌≡◌, ◌≤◌, length, true, IfOk};
 ghost use Rattle.vme_script.specs.Answers.{Gives};
 ghost use Rattle.vme_script.specs.Boards.{space_named, width_of, entry_of, class_of, range_refused, entries_of, map_of, board_config, boards_after, have_ranges};
@@ -21,15 +21,15 @@ const LAST_LEVEL: u32 = 3;
 pub struct BoardConfig {
     /// The slot of the board and of its processor, from 1 to 21.
     pub slot: u16,
-    /// The level on which its processor requests the bus, from 0 to 3.
+    /// The level on which the board's processor requests the bus, from 0 to 3.
     pub level: u8,
     /// The addresses at which the board responds.
     pub entry: Entry,
-    /// What its slave is able to answer.
+    /// The kinds of transfers to which its slave responds.
     pub class: Class,
 }
 
-/// The space that a word names.
+/// The address space that `word` names.
 #[tactic(auto, unfolding(crate::specs::Boards::space_named))]
 fn space_named(word: &str) -> Option<Space>
     ensures { result ≡ space_named word.now }
@@ -42,7 +42,7 @@ fn space_named(word: &str) -> Option<Space>
     }
 }
 
-/// The slave that uses so many data lines.
+/// The width of a slave with this number of data lines.
 #[tactic(auto, unfolding(crate::specs::Boards::width_of))]
 fn width_of(lines: u32) -> Option<Width8To32>
     ensures { result ≡ width_of lines }
@@ -86,7 +86,7 @@ fn class_of(class: ClassTable) -> Result<Class, ConfigFault>
     })
 }
 
-/// Whether a range is refused.
+/// Checks a board's range: its size, its base, and that it ends within its space.
 #[tactic(auto, unfolding(crate::specs::Boards::range_refused))]
 fn check_range(entry: Entry) -> Result<(), ConfigFault>
     ensures { result ≡ range_refused entry }
@@ -103,7 +103,7 @@ fn check_range(entry: Entry) -> Result<(), ConfigFault>
     Ok(())
 }
 
-/// What a board is configured as, after the board in slot `before`.
+/// The configuration of a board that follows the board in slot `before`.
 #[tactic(auto, unfolding(crate::specs::Boards::board_config))]
 fn board_config(before: u32, board: &BoardTable<'_>) -> Result<BoardConfig, ConfigFault>
     ensures { result ≡ board_config before board.now }
@@ -125,7 +125,7 @@ fn board_config(before: u32, board: &BoardTable<'_>) -> Result<BoardConfig, Conf
     })
 }
 
-/// What boards are configured as, in order of slots.
+/// The configurations of boards, in order of slots.
 pub(crate) fn board_configs(
     alloc: Global,
     boards: &[BoardTable<'_>],
@@ -148,7 +148,7 @@ fn entries_of(alloc: Global, boards: &[BoardConfig]) -> Result<Vec<Entry>, Alloc
     boards.iter().map(|board| board.entry).collect(alloc)
 }
 
-/// The map of boards whose ranges are not refused by themselves.
+/// The address map of boards each of whose ranges is lawful by itself.
 #[tactic(auto, using(crate::proofs::Maps::refusal_of_lawful), unfolding(crate::specs::Boards::map_of))]
 pub(crate) fn map_of(alloc: Global, boards: &[BoardConfig]) -> Result<AddressMap, ConfigFault>
     requires most { length boards.now ≤ 21 }

@@ -1,4 +1,4 @@
-//! Where bytes lie on the boards.
+//! Ranges of bytes on the boards.
 ghost use Rattle.std.specs.Prelude.{◌≡◌, ◌+◌, ◌<◌, length, IfSome};
 ghost use Rattle.std.specs.List.{list_any};
 ghost use Rattle.vme_script.specs.BoardRanges.{range_at, range_of, is_within, share};
@@ -7,19 +7,22 @@ use vme_am::Am;
 use vme_decode::AddressMap;
 use vme_shared::Mailbox;
 
-/// Some bytes of a board, one after another.
+/// Consecutive bytes of one board.
 #[derive(Clone, Copy, Debug, PartialEq, Eq)]
 pub struct BoardRange {
-    /// The board, by its place in the map.
+    /// The board, by its index in the map.
     pub board: usize,
-    /// The offset of the first byte.
+    /// The offset of the first byte on the board.
     pub offset: u32,
     /// The number of bytes.
     pub len: u32,
 }
 
 impl BoardRange {
-    /// So many bytes from an address on, on the board that the first of them selects, if one does.
+    /// Returns the range of `len` bytes from `addr` on, with code `am`.
+    ///
+    /// The range is on the board that the first byte selects; it may end after that board. Returns
+    /// `None` if `Am::from_code` rejects the code or the first byte selects no board.
     #[tactic(auto, unfolding(crate::specs::BoardRanges::range_at))]
     pub fn at(map: &AddressMap, am: u8, addr: u32, len: u32) -> Option<BoardRange>
         ensures place { result ≡ range_at map.now am addr len }
@@ -32,7 +35,10 @@ impl BoardRange {
         Some(BoardRange { board, offset, len })
     }
 
-    /// The bytes of a mailbox, on the board that the first of them selects, if one does.
+    /// Returns the range of the bytes of `mailbox`.
+    ///
+    /// The range is on the board that the first byte selects; it may end after that board. Returns
+    /// `None` if `Am::from_code` rejects the mailbox's code or the first byte selects no board.
     pub fn of(map: &AddressMap, mailbox: Mailbox) -> Option<BoardRange>
         ensures place { result ≡ range_of map.now mailbox }
         ensures there { IfSome result (λ place. place.board < length map.now) }
@@ -41,21 +47,21 @@ impl BoardRange {
         BoardRange::at(map, mailbox.am, mailbox.addr, len)
     }
 
-    /// The offset behind the last byte.
+    /// The offset after the last byte.
     fn end(self) -> u64
         ensures { result ≡ self.offset + self.len }
     {
         u64::from(self.offset) + u64::from(self.len)
     }
 
-    /// Whether the bytes end within a board of this size.
+    /// Returns whether the range ends within a board of `size` bytes.
     pub fn is_within(self, size: u32) -> bool
         ensures within { result ≡ is_within self size }
     {
         self.end() <= u64::from(size)
     }
 
-    /// Whether some byte is one of both.
+    /// Whether the two ranges share a byte.
     pub(crate) fn shares(self, other: BoardRange) -> bool
         ensures { result ≡ share self other }
     {
@@ -63,7 +69,7 @@ impl BoardRange {
         self.board == other.board && start < self.end().min(other.end())
     }
 
-    /// Whether some byte is also one of others.
+    /// Returns whether the range shares a byte with one of `others`.
     pub fn shares_any(self, others: &[BoardRange]) -> bool
         ensures shared { result ≡ list_any (share self) others.now }
     {

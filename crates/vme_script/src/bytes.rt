@@ -1,4 +1,4 @@
-//! Which bytes of a board a line names.
+//! The bytes of a board that a line accesses.
 ghost use Rattle.std.specs.Prelude.{◌≡◌, length};
 ghost use Rattle.vme_cycle.specs.declared.request.Request.TheVariants.{Read};
 ghost use Rattle.vme_shared.specs.Mailboxes.{set_lock, clear_lock};
@@ -10,7 +10,7 @@ use vme_decode::AddressMap;
 use vme_lanes::Datum;
 use vme_memory::BoardCmd;
 
-/// The bytes of a request over the bus.
+/// The bytes of a request to the bus.
 #[tactic(auto, unfolding(crate::specs::Bytes::request_bytes))]
 pub(crate) fn request_bytes(map: &AddressMap, request: &Request) -> Option<BoardRange>
     ensures { result ≡ request_bytes map.now request.now }
@@ -23,7 +23,7 @@ pub(crate) fn request_bytes(map: &AddressMap, request: &Request) -> Option<Board
     Some(BoardRange { board, offset, len })
 }
 
-/// The bytes of a read that waits for these.
+/// The bytes of a read that waits for `bytes`.
 pub(crate) fn await_bytes(map: &AddressMap, am: u8, addr: u32, bytes: &Datum) -> Option<BoardRange>
     ensures { result ≡ request_bytes map.now (Read am addr (length bytes.now.items)) }
 {
@@ -31,7 +31,7 @@ pub(crate) fn await_bytes(map: &AddressMap, am: u8, addr: u32, bytes: &Datum) ->
     request_bytes(map, &Request::Read { am, addr, n })
 }
 
-/// The byte of a lock that is taken.
+/// The byte of a lock, as taking the lock accesses it.
 pub(crate) fn lock_bytes(map: &AddressMap, am: u8, addr: u32) -> Option<BoardRange>
     ensures { result ≡ request_bytes map.now (set_lock am addr) }
 {
@@ -39,7 +39,7 @@ pub(crate) fn lock_bytes(map: &AddressMap, am: u8, addr: u32) -> Option<BoardRan
     request_bytes(map, &Request::Modify { am, addr, n: 1, f })
 }
 
-/// The byte of a lock that is given back.
+/// The byte of a lock, as freeing the lock accesses it.
 pub(crate) fn unlock_bytes(map: &AddressMap, am: u8, addr: u32) -> Option<BoardRange>
     ensures { result ≡ request_bytes map.now (clear_lock am addr) }
 {

@@ -1,3 +1,4 @@
+//! The configuration of a backplane.
 ghost use Rattle.std.specs.Prelude.{◌≡◌, ◌<◌, ◌≤◌, length, slice_get, Some, IfOk, map, true};
 ghost use Rattle.vme_arbiter.specs.Arbitration.{opening_bus};
 ghost use Rattle.vme_script.specs.Answers.{Gives};
@@ -25,8 +26,10 @@ use vme_shared::Mailbox;
 /// The greatest number of boards: a backplane has 21 slots.
 const MOST_BOARDS: usize = 21;
 
-/// The boards on one backplane in order of slots, the scripts of their processors, and how these
-/// are driven. A `Config` is always one that some file tells.
+/// A checked configuration: the boards on one backplane in order of slots, the scripts of their
+/// processors, the arbiter, the schedule and the mailboxes.
+///
+/// Every `Config` is the configuration of some file.
 #[derive(Drop)]
 pub struct Config {
     boards: Vec<BoardConfig>,
@@ -71,7 +74,7 @@ impl Model for Config {
 }
 
 impl Config {
-    /// What a file configures, or the first refusal of it.
+    /// The configuration of a file's values, or its first refusal.
     #[tactic(auto, unfolding(crate::specs::Configurations::configuration_of))]
     pub(crate) fn of(alloc: Global, file: &FileTable<'_>) -> Result<Config, ConfigFault>
         ensures { Gives (λ config. config) result (configuration_of file.now) }
@@ -102,7 +105,10 @@ impl Config {
 }
 
 impl Config {
-    /// The number of boards.
+    /// Returns the number of boards.
+    ///
+    /// The contract also states that the configuration is lawful: for example 1 to 21 boards, each
+    /// in a slot of its own, and ranges that share no address.
     pub fn boards(&self) -> usize
         ensures value { result ≡ length self.now.boards }
         ensures lawful { IsLawful self.now }
@@ -110,7 +116,7 @@ impl Config {
         self.boards.len()
     }
 
-    /// The slot of board `i`, and of its processor.
+    /// Returns the slot of board `i`, which is also the slot of its processor.
     pub fn slot(&self, i: usize) -> u16
         requires { i < length self.now.boards }
         ensures { slice_get (map (λ board. board.slot) self.now.boards) i ≡ Some result }
@@ -118,7 +124,7 @@ impl Config {
         self.boards[i].slot
     }
 
-    /// The level on which the processor of board `i` requests the bus.
+    /// Returns the level, from 0 to 3, on which the processor of board `i` requests the bus.
     pub fn level(&self, i: usize) -> u8
         requires { i < length self.now.boards }
         ensures { slice_get (map (λ board. board.level) self.now.boards) i ≡ Some result }
@@ -126,14 +132,18 @@ impl Config {
         self.boards[i].level
     }
 
-    /// The ranges at which the boards respond, in order of slots.
+    /// Returns the address map: the ranges at which the boards respond, in order of slots.
     pub fn map(&self) -> &AddressMap
         ensures { result.now ≡ entries_of self.now.boards }
     {
         &self.map
     }
 
-    /// The memory of board `i` before anything is written.
+    /// Returns the memory of board `i` before anything is written; every byte is zero.
+    ///
+    /// # Errors
+    ///
+    /// `OutOfMemory`: an allocation failed.
     pub fn memory(&self, alloc: Global, i: usize) -> Result<ByteMemory, OutOfMemory>
         requires { i < length self.now.boards }
         ensures { IfOk result (λ memory. slice_get (map opening_memory self.now.boards) i ≡ Some memory) }
@@ -145,7 +155,7 @@ impl Config {
         }
     }
 
-    /// The script of the processor of board `i`.
+    /// Returns the script of the processor of board `i`.
     pub fn script(&self, i: usize) -> &Script
         requires { i < length self.now.boards }
         ensures { slice_get self.now.scripts i ≡ Some result.now }
@@ -153,35 +163,35 @@ impl Config {
         &self.scripts[i]
     }
 
-    /// How often a line that waits tries at most.
+    /// Returns how often a line that waits tries at most.
     pub fn tries(&self) -> u32
         ensures { result ≡ self.now.tries }
     {
         self.tries
     }
 
-    /// The schedule: the slots of boards, each with a number of turns.
+    /// Returns the schedule: slots of boards, each with a number of turns.
     pub fn schedule(&self) -> &[(u16, u32)]
         ensures { result.now ≡ self.now.schedule }
     {
         self.schedule.as_slice()
     }
 
-    /// A fresh arbiter of the file's kind.
+    /// Returns an arbiter of the file's kind in its initial state.
     pub fn arbiter(&self) -> Arbiter
         ensures { result ≡ opening_bus self.now.arbiter }
     {
         Arbiter::of(self.arbiter)
     }
 
-    /// The number of rounds over all slots after the schedule.
+    /// Returns the number of rounds over all slots that follow the schedule.
     pub fn rounds(&self) -> u32
         ensures { result ≡ self.now.rounds }
     {
         self.rounds
     }
 
-    /// The mailboxes, which scripts name by the numbers from 1 on.
+    /// Returns the mailboxes. A script names them by their numbers, which begin at 1.
     pub fn mailboxes(&self) -> &[Mailbox]
         ensures { result.now ≡ self.now.mailboxes }
     {
@@ -189,7 +199,7 @@ impl Config {
     }
 }
 
-/// The script of the processor in a slot.
+/// The script of the processor in `slot`.
 fn script_in(
     alloc: Global,
     slot: u16,
@@ -205,7 +215,7 @@ fn script_in(
     }
 }
 
-/// The scripts of boards in slots of a backplane, each by the rules of its board.
+/// The scripts of boards, each checked in the context of its board.
 fn scripts_of(
     alloc: Global,
     boards: &[BoardTable<'_>],

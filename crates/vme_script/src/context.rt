@@ -1,4 +1,4 @@
-//! What a line may ask where mailboxes are declared.
+//! The context of a script, and the refusals of its lines that depend on it.
 ghost use Rattle.std.specs.Prelude.{◌≡◌, false};
 ghost use Rattle.std.specs.Option.{option_map_or};
 ghost use Rattle.vme_script.specs.Bytes.{line_bytes};
@@ -12,14 +12,14 @@ use vme_decode::AddressMap;
 use vme_grammar::{Line, LineFault};
 use vme_shared::Mailbox;
 
-/// What a file declares, as a script in it sees it.
+/// The declarations of a file, as a script in it sees them.
 #[derive(Drop)]
 pub struct MailboxDeclarations<'a> {
     /// The ranges of the boards.
     pub map: &'a AddressMap,
-    /// The mailboxes on them.
+    /// The mailboxes on the boards.
     pub mailboxes: &'a [Mailbox],
-    /// The board whose processor has the script, by its place in the map.
+    /// The board whose processor has the script, by its index in the map.
     pub board: usize,
 }
 
@@ -35,17 +35,17 @@ impl<'a> Model for MailboxDeclarations<'a> {
     } };
 }
 
-/// The rules that the lines of a script go by.
+/// The context in which the lines of a script are checked.
 #[derive(Drop)]
 pub enum ScriptContext<'a> {
-    /// A script by itself: nothing is known of the mailboxes that are there.
+    /// A script by itself: the mailboxes are unknown.
     Alone,
-    /// A script in a file.
+    /// A script in a file, with the declarations of the file.
     InFile(MailboxDeclarations<'a>),
 }
 
 impl<'a> MailboxDeclarations<'a> {
-    /// The bytes that a line names.
+    /// The bytes that a line accesses.
     fn line_bytes(&self, line: &Line) -> Option<BoardRange>
         ensures { result ≡ line_bytes self.now.entries self.now.board line.now }
     {
@@ -59,7 +59,7 @@ impl<'a> MailboxDeclarations<'a> {
         }
     }
 
-    /// Whether some byte is one of a mailbox.
+    /// Whether one of `bytes` belongs to `mailbox`.
     fn is_of_mailbox(&self, bytes: BoardRange, mailbox: Mailbox) -> bool
         ensures { result ≡ is_of_mailbox self.now.entries bytes mailbox }
     {
@@ -69,7 +69,7 @@ impl<'a> MailboxDeclarations<'a> {
         }
     }
 
-    /// Whether some byte is one of a declared mailbox.
+    /// Whether one of `bytes` belongs to a declared mailbox.
     fn are_of_mailboxes(&self, bytes: BoardRange) -> bool
         ensures { result ≡ are_of_mailboxes self.now bytes }
     {
@@ -78,7 +78,7 @@ impl<'a> MailboxDeclarations<'a> {
             .any(|mailbox| self.is_of_mailbox(bytes, *mailbox))
     }
 
-    /// Whether a line names a byte of a declared mailbox.
+    /// Whether a line accesses a byte of a declared mailbox.
     #[inline(always)]
     #[tactic(auto, using(crate::proofs::Untouched::none_touched))]
     fn touches(&self, line: &Line) -> bool
@@ -107,7 +107,7 @@ impl<'a> ScriptContext<'a> {
         }
     }
 
-    /// Whether a line names a byte of a declared mailbox.
+    /// Whether a line accesses a byte of a declared mailbox, other than by a put or a take.
     #[inline(always)]
     fn touches(&self, line: &Line) -> bool
         ensures { result ≡ touches self.now line.now }
@@ -118,9 +118,11 @@ impl<'a> ScriptContext<'a> {
         }
     }
 
-    /// The refusal of a line that was read, if it may not be asked. In a file one that names a mailbox
-    /// which is not declared is refused by S6, and one that names a byte of one that is, other than by
-    /// a put or a take, by S9.
+    /// Returns the refusal of a parsed line in this context, or `None` if the line is allowed.
+    ///
+    /// In a file, a line that names an undeclared mailbox is refused with `BadNumber` (S6). After
+    /// that, a line other than a put or a take that accesses a byte of a declared mailbox is
+    /// refused with `MailboxBytes` (S9).
     #[inline(always)]
     pub fn refusal(&self, line: &Line) -> Option<LineFault>
         ensures refusal { result ≡ refusal_of self.now line.now }

@@ -1,3 +1,4 @@
+//! The refusals of configurations and of scripts.
 ghost use Rattle.std.specs.Prelude.{◌≡◌};
 ghost use Rattle.vme_script.specs.declared.fault.ConfigFault.TheVariants.{OutOfMemory};
 ghost use Rattle.vme_script.specs.declared.fault.ScriptFault.TheVariants as script;
@@ -8,57 +9,60 @@ use thiserror::Error;
 use vme_config_toml::DocumentFault;
 use vme_grammar::LineFault;
 
-/// Why a text is no configuration, in the order in which this is told, memory apart.
+/// Why a text is not a configuration. Its `Display` text is the number of the refusal.
+///
+/// The variants are in the order in which they are checked, except `OutOfMemory`.
 #[derive(Clone, Copy, Debug, PartialEq, Eq, Error)]
 pub enum ConfigFault {
-    /// C6: the text is no TOML.
+    /// C6: the text is not TOML.
     #[error("C6")]
     NotToml,
-    /// C7: an unknown key, a required key that is absent, a value of another kind, or a number
-    /// below 0 or above 2^32 - 1.
+    /// C7: a key is unknown, a required key is absent, a value has another kind, or a whole number
+    /// is below 0 or above 2^32 - 1.
     #[error("C7")]
     BadKey,
-    /// C11: no board.
+    /// C11: there is no board.
     #[error("C11")]
     NoBoard,
-    /// C4: more than 21 boards.
+    /// C4: there are more than 21 boards.
     #[error("C4")]
     TooMany,
-    /// C8: a slot not from 1 to 21, or not above the slot of the board before.
+    /// C8: a slot is not from 1 to 21, or not above the slot of the board before.
     #[error("C8")]
     BadSlot,
-    /// C9: a request level above 3.
+    /// C9: a request level is above 3.
     #[error("C9")]
     BadLevel,
-    /// C10: a word that names no space or arbiter, a width that no slave has, or unaligned cycles
-    /// of a slave with fewer than 32 data lines.
+    /// C10: a word does not name a space or an arbiter, no slave has the width, or a slave of fewer
+    /// than 32 data lines has unaligned transfers.
     #[error("C10")]
     BadWord,
-    /// C5: a size not from 4 to 1,048,576 bytes, or no multiple of four.
+    /// C5: a size is not from 4 to 1,048,576 bytes, or not a multiple of four.
     #[error("C5")]
     BadSize,
-    /// C3: a base that is no multiple of four.
+    /// C3: a base is not a multiple of four.
     #[error("C3")]
     Misaligned,
-    /// C2: a range that goes past the last address of its space.
+    /// C2: a range goes past the last address of its space.
     #[error("C2")]
     OutsideSpace,
-    /// C1: two boards of one space that share an address.
+    /// C1: two boards of one space share an address.
     #[error("C1")]
     Overlap,
-    /// C12: tries, rounds or turns out of range, or turns of a slot without a board.
+    /// C12: tries, rounds or turns are out of range, or a turn is that of a slot without a board.
     #[error("C12")]
     BadSchedule,
-    /// C13: more than 16 mailboxes; a code other than those of data and short access, an address
-    /// that is no multiple of four, or slots not from 1 to 64; bytes that do not lie wholly within
-    /// one board that the code selects; a board without quad bytes or read-modify-writes; or a byte
-    /// of an earlier mailbox.
+    /// C13: there are more than 16 mailboxes; or a mailbox has a code other than those of data and
+    /// short access, an address that is not a multiple of four, or a number of slots that is not
+    /// from 1 to 64; or its bytes are not wholly within one board that its code selects; or that
+    /// board has no quad bytes or no read-modify-writes; or it shares a byte with an earlier
+    /// mailbox.
     #[error("C13")]
     BadMailbox,
-    /// C14: a script that is refused, by the slot of its board.
+    /// C14: a script is refused, with the slot of its board.
     #[error("C14 slot {slot} {refusal}")]
     BadScript { slot: u16, refusal: ScriptRefusal },
-    /// There is no memory for the configuration.
+    /// An allocation failed.
     #[error("memory")]
     OutOfMemory,
 }
@@ -91,14 +95,16 @@ impl From<DocumentFault> for ConfigFault {
     }
 }
 
-/// Why a text is no script.
+/// Why a text is not a script. Its `Display` text is the number of the line and that of the
+/// refusal.
 #[derive(Clone, Copy, Debug, PartialEq, Eq, Error)]
 pub enum ScriptRefusal {
-    /// S1 to S7, S9: a line that is refused, by its number from 1. In a file S6 is also told of a
-    /// mailbox that it does not declare, and S9 of bytes of one that it does.
+    /// S1 to S7, S9: a line is refused, with its number from 1. In a file, S6 also refuses a line
+    /// that names an undeclared mailbox, and S9 a line that accesses bytes of a declared one.
     #[error("line {number} {fault}")]
     BadLine { number: u16, fault: LineFault },
-    /// S8: more than 1,000 lines; told of the first line that is too many.
+    /// S8: the text has more than 1,000 lines. The text of the fault names line 1001, the first
+    /// line over the limit.
     #[error("line 1001 S8")]
     TooManyLines,
 }
@@ -109,7 +115,7 @@ pub enum ScriptFault {
     /// The text is refused.
     #[error("{0}")]
     Refused(ScriptRefusal),
-    /// There is no memory for the lines.
+    /// An allocation failed.
     #[error("memory")]
     OutOfMemory,
 }

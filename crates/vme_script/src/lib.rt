@@ -1,6 +1,8 @@
-//! Configurations of a backplane, as TOML files tell them: the boards with their slots, request
-//! levels and address ranges (ANSI/IEEE Std 1014-1987, chapters 2 and 3), the scripts of their
-//! processors, and how these are driven. A file that configures nothing has one refusal.
+//! Configurations of a backplane, read from TOML files: the boards with their slots, request levels
+//! and address ranges (ANSI/IEEE Std 1014-1987, chapters 2 and 3), the scripts of their processors,
+//! the arbiter, the schedule and the mailboxes.
+//!
+//! Every file is either a configuration that is lawful, or has one refusal.
 #![tactic(auto)]
 
 mod arbiter;

@@ -1,4 +1,4 @@
-//! Which numbers are a mailbox's.
+//! The numbers of a mailbox, and the boards that can have one.
 ghost use Rattle.std.specs.Prelude.{◌≡◌};
 ghost use Rattle.vme_script.specs.MailboxTables.{mailbox_from_table, supports_mailboxes};
 
@@ -9,7 +9,10 @@ use vme_shared::Mailbox;
 /// The greatest number of slots.
 const MOST_SLOTS: u32 = 64;
 
-/// The mailbox that a table tells, if its numbers are a mailbox's.
+/// Returns the mailbox that a table declares, if its numbers are those of a mailbox.
+///
+/// Its code is one of data or short access (09, 0d, 29, 2d, 39, 3d), its address is a multiple of
+/// four, and it has 1 to 64 slots. Returns `None` otherwise.
 #[tactic(auto, unfolding(crate::specs::MailboxTables::mailbox_from_table))]
 pub fn mailbox_from_table(table: MailboxTable) -> Option<Mailbox>
     ensures mailbox { result ≡ mailbox_from_table table }
@@ -30,7 +33,8 @@ pub fn mailbox_from_table(table: MailboxTable) -> Option<Mailbox>
     })
 }
 
-/// Whether a board is able to hold mailboxes.
+/// Returns whether a board of this class can contain mailboxes: it has 32 data lines, and
+/// read-modify-writes.
 pub fn supports_mailboxes(class: Class) -> bool
     ensures able { result ≡ supports_mailboxes class }
 {

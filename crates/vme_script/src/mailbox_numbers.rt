@@ -1,4 +1,4 @@
-//! Which mailboxes a line may name.
+//! The numbers by which a line may name mailboxes.
 ghost use Rattle.std.specs.Prelude.{◌≡◌};
 ghost use Rattle.vme_script.specs.MailboxNumbers.{has_box, may_ask};
 
@@ -7,14 +7,14 @@ use vme_grammar::Line;
 /// The mailboxes that a script may name.
 #[derive(Clone, Copy, Debug, PartialEq, Eq)]
 pub enum MailboxNumbers {
-    /// Any: nothing is known of those that are there.
+    /// Any mailbox: the declared mailboxes are unknown.
     Any,
-    /// So many that a file declares, with the numbers from 1 on.
+    /// The declared mailboxes, numbered from 1 to this count.
     Declared(usize),
 }
 
 impl MailboxNumbers {
-    /// Whether a mailbox may be named by this number.
+    /// Whether `number` names a mailbox.
     fn has(self, number: u8) -> bool
         ensures { result ≡ has_box self number }
     {
@@ -24,7 +24,7 @@ impl MailboxNumbers {
         }
     }
 
-    /// Whether a line may be asked, as far as it names a mailbox.
+    /// Whether a line names only mailboxes that it may name.
     #[inline(always)]
     pub(crate) fn may_ask(self, line: &Line) -> bool
         ensures { result ≡ may_ask self line.now }

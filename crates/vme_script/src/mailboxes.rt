@@ -1,4 +1,4 @@
-//! Lawful mailboxes.
+//! The mailboxes of a configuration, and the checks of each.
 ghost use Rattle.std.specs.Prelude.{◌≡◌, ◌≤◌, length, IfOk};
 ghost use Rattle.vme_script.specs.Answers.{Gives};
 ghost use Rattle.vme_script.specs.Boards.{entries_of};
@@ -16,7 +16,7 @@ use vme_shared::Mailbox;
 /// The greatest number of mailboxes.
 const MOST_MAILBOXES: usize = 16;
 
-/// The mailbox that a table declares beside some bytes that others have, with its own bytes.
+/// The mailbox that a table declares, and its bytes, which share none with `earlier`.
 #[tactic(auto, unfolding(crate::specs::MailboxRefusals::declared_mailbox))]
 fn declared_mailbox(
     boards: &[BoardConfig],
@@ -42,7 +42,7 @@ fn declared_mailbox(
     Ok((mailbox, place))
 }
 
-/// The mailboxes of a file, on boards that this is the map of.
+/// The mailboxes of a file. `map` is the address map of `boards`.
 #[tactic(auto, unfolding(crate::specs::MailboxRefusals::mailboxes_of))]
 pub(crate) fn mailboxes_of(
     alloc: Global,

@@ -1,4 +1,4 @@
-//! Configurations from the text of a file.
+//! Configurations read from the text of a file.
 ghost use Rattle.std.specs.Prelude.{◌≡◌, ◌≢◌, Err, IfOk, IsUtf8};
 ghost use Rattle.toml.specs.Parse.{parse_document};
 ghost use Rattle.vme_script.specs.Readings.{configuration_in};
@@ -9,10 +9,13 @@ use std::alloc::Global;
 use vme_config_toml::{file_values, table_of};
 
 impl Config {
-    /// Reads the text of a TOML file. The refusals are looked for in this order: C6; C7; C11 and
-    /// C4; for each board in order of the file C8, C9, C10, C5, C3 and C2; C1; C10 for the arbiter;
-    /// C12; C13; and C14 of the first board in order whose script is refused. Want of memory is told
-    /// where a growth is refused.
+    /// Reads the text of a TOML file.
+    ///
+    /// # Errors
+    ///
+    /// The first refusal, checked in this order: C6; C7; C11 and C4; for each board in order of the
+    /// file C8, C9, C10, C5, C3 and C2; C1; C10 for the arbiter; C12; C13; and C14 for the first
+    /// board whose script is refused. `OutOfMemory`: an allocation failed.
     #[tactic(auto, unfolding(crate::specs::Readings::configuration_in))]
     pub fn read(alloc: Global, text: &[u8]) -> Result<Config, ConfigFault>
         ensures text { IsUtf8 text.now → result ≢ Err ConfigFault.OutOfMemory →

@@ -1,4 +1,4 @@
-//! Lawful schedules.
+//! The schedule of a configuration, and the checks of it.
 ghost use Rattle.std.specs.Prelude.{◌≡◌, is_some, IfSome};
 ghost use Rattle.vme_script.specs.Answers.{Gives};
 ghost use Rattle.vme_script.specs.Schedules.{has_slot, lawful_schedule, schedule_of};
@@ -47,7 +47,7 @@ fn lawful_schedule(
     Ok(schedule)
 }
 
-/// The schedule of a file, if that and its numbers are lawful.
+/// The schedule of a file, if the schedule, the tries and the rounds are lawful.
 #[tactic(auto, unfolding(crate::specs::Schedules::schedule_of))]
 pub(crate) fn schedule_of(
     alloc: Global,

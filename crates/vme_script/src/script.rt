@@ -1,4 +1,4 @@
-//! Scripts: what the lines of a text ask for.
+//! Scripts: the lines of a text that are not empty or comments.
 ghost use Rattle.std.specs.Prelude.{◌≡◌, ◌<◌, ◌≤◌, ◌∷◌, ◌++◌, [], nat_lt, length, slice_get, Some, Ok, Err, IfOk, IfErr, map};
 ghost use Rattle.std.specs.Str.Lines.{lines};
 ghost use Rattle.vme_script.specs.Contexts.{refusal_of};
@@ -14,20 +14,20 @@ use vme_lexer::Lines;
 /// The greatest number of lines of a script.
 const MOST_LINES: u16 = 1000;
 
-/// The number of bytes of a short line, its end included. By it a script's room is taken: only a
-/// script with many lines that take from mailboxes has shorter ones, and takes more.
+/// The length in bytes of a short line, its end included. It determines the initial capacity. Only
+/// a script with many takes has shorter lines, and may reallocate.
 const SHORT_LINE: usize = 14;
 
-/// A line that asks for something.
+/// A line of a script.
 #[derive(Debug, Drop)]
 pub struct ScriptLine {
-    /// Its number among all lines of the text, from 1.
+    /// The line's number among all lines of the text, from 1.
     pub number: u16,
-    /// What it asks for.
+    /// What the line requests.
     pub line: Line,
 }
 
-/// The lines of a text that ask for something, in order.
+/// The lines of a text that request something, in order.
 #[derive(Debug, Drop)]
 pub struct Script {
     lines: Vec<ScriptLine>,
@@ -43,8 +43,14 @@ impl Model for Script {
 }
 
 impl Script {
-    /// The script that a text is. It has at most 1,000 lines, comments among them, and no line
-    /// begins at the end of the text. It may name any mailbox.
+    /// Reads a text as a script by itself, which may name any mailbox.
+    ///
+    /// The text has at most 1,000 lines, empty lines and comments included.
+    ///
+    /// # Errors
+    ///
+    /// `Refused`: `TooManyLines`, or the first line that is refused. `OutOfMemory`: an allocation
+    /// failed.
     pub fn read(alloc: Global, text: &[u8]) -> Result<Script, ScriptFault>
         ensures script { IfOk result (λ script. script_of text.now ≡ Ok script) }
         ensures refused { IfErr result (IsRefusalOf (script_of text.now)) }
@@ -52,7 +58,7 @@ impl Script {
         Script::within(alloc, text, &ScriptContext::Alone)
     }
 
-    /// The script that a text is, whose lines go by rules.
+    /// Reads a text as a script in a context.
     #[tactic(auto, unfolding(crate::specs::Scripts::script_within), using(crate::proofs::Taking::taken, crate::proofs::Taking::untaken))]
     pub(crate) fn within(
         alloc: Global,
@@ -77,14 +83,14 @@ impl Script {
         Ok(Script { lines })
     }
 
-    /// The number of lines that ask for something.
+    /// Returns the number of lines that request something.
     pub fn len(&self) -> usize
         ensures { result ≡ length self.now }
     {
         self.lines.len()
     }
 
-    /// What line `j` of these asks for.
+    /// Returns line `j` of those that request something.
     pub fn line(&self, j: usize) -> &Line
         requires { j < length self.now }
         ensures { slice_get (map (λ line. line.line) self.now) j ≡ Some result.now }
@@ -92,7 +98,8 @@ impl Script {
         &self.lines[j].line
     }
 
-    /// The number of line `j` of these among all lines of the text, from 1.
+    /// Returns the number, among all lines of the text and from 1, of line `j` of those that
+    /// request something.
     pub fn number(&self, j: usize) -> u16
         requires { j < length self.now }
         ensures { slice_get (map (λ line. line.number) self.now) j ≡ Some result }
@@ -101,7 +108,7 @@ impl Script {
     }
 }
 
-/// Adds what a line asks for, if it asks for something, or answers its refusal.
+/// Appends a line if it requests something, or returns its refusal.
 #[inline(always)]
 #[tactic(auto, using(crate::proofs::Taking::kept))]
 fn take_line(
@@ -118,7 +125,7 @@ fn take_line(
     }
 }
 
-/// The same, however the line is spelled.
+/// Appends a line in any form if it requests something, or returns its refusal.
 #[cold]
 #[inline(never)]
 #[tactic(auto, using(crate::proofs::Taking::kept, crate::proofs::Taking::passed_over, crate::proofs::Asked::refused))]
@@ -137,8 +144,8 @@ fn take_any(
     }
 }
 
-/// Adds a line, and answers its refusal if it may not be asked. It is judged where it lies then, so that
-/// it is moved once.
+/// Appends a line, and returns its refusal if the context does not allow it. The line is checked in
+/// its final place, so it is moved once.
 #[inline(always)]
 fn keep(
     lines: &mut Vec<ScriptLine>,
@@ -153,7 +160,8 @@ fn keep(
     Ok(rules.refusal(&lines[last].line))
 }
 
-/// What a text is told of which a line is refused: that it has too many lines, or else that line.
+/// The refusal of a text of which a line is refused: `TooManyLines` if it has too many lines,
+/// otherwise the refusal of the line.
 #[tactic(auto, unfolding(crate::specs::Scripts::script_within))]
 fn fault_of(text: &[u8], rules: &ScriptContext<'_>, refusal: ScriptRefusal) -> ScriptFault
     requires { lines_from rules.now 1 (lines text.now) ≡ Err refusal }
@@ -166,7 +174,7 @@ fn fault_of(text: &[u8], rules: &ScriptContext<'_>, refusal: ScriptRefusal) -> S
     }
 }
 
-/// Whether a text has more lines than a script.
+/// Whether a text has more than 1,000 lines.
 fn has_too_many_lines(text: &[u8]) -> bool
     ensures { result ≡ nat_lt 1000 (length (lines text.now)) }
 {

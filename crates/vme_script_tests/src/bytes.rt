@@ -1,12 +1,12 @@
-//! Lines that name bytes of a mailbox. The values are this project's own.
+//! Lines that access bytes of a mailbox.
 use crate::rows::check;
 use std::alloc::{AllocError, Global};
 use std::process::Abort;
 use std::test::Fail;
 use vme_script::{Line, Script};
 
-/// A line more of the script of the first board, and what the file is told. The mailbox has the bytes
-/// 0 to 23 of that board's 32.
+/// Extra lines of the first board's script, and the expected result of the file. The mailbox has
+/// bytes 0 to 23 of that board's 32.
 static OWN_LINES: [(&str, &str); 9] = [
     ("lr 0000000c 4", "C14 slot 1 line 4 S9"),
     ("lr 00000017 1", "C14 slot 1 line 4 S9"),
@@ -19,7 +19,7 @@ static OWN_LINES: [(&str, &str); 9] = [
     ("x\\nlr 0000000c 4", "C14 slot 1 line 4 S2"),
 ];
 
-/// The same of the second board.
+/// Extra lines of the second board's script, and the expected result of the file.
 static OTHER_LINES: [(&str, &str); 28] = [
     ("r 09 00000017 1", "C14 slot 2 line 4 S9"),
     ("br 0b 00000010 4 3", "C14 slot 2 line 4 S9"),
@@ -51,7 +51,7 @@ static OTHER_LINES: [(&str, &str); 28] = [
     ("put 2 00000001", "C14 slot 2 line 4 S6"),
 ];
 
-/// A file with lines more at the ends of the two scripts.
+/// A file with extra lines at the ends of the two scripts.
 fn check_lines(
     rt: &impl Abort,
     alloc: Global,
@@ -92,7 +92,7 @@ fn reports_of_bytes_of_a_mailbox(rt: HostRuntime) -> Result<(), Fail> {
     Ok(())
 }
 
-/// By itself a script may name any byte.
+/// A script by itself may access any byte.
 #[test]
 fn names_any_byte_by_itself(rt: HostRuntime) -> Result<(), Fail> {
     let script = Script::read(rt.alloc(), b"lock 09 00000000\nlr 00000000 4\n")?;

@@ -1,8 +1,8 @@
-//! Which lines are read in one pass, and that others are read too.
+//! Lines that are parsed in one pass, and other lines that are parsed too.
 use std::process::Abort;
 use vme_grammar::{Line, LineFault, parse_canonical, parse_line};
 
-/// Each form of the bus and of the local port, as scripts are commonly written.
+/// Each form of the bus and of the local port, in canonical form.
 #[test]
 fn takes_usual_lines(rt: HostRuntime) {
     assert!(rt; parse_canonical(b"r 09 000011dc 4").is_some());
@@ -15,7 +15,7 @@ fn takes_usual_lines(rt: HostRuntime) {
     assert!(rt; parse_canonical(b"lw 000145cc 7d33d906").is_some());
 }
 
-/// Each function of a read-modify-write, by both ports.
+/// Each function of a read-modify-write, through both ports.
 #[test]
 fn takes_usual_functions(rt: HostRuntime) {
     assert!(rt; parse_canonical(b"m 09 00000000 1 set").is_some());
@@ -26,7 +26,7 @@ fn takes_usual_functions(rt: HostRuntime) {
     assert!(rt; parse_canonical(b"lm 00000000 4 cas f91f875e 00000001").is_some());
 }
 
-/// Lines that are spelled otherwise, with more spaces, are read word by word.
+/// Lines with more spaces are parsed word by word.
 #[test]
 fn reads_other_lines(rt: HostRuntime) {
     assert!(rt; parse_canonical(b"lr  00013c4c 4").is_none());

@@ -1,11 +1,12 @@
-//! A file of two boards: cut off anywhere, with any byte another, and where memory is refused.
+//! A file of two boards: truncated at each byte, with each byte replaced, and with a failed
+//! allocation.
 ghost use Rattle.std.specs.Prelude.{◌<◌};
 
 use std::process::Abort;
 use std::test::Fail;
 use vme_script::{Config, ConfigFault};
 
-/// Two boards, the second of which reads what the first writes.
+/// Two boards. The processor of the second reads what that of the first writes.
 static TWO_BOARDS: &str = "schedule = [[2, 2], [1, 1], [2, 2]]
 [[board]]
 slot = 1
@@ -19,7 +20,7 @@ size = 16
 script = \"br 0b 00000000 4 2\"
 ";
 
-/// The number of a fault; 0 stands for none, 15 for want of memory.
+/// The number of a fault: 0 for no fault, 15 for a failed allocation.
 fn number_of(end: &Result<Config, ConfigFault>) -> usize
     ensures { result < 16 }
 {
@@ -43,7 +44,7 @@ fn number_of(end: &Result<Config, ConfigFault>) -> usize
     }
 }
 
-/// How many fronts of the file are told each number. Another reader of TOML gave these.
+/// The number of prefixes of the file that have each result. Another TOML parser produced these.
 static FRONTS: [u32; 16] = [4, 0, 0, 0, 0, 2, 151, 16, 0, 0, 0, 3, 4, 0, 0, 0];
 
 #[test]
@@ -56,8 +57,8 @@ fn reads_or_refuses_each_prefix(rt: HostRuntime) {
     assert_eq!(rt; reported, FRONTS);
 }
 
-/// A byte, and how many of the files in which it stands for another are told each number. Another
-/// reader of TOML gave these.
+/// A byte, and the number of files with each result among those in which it replaces one byte.
+/// Another TOML parser produced these.
 static CHANGES: [(u8, [u32; 16]); 4] = [
     (0x00, [0, 0, 0, 0, 0, 0, 179, 0, 0, 0, 0, 0, 0, 0, 0, 0]),
     (0x0a, [17, 0, 0, 0, 0, 2, 148, 12, 0, 0, 0, 0, 0, 0, 0, 0]),
@@ -110,7 +111,7 @@ fn is_read_with_a_mailbox_or_lacks_memory(rt: HostRuntime) {
     }
 }
 
-/// Where memory is refused, just that is told; else the whole configuration stands.
+/// If an allocation fails, the result is that fault; otherwise it is the whole configuration.
 #[test]
 fn is_read_or_lacks_memory(rt: HostRuntime) {
     match Config::read(rt.alloc(), TWO_BOARDS.as_bytes()) {

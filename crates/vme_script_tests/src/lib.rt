@@ -1,5 +1,5 @@
-//! Tests of configuration files and of the scripts in them. They stand apart so that `vme_script`
-//! is not proved twice.
+//! Tests of configuration files and of the scripts in them, apart from `vme_script` so that its
+//! proofs are not repeated.
 #![tactic(auto)]
 
 #[cfg(test)]

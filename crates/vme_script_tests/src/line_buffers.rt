@@ -1,4 +1,4 @@
-//! How many bytes lines read by their requests over the bus, and the rooms for them.
+//! The number of bytes that lines read over the bus, and the buffers for them.
 use std::test::Fail;
 use vme_line_task::{ReadBuffers, line_read_len};
 use vme_script::Script;

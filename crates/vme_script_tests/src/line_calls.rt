@@ -1,4 +1,5 @@
-//! Lines by replies given by hand: what each is given, and what it does next.
+//! Script lines driven call by call: each listed reply is given to a line, and its step is
+//! compared.
 use std::process::Abort;
 use vme_arbiter::{ArbCmd, ArbReply};
 use vme_core::{Event, EventReply};
@@ -10,19 +11,22 @@ use vme_memory::{BoardCmd, Reply};
 use vme_script::Config;
 use vme_shared::LineReply;
 
+/// A request of the bus.
 pub const ASK: Step = Step::Bus(ArbCmd::Ask { slot: 2, level: 3 });
 
+/// A poll for the bus.
 pub const LOOK: Step = Step::Bus(ArbCmd::Look { slot: 2 });
 
+/// The release of the bus.
 pub const DONE: Step = Step::Bus(ArbCmd::Done { slot: 2 });
 
-/// What a line does, without the lines of a cycle.
+/// The step of a line, without the signals of a cycle.
 #[derive(Clone, Copy, Debug, PartialEq, Eq)]
 pub enum Step {
     Bus(ArbCmd),
-    /// A cycle of the board at a place, at an offset.
+    /// A cycle of the board with this index, at this offset.
     Cycle(usize, u32),
-    /// A command to the local port of the board at a place.
+    /// A command to the local port of the board with this index.
     Local(usize),
     End,
 }
@@ -38,21 +42,23 @@ fn step_of(todo: &LineTodo) -> Step {
     }
 }
 
-/// What a line is given.
+/// The reply that is given to a line.
 #[derive(Clone, Copy, Debug, PartialEq, Eq)]
 pub enum Given {
     Nothing,
     Turn(ArbReply),
-    /// This byte, of a board.
+    /// This byte, from a board.
     Byte(u8),
-    /// This number, as four bytes of a board.
+    /// This number, as four bytes from a board.
     Word(u32),
     Done,
     Berr,
 }
 
+/// The bus was granted.
 pub const GRANTED: Given = Given::Turn(ArbReply::Granted);
 
+/// The bus was released.
 pub const FREED: Given = Given::Turn(ArbReply::Freed);
 
 fn reply(given: Given) -> Option<EventReply> {
@@ -72,10 +78,11 @@ fn reply(given: Given) -> Option<EventReply> {
     }
 }
 
+/// The replies to a line, each with the step that follows it.
 pub type Course = &'static [(Given, Step)];
 
-/// Calls a line of the first board as in a course, and twice more after its end: its answer, which
-/// comes once unless it is a refusal.
+/// Gives a line of the first board the listed replies, and calls it twice more after its end.
+/// Returns the line's reply, which it gives once unless it is a refusal.
 pub fn answer(rt: &impl Abort, config: &Config, line: usize, course: Course) -> LineReply {
     if config.boards() == 0 || line_count(config, 0) <= line {
         panic!(rt; "no such line");

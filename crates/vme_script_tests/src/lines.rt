@@ -1,4 +1,4 @@
-//! What lines of a script do next, call by call, in worked orders of replies.
+//! The steps of script lines, call by call, with listed replies.
 use crate::line_calls::{ASK, DONE, FREED, GRANTED, Given, LOOK, Step, answer};
 use std::test::Fail;
 use vme_am::AmFault;
@@ -8,8 +8,8 @@ use vme_master::Outcome;
 use vme_script::Config;
 use vme_shared::LineReply;
 
-/// A processor on its one board of 16 bytes from address 1000 hex on, whose lines that wait may
-/// read twice.
+/// A processor and its one board of 16 bytes from address 1000 hex on. A line that waits may read
+/// twice.
 static FILE: &str = "tries = 2
 [[board]]
 slot = 2

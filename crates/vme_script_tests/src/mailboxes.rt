@@ -1,11 +1,12 @@
-//! Files that declare mailboxes, with what each is told. The values are this project's own.
+//! Files that declare mailboxes, and the expected result of each.
 use crate::rows::check;
 use std::alloc::{AllocError, Global};
 use std::process::Abort;
 use std::test::Fail;
 
-/// Boards of 32 bytes: one that answers all, one with 16 data lines, one without read-modify-writes,
-/// one beside the first, and one each of the short and the standard space for supervisory codes.
+/// Boards of 32 bytes: one that responds to all transfers, one with 16 data lines, one without
+/// read-modify-writes, one next to the first, and one each in the short and the standard space for
+/// supervisory codes.
 static BOARDS: &str = "[[board]]
 slot = 1
 base = 0
@@ -38,7 +39,7 @@ size = 32
 supervisory = true
 ";
 
-/// Mailboxes on these boards, and what the file is told.
+/// Mailboxes on these boards, and the expected result of the file.
 static MAILBOXES: [(&str, &str); 32] = [
     ("", "lawful"),
     ("{ am = 9, addr = 0, slots = 1 }", "lawful"),
@@ -47,29 +48,29 @@ static MAILBOXES: [(&str, &str); 32] = [
     ("{ am = 0x2d, addr = 0xffe0, slots = 4 }", "lawful"),
     ("{ am = 0x3d, addr = 0xfffff0, slots = 1 }", "C13"),
     ("{ am = 0x3d, addr = 0xffffec, slots = 1 }", "lawful"),
-    // Codes of other accesses, and of no access.
+    // Codes of other accesses, and a code of no access.
     ("{ am = 0x0a, addr = 0, slots = 1 }", "C13"),
     ("{ am = 0x0b, addr = 0, slots = 1 }", "C13"),
     ("{ am = 0x3e, addr = 0xffffe0, slots = 1 }", "C13"),
     ("{ am = 0x10, addr = 0, slots = 1 }", "C13"),
     ("{ am = 0x109, addr = 0, slots = 1 }", "C13"),
-    // Codes that the boards there do not admit.
+    // Codes that no board there responds to.
     ("{ am = 0x29, addr = 0xffe0, slots = 1 }", "C13"),
     ("{ am = 0x39, addr = 0, slots = 1 }", "C13"),
     ("{ am = 0x2d, addr = 0x1ffe0, slots = 1 }", "C13"),
-    // Addresses and slots.
+    // Addresses and numbers of slots.
     ("{ am = 9, addr = 2, slots = 1 }", "C13"),
     ("{ am = 9, addr = 0, slots = 0 }", "C13"),
     ("{ am = 9, addr = 0, slots = 65 }", "C13"),
     ("{ am = 9, addr = 0, slots = 257 }", "C13"),
     ("{ am = 9, addr = 0, slots = -1 }", "C7"),
     ("{ am = 9, addr = 4294967296, slots = 1 }", "C7"),
-    // Bytes past the end of a board, on two boards, and on none.
+    // Bytes past the end of a board, on two boards, and on no board.
     ("{ am = 9, addr = 0, slots = 5 }", "C13"),
     ("{ am = 9, addr = 16, slots = 1 }", "C13"),
     ("{ am = 9, addr = 64, slots = 1 }", "C13"),
     ("{ am = 9, addr = 0xfffffffc, slots = 1 }", "C13"),
-    // Boards that are not able to hold one.
+    // Boards that cannot contain a mailbox.
     ("{ am = 9, addr = 0x1000, slots = 1 }", "C13"),
     ("{ am = 9, addr = 0x2000, slots = 1 }", "C13"),
     // Two mailboxes.
@@ -90,7 +91,7 @@ static MAILBOXES: [(&str, &str); 32] = [
     ("{ am = 9, addr = 0, slots = 1, words = 1 }", "C7"),
 ];
 
-/// The key of mailboxes, with these.
+/// The key `mailbox` with these tables, and the boards.
 fn mailboxes(alloc: Global, tables: &str, boards: &str) -> Result<String, AllocError> {
     format!(in alloc; "mailbox = [{tables}]\n{boards}")
 }
@@ -112,7 +113,7 @@ mailbox = [{ am = 9, addr = 0, slots = 1 }]";
     Ok(())
 }
 
-/// The numbers of mailboxes on one board of 512 bytes, and what the file is told.
+/// The number of mailboxes on one board of 512 bytes, and the expected result of the file.
 static COUNTS: [(u16, &str); 3] = [(1, "lawful"), (16, "lawful"), (17, "C13")];
 
 #[test]
@@ -131,7 +132,7 @@ fn has_sixteen_mailboxes_at_most(rt: HostRuntime) -> Result<(), Fail> {
     Ok(())
 }
 
-/// Scripts of a board on which two mailboxes are declared, and what the file is told.
+/// Scripts of a board with two declared mailboxes, and the expected result of the file.
 static SCRIPTS: [(&str, &str); 9] = [
     ("put 1 00000001\\ntake 2\\ntake 02", "lawful"),
     ("take 3", "C14 slot 1 line 1 S6"),
@@ -157,7 +158,7 @@ fn reports_of_a_mailbox_that_is_not_declared(rt: HostRuntime) -> Result<(), Fail
     Ok(())
 }
 
-/// The order in which refusals are told: a schedule before a mailbox, and that before a script.
+/// The order of refusals: a schedule before a mailbox, and a mailbox before a script.
 static ORDERS: [(&str, &str); 2] = [
     (
         "tries = 0\nmailbox = [{ am = 1, addr = 0, slots = 1 }]

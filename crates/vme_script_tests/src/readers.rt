@@ -1,4 +1,4 @@
-//! What a configuration is asked: what its file says, or the defaults.
+//! The values that a configuration returns: those of its file, or the defaults.
 use std::process::Abort;
 use std::test::Fail;
 use vme_am::Am;
@@ -6,7 +6,7 @@ use vme_cycle::{Modify, Plan, Request};
 use vme_memory::{BoardCmd, ByteMemory, Reply};
 use vme_script::{Config, Line, Mailbox};
 
-/// Each key once, none at its default.
+/// Each key once, with a value other than its default.
 static EACH_KEY: &str = "arbiter = \"priority\"
 tries = 7
 schedule = [[21, 5], [3, 2]]
@@ -42,7 +42,7 @@ fn selected(config: &Config, code: u8, addr: u32) -> Option<(usize, u32)> {
     config.map().select_at(Am::from_code(code).ok()?, addr)
 }
 
-/// Whether a memory answers a request at its first byte.
+/// Whether a memory replies to the first cycle of a request without a bus error.
 fn answers(memory: &mut ByteMemory, request: &Request) -> bool {
     let Ok(plan) = Plan::of(request) else {
         return false;
@@ -56,8 +56,8 @@ fn answers(memory: &mut ByteMemory, request: &Request) -> bool {
     )
 }
 
-/// A double cycle, a quad, a triple, a block and a read-modify-write, each with whether a board
-/// answers it that has 16 data lines and no switch on.
+/// A double-byte, a quad-byte and a triple-byte transfer, a block and a read-modify-write, each
+/// with whether a board with 16 data lines and all three kinds of transfers off responds to it.
 fn requests() -> [(Request, bool); 5] {
     let (am, addr) = (0x0d, 0);
     let (block, count, f) = (0x0f, 1, Modify::Set);

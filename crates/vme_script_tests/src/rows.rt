@@ -1,11 +1,10 @@
-//! Files with what each is told: the first of its refusals, or that it is lawful. The values are
-//! this project's own.
+//! Files and the expected result of each: its first refusal, or that it is lawful.
 use std::alloc::{AllocError, Global};
 use std::process::Abort;
 use std::test::Fail;
 use vme_script::Config;
 
-/// A file, and what it is told.
+/// A file, and its expected result.
 static TOLD: [(&str, &str); 48] = [
     ("", "C11"),
     ("board = []", "C11"),
@@ -160,7 +159,7 @@ static TOLD: [(&str, &str); 48] = [
     ),
 ];
 
-/// Reads a file, and compares what it is told.
+/// Reads a file, and compares its result with the expected one.
 pub(crate) fn check(
     rt: &impl Abort,
     alloc: Global,
@@ -183,7 +182,7 @@ fn reports_the_first_refusal(rt: HostRuntime) -> Result<(), Fail> {
     Ok(())
 }
 
-/// So many of a part between a front and an end.
+/// A prefix, `count` copies of a part, and an end.
 fn repeated(
     alloc: Global,
     prefix: &str,
@@ -199,11 +198,11 @@ fn repeated(
     Ok(file)
 }
 
-/// The front of a file up to the script of its one board.
+/// The text of a file up to the script of its one board.
 const SCRIPT: &str = "board = [{ slot = 1, base = 0, size = 16, script = \"\"\"
 ";
 
-/// Files at the limits: front, part, how often the part stands, and what the file is told.
+/// Files at the limits: prefix, part, number of repetitions, end, and the expected result.
 static LIMITS: [(&str, &str, usize, &str, &str); 6] = [
     (
         "",

@@ -1,4 +1,4 @@
-//! Scripts read from their text alone.
+//! Scripts read by themselves.
 use std::process::Abort;
 use std::test::Fail;
 use vme_script::{Line, LineFault, Script, ScriptFault, ScriptRefusal};
@@ -15,7 +15,7 @@ fn keeps_the_lines_that_ask_for_something(rt: HostRuntime) -> Result<(), Fail> {
     Ok(())
 }
 
-/// A script is refused for its number of lines before any of them is.
+/// A text with too many lines is refused for that before any of its lines is.
 #[test]
 fn has_a_thousand_lines_at_most(rt: HostRuntime) -> Result<(), Fail> {
     let mut text = vec![in rt.alloc(); b'\n'; 1000]?;
@@ -40,7 +40,7 @@ fn has_a_thousand_lines_at_most(rt: HostRuntime) -> Result<(), Fail> {
     Ok(())
 }
 
-/// By itself a script may name any mailbox.
+/// A script by itself may name any mailbox.
 #[test]
 fn names_any_mailbox_by_itself(rt: HostRuntime) -> Result<(), Fail> {
     let script = Script::read(rt.alloc(), b"put 99 00000001\ntake 0\n")?;

@@ -1,4 +1,4 @@
-//! Locks and mailboxes in a script: which outcomes are tried again, and which end the line.
+//! Locks and mailboxes in a script: which outcomes are retried, and which end the line.
 use crate::line_calls::{ASK, Course, DONE, FREED, GRANTED, Given, Step, answer};
 use std::process::Abort;
 use std::test::Fail;
@@ -6,7 +6,7 @@ use vme_arbiter::ArbReply;
 use vme_script::Config;
 use vme_shared::{LineReply, SharedOutcome};
 
-/// A processor on its one board, which has two mailboxes of one word. It tries twice at most.
+/// A processor and its one board, which has two mailboxes of one word. It tries at most twice.
 static FILE: &str = "tries = 2
 [[board]]
 slot = 2
@@ -40,7 +40,7 @@ const TAKE: usize = 3;
 
 const TAKE_OF_SECOND: usize = 4;
 
-/// A byte of no board.
+/// A lock at an address of no board.
 const NOWHERE: usize = 5;
 
 fn check(rt: &impl Abort, config: &Config, line: usize, course: Course, wanted: SharedOutcome) {
@@ -103,7 +103,7 @@ static LOCK_BERR: [(Given, Step); 4] = [
     (FREED, Step::End),
 ];
 
-/// The bus timer answers, and no board.
+/// No board is selected: the bus timer ends the cycle.
 static UNSELECTED: [(Given, Step); 3] = [
     (Given::Nothing, ASK),
     (GRANTED, DONE),
@@ -126,7 +126,7 @@ fn other_outcomes_are_not_tried_again(rt: HostRuntime) -> Result<(), Fail> {
     Ok(())
 }
 
-/// No room at first; then the word goes in.
+/// The mailbox is full at first; then the word is put.
 static PUT_BY_THE_SECOND: [(Given, Step); 31] = [
     (Given::Nothing, ASK),
     (GRANTED, Step::Cycle(0, 0)),
@@ -161,7 +161,7 @@ static PUT_BY_THE_SECOND: [(Given, Step); 31] = [
     (FREED, Step::End),
 ];
 
-/// No word, twice.
+/// The mailbox is empty, twice.
 static EMPTY: [(Given, Step); 25] = [
     (Given::Nothing, ASK),
     (GRANTED, Step::Cycle(0, 0)),
@@ -190,7 +190,7 @@ static EMPTY: [(Given, Step); 25] = [
     (FREED, Step::End),
 ];
 
-/// The count of words put is as great as can be: the lock is given back, and the line ends.
+/// The count of words put has its greatest value: the lock is freed, and the line ends.
 static SPENT: [(Given, Step); 13] = [
     (Given::Nothing, ASK),
     (GRANTED, Step::Cycle(0, 0)),
@@ -216,7 +216,7 @@ fn a_full_or_an_empty_mailbox_is_tried_again(rt: HostRuntime) -> Result<(), Fail
     Ok(())
 }
 
-/// Another has the mailbox's lock, twice.
+/// Another processor holds the mailbox's lock, twice.
 static BUSY_TAKE: [(Given, Step); 7] = [
     (Given::Nothing, ASK),
     (GRANTED, Step::Cycle(0, 0)),

@@ -1,4 +1,4 @@
--- A line is read exactly where its words spell it.
+-- A line is read exactly if its words spell it.
 use Rattle.std.proofs.Common.{◌≡◌, ℕ, suc, ◌≤◌, true, false, nat_lt, ◌==◌, List, [], ◌∷◌, length, map, Some, Ok, refl, ap, sym, ◌∙◌, inl, inr, arith}
 use Rattle.std.specs.Prelude.{find}
 use Rattle.std.specs.List.{list_any}
@@ -19,18 +19,18 @@ use Rattle.vme_grammar.specs.Naming.{function_of}
 use Rattle.vme_grammar.proofs.Cases.{cases_Option, cases_Result}
 use Rattle.vme_grammar.proofs.Naming.{find_passes, own_word}
 
--- as many words as places
+-- filled places are as many as their words
 count_filled : {some : List Place} {words : List (List ℕ)} {o given : Operands} → Fill some words o given → length words ≡ length some
 count_filled no_place = refl
 count_filled (word rest) = ap suc (count_filled rest)
 count_filled (field spelled rest) = ap suc (count_filled rest)
 
--- and as many fields
+-- a list of places has as many fields
 length_fields : (some : List Place) → length (map field_at some) ≡ length some
 length_fields [] = refl
 length_fields (place ∷ some) = ap suc (length_fields some)
 
--- what the words give
+-- words that fill places are read
 filled_read :
     {some : List Place} {words : List (List ℕ)} {o given : Operands} → Fill some words o given
     → fields_read (map field_at some) words o ≡ Ok given
@@ -39,7 +39,7 @@ filled_read no_place = refl
 filled_read (word rest) = filled_read rest
 filled_read (field spelled rest) = rw spelled (filled_read rest)
 
--- the function that its own name names
+-- a function is named by its own name
 own_name : (function : Function) → function_of (Some (name_of function)) ≡ Ok function
 unfolding function_of
 own_name Set = refl
@@ -47,7 +47,7 @@ own_name Exchange = refl
 own_name Add = refl
 own_name Compare = refl
 
--- the form whose places the words fill is theirs
+-- words that fill the places of a form have that form
 found : (form : LineForm) {words : List (List ℕ)} {o given : Operands} → Fill (places form) words o given → form_of words ≡ Ok form
 found Read (word rest) = own_word Read _
 found Write (word rest) = own_word Write _
@@ -70,7 +70,7 @@ found Unlock (word rest) = own_word Unlock _
 found Put (word rest) = own_word Put _
 found Take (word rest) = own_word Take _
 
--- words that go by the certain words, just as many as the places, and that spell each field, fill the places
+-- words that match the fixed words, are as many as the places, and spell each field fill the places
 fills :
     (some : List Place) (words : List (List ℕ)) (o given : Operands) → go_by false some words ≡ true → length words ≡ length some
     → fields_read (map field_at some) words o ≡ Ok given → Fill some words o given
@@ -91,7 +91,7 @@ fills (Of kind ∷ more) (text ∷ words) o given agree count read =
       | inr (next, spelled) ↦ field spelled (fills more words next given agree (omega (arith, count)) (rw spelled at read))
     ]
 
--- words go by the certain words of their form
+-- words match the fixed words of their form
 form_agrees : (words : List (List ℕ)) (form : LineForm) → form_of words ≡ Ok form → go_by false (places form) words ≡ true
 unfolding form_of
 form_agrees words form is =
@@ -118,7 +118,7 @@ operands_fill words form given is gives =
       | inr other ↦ absurd (let bad = rw other at gives in cc)
     ]
 
--- what is read is spelled
+-- a line that is read is spelled
 read_spelled : (words : List (List ℕ)) (line : Line) → line_of_words words ≡ Ok line → Spell words line
 unfolding line_of_words
 read_spelled words line read =
@@ -135,7 +135,7 @@ read_spelled words line read =
       ]
     ]
 
--- what is spelled is read
+-- a line that is spelled is read
 spelled_read : (words : List (List ℕ)) (line : Line) → Spell words line → line_of_words words ≡ Ok line
 unfolding line_of_words operands_of
 spelled_read words line spelled =
@@ -144,7 +144,7 @@ spelled_read words line spelled =
     = eq-eqb _ _ (count_filled filled ∙ sym (length_fields (places spelled.form))) in
     rw (found spelled.form filled, count, filled_read filled) (ap Ok (sym spelled.same))
 
--- words that ask for a line are there
+-- words that spell a line are not empty
 read_if_any : (words : List (List ℕ)) (line : Line) → line_of_words words ≡ Ok line → line_if_any words ≡ Ok (Some line)
 unfolding line_of_words form_of
 read_if_any [] line read = absurd (cc)
@@ -158,7 +158,7 @@ any_read (text ∷ words) line read =
       | inr (own, is) ↦ let same = rw is at read in is ∙ ap Ok (cc)
     ]
 
--- a line that is read has no more than 80 bytes, and its words spell it
+-- a line that is read has at most 80 bytes, and its words spell it
 pub line_is_spelled :
     (text : List ℕ) (line : Line) → line_of text ≡ Ok (Some line) → (length text ≤ 80) × Spell (words_of text) line
 unfolding line_of
@@ -168,7 +168,7 @@ line_is_spelled text line read =
       | inr short ↦ (ltb-false _ _ short, read_spelled (words_of text) line (any_read (words_of text) line (rw short at read)))
     ]
 
--- and such a line is read
+-- a text of at most 80 bytes whose words spell a line is read as that line
 pub spelled_line_is_read :
     (text : List ℕ) (line : Line) → length text ≤ 80 → Spell (words_of text) line → line_of text ≡ Ok (Some line)
 unfolding line_of
@@ -191,7 +191,7 @@ own_at Unlock o = tt
 own_at Put o = tt
 own_at Take o = tt
 
--- no line asks the local port for a cycle of the bus
+-- no line that is read commands the local port to do a bus cycle
 pub line_is_own : (text : List ℕ) (line : Line) → line_of text ≡ Ok (Some line) → IsOwnLine line
 line_is_own text line read =
     let spelled = (line_is_spelled text line read).1 in

@@ -1,8 +1,8 @@
-//! Bytes at the head of a text.
+//! Bytes at the start of a text.
 ghost use Rattle.std.specs.Prelude.{◌≡◌, ◌∷◌, MatchOption, codes};
 ghost use Rattle.std.specs.Str.{bytes_eq};
 
-/// What stands after a space.
+/// The text after a space.
 #[inline(always)]
 #[tactic(auto, using(crate::proofs::Heads::one_byte))]
 pub(crate) fn after_space(text: &[u8]) -> Option<&[u8]>
@@ -14,7 +14,7 @@ pub(crate) fn after_space(text: &[u8]) -> Option<&[u8]>
     }
 }
 
-/// What stands after `ait` and a space.
+/// The text after `ait` and a space.
 #[inline(always)]
 #[tactic(auto, using(crate::proofs::Heads::four_bytes))]
 pub(crate) fn after_ait(text: &[u8]) -> Option<&[u8]>
@@ -26,7 +26,7 @@ pub(crate) fn after_ait(text: &[u8]) -> Option<&[u8]>
     }
 }
 
-/// The first two bytes, and what stands after them.
+/// The first two bytes, and the text after them.
 #[inline(always)]
 #[tactic(auto, using(crate::proofs::Heads::two_bytes))]
 pub(crate) fn two_bytes(line: &[u8]) -> Option<(u8, u8, &[u8])>
@@ -38,7 +38,7 @@ pub(crate) fn two_bytes(line: &[u8]) -> Option<(u8, u8, &[u8])>
     }
 }
 
-/// The first four bytes, and what stands after them.
+/// The first four bytes, and the text after them.
 #[inline(always)]
 #[tactic(auto, using(crate::proofs::Heads::four))]
 pub(crate) fn four_bytes(text: &[u8]) -> Option<(u8, u8, u8, u8, &[u8])>

@@ -1,4 +1,5 @@
-//! Lines that ask the own board for something by its local port, after their first word.
+//! Lines in canonical form that command the processor's own board through its local port, by the
+//! text after the first word.
 ghost use Rattle.std.specs.Prelude.{codes};
 ghost use Rattle.vme_grammar.specs.Canonical.{Asks};
 
@@ -8,7 +9,7 @@ use crate::line::Line;
 use vme_lexer::{local_bytes, local_number};
 use vme_memory::BoardCmd;
 
-/// `lr`
+/// `lr OFF N`: a read by the local port.
 #[inline(always)]
 #[tactic(auto, using(crate::proofs::Forms::local_read_asked))]
 pub(crate) fn local_read(text: &[u8]) -> Option<Line>
@@ -19,7 +20,7 @@ pub(crate) fn local_read(text: &[u8]) -> Option<Line>
     Some(Line::Local(BoardCmd::LocalRead { offset, n }))
 }
 
-/// `lw`
+/// `lw OFF HEX`: a write by the local port.
 #[inline(always)]
 #[tactic(auto, using(crate::proofs::Forms::local_write_asked))]
 pub(crate) fn local_write(text: &[u8]) -> Option<Line>
@@ -30,7 +31,7 @@ pub(crate) fn local_write(text: &[u8]) -> Option<Line>
     Some(Line::Local(BoardCmd::LocalWrite { offset, bytes }))
 }
 
-/// `lm`
+/// `lm OFF N FUNC`: a read-modify-write by the local port.
 #[inline(always)]
 #[tactic(auto, using(crate::proofs::Forms::local_modify_asked))]
 pub(crate) fn local_modify(text: &[u8]) -> Option<Line>

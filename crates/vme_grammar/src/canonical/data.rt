@@ -1,4 +1,4 @@
-//! Data of a known length, and what stands before them.
+//! Data of a known length, and the fields before them.
 ghost use Rattle.std.specs.Prelude.{MatchOption};
 ghost use Rattle.vme_grammar.specs.Canonical.{IsFill, AreData, IsFunction};
 ghost use Rattle.vme_lexer.specs.Words.{words};
@@ -8,7 +8,7 @@ use vme_cycle::Modify;
 use vme_lanes::Datum;
 use vme_lexer::{decimal_number, exact_bytes};
 
-/// A number of data and a datum of `n` bytes, with a space between.
+/// A number of data and a datum of `n` bytes, with one space between.
 #[inline(always)]
 #[tactic(auto, using(crate::proofs::Known::fill_is))]
 pub(crate) fn count_and_datum(n: u8, text: &[u8]) -> Option<(u16, Datum)>
@@ -22,7 +22,7 @@ pub(crate) fn count_and_datum(n: u8, text: &[u8]) -> Option<(u16, Datum)>
     Some((count, bytes))
 }
 
-/// Two data of `n` bytes, with a space between.
+/// Two data of `n` bytes, with one space between.
 #[inline(always)]
 #[tactic(auto, using(crate::proofs::Known::data_are))]
 fn two_data(n: u8, text: &[u8]) -> Option<(Datum, Datum)>

@@ -1,4 +1,4 @@
-//! Fields before one space.
+//! Fields that end at one space.
 ghost use Rattle.std.specs.Prelude.{◌≡◌, ◌<◌, ◌≤◌, ◌^◌, MatchOption, IfSome};
 ghost use Rattle.vme_lexer.specs.Numbers.{hex_number, small_number, local_number};
 ghost use Rattle.vme_grammar.specs.Canonical.{Spelled, IsPlace};
@@ -6,7 +6,7 @@ ghost use Rattle.vme_grammar.specs.Canonical.{Spelled, IsPlace};
 use crate::canonical::bytes::after_space;
 use vme_lexer::{hex_number, local_number, small_number};
 
-/// The number that `N` hexadecimal digits before a space spell, and what stands after the space.
+/// The number that `N` hexadecimal digits before a space spell, and the text after the space.
 #[inline(always)]
 #[tactic(auto, using(crate::proofs::Spelled::hex_spelled))]
 pub(crate) fn number<const N: usize>(text: &[u8]) -> Option<(u32, &[u8])>
@@ -21,7 +21,7 @@ pub(crate) fn number<const N: usize>(text: &[u8]) -> Option<(u32, &[u8])>
     Some((number, rest))
 }
 
-/// The code and the address before a space each, and what stands after them.
+/// The code and the address, each before a space, and the text after them.
 #[inline(always)]
 pub(crate) fn place(text: &[u8]) -> Option<(u8, u32, &[u8])>
     ensures { MatchOption result (Unit {0}) (λ r. IsPlace text.now r.0 r.1 r.2.now) }
@@ -31,7 +31,7 @@ pub(crate) fn place(text: &[u8]) -> Option<(u8, u32, &[u8])>
     Some((am as u8, addr, rest))
 }
 
-/// The number from 1 to 8 that a digit before a space spells, and what stands after the space.
+/// The number from 1 to 8 that a digit before a space spells, and the text after the space.
 #[inline(always)]
 #[tactic(auto, using(crate::proofs::Spelled::small_spelled))]
 pub(crate) fn length(text: &[u8]) -> Option<(u8, &[u8])>
@@ -43,7 +43,7 @@ pub(crate) fn length(text: &[u8]) -> Option<(u8, &[u8])>
     Some((n, rest))
 }
 
-/// The number 1, 2 or 4 that a digit before a space spells, and what stands after the space.
+/// The number 1, 2 or 4 that a digit before a space spells, and the text after the space.
 #[inline(always)]
 #[tactic(auto, using(crate::proofs::Spelled::local_spelled))]
 pub(crate) fn local_length(text: &[u8]) -> Option<(u8, &[u8])>

@@ -1,4 +1,4 @@
-//! What a line asks for.
+//! The parser of lines in canonical form, and the parser of all lines.
 ghost use Rattle.std.specs.Prelude.{◌≡◌, MatchOption};
 ghost use Rattle.vme_grammar.specs.Grammar.{line_of};
 
@@ -10,7 +10,10 @@ use crate::canonical::requests::{
 use crate::fault::LineFault;
 use crate::line::{LINE_LIMIT, Line, parse_words};
 
-/// What a line in its usual spelling asks for; nothing of another line.
+/// Parses a line in canonical form, in one pass.
+///
+/// Returns what `parse_line` returns for the line, or `None`. Its contract does not state for which
+/// lines it returns `None`; in every case `parse_line` gives the answer.
 #[inline(always)]
 pub fn parse_canonical(line: &[u8]) -> Option<Line>
     ensures { MatchOption result (Unit {0}) (λ asked. line_of line.now ≡ Ok (Some asked)) }
@@ -34,7 +37,7 @@ pub fn parse_canonical(line: &[u8]) -> Option<Line>
     }
 }
 
-/// What any line asks for, read word by word.
+/// Parses any line, word by word.
 #[cold]
 #[inline(never)]
 fn any_line(line: &[u8]) -> Result<Option<Line>, LineFault>
@@ -43,7 +46,14 @@ fn any_line(line: &[u8]) -> Result<Option<Line>, LineFault>
     parse_words(line)
 }
 
-/// Reads a line, without its end, as `parse_words` does: one in its usual spelling in one pass.
+/// Parses a line, without its end: a line in canonical form in one pass, any other word by word.
+///
+/// Returns `None` for an empty line, a line of spaces and a comment.
+///
+/// # Errors
+///
+/// The first refusal of the grammar: `LineTooLong`; then `UnknownWord`; then `WordCount`; then the
+/// fault of the first malformed field from the left.
 #[inline(always)]
 pub fn parse_line(line: &[u8]) -> Result<Option<Line>, LineFault>
     ensures line { result ≡ line_of line.now }

@@ -1,4 +1,4 @@
-//! Lines that ask the bus for something, after their first word.
+//! Lines in canonical form that request the bus, by the text after the first word.
 ghost use Rattle.std.specs.Prelude.{codes};
 ghost use Rattle.vme_grammar.specs.Canonical.{Asks};
 
@@ -8,7 +8,7 @@ use crate::line::Line;
 use vme_cycle::{Block, Request};
 use vme_lexer::{decimal_number, hex_bytes, small_number};
 
-/// `r`
+/// `r AM ADDR N`: a read.
 #[inline(always)]
 #[tactic(auto, using(crate::proofs::Forms::read_asked))]
 pub(crate) fn read(text: &[u8]) -> Option<Line>
@@ -19,7 +19,7 @@ pub(crate) fn read(text: &[u8]) -> Option<Line>
     Some(Line::Bus(Request::Read { am, addr, n }))
 }
 
-/// `w`
+/// `w AM ADDR HEX`: a write.
 #[inline(always)]
 #[tactic(auto, using(crate::proofs::Forms::write_asked))]
 pub(crate) fn write(text: &[u8]) -> Option<Line>
@@ -30,7 +30,7 @@ pub(crate) fn write(text: &[u8]) -> Option<Line>
     Some(Line::Bus(Request::Write { am, addr, bytes }))
 }
 
-/// `br`
+/// `br AM ADDR N COUNT`: a block read.
 #[inline(always)]
 #[tactic(auto, using(crate::proofs::Forms::block_read_asked))]
 pub(crate) fn block_read(text: &[u8]) -> Option<Line>
@@ -42,7 +42,7 @@ pub(crate) fn block_read(text: &[u8]) -> Option<Line>
     Some(Line::Bus(Request::BlockRead { am, addr, n, count }))
 }
 
-/// `bw`
+/// `bw AM ADDR N HEX`: a block write.
 #[inline(always)]
 #[tactic(auto, using(crate::proofs::Forms::block_write_asked))]
 pub(crate) fn block_write(text: &[u8]) -> Option<Line>
@@ -54,7 +54,7 @@ pub(crate) fn block_write(text: &[u8]) -> Option<Line>
     Some(Line::Bus(Request::BlockWrite { am, addr, n, bytes }))
 }
 
-/// `bf`
+/// `bf AM ADDR N COUNT HEX`: a block write of one datum, `COUNT` times.
 #[inline(always)]
 #[tactic(auto, using(crate::proofs::Forms::block_fill_asked))]
 pub(crate) fn block_fill(text: &[u8]) -> Option<Line>
@@ -72,7 +72,7 @@ pub(crate) fn block_fill(text: &[u8]) -> Option<Line>
     }))
 }
 
-/// `m`
+/// `m AM ADDR N FUNC`: a read-modify-write.
 #[inline(always)]
 #[tactic(auto, using(crate::proofs::Forms::modify_asked))]
 pub(crate) fn modify(text: &[u8]) -> Option<Line>
@@ -84,7 +84,7 @@ pub(crate) fn modify(text: &[u8]) -> Option<Line>
     Some(Line::Bus(Request::Modify { am, addr, n, f }))
 }
 
-/// `await`
+/// `await AM ADDR HEX`: reads until the bytes are found.
 #[inline(always)]
 #[tactic(auto, using(crate::proofs::Forms::await_asked))]
 pub(crate) fn await_bytes(text: &[u8]) -> Option<Line>

@@ -64,7 +64,7 @@ counted false true boards rest c e = cc
 counted false false (Err fault) rest c e = cc
 counted false false (Ok x) rest c e = (refl, refl, (x, refl, e))
 
--- what a configuration is made of
+-- the parts of a configuration
 pub record Made (file : FileValues) (c : Configuration) : Type 0 where
   pub some : (length file.boards == 0) ≡ false
   pub most : nat_lt 21 (length file.boards) ≡ false
@@ -78,7 +78,7 @@ pub record Made (file : FileValues) (c : Configuration) : Type 0 where
   pub tries : c.tries ≡ file.tries
   pub rounds : c.rounds ≡ file.rounds
 
--- a configuration of a file, of these parts
+-- the configuration of a file with these parts
 abbrev of_parts : FileValues → List BoardConfig → ArbiterKind → List (ℕ × ℕ) → List Mailbox → List (List ScriptLine) → Configuration
 of_parts file boards arbiter schedule mailboxes scripts = record {
   boards = boards;
@@ -90,19 +90,20 @@ of_parts file boards arbiter schedule mailboxes scripts = record {
   mailboxes = mailboxes;
 }
 
--- the rest of a configuration, where its schedule is known
+-- the rest of a configuration after its schedule
 abbrev mailboxes_and_scripts : FileValues → List BoardConfig → ArbiterKind → List (ℕ × ℕ) → Result Configuration ConfigFault
 mailboxes_and_scripts file boards arbiter schedule =
     mailboxes_of boards file.mailboxes
     >>= (λ mailboxes. scripts_of (entries_of boards) mailboxes file.boards >>= (λ scripts. Ok (of_parts file boards arbiter schedule mailboxes scripts)))
 
--- where its boards are known
+-- the rest of a configuration after its boards
 rest_of : FileValues → List BoardConfig → Result Configuration ConfigFault
 unfolding configuration_of
 rest_of file boards =
     map_of (entries_of boards) >>= (λ _. kind_named file.arbiter >>= (λ arbiter.
     schedule_of boards file >>= (λ schedule. mailboxes_and_scripts file boards arbiter schedule)))
 
+-- a file that is not refused has a configuration made of these parts
 pub made : (file : FileValues) (c : Configuration) → configuration_of file ≡ Ok c → Made file c
 unfolding configuration_of rest_of
 made file c e =
@@ -144,7 +145,7 @@ lawful_one before board lawful above =
     false_from_not true e = cc
     false_from_not false e = refl
 
--- a board is lawful wherever it stands, and its slot is above
+-- a board at any index is lawful, and its slot is above the given one
 board_at :
     (before : ℕ) (boards : List BoardConfig) (i : ℕ) (board : BoardConfig) → list_all is_lawful boards ≡ true → ascend before boards ≡ true
     → slice_get boards i ≡ Some board → IsLawfulBoard board × (before < board.slot)
@@ -160,7 +161,7 @@ board_at before (first ∷ more) (suc i) board lawful ascending there =
     let later = board_at first.slot more i board own.1 next.1 there in
     (later.0, omega (arith, later.1, ltb-true before first.slot next.0))
 
--- two boards in one slot are one board
+-- two boards in one slot are the same board
 one_slot :
     (before : ℕ) (boards : List BoardConfig) (i j : ℕ) (a b : BoardConfig) → list_all is_lawful boards ≡ true → ascend before boards ≡ true
     → slice_get boards i ≡ Some a → slice_get boards j ≡ Some b → a.slot ≡ b.slot → i ≡ j
@@ -201,7 +202,7 @@ scheduled true unlawful pairs schedule e = cc
 scheduled false true pairs schedule e = cc
 scheduled false false pairs schedule e = (refl, refl, cc)
 
--- what is known of a lawful schedule
+-- the facts about a lawful schedule
 record Timed (boards : List BoardConfig) (file : FileValues) (schedule : List (ℕ × ℕ)) : Type 0 where
   tries_some : 1 ≤ file.tries
   tries_most : file.tries ≤ 1000000
@@ -225,7 +226,7 @@ timed boards file schedule e =
       turns = leb-true (turns_of file.schedule) 1000000 pairs.1;
     })
 
--- a file that is not refused configures lawfully
+-- a file that is not refused has a lawful configuration
 pub configuration_known : (file : FileValues) (c : Configuration) → configuration_of file ≡ Ok c → IsLawful c
 configuration_known file c e =
     let m = made file c e in

@@ -1,4 +1,4 @@
--- Each key of the table is asked.
+-- Each key of the table is tested.
 use Rattle.std.proofs.Common.{◌∙◌, string_bytes, rules, tests}
 use Rattle.std.specs.Map.{keys_of}
 use Rattle.std.proofs.lemmas.Iterator.Search.{all_from_yields_List}

@@ -1,4 +1,4 @@
--- What the map of the table finds is the member.
+-- The map of the table finds the value of the member.
 use Rattle.toml.proofs.Views.{table_get}
 use Rattle.vme_config_toml.proofs.values.value_at.Goals as goal
 

@@ -1,4 +1,4 @@
--- A datum more: at a bus error the answer ends, else it goes on with what was read.
+-- One more datum: at a bus error the output ends, else it continues with the bytes that were read.
 use Rattle.std.proofs.Common.{◌≡◌, ◌+◌, ◌<◌, [], ◌++◌, length, length-append, ap, ◌∙◌, sym, arith}
 use Rattle.std.proofs.lemmas.List.{append-nil}
 use Rattle.vme_cycle.specs.Requests.{datum_len, count_of}

@@ -1,4 +1,4 @@
--- Where a piece of text is written: a front of the whole on a fault, and else that much more.
+-- A piece of text is written: on a fault a prefix of the whole, else that piece.
 use Rattle.std.proofs.Common.{◌≡◌, [], ◌∷◌, ◌++◌, arith, rules}
 use Rattle.std.specs.Str.Lines.{lines}
 use Rattle.vme_io.specs.Prefixes.{AppendsPrefix}

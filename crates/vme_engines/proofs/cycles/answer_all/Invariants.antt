@@ -6,7 +6,8 @@ use Rattle.vme_engines.specs.Cycles.{text_of, status_after, cycles_text, cycles_
 use Rattle.vme_shared.specs.Statuses.{worse_of}
 use Rattle.vme_engines.proofs.cycles.answer_all.Given as goal
 
--- what was written and what is gathered, with the answers to the lines that are left, is the whole text, and so is the status
+-- what was written and gathered, with the output of the lines that are left, is the whole text; the status is composed
+-- alike
 abbrev pub invariant-loop-line : goal.invariant-loop-line
 invariant-loop-line g l = record {
   text : (prefix : List ℕ) × Appends (g.W.Sink.contents l.fn.writer) (g.W.Sink.contents l.writer) prefix

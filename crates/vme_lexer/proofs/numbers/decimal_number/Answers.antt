@@ -1,4 +1,4 @@
--- The number has room for a digit more.
+-- One more digit does not overflow.
 use Rattle.std.proofs.Common.{◌<◌, arith}
 use Rattle.vme_cycle.proofs.lemmas.Numbers.{below_power}
 use Rattle.vme_lexer.proofs.numbers.decimal_number.Goals as goal

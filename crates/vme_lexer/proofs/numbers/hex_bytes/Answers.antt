@@ -1,4 +1,4 @@
--- A pair of digits more.
+-- One more pair of digits.
 use Rattle.std.proofs.Common.{◌≡◌, ◌≤◌, ◌^◌, ◌==◌, ◌∙◌, sym, ap, true, false, inl, inr, arith, length, length-drop}
 use Rattle.std.proofs.lemmas.List.{take_rest}
 use Rattle.vme_lexer.proofs.Digits.{spelled_more, unspelled_word, unspelled_bytes}

@@ -1,4 +1,4 @@
--- The table is held against the definition at each of the 256 bytes, by computing.
+-- The table agrees with the definition at each of the 256 bytes, by computation.
 use Rattle.std.proofs.Common.{refl, arith}
 use Rattle.vme_lexer.specs.declared.numbers.TheConstants.{DIGITS}
 use Rattle.vme_lexer.proofs.Digits.{counts_below, counts_at}

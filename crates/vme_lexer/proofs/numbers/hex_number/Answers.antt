@@ -1,4 +1,4 @@
--- The number has room for a digit more, which is read.
+-- One more digit does not overflow, and is read.
 use Rattle.std.proofs.Common.{None, refl, arith}
 use Rattle.std.proofs.lemmas.List.{drop_more}
 use Rattle.vme_lexer.proofs.Digits.{buffer_for, read_more}

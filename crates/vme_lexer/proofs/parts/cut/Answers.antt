@@ -1,4 +1,4 @@
--- What stands round the first such byte.
+-- The parts around the first occurrence of the byte.
 use Rattle.std.proofs.Common.{sym}
 use Rattle.vme_lexer.proofs.Cutting.{cut_at}
 use Rattle.vme_lexer.proofs.parts.cut.Goals as goal

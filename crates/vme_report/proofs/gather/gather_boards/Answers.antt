@@ -1,4 +1,4 @@
--- One board more is told, or a front of it.
+-- One more board is reported, or a prefix of it.
 use Rattle.std.proofs.Common.{◌<◌, ◌+◌, ◌++◌, length, drop, arith, rules}
 use Rattle.std.specs.List.{flat_map}
 use Rattle.vme_io.specs.Prefixes.{AppendsPrefix}

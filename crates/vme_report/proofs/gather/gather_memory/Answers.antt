@@ -1,4 +1,4 @@
--- One row more is told, or a front of it.
+-- One more row is reported, or a prefix of it.
 use Rattle.std.proofs.Common.{◌≡◌, ◌<◌, ◌+◌, ◌-◌, ◌*◌, ◌++◌, take, drop, ap, ◌∙◌, arith, rules}
 use Rattle.std.specs.List.{flat_map, range_with_len}
 use Rattle.vme_io.specs.Prefixes.{AppendsPrefix}

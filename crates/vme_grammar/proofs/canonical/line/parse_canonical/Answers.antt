@@ -1,4 +1,4 @@
--- What the words of a line ask for whose first word is this.
+-- The line that the words of a text spell, by its first word.
 use Rattle.std.proofs.Common.{◌∷◌, ◌++◌, refl, arith}
 use Rattle.std.specs.Prelude.{codes}
 use Rattle.vme_grammar.proofs.Forms.{headed}

@@ -1,4 +1,4 @@
--- A configuration is that of a file, and so lawful.
+-- A configuration is that of a file, and therefore lawful.
 use Rattle.vme_script.proofs.lemmas.Lawful.{configuration_known}
 use Rattle.vme_script.proofs.config.Config.boards.Goals as goal
 

@@ -1,4 +1,5 @@
--- The boards are as many as in the file, each with a lawful range and slot; and the configuration is that of the file.
+-- There are as many boards as in the file, each with a lawful range and slot; and the configuration is that of the
+-- file.
 use Rattle.std.proofs.Common.{◌≡◌, ap, ◌∙◌, arith, rules, length, Ok}
 use Rattle.vme_script.specs.Boards.{boards_after, have_ranges, entries_of}
 use Rattle.vme_script.specs.Scripts.{has_slots}
