@@ -10,11 +10,11 @@ ghost use Rattle.vme_engines.specs.RunTexts.{IsRunText, WritesPrefix};
 use crate::ProgramFault;
 use crate::file::{FILE_LIMIT, read_config};
 use crate::text::report_text;
-use vme_shared::Status;
 use std::alloc::Global;
 use std::sync::Wait;
 use std::thread::Threads;
 use vme_io::{Sink, Source};
+use vme_shared::Status;
 use vme_threads::{Gate, run_threads};
 
 /// A gate that lets every line pass.

@@ -13,9 +13,9 @@ ghost use Rattle.vme_engines.specs.StepFaults.{IsStepFault};
 
 use crate::ProgramFault;
 use crate::file::{FILE_LIMIT, read_config};
-use vme_shared::Status;
 use std::alloc::Global;
 use vme_io::{Sink, Source};
+use vme_shared::Status;
 use vme_stepper::run_configured;
 
 /// Runs the scripts of a configuration file by the turns of its schedule and then by its rounds,
