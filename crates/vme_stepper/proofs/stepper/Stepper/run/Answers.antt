@@ -23,7 +23,7 @@ loop-slot-preserved c =
     let before : List ℕ = take c.loop-slot.slot-index c.args.slots.now in
     let slot : ℕ = get_or c.args.slots.now c.loop-slot.slot-index 0 in
     let reported = ap (λ slots. stepper_of c.args.config.now (state_after c.args.config.now slots)) (sym (take_more c.args.slots.now c.loop-slot.slot-index 0 c.loop-slot-test.true)) in
-    elim c.match-place_of.branch [
+    elim c.match-board_in_slot.branch [
       | in-Some w ↦ record {
         run = w.self-is ∙ w.turn.ensures.turn
             ∙ turn_more c.args.config.now c.loop-slot.self before slot (Some w.in-Some.board) c.loop-slot.invariant.run w.in-Some.ensures.place ∙ reported;
@@ -31,7 +31,7 @@ loop-slot-preserved c =
       }
       | in_default w ↦ record {
         run = w.self-is
-            ∙ turn_more c.args.config.now c.loop-slot.self before slot None c.loop-slot.invariant.run (sym w.in_default.is ∙ c.place_of.ensures.place) ∙ reported;
+            ∙ turn_more c.args.config.now c.loop-slot.self before slot None c.loop-slot.invariant.run (sym w.in_default.is ∙ c.board_in_slot.ensures.place) ∙ reported;
         sound = subst (IsStepperOf c.args.config.now) (sym w.self-is) c.loop-slot.invariant.sound;
       }
     ]

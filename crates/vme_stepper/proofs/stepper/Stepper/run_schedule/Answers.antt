@@ -63,7 +63,7 @@ loop-turns-preserved c =
     = subst (λ (xs : List (ℕ × ℕ)). schedule_turns (take c.loop-turns.turns-index xs) ++ replicate pair.1 pair.0 ≡ schedule_turns (take (c.loop-turns.turns-index + 1) xs))
     pairs (schedule_more items c.loop-turns.turns-index c.loop-turns-test.true) in
     let reported = ap (λ slots. stepper_of c.args.config.now (state_after c.args.config.now slots)) more in
-    elim c.match-place_of.branch [
+    elim c.match-board_in_slot.branch [
       | in-Some+else-loop-turn-test w ↦
           let all : w.loop-turn._turn ≡ pair.1 = omega (arith, w.loop-turn-test.false, w.loop-turn.auto._turn-end) in
           record {
@@ -74,7 +74,7 @@ loop-turns-preserved c =
           }
       | in_default w ↦ record {
         run = w.self-is ∙ c.loop-turns.invariant.run
-            ∙ none_more c.args.config.now before pair.0 pair.1 (sym w.in_default.is ∙ c.place_of.ensures.place) ∙ reported;
+            ∙ none_more c.args.config.now before pair.0 pair.1 (sym w.in_default.is ∙ c.board_in_slot.ensures.place) ∙ reported;
         sound = subst (IsStepperOf c.args.config.now) (sym w.self-is) c.loop-turns.invariant.sound;
         pairs = pairs;
       }
