@@ -1,8 +1,8 @@
 //! The text of a report of a run on threads.
-ghost use Rattle.std.specs.Prelude.{◌≡◌, ◌≢◌, false, length, map, IfOk, IfErr, OnOk, OnErr};
+ghost use Rattle.std.specs.Prelude.{◌≡◌, false, length, map, IfOk, IfErr, OnOk, OnErr};
 ghost use Rattle.std.specs.Io.KnownBytes.{Appends};
 ghost use Rattle.vme_io.specs.Prefixes.{AppendsPrefix};
-ghost use Rattle.vme_report.specs.Ends.{is_write_end};
+ghost use Rattle.vme_report.specs.Ends.{IsReportFault, is_write_end};
 ghost use Rattle.vme_report.specs.Reports.{report_text, report_status};
 ghost use Rattle.vme_engines.specs.RunTexts.{ends_reported, reported_report};
 
@@ -33,7 +33,7 @@ pub fn report_text<W: Sink>(
         (AppendsPrefix (W.contents sink.old) (W.contents sink.new) (report_text (reported_report report.now))) }
     ensures status { IfOk result (λ status. status ≡ report_status (reported_report report.now)) }
     ensures write { W.is_marked sink.new ≡ is_write_end result }
-    ensures faults { IfErr result (λ fault. (fault ≢ RunFault.Thread) × (fault ≢ RunFault.Spent)) }
+    ensures faults { IfErr result IsReportFault }
 {
     let boards = reported_ends(alloc, &report.boards, &report.lines)?;
     let status = write_report(alloc, &boards, sink)?;

@@ -3,11 +3,13 @@
 //! written; contracts then state which bytes were read and written.
 #![tactic(auto)]
 
+mod gather;
 mod memory;
 mod sink;
 mod source;
 mod system;
 
+pub use gather::{WRITE_SIZE, flush_if_full};
 pub use memory::{RoomSink, SliceSource};
 pub use sink::{Sink, write_all};
 pub use source::{Failed, Source};

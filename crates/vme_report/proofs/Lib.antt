@@ -1,4 +1,3 @@
-pub mod Gatherings
 pub mod Statuses
 pub mod Wholes
 pub mod Reports

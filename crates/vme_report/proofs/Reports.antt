@@ -2,12 +2,11 @@
 use Rattle.std.proofs.Common.{◌≡◌, ℕ, List, [], ◌++◌, Option, refl, sym}
 use Rattle.std.proofs.lemmas.List.{append-nil}
 use Rattle.std.specs.List.{flat_map}
-use Rattle.vme_io.specs.Prefixes.{AppendsPrefix}
+use Rattle.vme_io.specs.Prefixes.{AppendsPrefix, Gathers}
 use Rattle.vme_report.specs.declared.part.Part.TheVariants.{Replies, Counts, Memory}
 use Rattle.vme_report.specs.Boards.{BoardText}
-use Rattle.vme_report.specs.Ends.{Gathers}
 use Rattle.vme_report.specs.Reports.{part_text, report_text}
-use Rattle.vme_report.proofs.Wholes.{SoFar, so_far_none, so_far_more, so_far_fails}
+use Rattle.vme_io.proofs.lemmas.Gathering.{SoFar, so_far_none, so_far_more, so_far_fails}
 
 module _ (boards : List BoardText) where
   abbrev replies : List ℕ

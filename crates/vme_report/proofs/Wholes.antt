@@ -1,58 +1,9 @@
--- Texts that are gathered one after another, until a whole is written.
-use Rattle.std.proofs.Common.{◌≡◌, ℕ, ◌+◌, ◌-◌, ◌*◌, ◌<◌, suc, List, [], ◌++◌, length, drop, get_or, Option, sym, ap, ◌∙◌, append_assoc, arith}
-use Rattle.std.proofs.lemmas.List.{append-nil, drop_more}
+-- A text of several parts begins with the first of them.
+use Rattle.std.proofs.Common.{◌≡◌, ℕ, ◌+◌, ◌-◌, ◌*◌, ◌<◌, suc, List, [], ◌++◌, length, drop, get_or, sym, ap, ◌∙◌, arith}
+use Rattle.std.proofs.lemmas.List.{drop_more}
 use Rattle.std.specs.List.{flat_map, range_with_len}
-use Rattle.std.specs.Io.KnownBytes.{Appends}
-use Rattle.vme_io.specs.Prefixes.{AppendsPrefix}
-use Rattle.vme_io.proofs.lemmas.Appending.{Appends-none, Appends-more, AppendsPrefix-more}
 use Rattle.vme_shared.specs.declared.reply.LineReply.{LineReply}
-use Rattle.vme_report.specs.Ends.{Gathers}
 use Rattle.vme_report.specs.Texts.{line_text, replies_text, row, row_text, row_count}
-
--- a prefix of a whole was written to the sink; after it come what is gathered and what is left
-pub record SoFar (old new : Option (List ℕ)) (gathered left whole : List ℕ) : Type 0 where
-  pub prefix : List ℕ
-  pub appends : Appends old new prefix
-  pub split : (prefix ++ gathered) ++ left ≡ whole
-
--- nothing is gathered yet
-pub so_far_none : (reported : Option (List ℕ)) (gathered whole : List ℕ) → gathered ≡ [] → SoFar reported reported gathered whole whole
-so_far_none reported gathered whole none = record { prefix = []; appends = Appends-none reported; split = ap (λ t. t ++ whole) none }
-
-regrouped : (prefix before text left : List ℕ) → (prefix ++ (before ++ text)) ++ left ≡ (prefix ++ before) ++ (text ++ left)
-regrouped prefix before text left = simp append_assoc
-
--- one text more is gathered
-pub so_far_more :
-    (old mid new : Option (List ℕ)) (before after text left rest whole : List ℕ) → SoFar old mid before left whole → left ≡ text ++ rest
-    → Gathers mid new before after text → SoFar old new after rest whole
-so_far_more old mid new before after text left rest whole so_far first next = record {
-  prefix = so_far.prefix ++ next.prefix;
-  appends = Appends-more old mid new so_far.prefix next.prefix so_far.appends next.appends;
-  split = ap (λ t. t ++ rest) (append_assoc so_far.prefix next.prefix after ∙ ap (λ t. so_far.prefix ++ t) (sym next.split))
-      ∙ regrouped so_far.prefix before text rest ∙ ap (λ t. (so_far.prefix ++ before) ++ t) (sym first) ∙ so_far.split;
-}
-
--- the sink failed while one text more was gathered
-pub so_far_fails :
-    (old mid new : Option (List ℕ)) (before text left rest whole : List ℕ) → SoFar old mid before left whole → left ≡ text ++ rest
-    → AppendsPrefix mid new (before ++ text) → AppendsPrefix old new whole
-so_far_fails old mid new before text left rest whole so_far first failed =
-    AppendsPrefix-more old mid new so_far.prefix (before ++ text) rest whole so_far.appends failed
-    (regrouped so_far.prefix before text rest ∙ ap (λ t. (so_far.prefix ++ before) ++ t) (sym first) ∙ so_far.split)
-
--- what is gathered is written, and nothing is left
-pub so_far_written :
-    (old mid new : Option (List ℕ)) (gathered whole : List ℕ) → SoFar old mid gathered [] whole → Appends mid new gathered → Appends old new whole
-so_far_written old mid new gathered whole so_far written =
-    rw (sym so_far.split ∙ append-nil (so_far.prefix ++ gathered)) (Appends-more old mid new so_far.prefix gathered so_far.appends written)
-
--- nothing is left, and the sink fails
-pub so_far_unwritten :
-    (old mid new : Option (List ℕ)) (gathered whole : List ℕ) → SoFar old mid gathered [] whole → AppendsPrefix mid new gathered
-    → AppendsPrefix old new whole
-so_far_unwritten old mid new gathered whole so_far failed =
-    AppendsPrefix-more old mid new so_far.prefix gathered [] whole so_far.appends failed so_far.split
 
 -- the text of the items from one on begins with its own
 pub item_first :

@@ -1,28 +1,10 @@
 //! The faults of a report and of a run of scripts.
 ghost use Rattle.std.specs.Prelude.{◌≡◌};
-ghost use Rattle.vme_report.specs.declared.fault.ReportFault.TheVariants.{Memory};
-ghost use Rattle.vme_report.specs.declared.fault.RunFault.TheVariants as run;
-ghost use Rattle.vme_report.specs.Ends.{fault_of};
+ghost use Rattle.vme_report.specs.declared.fault.RunFault.TheVariants.{Memory, Write};
 
 use std::alloc::AllocError;
 use thiserror::Error;
-
-/// Why a report ended early.
-#[derive(Clone, Copy, Debug, PartialEq, Eq)]
-pub enum ReportFault {
-    /// An allocation failed.
-    Memory,
-    /// The sink failed.
-    Write,
-}
-
-impl From<AllocError> for ReportFault {
-    ghost from_gives = { λ _ fault. fault ≡ Memory };
-
-    fn from(_error: AllocError) -> ReportFault {
-        ReportFault::Memory
-    }
-}
+use vme_io::Failed;
 
 /// Why a run of scripts has no report, or ended before all of it was written.
 #[derive(Clone, Copy, Debug, PartialEq, Eq, Error)]
@@ -42,20 +24,17 @@ pub enum RunFault {
 }
 
 impl From<AllocError> for RunFault {
-    ghost from_gives = { λ _ fault. fault ≡ run.Memory };
+    ghost from_gives = { λ _ fault. fault ≡ Memory };
 
     fn from(_error: AllocError) -> RunFault {
         RunFault::Memory
     }
 }
 
-impl From<ReportFault> for RunFault {
-    ghost from_gives = { λ fault run_fault. run_fault ≡ fault_of fault };
+impl From<Failed> for RunFault {
+    ghost from_gives = { λ _ fault. fault ≡ Write };
 
-    fn from(fault: ReportFault) -> RunFault {
-        match fault {
-            ReportFault::Memory => RunFault::Memory,
-            ReportFault::Write => RunFault::Write,
-        }
+    fn from(_failed: Failed) -> RunFault {
+        RunFault::Write
     }
 }

@@ -13,6 +13,6 @@ mod report;
 mod status;
 
 pub use board::BoardReportRef;
-pub use fault::{ReportFault, RunFault};
+pub use fault::RunFault;
 pub use print::reply_line;
 pub use report::write_report;

@@ -1,17 +1,17 @@
 //! A whole report.
-ghost use Rattle.std.specs.Prelude.{◌≡◌, false, IfOk, OnOk, OnErr};
+ghost use Rattle.std.specs.Prelude.{◌≡◌, false, IfOk, IfErr, OnOk, OnErr};
 ghost use Rattle.std.specs.Io.KnownBytes.{Appends};
 ghost use Rattle.vme_io.specs.Prefixes.{AppendsPrefix};
-ghost use Rattle.vme_report.specs.Ends.{is_write_failure};
+ghost use Rattle.vme_report.specs.Ends.{IsReportFault, is_write_end};
 ghost use Rattle.vme_report.specs.Reports.{report_text, report_status};
 
 use crate::board::BoardReportRef;
-use crate::fault::ReportFault;
-use crate::gather::{WRITE_SIZE, gather_boards, write_text};
+use crate::fault::RunFault;
+use crate::gather::gather_boards;
 use crate::part::Part;
 use crate::status::status_of;
 use std::alloc::Global;
-use vme_io::Sink;
+use vme_io::{Sink, WRITE_SIZE, write_all};
 use vme_shared::Status;
 
 /// Writes the report of `boards`, in order: a line for each reply, a line for each board's steps,
@@ -29,19 +29,20 @@ pub fn write_report<W: Sink>(
     alloc: Global,
     boards: &[BoardReportRef<'_>],
     writer: &mut W,
-) -> Result<Status, ReportFault>
+) -> Result<Status, RunFault>
     requires { W.is_marked writer.old ≡ false }
     ensures text { OnOk result
         (Appends (W.contents writer.old) (W.contents writer.new) (report_text boards.now)) }
     ensures prefix { OnErr result
         (AppendsPrefix (W.contents writer.old) (W.contents writer.new) (report_text boards.now)) }
     ensures status { IfOk result (λ status. status ≡ report_status boards.now) }
-    ensures write { W.is_marked writer.new ≡ is_write_failure result }
+    ensures write { W.is_marked writer.new ≡ is_write_end result }
+    ensures faults { IfErr result IsReportFault }
 {
     let mut text = Vec::with_capacity(alloc, WRITE_SIZE)?;
     gather_boards(Part::Replies, boards, &mut text, writer)?;
     gather_boards(Part::Counts, boards, &mut text, writer)?;
     gather_boards(Part::Memory, boards, &mut text, writer)?;
-    write_text(text.as_slice(), writer)?;
+    write_all(writer, text.as_slice())?;
     Ok(status_of(boards))
 }

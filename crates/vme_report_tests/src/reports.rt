@@ -9,7 +9,7 @@ use vme_io::RoomSink;
 use vme_lanes::Datum;
 use vme_master::Outcome;
 use vme_memory::{BoardCmd, ByteMemory, Class, Width8To32};
-use vme_report::{BoardReportRef, ReportFault, write_report};
+use vme_report::{BoardReportRef, RunFault, write_report};
 use vme_shared::{LineReply, Status};
 
 const CLASS: Class = Class {
@@ -66,7 +66,7 @@ fn report(
     alloc: Global,
     last: LineReply,
     sink: &mut RoomSink,
-) -> Result<Result<Status, ReportFault>, AllocError>
+) -> Result<Result<Status, RunFault>, AllocError>
     requires { is_marked_sink sink.old ≡ false }
 {
     let mut first = memory(alloc, 36, 15, 1)?;
@@ -102,7 +102,7 @@ fn stops_where_the_sink_fails(rt: HostRuntime) -> Result<(), Fail> {
     for capacity in 0..TEXT.len() {
         let mut sink = RoomSink::new(rt.alloc(), 1, capacity)?;
         let end = report(rt.alloc(), LineReply::Transfer(Outcome::Done), &mut sink)?;
-        assert_eq!(rt; end, Err(ReportFault::Write));
+        assert_eq!(rt; end, Err(RunFault::Write));
         assert_eq!(rt; sink.bytes(), &TEXT.as_bytes()[..capacity]);
     }
     Ok(())
@@ -122,7 +122,7 @@ fn is_written_or_lacks_memory(rt: HostRuntime) {
             assert_eq!(rt; sink.bytes(), TEXT.as_bytes());
         }
         Ok(Err(fault)) => {
-            assert_eq!(rt; fault, ReportFault::Memory);
+            assert_eq!(rt; fault, RunFault::Memory);
             assert!(rt; TEXT.as_bytes().starts_with(sink.bytes()));
         }
         Err(AllocError) => {}

@@ -1,8 +1,8 @@
 //! Runs of scripts, and their reports.
-ghost use Rattle.std.specs.Prelude.{◌≡◌, ◌≢◌, false, IfOk, IfErr, OnOk, OnErr};
+ghost use Rattle.std.specs.Prelude.{◌≡◌, false, IfOk, IfErr, OnOk, OnErr};
 ghost use Rattle.std.specs.Io.KnownBytes.{Appends};
 ghost use Rattle.vme_io.specs.Prefixes.{AppendsPrefix};
-ghost use Rattle.vme_report.specs.Ends.{is_write_end};
+ghost use Rattle.vme_report.specs.Ends.{IsReportFault, is_write_end};
 ghost use Rattle.vme_stepper.specs.Schedules.{file_turns};
 ghost use Rattle.vme_stepper.specs.Reports.{run_text, run_status};
 
@@ -30,7 +30,7 @@ pub fn run_steps<W: Sink>(
         (AppendsPrefix (W.contents sink.old) (W.contents sink.new) (run_text config.now slots.now)) }
     ensures status { IfOk result (λ status. status ≡ run_status config.now slots.now) }
     ensures write { W.is_marked sink.new ≡ is_write_end result }
-    ensures faults { IfErr result (λ fault. (fault ≢ RunFault.Thread) × (fault ≢ RunFault.Spent)) }
+    ensures faults { IfErr result IsReportFault }
 {
     let Ok(mut stepper) = Stepper::new(alloc, config) else {
         return Err(RunFault::Memory);
@@ -54,7 +54,7 @@ pub fn run_configured<W: Sink>(
         (run_text config.now (file_turns config.now))) }
     ensures status { IfOk result (λ status. status ≡ run_status config.now (file_turns config.now)) }
     ensures write { W.is_marked sink.new ≡ is_write_end result }
-    ensures faults { IfErr result (λ fault. (fault ≢ RunFault.Thread) × (fault ≢ RunFault.Spent)) }
+    ensures faults { IfErr result IsReportFault }
 {
     let Ok(mut stepper) = Stepper::new(alloc, config) else {
         return Err(RunFault::Memory);

@@ -1,9 +1,9 @@
 //! Boards and arbiter, and the processors on them, turn by turn.
-ghost use Rattle.std.specs.Prelude.{◌≡◌, ◌≢◌, ◌<◌, ◌-◌, ◌^◌, length, map, false, IfOk, IfErr, IfSome, OnOk, OnErr};
+ghost use Rattle.std.specs.Prelude.{◌≡◌, ◌<◌, ◌-◌, ◌^◌, length, map, false, IfOk, IfErr, IfSome, OnOk, OnErr};
 ghost use Rattle.std.specs.Io.KnownBytes.{Appends};
 ghost use Rattle.vme_io.specs.Prefixes.{AppendsPrefix};
 ghost use Rattle.vme_report.specs.Reports.{report_text, report_status};
-ghost use Rattle.vme_report.specs.Ends.{is_write_end};
+ghost use Rattle.vme_report.specs.Ends.{IsReportFault, is_write_end};
 ghost use Rattle.vme_script.specs.Configurations.{opening_memory};
 ghost use Rattle.vme_script.specs.Lawful.{IsLawful};
 ghost use Rattle.vme_stepper.specs.Turns.{board_in_slot, initial_state, state_after};
@@ -142,7 +142,7 @@ impl<'a> Stepper<'a> {
         ensures status { IfOk result (λ status. status
             ≡ report_status (processors_reported config.now.boards self.now.processors self.now.machine.boards)) }
         ensures write { W.is_marked sink.new ≡ is_write_end result }
-        ensures faults { IfErr result (λ fault. (fault ≢ RunFault.Thread) × (fault ≢ RunFault.Spent)) }
+        ensures faults { IfErr result IsReportFault }
     {
         let boards = self.board_reports(alloc, config)?;
         let status = write_report(alloc, &boards, sink)?;

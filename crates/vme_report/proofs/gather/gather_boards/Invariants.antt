@@ -1,7 +1,7 @@
 use Rattle.std.proofs.Common.{◌≡◌, ◌++◌, false, drop}
 use Rattle.std.specs.List.{flat_map}
 use Rattle.vme_report.specs.Reports.{part_text}
-use Rattle.vme_report.proofs.Wholes.{SoFar}
+use Rattle.vme_io.proofs.lemmas.Gathering.{SoFar}
 use Rattle.vme_report.proofs.gather.gather_boards.Given as goal
 
 -- the boards so far, with those that are left, are the whole part

@@ -3,11 +3,12 @@ use Rattle.std.proofs.Common.{◌≡◌, ◌<◌, ◌+◌, ◌-◌, ◌*◌, ◌
 use Rattle.std.specs.List.{flat_map, range_with_len}
 use Rattle.vme_io.specs.Prefixes.{AppendsPrefix}
 use Rattle.vme_report.specs.Texts.{row, row_text, row_count, memory_text}
-use Rattle.vme_report.proofs.Wholes.{so_far_more, so_far_fails, row_first}
+use Rattle.vme_io.proofs.lemmas.Gathering.{so_far_more, so_far_fails}
+use Rattle.vme_report.proofs.Wholes.{row_first}
 use Rattle.vme_report.proofs.gather.gather_memory.Goals as goal
 
-pub returns-in_err-gather_row-clause-prefix : goal.returns-in_err-gather_row-clause-prefix
-returns-in_err-gather_row-clause-prefix g c =
+pub returns-in_err-gather_row-clause-gathers : goal.returns-in_err-gather_row-clause-gathers
+returns-in_err-gather_row-clause-gathers g c =
     let bytes = c.args.memory.now.bytes in
     let within : c.loop-i.i < row_count bytes = omega (arith, c.loop-i-test.true, c.div_ceil-i-end.ensures, c.size.ensures.value) in
     let own : c.as_slice.result.now ≡ row bytes c.loop-i.i = c.as_slice.ensures.value ∙ c.row-row.ensures in
@@ -16,7 +17,7 @@ returns-in_err-gather_row-clause-prefix g c =
     (c.args.text.now.items ++ memory_text c.args.slot bytes)
     = so_far_fails _ _ _ _ (row_text c.args.slot (16 * c.loop-i.i) c.as_slice.result.now) _
     (flat_map (λ k. row_text c.args.slot (16 * k) (row bytes k)) (range_with_len (c.loop-i.i + 1) (row_count bytes - (c.loop-i.i + 1)))) _
-    c.loop-i.invariant.reported first c.in_err-gather_row.ensures.prefix in
+    c.loop-i.invariant.reported first c.in_err-gather_row.ensures.gathers in
     search rules
 
 pub loop-i-preserved : goal.loop-i-preserved

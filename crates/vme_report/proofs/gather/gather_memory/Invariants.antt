@@ -1,7 +1,7 @@
 use Rattle.std.proofs.Common.{◌≡◌, ◌-◌, ◌*◌, ◌++◌, false}
 use Rattle.std.specs.List.{flat_map, range_with_len}
 use Rattle.vme_report.specs.Texts.{row, row_text, row_count, memory_text}
-use Rattle.vme_report.proofs.Wholes.{SoFar}
+use Rattle.vme_io.proofs.lemmas.Gathering.{SoFar}
 use Rattle.vme_report.proofs.gather.gather_memory.Given as goal
 
 -- the rows so far, with those that are left, are the whole text

@@ -1,6 +1,6 @@
 use Rattle.std.proofs.Common.{◌≡◌, ◌++◌, false, drop}
 use Rattle.vme_report.specs.Texts.{replies_text}
-use Rattle.vme_report.proofs.Wholes.{SoFar}
+use Rattle.vme_io.proofs.lemmas.Gathering.{SoFar}
 use Rattle.vme_report.proofs.gather.gather_replies.Given as goal
 
 -- the lines so far, with those that are left, are the whole text

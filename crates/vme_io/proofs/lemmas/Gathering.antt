@@ -1,0 +1,76 @@
+-- Text that is gathered and written in pieces, until a whole is written.
+use Rattle.std.proofs.Common.{◌≡◌, ℕ, List, [], ◌++◌, Option, refl, sym, ap, ◌∙◌, append_assoc}
+use Rattle.std.proofs.lemmas.List.{append-nil}
+use Rattle.std.specs.Io.KnownBytes.{Appends}
+use Rattle.vme_io.specs.Prefixes.{AppendsPrefix, Gathers}
+use Rattle.vme_io.proofs.lemmas.Appending.{Appends-none, Appends-more, AppendsPrefix-more}
+
+-- a text was printed, and then nothing was gathered after it
+pub printed_gathers :
+    (old new : Option (List ℕ)) (before text printed after : List ℕ) → Gathers old new printed after [] → printed ≡ before ++ text
+    → Gathers old new before after text
+printed_gathers old new before text printed after passed as_reported = record {
+  prefix = passed.prefix;
+  appends = passed.appends;
+  split = sym as_reported ∙ sym (append-nil printed) ∙ passed.split;
+}
+
+-- a text was printed, and a prefix of what is gathered was written
+pub printed_prefix :
+    (old new : Option (List ℕ)) (before text printed : List ℕ) → AppendsPrefix old new printed → printed ≡ before ++ text
+    → AppendsPrefix old new (before ++ text)
+printed_prefix old new before text printed failed as_reported = record {
+  prefix = failed.prefix;
+  rest = failed.rest;
+  split = sym as_reported ∙ failed.split;
+  appends = failed.appends;
+}
+
+-- nothing was written
+pub nothing_prefix : (reported : Option (List ℕ)) (all : List ℕ) → AppendsPrefix reported reported all
+nothing_prefix reported all = record { prefix = []; rest = all; split = refl; appends = Appends-none reported }
+
+-- a prefix of a whole was written to the sink; after it come what is gathered and what is left
+pub record SoFar (old new : Option (List ℕ)) (gathered left whole : List ℕ) : Type 0 where
+  pub prefix : List ℕ
+  pub appends : Appends old new prefix
+  pub split : (prefix ++ gathered) ++ left ≡ whole
+
+-- nothing is gathered yet
+pub so_far_none : (reported : Option (List ℕ)) (gathered whole : List ℕ) → gathered ≡ [] → SoFar reported reported gathered whole whole
+so_far_none reported gathered whole none = record { prefix = []; appends = Appends-none reported; split = ap (λ t. t ++ whole) none }
+
+regrouped : (prefix before text left : List ℕ) → (prefix ++ (before ++ text)) ++ left ≡ (prefix ++ before) ++ (text ++ left)
+regrouped prefix before text left = simp append_assoc
+
+-- one text more is gathered
+pub so_far_more :
+    (old mid new : Option (List ℕ)) (before after text left rest whole : List ℕ) → SoFar old mid before left whole → left ≡ text ++ rest
+    → Gathers mid new before after text → SoFar old new after rest whole
+so_far_more old mid new before after text left rest whole so_far first next = record {
+  prefix = so_far.prefix ++ next.prefix;
+  appends = Appends-more old mid new so_far.prefix next.prefix so_far.appends next.appends;
+  split = ap (λ t. t ++ rest) (append_assoc so_far.prefix next.prefix after ∙ ap (λ t. so_far.prefix ++ t) (sym next.split))
+      ∙ regrouped so_far.prefix before text rest ∙ ap (λ t. (so_far.prefix ++ before) ++ t) (sym first) ∙ so_far.split;
+}
+
+-- the sink failed while one text more was gathered
+pub so_far_fails :
+    (old mid new : Option (List ℕ)) (before text left rest whole : List ℕ) → SoFar old mid before left whole → left ≡ text ++ rest
+    → AppendsPrefix mid new (before ++ text) → AppendsPrefix old new whole
+so_far_fails old mid new before text left rest whole so_far first failed =
+    AppendsPrefix-more old mid new so_far.prefix (before ++ text) rest whole so_far.appends failed
+    (regrouped so_far.prefix before text rest ∙ ap (λ t. (so_far.prefix ++ before) ++ t) (sym first) ∙ so_far.split)
+
+-- what is gathered is written, and nothing is left
+pub so_far_written :
+    (old mid new : Option (List ℕ)) (gathered whole : List ℕ) → SoFar old mid gathered [] whole → Appends mid new gathered → Appends old new whole
+so_far_written old mid new gathered whole so_far written =
+    rw (sym so_far.split ∙ append-nil (so_far.prefix ++ gathered)) (Appends-more old mid new so_far.prefix gathered so_far.appends written)
+
+-- nothing is left, and the sink fails
+pub so_far_unwritten :
+    (old mid new : Option (List ℕ)) (gathered whole : List ℕ) → SoFar old mid gathered [] whole → AppendsPrefix mid new gathered
+    → AppendsPrefix old new whole
+so_far_unwritten old mid new gathered whole so_far failed =
+    AppendsPrefix-more old mid new so_far.prefix gathered [] whole so_far.appends failed so_far.split
