@@ -7,9 +7,11 @@ use Rattle.vme_report.specs.Reports.{report_text, report_status}
 use Rattle.vme_script.specs.Configurations.{Configuration}
 use Rattle.vme_engines.specs.declared.fault.ProgramFault.{ProgramFault}
 use Rattle.vme_engines.specs.Files.{Configures}
+use Rattle.vme_stepper.specs.Schedules.{file_turns}
+use Rattle.vme_stepper.specs.Reports.{run_text}
 use Rattle.vme_threads.specs.declared.report.Report.{Report}
 use Rattle.vme_threads.specs.Reports.{IsReportOf}
-use Rattle.vme_engines.specs.RunTexts.{reported_report, IsRunText, WritesPrefix}
+use Rattle.vme_engines.specs.RunTexts.{reported_report, IsRunText, IsSomeRunText, IsStepText, WritesPrefix}
 
 -- the text of a report was written
 pub text_written : (reported old new : Option (List ℕ)) (config : Configuration) (report : Report) (status : Status) → IfSome reported (λ input. Configures input config)
@@ -21,19 +23,27 @@ text_written (Some input) old new config report status configures run good writt
 
 -- a prefix of the text of a report was written
 prefix_of : (input : List ℕ) (old new : Option (List ℕ)) (config : Configuration) (report : Report) → Configures input config → IsReportOf config report
-    → AppendsPrefix old new (report_text (reported_report report)) → WritesPrefix input old new
+    → AppendsPrefix old new (report_text (reported_report report)) → WritesPrefix (IsSomeRunText input) old new
 prefix_of input old new config report configures run written =
     inr (
       report_text (reported_report report),
-      report_status (reported_report report),
-      record { config = config; configures = configures; report = report; run = run; whole = refl; good = refl },
+      (report_status (reported_report report), record { config = config; configures = configures; report = report; run = run; whole = refl; good = refl }),
       written,
     )
 
 -- the prefix that was written is that of an end with a fault
 pub prefix_written : (reported old new : Option (List ℕ)) (end : Result Status ProgramFault) (config : Configuration) (report : Report)
     → IfSome reported (λ input. Configures input config) → IsReportOf config report → AppendsPrefix old new (report_text (reported_report report))
-    → IfSome reported (λ input. OnErr end (WritesPrefix input old new))
+    → IfSome reported (λ input. OnErr end (WritesPrefix (IsSomeRunText input) old new))
 prefix_written None old new end config report configures run written = tt
 prefix_written (Some input) old new (Ok status) config report configures run written = tt
 prefix_written (Some input) old new (Err fault) config report configures run written = prefix_of input old new config report configures run written
+
+-- a prefix of the text of the run on one thread was written
+pub step_prefix_written : (reported old new : Option (List ℕ)) (end : Result Status ProgramFault) (config : Configuration)
+    → IfSome reported (λ input. Configures input config) → AppendsPrefix old new (run_text config (file_turns config))
+    → IfSome reported (λ input. OnErr end (WritesPrefix (IsStepText input) old new))
+step_prefix_written None old new end config configures written = tt
+step_prefix_written (Some input) old new (Ok status) config configures written = tt
+step_prefix_written (Some input) old new (Err fault) config configures written =
+    inr (run_text config (file_turns config), record { config = config; configures = configures; whole = refl }, written)

@@ -1,7 +1,7 @@
--- The text of an input, line by line and piece by piece.
-use Rattle.std.proofs.Common.{◌≡◌, ℕ, List, [], ◌∷◌, ◌++◌, refl, ap, sym, ◌∙◌, append_assoc}
-use Rattle.std.proofs.lemmas.List.{append-nil}
+-- The text and the status of an input, a line at a time.
+use Rattle.std.proofs.Common.{◌≡◌, ℕ, List, [], ◌∷◌, ◌++◌, Option, refl, ap, sym, ◌∙◌}
 use Rattle.std.specs.Str.Lines.{lines}
+use Rattle.vme_io.proofs.lemmas.Gathering.{SoFar}
 use Rattle.vme_memory.specs.Boards.{Board}
 use Rattle.vme_engines.specs.Answers.{answer}
 use Rattle.vme_shared.specs.declared.status.Status.{Status}
@@ -9,32 +9,18 @@ use Rattle.vme_shared.specs.declared.status.Status.TheVariants.{Clean, Marked}
 use Rattle.vme_shared.specs.Statuses.{worse_of}
 use Rattle.vme_engines.specs.Cycles.{text_of, status_after}
 
--- one more line is processed
-pub text_more :
-    (board next : Board) (prefix text new line rest after all : List ℕ) → (prefix ++ text) ++ text_of board (lines rest) ≡ all
-    → lines rest ≡ line ∷ lines after → new ≡ text ++ (answer board line).text → next ≡ (answer board line).board
-    → (prefix ++ new) ++ text_of next (lines after) ≡ all
-text_more board next prefix text new line rest after all whole first reported moved =
-    ap (λ n. (prefix ++ n) ++ text_of next (lines after)) reported
-    ∙ ap (λ b. (prefix ++ (text ++ (answer board line).text)) ++ text_of b (lines after)) moved
-    ∙ regrouped
-    ∙ sym (append_assoc prefix text (text_of board (line ∷ lines after)))
-    ∙ ap (λ ls. (prefix ++ text) ++ text_of board ls) (sym first)
-    ∙ whole
-  where
-    regrouped :
-        (prefix ++ (text ++ (answer board line).text)) ++ text_of (answer board line).board (lines after)
-        ≡ prefix ++ (text ++ text_of board (line ∷ lines after))
-    regrouped = simp append_assoc
-
--- what was gathered is written, and the buffer is empty
-pub text_written : (prefix text cleared rest all : List ℕ) → (prefix ++ text) ++ rest ≡ all → cleared ≡ [] → ((prefix ++ text) ++ cleared) ++ rest ≡ all
-text_written prefix text cleared rest all whole empty = ap (λ c. ((prefix ++ text) ++ c) ++ rest) empty ∙ ap (λ t. t ++ rest) (append-nil (prefix ++ text)) ∙ whole
+-- the text of lines begins with the answer to the first
+pub text_first :
+    (board next : Board) (line rest after : List ℕ) → lines rest ≡ line ∷ lines after → next ≡ (answer board line).board
+    → text_of board (lines rest) ≡ (answer board line).text ++ text_of next (lines after)
+text_first board next line rest after first moved =
+    ap (text_of board) first ∙ ap (λ b. (answer board line).text ++ text_of b (lines after)) (sym moved)
 
 -- no line is left
-pub text_done : (board : Board) (prefix text rest all : List ℕ) → (prefix ++ text) ++ text_of board (lines rest) ≡ all → lines rest ≡ [] → prefix ++ text ≡ all
-text_done board prefix text rest all whole none =
-    sym (append-nil (prefix ++ text)) ∙ ap (λ ls. (prefix ++ text) ++ text_of board ls) (sym none) ∙ whole
+pub all_gathered :
+    (board : Board) (old new : Option (List ℕ)) (gathered whole rest : List ℕ) → SoFar old new gathered (text_of board (lines rest)) whole
+    → lines rest ≡ [] → SoFar old new gathered [] whole
+all_gathered board old new gathered whole rest so_far none = rw none at so_far
 
 worse_of_assoc : (a b c : Status) → worse_of (worse_of a b) c ≡ worse_of a (worse_of b c)
 worse_of_assoc Clean b c = refl

@@ -1,8 +1,9 @@
 -- How a run of an engine ends, and the exit status of the program.
-use Rattle.std.specs.Prelude.{◌≡◌, ℕ, ◌+◌, Bool, true, false, List, length, Option, Result, Ok, Err}
+use Rattle.std.specs.Prelude.{◌≡◌, ℕ, ◌+◌, ◌<◌, ◌≤◌, Bool, true, false, List, length, Option, IfSome, Result, Ok, Err}
 use Rattle.std.specs.Io.KnownBytes.{Consumes}
 use Rattle.vme_report.specs.declared.fault.RunFault.{RunFault}
 use Rattle.vme_report.specs.declared.fault.RunFault.TheVariants as run
+use Rattle.vme_script.specs.declared.fault.ConfigFault.TheVariants.{OutOfMemory}
 use Rattle.vme_shared.specs.declared.status.Status.{Status}
 use Rattle.vme_shared.specs.declared.status.Status.TheVariants.{Clean, Marked}
 use Rattle.vme_engines.specs.declared.fault.ProgramFault.{ProgramFault}
@@ -15,9 +16,15 @@ IsInputFault TooLong = Unit {0}
 IsInputFault Memory = Unit {0}
 IsInputFault fault = ⊥
 
--- the faults of a configuration file whose bytes were read
+-- the faults of reading an input and processing its lines
+abbrev pub IsCyclesFault : ProgramFault → Type 0
+IsCyclesFault Write = Unit {0}
+IsCyclesFault fault = IsInputFault fault
+
+-- the faults of a configuration file whose bytes were read; a failed allocation is always `Memory`
 abbrev pub IsConfigFault : ProgramFault → Type 0
 IsConfigFault Memory = Unit {0}
+IsConfigFault (Config OutOfMemory) = ⊥
 IsConfigFault (Config fault) = Unit {0}
 IsConfigFault fault = ⊥
 
@@ -25,9 +32,18 @@ IsConfigFault fault = ⊥
 abbrev pub IsFileFault : ProgramFault → Type 0
 IsFileFault Read = Unit {0}
 IsFileFault TooLong = Unit {0}
-IsFileFault Memory = Unit {0}
-IsFileFault (Config fault) = Unit {0}
-IsFileFault fault = ⊥
+IsFileFault fault = IsConfigFault fault
+
+-- the faults of reading a file, running its scripts on one thread and writing the report
+abbrev pub IsStepFault : ProgramFault → Type 0
+IsStepFault Write = Unit {0}
+IsStepFault fault = IsFileFault fault
+
+-- the faults of reading a file, running its scripts on threads and writing the report
+abbrev pub IsRunEngineFault : ProgramFault → Type 0
+IsRunEngineFault Thread = Unit {0}
+IsRunEngineFault Spent = Unit {0}
+IsRunEngineFault fault = IsStepFault fault
 
 -- whether a fault is a failure of the reader
 abbrev pub is_read : ProgramFault → Bool
@@ -50,15 +66,29 @@ is_write_failure (Ok x) = false
 is_write_failure (Err fault) = is_write fault
 
 -- a run ended before anything could be written
-abbrev pub IsReadingFault : Result Status ProgramFault → Type 0
-IsReadingFault (Err Read) = Unit {0}
-IsReadingFault (Err TooLong) = Unit {0}
-IsReadingFault (Err (Config fault)) = Unit {0}
-IsReadingFault end = ⊥
+abbrev pub EndsUnwritten : Result Status ProgramFault → Type 0
+EndsUnwritten (Err Read) = Unit {0}
+EndsUnwritten (Err TooLong) = Unit {0}
+EndsUnwritten (Err Thread) = Unit {0}
+EndsUnwritten (Err Spent) = Unit {0}
+EndsUnwritten (Err (Config fault)) = Unit {0}
+EndsUnwritten end = ⊥
 
 -- exactly one byte more than the limit was read
 abbrev pub ReadsPastLimit : ℕ → Option (List ℕ) → Option (List ℕ) → Type 0
 ReadsPastLimit limit old new = (bytes : List ℕ) × (length bytes ≡ limit + 1) × Consumes old new bytes
+
+-- after `TooLong` the input has more bytes than the limit, and exactly one of them was read; a file is refused as a
+-- configuration only if it has no more bytes than the limit
+abbrev pub StopsWithin : ℕ → Option (List ℕ) → Option (List ℕ) → ProgramFault → Type 0
+StopsWithin limit old new TooLong = IfSome old (λ input. limit < length input) × ReadsPastLimit limit old new
+StopsWithin limit old new (Config fault) = IfSome old (λ input. length input ≤ limit)
+StopsWithin limit old new fault = Unit {0}
+
+-- an input is processed only if it has no more bytes than the limit
+abbrev pub ReadsWithin : {T : Type 0} → ℕ → Option (List ℕ) → Option (List ℕ) → Result T ProgramFault → Type 0
+ReadsWithin limit old new (Ok x) = IfSome old (λ input. length input ≤ limit)
+ReadsWithin limit old new (Err fault) = StopsWithin limit old new fault
 
 -- the program's fault for the fault of a run of scripts
 abbrev pub fault_of_run : RunFault → ProgramFault

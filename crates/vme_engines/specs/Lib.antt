@@ -1,6 +1,4 @@
 pub mod RunTexts
-pub mod StepFaults
-pub mod CyclesFaults
 pub mod Lines
 pub mod Answers
 pub mod Cycles

@@ -1,10 +1,9 @@
 //! The bus of `vme cycles`: one board, and the address map that contains only it.
-ghost use Rattle.std.specs.Prelude.{ℕ, ◌≡◌, ◌<◌, Some, IfOk, IfErr, IfSome};
+ghost use Rattle.std.specs.Prelude.{ℕ, ◌≡◌, ◌<◌, Some, IfOk, IfSome};
 ghost use Rattle.std.specs.Option.{option_map};
 ghost use Rattle.vme_engines.specs.Cycles.{fresh_board};
 
-use crate::fault::ProgramFault;
-use std::alloc::Global;
+use std::alloc::{AllocError, Global};
 use std::marker::Model;
 use vme_am::Space;
 use vme_cycle::{Modify, Signals};
@@ -40,14 +39,13 @@ impl Bus {
     ghost use Rattle.vme_engines.specs.Answers.{board_map};
 
     /// A bus whose board is all zero.
-    pub(crate) fn new(alloc: Global) -> Result<Bus, ProgramFault>
-        ensures board { IfOk result (λ bus. bus ≡ fresh_board) }
-        ensures faults { IfErr result (λ fault. fault ≡ ProgramFault.Memory) }
+    pub(crate) fn new(alloc: Global) -> Result<Bus, AllocError>
+        ensures { IfOk result (λ bus. bus ≡ fresh_board) }
     {
         let memory = fresh_memory(alloc)?;
         match AddressMap::new(alloc, &[ENTRY]) {
             Ok(map) => Ok(Bus { map, memory }),
-            Err(_) => Err(ProgramFault::Memory),
+            Err(_) => Err(AllocError),
         }
     }
 
@@ -81,9 +79,8 @@ const ENTRY: Entry = Entry {
 
 /// The board's memory: all zero, 32 data lines, and all three kinds of transfers.
 #[tactic(auto, unfolding(crate::specs::Cycles::fresh_board))]
-fn fresh_memory(alloc: Global) -> Result<ByteMemory, ProgramFault>
-    ensures board { IfOk result (λ memory. memory ≡ fresh_board) }
-    ensures faults { IfErr result (λ fault. fault ≡ ProgramFault.Memory) }
+fn fresh_memory(alloc: Global) -> Result<ByteMemory, AllocError>
+    ensures { IfOk result (λ memory. memory ≡ fresh_board) }
 {
     let class = Class {
         width: Width8To32::D32,
@@ -93,6 +90,6 @@ fn fresh_memory(alloc: Global) -> Result<ByteMemory, ProgramFault>
     };
     match ByteMemory::new(alloc, BOARD_SIZE, class) {
         Ok(memory) => Ok(memory),
-        Err(_) => Err(ProgramFault::Memory),
+        Err(_) => Err(AllocError),
     }
 }

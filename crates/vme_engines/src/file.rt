@@ -1,7 +1,7 @@
 //! A configuration file as the input of an engine.
-ghost use Rattle.std.specs.Prelude.{◌≡◌, ◌<◌, ◌≤◌, Err, false, length, IfOk, IfErr, IfSome, OnOk};
+ghost use Rattle.std.specs.Prelude.{◌≡◌, Err, false, IfOk, IfErr, IfSome};
 ghost use Rattle.vme_script.specs.declared.fault.ConfigFault.{ConfigFault};
-ghost use Rattle.vme_engines.specs.Faults.{IsConfigFault, IsFileFault, ReadsPastLimit, is_read_failure};
+ghost use Rattle.vme_engines.specs.Faults.{IsConfigFault, IsFileFault, ReadsWithin, is_read_failure};
 ghost use Rattle.vme_engines.specs.Files.{Configures, IsRefusedAs};
 
 use crate::fault::ProgramFault;
@@ -19,18 +19,14 @@ pub const FILE_LIMIT: usize = 2_097_152;
 ///
 /// `Config`: the bytes are not a configuration. `Read`: the reader failed. `TooLong`: the file has
 /// more than `FILE_LIMIT` bytes. `Memory`: an allocation failed.
+#[tactic(auto, using(crate::proofs::InputFaults::config_within))]
 pub fn read_config<R: Source>(alloc: Global, reader: &mut R) -> Result<Config, ProgramFault>
     requires unmarked { R.is_marked reader.old ≡ false }
     ensures config { IfOk result (λ config.
         IfSome (R.remaining reader.old) (λ input. Configures input config)) }
     ensures refused { (fault : ConfigFault) → result ≡ Err (ProgramFault.Config fault) →
         IfSome (R.remaining reader.old) (λ input. IsRefusedAs input fault) }
-    ensures within { IfSome (R.remaining reader.old) (λ input.
-        OnOk result (length input ≤ FILE_LIMIT)) }
-    ensures too_long { result ≡ Err ProgramFault.TooLong →
-        IfSome (R.remaining reader.old) (λ input. FILE_LIMIT < length input) }
-    ensures no_further { result ≡ Err ProgramFault.TooLong →
-        ReadsPastLimit FILE_LIMIT (R.remaining reader.old) (R.remaining reader.new) }
+    ensures limit { ReadsWithin FILE_LIMIT (R.remaining reader.old) (R.remaining reader.new) result }
     ensures read { R.is_marked reader.new ≡ is_read_failure result }
     ensures faults { IfErr result IsFileFault }
 {

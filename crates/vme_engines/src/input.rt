@@ -1,6 +1,6 @@
 //! The whole input of an engine.
 ghost use Rattle.std.specs.Prelude.{◌≡◌, ◌<◌, ◌≤◌, ◌^◌, Err, false, length, vec_len, IfOk, IfErr, IfSome};
-ghost use Rattle.vme_engines.specs.Faults.{IsInputFault, ReadsPastLimit, is_read_failure};
+ghost use Rattle.vme_engines.specs.Faults.{IsInputFault, ReadsWithin, is_read_failure};
 
 use crate::fault::ProgramFault;
 use std::alloc::Global;
@@ -25,10 +25,7 @@ pub fn read_input<R: Source>(
     ensures whole { IfOk result (λ input.
         IfSome (R.remaining reader.old) (λ bytes. bytes ≡ input.items)) }
     ensures within { IfOk result (λ input. vec_len input ≤ limit) }
-    ensures too_long { result ≡ Err ProgramFault.TooLong →
-        IfSome (R.remaining reader.old) (λ bytes. limit < length bytes) }
-    ensures no_further { result ≡ Err ProgramFault.TooLong →
-        ReadsPastLimit limit (R.remaining reader.old) (R.remaining reader.new) }
+    ensures limit { ReadsWithin limit (R.remaining reader.old) (R.remaining reader.new) result }
     ensures read { R.is_marked reader.new ≡ is_read_failure result }
     ensures faults { IfErr result IsInputFault }
 {

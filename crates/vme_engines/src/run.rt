@@ -1,11 +1,11 @@
 //! The engine of `vme run`: from the bytes of a configuration file to the report of its run on
 //! threads.
-ghost use Rattle.std.specs.Prelude.{ℕ, ◌≡◌, ◌<◌, ◌≤◌, List, Err, false, length, IfOk, IfErr, IfSome, OnOk, OnErr};
+ghost use Rattle.std.specs.Prelude.{ℕ, ◌≡◌, List, Err, false, length, IfOk, IfErr, IfSome, OnOk, OnErr};
 ghost use Rattle.std.specs.Io.KnownBytes.{Appends};
 ghost use Rattle.vme_script.specs.declared.fault.ConfigFault.{ConfigFault};
-ghost use Rattle.vme_engines.specs.Faults.{IsReadingFault, ReadsPastLimit, is_read_failure, is_write_failure};
+ghost use Rattle.vme_engines.specs.Faults.{EndsUnwritten, IsRunEngineFault, ReadsWithin, is_read_failure, is_write_failure};
 ghost use Rattle.vme_engines.specs.Files.{IsRefusedAs};
-ghost use Rattle.vme_engines.specs.RunTexts.{IsRunText, WritesPrefix};
+ghost use Rattle.vme_engines.specs.RunTexts.{IsRunText, IsSomeRunText, WritesPrefix};
 
 use crate::ProgramFault;
 use crate::file::{FILE_LIMIT, read_config};
@@ -55,20 +55,16 @@ pub fn run_engine<T: Threads + Wait + Sync, R: Source, W: Sink>(
     ensures text { IfSome (R.remaining reader.old) (λ input. IfOk result (λ status.
         (text : List ℕ) × IsRunText input text status × Appends (W.contents writer.old) (W.contents writer.new) text)) }
     ensures prefix { IfSome (R.remaining reader.old) (λ input.
-        OnErr result (WritesPrefix input (W.contents writer.old) (W.contents writer.new))) }
-    ensures nothing { IsReadingFault result → writer.new ≡ writer.old }
+        OnErr result (WritesPrefix (IsSomeRunText input) (W.contents writer.old) (W.contents writer.new))) }
+    ensures nothing { EndsUnwritten result → writer.new ≡ writer.old }
 
     // When each fault is returned. No clause states when `Memory`, `Thread` and `Spent` are.
     ensures refused { (fault : ConfigFault) → result ≡ Err (ProgramFault.Config fault) →
         IfSome (R.remaining reader.old) (λ input. IsRefusedAs input fault) }
     ensures read { R.is_marked reader.new ≡ is_read_failure result }
-    ensures too_long { result ≡ Err ProgramFault.TooLong →
-        IfSome (R.remaining reader.old) (λ input. FILE_LIMIT < length input) }
-    ensures no_further { result ≡ Err ProgramFault.TooLong →
-        ReadsPastLimit FILE_LIMIT (R.remaining reader.old) (R.remaining reader.new) }
-    ensures within { IfSome (R.remaining reader.old) (λ input.
-        OnOk result (length input ≤ FILE_LIMIT)) }
+    ensures limit { ReadsWithin FILE_LIMIT (R.remaining reader.old) (R.remaining reader.new) result }
     ensures write { W.is_marked writer.new ≡ is_write_failure result }
+    ensures faults { IfErr result IsRunEngineFault }
 {
     let config = read_config(alloc, reader)?;
     let report = run_threads(rt, alloc, &config, &OpenGate)?;

@@ -1,50 +1,52 @@
--- A piece of text is written: on a fault a prefix of the whole, else that piece.
-use Rattle.std.proofs.Common.{◌≡◌, [], ◌∷◌, ◌++◌, arith, rules}
+-- One line more is answered, or a prefix of its answer is written.
+use Rattle.std.proofs.Common.{◌≡◌, [], ◌∷◌, refl, arith, rules}
 use Rattle.std.specs.Str.Lines.{lines}
 use Rattle.vme_io.specs.Prefixes.{AppendsPrefix}
-use Rattle.vme_io.proofs.lemmas.Appending.{Appends-more, AppendsPrefix-more}
-use Rattle.vme_engines.specs.Cycles.{cycles_text}
-use Rattle.vme_engines.proofs.Texts.{text_more, text_written, text_done, status_more}
+use Rattle.vme_io.proofs.lemmas.Gathering.{so_far_more, so_far_fails, so_far_written, so_far_unwritten}
+use Rattle.vme_engines.specs.Answers.{answer}
+use Rattle.vme_engines.specs.Cycles.{text_of, cycles_text}
+use Rattle.vme_engines.proofs.Texts.{text_first, all_gathered, status_more}
 use Rattle.vme_engines.proofs.cycles.answer_all.Goals as goal
 
-pub returns-in_err-write_text-clause-prefix : goal.returns-in_err-write_text-clause-prefix
-returns-in_err-write_text-clause-prefix g c =
-    let sofar = c.loop-line.invariant.text in
-    let first : lines c.loop-line.line-iterator.rest.now ≡ c.in-Some.line.now ∷ lines c.next.new.self.rest.now = search rules in
-    let whole = text_more c.loop-line.bus c.answer_line.new.bus sofar.0 c.loop-line.text.items c.answer_line.new.text.items c.in-Some.line.now
-    c.loop-line.line-iterator.rest.now c.next.new.self.rest.now (cycles_text c.args.input.now) sofar.2 first c.in_ok-answer_line.ensures.text c.in_ok-answer_line.ensures.board in
-    let prefix : AppendsPrefix (g.W.Sink.contents c.args.writer.now) (g.W.Sink.contents c.write_text.new.writer) (cycles_text c.args.input.now)
-    = AppendsPrefix-more _ _ _ sofar.0 _ _ _ sofar.1 (rw c.as_slice.ensures.value at c.in_err-write_text.ensures.prefix) whole in
+pub returns-in_err-gather_answer-clause-prefix : goal.returns-in_err-gather_answer-clause-prefix
+returns-in_err-gather_answer-clause-prefix g c =
+    let board = c.loop-line.bus in
+    let line = c.in-Some.line.now in
+    let after = c.next.new.self.rest.now in
+    let first : lines c.loop-line.line-iterator.rest.now ≡ line ∷ lines after = search rules in
+    let split = text_first board (answer board line).board line c.loop-line.line-iterator.rest.now after first refl in
+    let prefix : AppendsPrefix (g.W.Sink.contents c.args.writer.now) (g.W.Sink.contents c.gather_answer.new.writer) (cycles_text c.args.input.now)
+    = so_far_fails _ _ _ _ (answer board line).text _ (text_of (answer board line).board (lines after)) _ c.loop-line.invariant.text split
+    c.in_err-gather_answer.ensures.gathers in
     search rules
 
-pub loop-line-preserved-then-len-ge-WRITE_SIZE : goal.loop-line-preserved-then-len-ge-WRITE_SIZE
-loop-line-preserved-then-len-ge-WRITE_SIZE g c =
-    let sofar = c.loop-line.invariant.text in
-    let first : lines c.loop-line.line-iterator.rest.now ≡ c.in-Some.line.now ∷ lines c.next.new.self.rest.now = search rules in
-    let whole = text_more c.loop-line.bus c.answer_line.new.bus sofar.0 c.loop-line.text.items c.answer_line.new.text.items c.in-Some.line.now
-    c.loop-line.line-iterator.rest.now c.next.new.self.rest.now (cycles_text c.args.input.now) sofar.2 first c.in_ok-answer_line.ensures.text c.in_ok-answer_line.ensures.board in
+pub loop-line-preserved : goal.loop-line-preserved
+loop-line-preserved g c =
+    let board = c.loop-line.bus in
+    let next = c.gather_answer.new.bus in
+    let line = c.in-Some.line.now in
+    let after = c.next.new.self.rest.now in
+    let first : lines c.loop-line.line-iterator.rest.now ≡ line ∷ lines after = search rules in
+    let split = text_first board next line c.loop-line.line-iterator.rest.now after first c.in_ok-gather_answer.ensures.board in
     record {
-      text = (
-        sofar.0 ++ c.answer_line.new.text.items,
-        Appends-more _ _ _ _ _ sofar.1 (rw c.as_slice.ensures.value at c.in_ok-write_text.ensures.bytes),
-        text_written sofar.0 c.answer_line.new.text.items c.clear.new.self.items _ _ whole c.clear.ensures.items,
-      );
-      status = status_more c.loop-line.bus _ c.loop-line.status _ c.in_ok-answer_line.field-0 _ c.in-Some.line.now c.loop-line.line-iterator.rest.now
-          c.next.new.self.rest.now c.loop-line.invariant.status first c.worse-status.ensures c.in_ok-answer_line.ensures.status c.in_ok-answer_line.ensures.board;
-      capacity = omega (arith, c.answer_line.ensures.capacity, c.loop-line.invariant.capacity);
-      mark = cc (c.in_ok-write_text.ensures.unmarked, c.loop-line.invariant.mark);
+      text = so_far_more _ _ _ _ _ (answer board line).text _ (text_of next (lines after)) _ c.loop-line.invariant.text split
+          c.in_ok-gather_answer.ensures.gathers;
+      status = status_more board _ c.loop-line.status _ c.in_ok-gather_answer.field-0 _ line c.loop-line.line-iterator.rest.now after
+          c.loop-line.invariant.status first c.worse-status.ensures c.in_ok-gather_answer.ensures.status c.in_ok-gather_answer.ensures.board;
+      capacity = omega (arith, c.gather_answer.ensures.capacity, c.loop-line.invariant.capacity);
+      mark = c.in_ok-gather_answer.ensures.write;
     }
 
-pub returns-in_err-write_text-2-clause-prefix : goal.returns-in_err-write_text-2-clause-prefix
-returns-in_err-write_text-2-clause-prefix g c =
-    let sofar = c.loop-line.invariant.text in
-    let prefix : AppendsPrefix (g.W.Sink.contents c.args.writer.now) (g.W.Sink.contents c.write_text-2.new.writer) (cycles_text c.args.input.now)
-    = AppendsPrefix-more _ _ _ sofar.0 _ _ _ sofar.1 (rw c.as_slice-2.ensures.value at c.in_err-write_text-2.ensures.prefix) sofar.2 in
+pub returns-in_err-write_all-clause-prefix : goal.returns-in_err-write_all-clause-prefix
+returns-in_err-write_all-clause-prefix g c =
+    let none : lines c.loop-line.line-iterator.rest.now ≡ [] = search rules in
+    let whole = all_gathered c.loop-line.bus _ _ _ _ c.loop-line.line-iterator.rest.now c.loop-line.invariant.text none in
+    let prefix : AppendsPrefix (g.W.Sink.contents c.args.writer.now) (g.W.Sink.contents c.write_all.new.writer) (cycles_text c.args.input.now)
+    = so_far_unwritten _ _ _ _ _ whole (rw c.as_slice.ensures.value at c.in_err-write_all.ensures.prefix) in
     search rules
 
 pub returns-clause-text : goal.returns-clause-text
 returns-clause-text g c =
-    let sofar = c.loop-line.invariant.text in
     let none : lines c.loop-line.line-iterator.rest.now ≡ [] = search rules in
-    let whole = text_done c.loop-line.bus sofar.0 c.loop-line.text.items c.loop-line.line-iterator.rest.now _ sofar.2 none in
-    rw (← whole) (Appends-more _ _ _ _ _ sofar.1 (rw c.as_slice-2.ensures.value at c.in_ok-write_text-2.ensures.bytes))
+    let whole = all_gathered c.loop-line.bus _ _ _ _ c.loop-line.line-iterator.rest.now c.loop-line.invariant.text none in
+    so_far_written _ _ _ _ _ whole (rw c.as_slice.ensures.value at c.in_ok-write_all.ensures.bytes)
