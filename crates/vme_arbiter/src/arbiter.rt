@@ -10,7 +10,7 @@ use std::marker::Model;
 use vme_object::Object;
 
 /// The number of slots of a backplane. Slots are counted from 1.
-const SLOTS: u16 = 21;
+pub const SLOTS: u16 = 21;
 
 /// One place for each slot number, and place 0, which stays empty.
 const PLACES: usize = 22;

@@ -10,7 +10,7 @@ mod kind;
 mod laws;
 mod levels;
 
-pub use arbiter::Arbiter;
+pub use arbiter::{Arbiter, SLOTS};
 pub use command::{ArbCmd, ArbReply};
 pub use kind::ArbiterKind;
 pub use laws::{

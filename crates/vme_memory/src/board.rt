@@ -39,6 +39,9 @@ impl Model for ByteMemory {
     ghost view = { λ m. record { bytes = m.storage; class = m.class } };
 }
 
+/// The greatest number of bytes of a board's memory.
+const BOARD_LIMIT: u32 = 1_048_576;
+
 impl ByteMemory {
     ghost use Rattle.std.specs.Option.{option_map};
     ghost use Rattle.vme_cycle.specs.Functions.{has_len};
@@ -58,13 +61,20 @@ impl ByteMemory {
         ensures good_size { OnOk result (is_board_size size ≡ true) }
         ensures bad_size { IsErrOf result MemoryFault.BadSize ↔ (is_board_size size ≡ false) }
     {
-        if size < 4 || size > 1_048_576 || size % 4 != 0 {
+        if !ByteMemory::is_size(size) {
             return Err(MemoryFault::BadSize);
         }
         match Storage::new(alloc, size) {
             Ok(storage) => Ok(ByteMemory { storage, class }),
             Err(_) => Err(MemoryFault::OutOfMemory),
         }
+    }
+
+    /// Returns whether a memory can have this number of bytes: 4 to 1,048,576, a multiple of four.
+    pub fn is_size(size: u32) -> bool
+        ensures { result ≡ is_board_size size }
+    {
+        4 <= size && size <= BOARD_LIMIT && size % 4 == 0
     }
 
     /// Returns the number of bytes.

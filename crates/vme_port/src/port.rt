@@ -14,7 +14,7 @@ use std::alloc::{AllocError, Global};
 use std::snapshot::Snapshot;
 use vme_object::Object;
 
-/// The greatest number of passes of a port.
+/// The greatest number of passes of a port. The limit is its own: this crate knows no backplane.
 const MOST_PASSES: usize = 21;
 
 /// One object that callers on any threads share, each through a pass of its own.

@@ -6,12 +6,10 @@ ghost use Rattle.vme_script.specs.Boards.{space_named, width_of, entry_of, class
 use crate::fault::ConfigFault;
 use std::alloc::{AllocError, Global};
 use vme_am::Space;
+use vme_arbiter::SLOTS;
 use vme_config_toml::{BoardTable, ClassTable, RangeTable};
 use vme_decode::{AddressMap, Entry, MapFault};
-use vme_memory::{Class, Width8To32};
-
-/// The greatest number of a slot.
-const LAST_SLOT: u32 = 21;
+use vme_memory::{ByteMemory, Class, Width8To32};
 
 /// The greatest request level.
 const LAST_LEVEL: u32 = 3;
@@ -91,7 +89,7 @@ fn class_of(class: ClassTable) -> Result<Class, ConfigFault>
 fn check_range(entry: Entry) -> Result<(), ConfigFault>
     ensures { result ≡ range_refused entry }
 {
-    if entry.size < 4 || entry.size > 1_048_576 || entry.size % 4 != 0 {
+    if !ByteMemory::is_size(entry.size) {
         return Err(ConfigFault::BadSize);
     }
     if entry.base % 4 != 0 {
@@ -108,7 +106,7 @@ fn check_range(entry: Entry) -> Result<(), ConfigFault>
 fn board_config(before: u32, board: &BoardTable<'_>) -> Result<BoardConfig, ConfigFault>
     ensures { result ≡ board_config before board.now }
 {
-    if board.slot <= before || board.slot > LAST_SLOT {
+    if board.slot <= before || board.slot > u32::from(SLOTS) {
         return Err(ConfigFault::BadSlot);
     }
     if board.level > LAST_LEVEL {

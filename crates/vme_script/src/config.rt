@@ -16,15 +16,12 @@ use crate::schedule::schedule_of;
 use crate::script::Script;
 use std::alloc::Global;
 use std::marker::Model;
-use vme_arbiter::{Arbiter, ArbiterKind};
+use vme_arbiter::{Arbiter, ArbiterKind, SLOTS};
 use vme_config_toml::{BoardTable, FileTable};
 use vme_core::OutOfMemory;
 use vme_decode::AddressMap;
 use vme_memory::ByteMemory;
 use vme_shared::Mailbox;
-
-/// The greatest number of boards: a backplane has 21 slots.
-const MOST_BOARDS: usize = 21;
 
 /// A checked configuration: the boards on one backplane in order of slots, the scripts of their
 /// processors, the arbiter, the schedule and the mailboxes.
@@ -82,7 +79,7 @@ impl Config {
         if file.boards.is_empty() {
             return Err(ConfigFault::NoBoard);
         }
-        if file.boards.len() > MOST_BOARDS {
+        if file.boards.len() > usize::from(SLOTS) {
             return Err(ConfigFault::TooMany);
         }
         let boards = board_configs(alloc, &file.boards)?;
