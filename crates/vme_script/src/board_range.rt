@@ -43,8 +43,7 @@ impl BoardRange {
         ensures place { result ≡ range_of map.now mailbox }
         ensures there { IfSome result (λ place. place.board < length map.now) }
     {
-        let len = 16 + 4 * u32::from(mailbox.slots);
-        BoardRange::at(map, mailbox.am, mailbox.addr, len)
+        BoardRange::at(map, mailbox.am, mailbox.addr, mailbox.len())
     }
 
     /// The offset after the last byte.

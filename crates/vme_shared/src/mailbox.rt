@@ -1,5 +1,6 @@
 ghost use Rattle.std.specs.Prelude.{◌≡◌, ◌≤◌, ◌-◌};
 ghost use Rattle.vme_cycle.specs.Requests.{read_len};
+ghost use Rattle.vme_shared.specs.Layout.{mailbox_len};
 ghost use Rattle.vme_shared.specs.Mailboxes.{IsMailbox, put_count_at, take_count_at, word_at, set_lock, clear_lock, read_word, write_word, mailbox_request, refusal_in, mailbox_refusal};
 ghost use Rattle.vme_cycle.specs.Lawful.{transfer_of};
 
@@ -7,6 +8,18 @@ use crate::stage::Stage;
 use crate::word::word_bytes;
 use vme_cycle::{CycleFault, Modify, Request, Transfer};
 use vme_lanes::Datum;
+
+/// The offset of the count of words put.
+const PUT_COUNT_AT: u32 = 4;
+
+/// The offset of the count of words taken.
+const TAKE_COUNT_AT: u32 = 8;
+
+/// The offset of the first word.
+const WORDS_AT: u32 = 16;
+
+/// The number of bytes of a word.
+const WORD_LEN: u32 = 4;
 
 /// A mailbox of words in the memory of a board: the code that its transfers have, the address of its
 /// first byte, and the number of words that it has room for.
@@ -21,18 +34,25 @@ pub struct Mailbox {
 }
 
 impl Mailbox {
+    /// Returns the number of bytes, from the lock to the end of the last word.
+    pub fn len(self) -> u32
+        ensures { result ≡ mailbox_len self.slots }
+    {
+        WORDS_AT + WORD_LEN * u32::from(self.slots)
+    }
+
     fn put_count_at(self) -> u32
         requires { IsMailbox self }
         ensures { result ≡ put_count_at self }
     {
-        self.addr + 4
+        self.addr + PUT_COUNT_AT
     }
 
     fn take_count_at(self) -> u32
         requires { IsMailbox self }
         ensures { result ≡ take_count_at self }
     {
-        self.addr + 8
+        self.addr + TAKE_COUNT_AT
     }
 
     /// Where the word with this number lies.
@@ -40,7 +60,7 @@ impl Mailbox {
         requires { IsMailbox self }
         ensures { result ≡ word_at self number }
     {
-        self.addr + 16 + 4 * (number % u32::from(self.slots))
+        self.addr + WORDS_AT + WORD_LEN * (number % u32::from(self.slots))
     }
 
     /// The refusal of the lock's transfer, or else of a read of the word that lies last.
