@@ -109,11 +109,7 @@ impl<'a> Plan<'a> {
     pub fn read_len(&self) -> usize
         ensures { result ≡ read_len self.now.request }
     {
-        match self.request() {
-            Request::Read { n, .. } | Request::Modify { n, .. } => usize::from(*n),
-            Request::BlockRead { n, count, .. } => usize::from(*n) * usize::from(*count),
-            Request::Write { .. } | Request::BlockWrite { .. } | Request::BlockFill { .. } => 0,
-        }
+        self.request().read_len()
     }
 
     /// Returns the function of a read-modify-write, and `None` for every other request.

@@ -94,7 +94,7 @@ fn is_block_count(count: usize) -> bool
 
 impl Request {
     ghost use Rattle.std.specs.Option.{option_map};
-    ghost use Rattle.vme_cycle.specs.Requests.{code_of, addr_of, is_block_request, function_of, reads, datum_len, count_of, is_counted, datum_of, span_of};
+    ghost use Rattle.vme_cycle.specs.Requests.{code_of, addr_of, is_block_request, function_of, reads, datum_len, count_of, read_len, is_counted, datum_of, span_of};
     ghost use Rattle.vme_cycle.specs.Lawful.{first_location, crosses_boundary};
 
     pub(crate) fn code(&self) -> u8
@@ -171,6 +171,17 @@ impl Request {
             | Request::BlockFill { n, .. }
             | Request::Modify { n, .. } => *n,
             Request::Write { bytes, .. } => bytes.as_slice().len() as u8,
+        }
+    }
+
+    /// The number of bytes that it reads in all, if it is lawful.
+    pub fn read_len(&self) -> usize
+        ensures { result ≡ read_len self.now }
+    {
+        match self {
+            Request::Read { n, .. } | Request::Modify { n, .. } => usize::from(*n),
+            Request::BlockRead { n, count, .. } => usize::from(*n) * usize::from(*count),
+            Request::Write { .. } | Request::BlockWrite { .. } | Request::BlockFill { .. } => 0,
         }
     }
 

@@ -1,13 +1,12 @@
 //! BlockBuffer for the bytes that the lines of a script read.
 ghost use Rattle.std.specs.Prelude.{◌≡◌, ◌<◌, ◌≤◌, ◌∷◌, length, IfOk};
 ghost use Rattle.vme_cycle.specs.BlockBuffers.{inline_capacity};
-ghost use Rattle.vme_cycle.specs.Requests.{read_len};
 ghost use Rattle.vme_line_task.specs.ReadBuffers.{line_read_len, buffers_of};
 
 use std::alloc::{AllocError, Global};
 use std::marker::Model;
 use std::vec::IntoIter;
-use vme_cycle::{BlockBuffer, INLINE_LEN, Plan, Request};
+use vme_cycle::{BlockBuffer, INLINE_LEN, Plan};
 use vme_grammar::Line;
 use vme_script::Script;
 
@@ -77,19 +76,8 @@ fn long_buffer(line: &Line) -> usize
     ensures short { result ≤ inline_capacity → line_read_len line.now ≤ inline_capacity }
 {
     match line {
-        Line::Bus(request) if INLINE_LEN < most_read(request) => line_read_len(line),
+        Line::Bus(request) if INLINE_LEN < request.read_len() => line_read_len(line),
         _ => 0,
-    }
-}
-
-/// How many bytes a request reads, if it is lawful.
-fn most_read(request: &Request) -> usize
-    ensures { result ≡ read_len request.now }
-{
-    match request {
-        Request::Read { n, .. } | Request::Modify { n, .. } => usize::from(*n),
-        Request::BlockRead { n, count, .. } => usize::from(*n) * usize::from(*count),
-        Request::Write { .. } | Request::BlockWrite { .. } | Request::BlockFill { .. } => 0,
     }
 }
 

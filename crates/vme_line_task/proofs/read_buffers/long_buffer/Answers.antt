@@ -5,4 +5,4 @@ use Rattle.vme_line_task.proofs.read_buffers.long_buffer.Goals as goal
 -- a request that is not judged reads few bytes
 pub returns-in_default-clause-short : goal.returns-in_default-clause-short
 returns-in_default-clause-short c = λ none.
-    rw c.in-Bus.is (omega (arith, no_more_than c.in-Bus.request, c.most_read.ensures, c.if-most_read-gt-INLINE_LEN.false))
+    rw c.in-Bus.is (omega (arith, no_more_than c.in-Bus.request, c.read_len.ensures, c.if-read_len-gt-INLINE_LEN.false))
