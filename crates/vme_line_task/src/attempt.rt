@@ -3,9 +3,9 @@ ghost use Rattle.std.specs.Prelude.{◌≡◌, ◌≢◌, ◌<◌, length, optio
 ghost use Rattle.vme_core.specs.Calls.{Call, call_of, machine_step};
 ghost use Rattle.vme_core.specs.EventRefs.{call_asked, target_of_call, CanCount};
 ghost use Rattle.vme_core.specs.Machines.{process_count};
-ghost use Rattle.vme_line_task.specs.Tables.{NotStarted, next_wants_retry};
+ghost use Rattle.vme_core.specs.NextSteps.{NotStarted, call_in, result_in};
+ghost use Rattle.vme_line_task.specs.Tables.{next_wants_retry};
 ghost use Rattle.vme_line_task.specs.Machine.{attempt_anew, attempt_advance, attempt_to_do, attempts_advance};
-ghost use Rattle.vme_line_task.specs.Events.{call_in, answer_in};
 
 use crate::wait::AwaitTask;
 use vme_core::{Core, Event, EventRef, EventReply};
@@ -138,7 +138,7 @@ impl AttemptTask<'_> {
     /// Whether it has ended.
     #[inline(always)]
     pub(crate) fn is_finished(&self) -> bool
-        ensures { result ≡ is_some (answer_in (attempt_to_do self.now)) }
+        ensures { result ≡ is_some (result_in (attempt_to_do self.now)) }
     {
         match self {
             AttemptTask::Transfer(task) => task.is_finished(),
@@ -149,7 +149,7 @@ impl AttemptTask<'_> {
 
     /// Its answer, where it has ended. The bytes that were read go with it.
     pub(crate) fn take_reply(&mut self) -> Option<LineReply>
-        ensures { result ≡ answer_in (attempt_to_do self.old) }
+        ensures { result ≡ result_in (attempt_to_do self.old) }
     {
         match self {
             AttemptTask::Transfer(task) => Some(LineReply::Transfer(task.take_outcome()?)),

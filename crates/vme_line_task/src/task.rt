@@ -2,16 +2,17 @@ ghost use Rattle.std.specs.Prelude.{◌≡◌, ◌≢◌, ◌<◌, ◌≤◌, �
 ghost use Rattle.vme_core.specs.Calls.{Call, call_of, machine_step};
 ghost use Rattle.vme_core.specs.EventRefs.{call_asked, target_of_call, CanCount};
 ghost use Rattle.vme_core.specs.Machines.{process_count};
+ghost use Rattle.vme_core.specs.NextSteps.{NotStarted, call_in, result_in};
 ghost use Rattle.vme_grammar.specs.declared.line.Line.{Line as AnyLine};
 ghost use Rattle.vme_script.specs.Configurations.{Configuration};
 ghost use Rattle.vme_master.specs.Tables.{Given};
 ghost use Rattle.vme_line_task.specs.Scripts.{HasItsMailbox, lines_at};
 ghost use Rattle.vme_line_task.specs.ReadBuffers.{line_read_len};
-ghost use Rattle.vme_line_task.specs.Tables.{NotStarted, next_given};
+ghost use Rattle.vme_line_task.specs.Tables.{next_given};
 ghost use Rattle.vme_line_task.specs.Machine.{line_started, line_advance, line_to_do, line_taken, line_given, attempts_left, IsLineBelow};
 ghost use Rattle.vme_line_task.specs.declared.attempt.AttemptTask.TheVariants as tries;
 ghost use Rattle.vme_line_task.specs.declared.task.LineTask.TheVariants.{Running};
-ghost use Rattle.vme_line_task.specs.Events.{next_in, call_in, answer_in, IsEventBelow, IsTodoBelow};
+ghost use Rattle.vme_line_task.specs.Events.{next_in, IsEventBelow, IsTodoBelow};
 
 use crate::attempt::{AttemptTask, Attempts};
 use crate::start::{attempt_of, transfer};
@@ -129,7 +130,7 @@ impl<'a> LineTask<'a> {
     /// Whether it has ended. A driver that asks this first moves no answer that is none.
     #[inline(always)]
     pub fn is_finished(&self) -> bool
-        ensures { result ≡ is_some (answer_in (line_to_do self.now)) }
+        ensures { result ≡ is_some (result_in (line_to_do self.now)) }
     {
         match self {
             LineTask::Refused(_) | LineTask::Finished => true,
@@ -151,7 +152,7 @@ impl<'a> LineTask<'a> {
     /// Takes its answer, where it has ended. A line is denied any further answer, unless it is refused.
     #[inline(never)]
     pub fn take_reply(&mut self) -> Option<LineReply>
-        ensures answer { result ≡ answer_in (line_to_do self.old) }
+        ensures answer { result ≡ result_in (line_to_do self.old) }
         ensures task { self.new ≡ line_taken self.old }
     {
         match self {

@@ -4,10 +4,10 @@ ghost use Rattle.std.specs.Str.{bytes_eq};
 ghost use Rattle.vme_cycle.specs.BlockBuffers.{inline_capacity};
 ghost use Rattle.vme_core.specs.Calls.{call_of};
 ghost use Rattle.vme_core.specs.EventRefs.{call_asked};
+ghost use Rattle.vme_core.specs.NextSteps.{NotStarted, call_in, result_in};
 ghost use Rattle.vme_master.specs.Machine.{advance, fresh_task, to_do, job_read_len};
 ghost use Rattle.vme_shared.specs.declared.reply.LineReply.TheVariants.{Met, Timeout};
-ghost use Rattle.vme_line_task.specs.Tables.{NotStarted, waits_next, next_wants_retry};
-ghost use Rattle.vme_line_task.specs.Events.{call_in, answer_in};
+ghost use Rattle.vme_line_task.specs.Tables.{waits_next, next_wants_retry};
 
 use std::marker::Model;
 use vme_core::{Event, EventRef, EventReply};
@@ -72,7 +72,7 @@ impl<'a> AwaitTask<'a> {
 
     /// Whether it has ended.
     pub(crate) fn is_finished(&self) -> bool
-        ensures { result ≡ is_some (answer_in (waits_next self.now.want.items (to_do self.now.task))) }
+        ensures { result ≡ is_some (result_in (waits_next self.now.want.items (to_do self.now.task))) }
     {
         self.task.is_finished()
     }
@@ -90,7 +90,7 @@ impl<'a> AwaitTask<'a> {
 
     /// Its answer, where it has ended: whether the bytes are those that it is to find.
     pub(crate) fn take_reply(&mut self) -> Option<LineReply>
-        ensures { result ≡ answer_in (waits_next self.old.want.items (to_do self.old.task)) }
+        ensures { result ≡ result_in (waits_next self.old.want.items (to_do self.old.task)) }
     {
         match self.task.take_outcome()? {
             Outcome::Read(bytes) => Some(self.found(bytes.as_slice())),

@@ -4,10 +4,10 @@ ghost use Rattle.vme_cycle.specs.Requests.{count_of};
 ghost use Rattle.vme_memory.specs.Locals.{command_given};
 ghost use Rattle.vme_core.specs.Calls.{OnBoard, call_of};
 ghost use Rattle.vme_core.specs.EventRefs.{call_asked};
+ghost use Rattle.vme_core.specs.NextSteps.{call_in};
 ghost use Rattle.vme_master.specs.Jobs.{ask_call, look_call, done_call, datum_call, local_call};
 ghost use Rattle.vme_master.specs.Machine.{job_expected, datum_phase, phase_at, phase_broken, first_phase, phase_answered, phase_replied, makes, bus_next, local_next, job_next, end_outcome, IsPlaced, IsShort, call_count, job_read_len};
 ghost use Rattle.vme_master.specs.declared.phase.Phase.TheVariants.{Transferring};
-ghost use Rattle.vme_master.specs.Events.{call_in};
 
 use crate::expected::ExpectedReply;
 use crate::outcome::Outcome;

@@ -8,9 +8,10 @@ ghost use Rattle.vme_master.specs.Jobs.{bus_job, local_job};
 ghost use Rattle.vme_core.specs.Calls.{Call, call_of, machine_step};
 ghost use Rattle.vme_core.specs.EventRefs.{call_asked, target_of_call, CanCount};
 ghost use Rattle.vme_core.specs.Machines.{process_count};
-ghost use Rattle.vme_master.specs.Tables.{Given, NotStarted, next_of};
+ghost use Rattle.vme_core.specs.NextSteps.{NotStarted, call_in, result_in};
+ghost use Rattle.vme_master.specs.Tables.{Given, next_of};
 ghost use Rattle.vme_master.specs.Machine.{bytes_of, fresh_task, bus_task, advance, task_given, to_do, is_called, job_read_len, IsPlaced};
-ghost use Rattle.vme_master.specs.Events.{next_in, call_in, outcome_in, read_in, given_out};
+ghost use Rattle.vme_master.specs.Events.{next_in, read_in, given_out};
 
 use crate::expected::ExpectedReply;
 use crate::job::{BusJob, Job, LocalJob};
@@ -223,7 +224,7 @@ impl<'a> Task<'a> {
     /// Whether it has ended. A driver that asks this first moves no outcome that is none.
     #[inline(always)]
     pub fn is_finished(&self) -> bool
-        ensures { result ≡ is_some (outcome_in (to_do self.now)) }
+        ensures { result ≡ is_some (result_in (to_do self.now)) }
     {
         match self.phase {
             Phase::New => false,
@@ -248,7 +249,7 @@ impl<'a> Task<'a> {
     /// then.
     #[inline(never)]
     pub fn take_outcome(&mut self) -> Option<Outcome>
-        ensures outcome { result ≡ outcome_in (to_do self.old) }
+        ensures outcome { result ≡ result_in (to_do self.old) }
         ensures task { self.new ≡ given_out self.old }
     {
         match self.phase {

@@ -2,11 +2,12 @@ ghost use Rattle.std.specs.Prelude.{◌≡◌, ◌≢◌, ◌∷◌};
 ghost use Rattle.std.specs.Option.{option_map, option_copied};
 ghost use Rattle.vme_core.specs.Calls.{call_of};
 ghost use Rattle.vme_core.specs.EventRefs.{call_asked};
+ghost use Rattle.vme_core.specs.NextSteps.{NotStarted, call_in, result_in};
 ghost use Rattle.vme_master.specs.Tables.{Given};
 ghost use Rattle.vme_shared.specs.Mailboxes.{IsAsked};
-ghost use Rattle.vme_shared.specs.Tables.{SharedJob, NotStarted, shared_next};
+ghost use Rattle.vme_shared.specs.Tables.{SharedJob, shared_next};
 ghost use Rattle.vme_shared.specs.Machine.{shared_fresh, shared_task, shared_advance, shared_given, shared_to_do};
-ghost use Rattle.vme_shared.specs.Events.{next_in, call_in, outcome_in};
+ghost use Rattle.vme_shared.specs.Events.{next_in};
 
 use crate::asked::Asked;
 use crate::outcome::SharedOutcome;
@@ -102,7 +103,7 @@ impl<'a> SharedTask<'a> {
 
     /// What came of it, where it has ended.
     pub fn outcome(&self) -> Option<SharedOutcome>
-        ensures { result ≡ outcome_in (shared_to_do self.now) }
+        ensures { result ≡ result_in (shared_to_do self.now) }
     {
         match &self.work {
             Work::Running { .. } => None,

@@ -6,10 +6,9 @@ use Rattle.vme_core.specs.declared.event.Target.TheVariants as at
 use Rattle.vme_core.specs.Runs.{Machine}
 use Rattle.vme_core.specs.Calls.{Call, OnBoard, OnBus}
 use Rattle.vme_core.specs.EventRefs.{target_of_call, CanCount}
+use Rattle.vme_core.specs.NextSteps.{NextStep, NotStarted, Invokes, Returns, call_in, result_in}
 use Rattle.vme_line_task.specs.declared.task.LineTask.{LineTask}
-use Rattle.vme_line_task.specs.Tables.{LineNext, NotStarted, Invokes, Returns}
 use Rattle.vme_shared.specs.declared.reply.LineReply.{LineReply}
-use Rattle.vme_line_task.specs.Events.{call_in, answer_in}
 use Rattle.vme_line_task.specs.Machine.{line_to_do, IsLineBelow}
 use Rattle.vme_line_task.proofs.lemmas.Below.{calls_below}
 use Rattle.vme_stepper.specs.Steppers.{StepsWithin}
@@ -27,7 +26,7 @@ can_call machine task (OnBus cmd) below steps makes = record {
   unspent = λ spent. none_spent machine at.Bus steps spent;
 }
 
-can_next : (machine : Machine) (task : LineTask) (next : LineNext) → line_to_do task ≡ next → IsLineBelow (length machine.boards) task
+can_next : (machine : Machine) (task : LineTask) (next : NextStep LineReply) → line_to_do task ≡ next → IsLineBelow (length machine.boards) task
     → StepsWithin (2 ^ 64 - 2) machine → IfSome (call_in next) (λ call. CanCount machine (target_of_call call))
 can_next machine task NotStarted is below steps = tt
 can_next machine task (Invokes call) is below steps = can_call machine task call below steps is
@@ -39,11 +38,11 @@ pub can_make : (machine : Machine) (task : LineTask) → IsLineBelow (length mac
 can_make machine task below steps = can_next machine task (line_to_do task) refl below steps
 
 -- a line that is over has its answer
-pub its_answer : (next : LineNext) → is_some (answer_in next) ≡ true → (answer : LineReply) × (Returns answer ≡ next)
+pub its_answer : (next : NextStep LineReply) → is_some (result_in next) ≡ true → (answer : LineReply) × (Returns answer ≡ next)
 its_answer NotStarted over = absurd cc
 its_answer (Invokes call) over = absurd cc
 its_answer (Returns answer) over = (answer, refl)
 
 -- and no other
-pub its_own : (next : LineNext) (answer other : LineReply) → Some answer ≡ answer_in next → next ≡ Returns other → answer ≡ other
-its_own next answer other has ends = same_Some _ _ (has ∙ ap answer_in ends)
+pub its_own : (next : NextStep LineReply) (answer other : LineReply) → Some answer ≡ result_in next → next ≡ Returns other → answer ≡ other
+its_own next answer other has ends = same_Some _ _ (has ∙ ap result_in ends)

@@ -3,9 +3,8 @@ ghost use Rattle.std.specs.Prelude.{◌≡◌, ℕ, ◌<◌, ◌≤◌, ◌-◌,
 ghost use Rattle.vme_shared.specs.declared.reply.LineReply.TheVariants.{Unfinished};
 ghost use Rattle.vme_core.specs.Runs.{Machine};
 ghost use Rattle.vme_core.specs.Machines.{process_count};
+ghost use Rattle.vme_core.specs.NextSteps.{Returns, result_in};
 ghost use Rattle.vme_script.specs.Configurations.{Configuration};
-ghost use Rattle.vme_line_task.specs.Tables.{Returns};
-ghost use Rattle.vme_line_task.specs.Events.{answer_in};
 ghost use Rattle.vme_line_task.specs.Machine.{line_to_do, IsLineBelow};
 ghost use Rattle.vme_stepper.specs.Steppers.{processor_turn, IsProcessorOf, StepsWithin};
 
@@ -169,7 +168,7 @@ fn let_go(task: &mut Option<LineTask<'_>>)
 #[tactic(auto, using(crate::proofs::Calls::its_own))]
 fn put_answer_of(lines: &mut [(u16, LineReply)], place: usize, task: &mut LineTask<'_>)
     requires place { place < length lines.old }
-    requires over { is_some (answer_in (line_to_do task.old)) ≡ true }
+    requires over { is_some (result_in (line_to_do task.old)) ≡ true }
     ensures len { length lines.new ≡ length lines.old }
     ensures put { (answer : LineReply) → line_to_do task.old ≡ Returns answer → lines.new
         ≡ slice_set lines.old place ((slice_index_or lines.old place (0, answer)).0, answer) }

@@ -2,11 +2,11 @@ use Rattle.std.proofs.Common.{◌≡◌, ℕ, List, length, Option, sym, ◌∙�
 use Rattle.std.specs.Vec.{with_items}
 use Rattle.std.proofs.lemmas.List.{with_items_is}
 use Rattle.vme_core.specs.Calls.{machine_step}
+use Rattle.vme_core.specs.NextSteps.{call_in}
 use Rattle.vme_shared.specs.declared.reply.LineReply.{LineReply}
 use Rattle.vme_script.specs.declared.script.ScriptLine.{ScriptLine}
 use Rattle.vme_line_task.specs.declared.task.LineTask.{LineTask}
 use Rattle.vme_line_task.specs.Machine.{line_to_do}
-use Rattle.vme_line_task.specs.Events.{call_in}
 use Rattle.vme_line_task.proofs.lemmas.Calls.{at_work, its_call}
 use Rattle.vme_stepper.specs.Steppers.{ProcessorView}
 use Rattle.vme_stepper.proofs.Calls.{its_answer}
