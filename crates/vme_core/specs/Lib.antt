@@ -5,3 +5,4 @@ pub mod NextSteps
 pub mod Machines
 pub mod Data
 pub mod EventRefs
+pub mod Advances

@@ -22,3 +22,9 @@ MakesCall next = ⊥
 abbrev pub result_in : {R : Type 0} → NextStep R → Option R
 result_in (Returns result) = Some result
 result_in next = None
+
+-- the same step with its result read by a function
+abbrev pub next_map : {R S : Type 0} → (R → S) → NextStep R → NextStep S
+next_map f NotStarted = NotStarted
+next_map f (Invokes call) = Invokes call
+next_map f (Returns result) = Returns (f result)

@@ -18,7 +18,7 @@ use Rattle.vme_master.specs.declared.job.Job.{Job}
 use Rattle.vme_master.specs.declared.job.Job.TheVariants.{Bus, Local}
 use Rattle.vme_master.specs.declared.outcome.Outcome.{Outcome}
 use Rattle.vme_master.specs.declared.outcome.Outcome.TheVariants as outcomes
-use Rattle.vme_master.specs.Tables.{Given, next_of, next_after, outcome_by, row_of_reply, bus_row, local_row}
+use Rattle.vme_master.specs.Tables.{Given, next_of}
 use Rattle.vme_master.specs.Laws.{last_turn}
 use Rattle.vme_master.proofs.lemmas.Tenures.{turns_go_by, holds_for_data}
 use Rattle.vme_shared.specs.declared.reply.LineReply.{LineReply}

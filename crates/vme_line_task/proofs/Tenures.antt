@@ -21,7 +21,7 @@ use Rattle.vme_master.specs.declared.outcome.Outcome.{Outcome}
 use Rattle.vme_master.specs.declared.outcome.Outcome.TheVariants as outcomes
 use Rattle.vme_master.specs.Jobs.{local_call, fits, expected_outcome}
 use Rattle.vme_master.specs.Tables as tasks
-use Rattle.vme_master.specs.Tables.{Given, next_of, next_after, outcome_by, row_of_reply, bus_row, local_row}
+use Rattle.vme_master.specs.Tables.{Given, next_of, outcome_by, row_of_reply}
 use Rattle.vme_master.proofs.lemmas.Tenures.{ends_freed}
 use Rattle.vme_master.proofs.lemmas.Locals.{local_calls}
 use Rattle.vme_line_task.specs.Tenures.{job_reported, IsGood}

@@ -1,9 +1,9 @@
 -- What a line is seen to do next.
-use Rattle.std.specs.Prelude.{ℕ, ◌<◌, Option, Some, None}
+use Rattle.std.specs.Prelude.{ℕ, ◌<◌}
 use Rattle.vme_core.specs.declared.event.Event.{Event}
 use Rattle.vme_core.specs.declared.event.Event.TheVariants as asked
 use Rattle.vme_core.specs.Calls.{Call, OnBoard, OnBus, call_of}
-use Rattle.vme_core.specs.NextSteps.{NextStep, Invokes, Returns, result_in}
+use Rattle.vme_core.specs.NextSteps.{NextStep, Invokes, Returns}
 use Rattle.vme_shared.specs.declared.reply.LineReply.{LineReply}
 use Rattle.vme_line_task.specs.declared.todo.LineTodo.{LineTodo}
 use Rattle.vme_line_task.specs.declared.todo.LineTodo.TheVariants as todos

@@ -50,6 +50,10 @@ attempt_to_do (tries.Transfer t) = moves_next (to_do t)
 attempt_to_do (tries.Await w) = waits_next w.want.items (to_do w.task)
 attempt_to_do (tries.Shared v) = shares_next (shared_to_do v)
 
+-- what attempts do next: what the one at work does
+abbrev pub attempts_to_do : Attempts → NextStep LineReply
+attempts_to_do a = attempt_to_do a.attempt
+
 -- where the attempt at work has ended with an answer that asks for another, that one has begun, while there may be one more
 -- (this project's own)
 abbrev pub attempts_again : Attempts → NextStep LineReply → Attempts

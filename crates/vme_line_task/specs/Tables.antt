@@ -3,8 +3,7 @@ use Rattle.std.specs.Prelude.{ℕ, ◌-◌, nat_lt, Bool, true, false, ◌&&◌,
 use Rattle.std.specs.Str.{bytes_eq}
 use Rattle.vme_cycle.specs.declared.fault.CycleFault.{CycleFault}
 use Rattle.vme_core.specs.declared.event.EventReply.{EventReply}
-use Rattle.vme_core.specs.Calls.{Call}
-use Rattle.vme_core.specs.NextSteps.{NextStep, NotStarted, Invokes, Returns}
+use Rattle.vme_core.specs.NextSteps.{NextStep, Returns, next_map}
 use Rattle.vme_master.specs.declared.outcome.Outcome.{Outcome}
 use Rattle.vme_shared.specs.declared.outcome.SharedOutcome.{SharedOutcome}
 use Rattle.vme_master.specs.declared.outcome.Outcome.TheVariants as outcomes
@@ -19,23 +18,19 @@ use Rattle.vme_line_task.specs.Scripts.{Attempt, Transferring, Awaiting, Sharing
 
 -- a transfer or a command of a line is answered what comes of it (this project's own)
 abbrev pub moves_next : NextStep Outcome → NextStep LineReply
-moves_next NotStarted = NotStarted
-moves_next (Invokes call) = Invokes call
-moves_next (Returns outcome) = Returns (Transfer outcome)
+moves_next next = next_map Transfer next
 
 -- a read that is to find bytes is answered whether these are they, and a bus error or a denial as it is
--- (this project's own)
+abbrev pub await_reply : List ℕ → Outcome → LineReply
+await_reply want (outcomes.Read bytes) = if bytes_eq bytes.items want then Met else Timeout
+await_reply want outcome = Transfer outcome
+
 abbrev pub waits_next : List ℕ → NextStep Outcome → NextStep LineReply
-waits_next want NotStarted = NotStarted
-waits_next want (Invokes call) = Invokes call
-waits_next want (Returns (outcomes.Read bytes)) = Returns (if bytes_eq bytes.items want then Met else Timeout)
-waits_next want (Returns outcome) = Returns (Transfer outcome)
+waits_next want next = next_map (await_reply want) next
 
 -- what is asked of a lock or a mailbox is answered what comes of it (this project's own)
 abbrev pub shares_next : NextStep SharedOutcome → NextStep LineReply
-shares_next NotStarted = NotStarted
-shares_next (Invokes call) = Invokes call
-shares_next (Returns outcome) = Returns (Shared outcome)
+shares_next next = next_map Shared next
 
 -- what an attempt does next, by what it was given so far (this project's own)
 abbrev pub attempt_next : Attempt → Given → NextStep LineReply

@@ -2,7 +2,6 @@
 ghost use Rattle.std.specs.Prelude.{◌≡◌, ◌≢◌, ◌≤◌, if◌then◌else◌, option_map, option_copied, is_some};
 ghost use Rattle.std.specs.Str.{bytes_eq};
 ghost use Rattle.vme_cycle.specs.BlockBuffers.{inline_capacity};
-ghost use Rattle.vme_core.specs.Calls.{call_of};
 ghost use Rattle.vme_core.specs.EventRefs.{call_asked};
 ghost use Rattle.vme_core.specs.NextSteps.{NotStarted, call_in, result_in};
 ghost use Rattle.vme_master.specs.Machine.{advance, fresh_task, to_do, job_read_len};
@@ -10,7 +9,7 @@ ghost use Rattle.vme_shared.specs.declared.reply.LineReply.TheVariants.{Met, Tim
 ghost use Rattle.vme_line_task.specs.Tables.{waits_next, next_wants_retry};
 
 use std::marker::Model;
-use vme_core::{Event, EventRef, EventReply};
+use vme_core::{EventRef, EventReply};
 use vme_lanes::Datum;
 use vme_master::{Outcome, Task};
 use vme_shared::LineReply;
@@ -56,13 +55,6 @@ impl<'a> AwaitTask<'a> {
     }
 
     /// The event that it makes next, if it makes one.
-    pub(crate) fn event(&self) -> Option<Event>
-        ensures { option_map call_of result ≡ call_in (waits_next self.now.want.items (to_do self.now.task)) }
-    {
-        self.task.event()
-    }
-
-    /// What that event asks, apart from the lines of a cycle.
     #[inline(never)]
     pub(crate) fn event_ref(&self) -> Option<EventRef<'_>>
         ensures { option_map call_asked result ≡ call_in (waits_next self.now.want.items (to_do self.now.task)) }

@@ -13,7 +13,7 @@ use Rattle.vme_core.specs.declared.event.Event.TheVariants as asked
 use Rattle.vme_core.specs.declared.event.EventReply.{EventReply}
 use Rattle.vme_core.specs.declared.event.EventReply.TheVariants as event_replies
 use Rattle.vme_core.specs.Runs.{Transition, move, board_entry, board_part}
-use Rattle.vme_core.specs.Calls.{Call, OnBoard, call_of}
+use Rattle.vme_core.specs.Calls.{OnBoard, call_of}
 use Rattle.vme_core.specs.NextSteps.{NextStep, NotStarted, Invokes, Returns}
 use Rattle.vme_shared.specs.MailboxSteps.{BoardMailbox, touches}
 use Rattle.vme_shared.specs.Phases.{Phase, Idle, after_command}
@@ -30,6 +30,7 @@ use Rattle.vme_script.specs.Configurations.{Configuration}
 use Rattle.vme_line_task.specs.Scripts.{Sharing, line_attempt}
 use Rattle.vme_line_task.specs.Tables.{Attempts, shares_next, attempt_next, next_wants_retry, next_attempt, attempts_of, lawful_next, next_given, given_of, line_next}
 use Rattle.vme_line_task.specs.Traces.{Continues}
+use Rattle.vme_line_task.proofs.lemmas.Below.{shares_makes}
 use Rattle.vme_mailbox_laws.specs.Along.{UsesMailbox, IsGood, IsCount, phase_given, put_reported, taken_reported}
 use Rattle.vme_mailbox_laws.proofs.Courses.{Stands, IsOver, opening, moves}
 use Rattle.vme_mailbox_laws.proofs.Ends.{ends_in}
@@ -45,12 +46,6 @@ part_cons x m run = by_entry (board_entry x m.who m.event m.reply) refl
     by_entry : (e : Option (Entry BoardCmd Reply)) → board_entry x m.who m.event m.reply ≡ e → board_part x (m ∷ run) ≡ board_part x (m ∷ []) ++ board_part x run
     by_entry None is = rw is refl
     by_entry (Some e) is = rw is refl
-
--- a call of the attempt is a call of the line
-shares_makes : (n : NextStep SharedOutcome) (call : Call) → shares_next n ≡ Invokes call → n ≡ Invokes call
-shares_makes NotStarted call is = absurd cc
-shares_makes (Invokes other) call is = cc
-shares_makes (Returns outcome) call is = absurd cc
 
 -- an end of the line is the end of its attempt
 pub shares_ends : (n : NextStep SharedOutcome) (answer : LineReply) → shares_next n ≡ Returns answer → (outcome : SharedOutcome) × (n ≡ Returns outcome) × (answer ≡ Shared outcome)

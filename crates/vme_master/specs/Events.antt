@@ -1,6 +1,6 @@
 -- What a task is seen to do next.
 use Rattle.std.specs.Prelude.{ℕ, if◌then◌else◌, List, [], is_some, Option, Some, None}
-use Rattle.vme_core.specs.Calls.{Call, call_of}
+use Rattle.vme_core.specs.Calls.{call_of}
 use Rattle.vme_core.specs.NextSteps.{NextStep, Invokes, Returns, result_in}
 use Rattle.vme_master.specs.declared.outcome.Outcome.{Outcome}
 use Rattle.vme_master.specs.declared.outcome.Outcome.TheVariants as outcomes

@@ -131,14 +131,6 @@ abbrev pub is_called : Phase → Bool
 is_called New = false
 is_called phase = true
 
--- whether a job makes a call in a phase (this project's own)
-abbrev pub makes : Job → Phase → Bool
-makes job (Transferring i) = true
-makes (Bus job) Requesting = true
-makes (Bus job) Polling = true
-makes (Bus job) (Releasing berr) = true
-makes job phase = false
-
 -- what a transfer does next, by its phase (this project's own)
 abbrev pub bus_next : BusJob → Phase → List ℕ → NextStep Outcome
 bus_next job New read = NotStarted

@@ -41,7 +41,8 @@ use Rattle.vme_shared.specs.declared.stage.Step.{Step}
 use Rattle.vme_shared.specs.declared.stage.Step.TheVariants.{Continue, Finish}
 use Rattle.vme_shared.specs.Mailboxes.{stage_request, shared_refusal}
 use Rattle.vme_shared.specs.Steps.{first_stage, step_after}
-use Rattle.vme_shared.specs.Tables.{SharedJob, Progress, At, Over, transfer_job as shared_transfer, stage_job, stage_begun, step_begun, progress_by, progress_given, progress_of, task_shown, next_at, shared_next}
+use Rattle.vme_shared.specs.Tables.{SharedJob, Progress, At, Over, transfer_job as shared_transfer, stage_job, stage_begun, step_begun, progress_by, progress_given, progress_of, next_at, shared_next}
+use Rattle.vme_shared.proofs.lemmas.Tenures.{shown_makes}
 use Rattle.vme_line_task.specs.Scripts.{Attempt, Transferring, Awaiting, Sharing, slot_at, level_at, mailbox_at, transfer_job, request_attempt, unless_refused, shared_job, line_attempt}
 use Rattle.vme_line_task.specs.Tables.{attempt_next, attempts_of, lawful_next, next_given}
 use Rattle.vme_line_task.proofs.lemmas.Below.{moves_makes, waits_makes, shares_makes}
@@ -121,11 +122,6 @@ given_own s last (Over end) own = tt
 progress_own : (s : SharedJob) (given : Given) → OwnAt s (progress_of s given)
 progress_own s [] = stage_own s (first_stage s.request) [] (stage_job s (first_stage s.request)) refl
 progress_own s (last ∷ before) = given_own s last (progress_of s before) (progress_own s before)
-
-shown_makes : (next : NextStep Outcome) (call : Call) → task_shown next ≡ Invokes call → next ≡ Invokes call
-shown_makes NotStarted call made = absurd cc
-shown_makes (Invokes other) call made = cc
-shown_makes (Returns outcome) call made = absurd cc
 
 stage_calls : (s : SharedJob) (p : Progress) (call : Call) → OwnAt s p → next_at p ≡ Invokes call → IsOfStage s call
 stage_calls s (At stage job given) call own made =

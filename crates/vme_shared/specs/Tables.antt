@@ -5,8 +5,7 @@ use Rattle.vme_cycle.specs.Lawful.{Transfer, transfer_of}
 use Rattle.vme_decode.specs.declared.entry.Entry.{Entry}
 use Rattle.vme_arbiter.specs.declared.command.ArbReply.{ArbReply}
 use Rattle.vme_core.specs.declared.event.EventReply.{EventReply}
-use Rattle.vme_core.specs.Calls.{Call}
-use Rattle.vme_core.specs.NextSteps.{NextStep, NotStarted, Invokes, Returns}
+use Rattle.vme_core.specs.NextSteps.{NextStep, Returns, next_map}
 use Rattle.vme_master.specs.declared.outcome.Outcome.{Outcome}
 use Rattle.vme_master.specs.declared.job.Job.{Job}
 use Rattle.vme_master.specs.Jobs.{bus_job}
@@ -72,9 +71,7 @@ progress_of s (last ∷ before) = progress_given s last (progress_of s before)
 
 -- what it does next while a bus task is at work, which has not ended (this project's own)
 abbrev pub task_shown : NextStep Outcome → NextStep SharedOutcome
-task_shown NotStarted = NotStarted
-task_shown (Invokes call) = Invokes call
-task_shown (Returns outcome) = Returns shared.Denied
+task_shown next = next_map (λ outcome. shared.Denied) next
 
 -- what it does next, by how far it has come (this project's own)
 abbrev pub next_at : Progress → NextStep SharedOutcome

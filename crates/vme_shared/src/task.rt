@@ -1,6 +1,5 @@
 ghost use Rattle.std.specs.Prelude.{◌≡◌, ◌≢◌, ◌∷◌};
 ghost use Rattle.std.specs.Option.{option_map, option_copied};
-ghost use Rattle.vme_core.specs.Calls.{call_of};
 ghost use Rattle.vme_core.specs.EventRefs.{call_asked};
 ghost use Rattle.vme_core.specs.NextSteps.{NotStarted, call_in, result_in};
 ghost use Rattle.vme_master.specs.Tables.{Given};
@@ -15,7 +14,7 @@ use crate::request::SharedRequest;
 use crate::todo::SharedTodo;
 use crate::work::Work;
 use std::marker::Model;
-use vme_core::{Event, EventRef, EventReply};
+use vme_core::{EventRef, EventReply};
 use vme_cycle::CycleFault;
 use vme_decode::AddressMap;
 
@@ -81,16 +80,6 @@ impl<'a> SharedTask<'a> {
     }
 
     /// The event that it makes next, where it has begun and has not ended.
-    pub fn event(&self) -> Option<Event>
-        ensures { option_map call_of result ≡ call_in (shared_to_do self.now) }
-    {
-        match &self.work {
-            Work::Running { task, .. } => task.event(),
-            Work::Finished(_) => None,
-        }
-    }
-
-    /// What that event asks, apart from the lines of a cycle.
     #[inline(never)]
     pub fn event_ref(&self) -> Option<EventRef<'_>>
         ensures { option_map call_asked result ≡ call_in (shared_to_do self.now) }
@@ -122,8 +111,8 @@ impl<'a> SharedTask<'a> {
         requires { shared_to_do self.now ≢ NotStarted }
         ensures { next_in result ≡ shared_to_do self.now }
     {
-        match self.event() {
-            Some(event) => SharedTodo::Call(event),
+        match self.event_ref() {
+            Some(event_ref) => SharedTodo::Call(event_ref.to_event()),
             None => SharedTodo::Finished(self.outcome().unwrap()),
         }
     }

@@ -18,6 +18,7 @@ use Rattle.vme_core.specs.declared.event.EventReply.{EventReply}
 use Rattle.vme_core.specs.declared.event.EventReply.TheVariants as replies
 use Rattle.vme_core.specs.Calls.{Call, OnBoard, OnBus}
 use Rattle.vme_core.specs.NextSteps.{NextStep, NotStarted, Invokes, Returns}
+use Rattle.vme_core.proofs.lemmas.NextSteps.{map_makes}
 use Rattle.vme_master.specs.declared.job.BusJob.{BusJob}
 use Rattle.vme_master.specs.declared.job.Job.{Job}
 use Rattle.vme_master.specs.declared.job.Job.TheVariants.{Bus}
@@ -134,9 +135,7 @@ single (Take mailbox) stage = mailbox_single mailbox stage
 
 -- a call is that of the bus task at work
 pub shown_makes : (next : NextStep Outcome) (call : Call) → task_shown next ≡ Invokes call → next ≡ Invokes call
-shown_makes NotStarted call made = absurd cc
-shown_makes (Invokes other) call made = cc
-shown_makes (Returns outcome) call made = absurd cc
+shown_makes next call made = map_makes (λ outcome. shared.Denied) next call made
 
 -- the commands to the arbiter go by what the slot was told
 turns_at : (s : SharedJob) (p : Progress) (cmd : ArbCmd) → Standing s p → is_level s.level ≡ true → next_at p ≡ Invokes (OnBus cmd)
