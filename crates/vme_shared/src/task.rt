@@ -1,12 +1,10 @@
-ghost use Rattle.std.specs.Prelude.{◌≡◌, ◌≢◌, ◌∷◌};
+ghost use Rattle.std.specs.Prelude.{◌≡◌, ◌≢◌};
 ghost use Rattle.std.specs.Option.{option_map, option_copied};
 ghost use Rattle.vme_core.specs.EventRefs.{call_asked};
 ghost use Rattle.vme_core.specs.NextSteps.{NotStarted, call_in, result_in};
-ghost use Rattle.vme_master.specs.Tables.{Given};
 ghost use Rattle.vme_shared.specs.Mailboxes.{IsAsked};
-ghost use Rattle.vme_shared.specs.Tables.{SharedJob, shared_next};
-ghost use Rattle.vme_shared.specs.Machine.{shared_fresh, shared_task, shared_advance, shared_given, shared_to_do};
-ghost use Rattle.vme_shared.specs.Events.{next_in};
+ghost use Rattle.vme_shared.specs.Machine.{shared_fresh, shared_task, shared_advance, shared_to_do};
+ghost use Rattle.vme_shared.specs.Events.{next_in, IsNextOf};
 
 use crate::asked::Asked;
 use crate::outcome::SharedOutcome;
@@ -58,10 +56,7 @@ impl<'a> SharedTask<'a> {
     /// What it does next. The first call is given nothing, and each later one the reply to the event
     /// that the call before it gave out.
     pub fn next(&mut self, reply: Option<EventReply>) -> SharedTodo
-        ensures task { self.new ≡ shared_advance self.old reply }
-        ensures todo { next_in result ≡ shared_to_do self.new }
-        ensures table { (s : SharedJob) (before : Given) → self.old ≡ shared_given s before →
-            next_in result ≡ shared_next s (reply ∷ before) }
+        ensures { IsNextOf self.old self.new reply result }
     {
         self.advance(reply.as_ref());
         self.todo()
