@@ -26,49 +26,49 @@ fn expect_denied(rt: &impl Abort, task: &mut PutTask<'_>, given: Option<EventRep
     assert_eq!(rt; expect_end(rt, &end), SharedOutcome::Denied);
     let end = task.next(reported(ArbReply::Freed));
     assert_eq!(rt; expect_end(rt, &end), SharedOutcome::Denied);
-    task.restart();
 }
 
 #[test]
 fn what_does_not_fit_is_denied(rt: HostRuntime) -> Result<(), Fail> {
     let map = AddressMap::new(rt.alloc(), &BOARDS)?;
-    let mut task = PutTask::start(&map, 2, 3, MAILBOX, 1)?;
     for given in [Given::Bytes(&[]), Given::Bytes(&[0, 0]), Given::Done] {
+        let mut task = PutTask::start(&map, 2, 3, MAILBOX, 1)?;
         at_the_lock(&mut task);
         expect_denied(&rt, &mut task, replied(given));
     }
     for given in [
-        Given::Bytes(&[0]),
-        Given::Bytes(&[0, 0, 0, 0, 0]),
-        Given::Done,
+        replied(Given::Bytes(&[0])),
+        replied(Given::Bytes(&[0, 0, 0, 0, 0])),
+        replied(Given::Done),
+        reported(ArbReply::Granted),
+        None,
     ] {
+        let mut task = PutTask::start(&map, 2, 3, MAILBOX, 1)?;
         at_the_put_count(&mut task);
-        expect_denied(&rt, &mut task, replied(given));
+        expect_denied(&rt, &mut task, given);
     }
-    at_the_put_count(&mut task);
-    expect_denied(&rt, &mut task, reported(ArbReply::Granted));
-    at_the_put_count(&mut task);
-    expect_denied(&rt, &mut task, None);
     Ok(())
 }
 
 #[test]
 fn what_comes_early_is_denied(rt: HostRuntime) -> Result<(), Fail> {
     let map = AddressMap::new(rt.alloc(), &BOARDS)?;
-    let mut task = PutTask::start(&map, 2, 3, MAILBOX, 1)?;
-    expect_denied(&rt, &mut task, reported(ArbReply::Granted));
-    expect_denied(&rt, &mut task, replied(Given::Done));
+    for given in [reported(ArbReply::Granted), replied(Given::Done)] {
+        let mut task = PutTask::start(&map, 2, 3, MAILBOX, 1)?;
+        expect_denied(&rt, &mut task, given);
+    }
     Ok(())
 }
 
 #[test]
 fn a_denial_of_the_arbiter_ends_all(rt: HostRuntime) -> Result<(), Fail> {
     let map = AddressMap::new(rt.alloc(), &BOARDS)?;
-    let mut task = PutTask::start(&map, 2, 3, MAILBOX, 1)?;
-    let _ = task.next(None);
-    expect_denied(&rt, &mut task, reported(ArbReply::Denied));
-    at_the_lock(&mut task);
-    let _ = task.next(replied(Given::Bytes(&[0])));
-    expect_denied(&rt, &mut task, reported(ArbReply::Denied));
+    let mut first = PutTask::start(&map, 2, 3, MAILBOX, 1)?;
+    let _ = first.next(None);
+    expect_denied(&rt, &mut first, reported(ArbReply::Denied));
+    let mut later = PutTask::start(&map, 2, 3, MAILBOX, 1)?;
+    at_the_lock(&mut later);
+    let _ = later.next(replied(Given::Bytes(&[0])));
+    expect_denied(&rt, &mut later, reported(ArbReply::Denied));
     Ok(())
 }

@@ -56,7 +56,6 @@ static BUSY: [(Cycle, Given); 1] = [(Cycle::Set, Given::Bytes(&[0x80]))];
 #[test]
 fn puts_a_word_where_a_slot_is_free(rt: HostRuntime) -> Result<(), Fail> {
     let map = AddressMap::new(rt.alloc(), &BOARDS)?;
-    let mut task = PutTask::start(&map, 2, 3, MAILBOX, 0xdead_beef)?;
     for (course, wanted) in [
         (&FOURTH_PUT[..], SharedOutcome::Put),
         (&FULL[..], SharedOutcome::Full),
@@ -65,8 +64,8 @@ fn puts_a_word_where_a_slot_is_free(rt: HostRuntime) -> Result<(), Fail> {
         (&LAST_PUT[..], SharedOutcome::Put),
         (&BUSY[..], SharedOutcome::Busy),
     ] {
+        let mut task = PutTask::start(&map, 2, 3, MAILBOX, 0xdead_beef)?;
         assert_eq!(&rt; outcome(&rt, &mut task, course), wanted, "{course:?}");
-        task.restart();
     }
     Ok(())
 }
@@ -100,15 +99,14 @@ static EMPTY: [(Cycle, Given); 4] = [
 #[test]
 fn takes_a_word_where_there_is_one(rt: HostRuntime) -> Result<(), Fail> {
     let map = AddressMap::new(rt.alloc(), &BOARDS)?;
-    let mut task = TakeTask::start(&map, 2, 3, MAILBOX)?;
     for (course, wanted) in [
         (&SECOND_TAKE[..], SharedOutcome::Took(0xcafe_0001)),
         (&TAKE_ROUND[..], SharedOutcome::Took(0xcafe_0001)),
         (&EMPTY[..], SharedOutcome::Empty),
         (&BUSY[..], SharedOutcome::Busy),
     ] {
+        let mut task = TakeTask::start(&map, 2, 3, MAILBOX)?;
         assert_eq!(&rt; outcome(&rt, &mut task, course), wanted, "{course:?}");
-        task.restart();
     }
     Ok(())
 }
@@ -120,14 +118,13 @@ static SET_BERR: [(Cycle, Given); 1] = [(Cycle::Set, Given::Berr)];
 #[test]
 fn a_lock_is_one_read_modify_write(rt: HostRuntime) -> Result<(), Fail> {
     let map = AddressMap::new(rt.alloc(), &BOARDS)?;
-    let mut task = LockTask::lock(&map, 2, 3, 0x0d, 0x1008)?;
     for (course, wanted) in [
         (&TAKEN[..], SharedOutcome::Taken),
         (&BUSY[..], SharedOutcome::Busy),
         (&SET_BERR[..], SharedOutcome::Berr),
     ] {
+        let mut task = LockTask::lock(&map, 2, 3, 0x0d, 0x1008)?;
         assert_eq!(&rt; outcome(&rt, &mut task, course), wanted, "{course:?}");
-        task.restart();
     }
     Ok(())
 }
@@ -141,7 +138,7 @@ fn an_unlock_is_one_write(rt: HostRuntime) -> Result<(), Fail> {
     let map = AddressMap::new(rt.alloc(), &BOARDS)?;
     let mut task = LockTask::unlock(&map, 2, 3, 0x0d, 0x1008)?;
     assert_eq!(&rt; outcome(&rt, &mut task, &CLEARED), SharedOutcome::Unlocked);
-    task.restart();
+    let mut task = LockTask::unlock(&map, 2, 3, 0x0d, 0x1008)?;
     assert_eq!(&rt; outcome(&rt, &mut task, &CLEAR_BERR), SharedOutcome::Berr);
     Ok(())
 }
@@ -184,7 +181,6 @@ static UNLOCK_BERR: [(Cycle, Given); 6] = [
 #[test]
 fn a_bus_error_of_a_put_unlocks_first(rt: HostRuntime) -> Result<(), Fail> {
     let map = AddressMap::new(rt.alloc(), &BOARDS)?;
-    let mut task = PutTask::start(&map, 2, 3, MAILBOX, 9)?;
     for course in [
         &SET_BERR[..],
         &PUT_COUNT_BERR[..],
@@ -193,12 +189,12 @@ fn a_bus_error_of_a_put_unlocks_first(rt: HostRuntime) -> Result<(), Fail> {
         &RAISE_BERR[..],
         &UNLOCK_BERR[..],
     ] {
+        let mut task = PutTask::start(&map, 2, 3, MAILBOX, 9)?;
         assert_eq!(&rt;
             outcome(&rt, &mut task, course),
             SharedOutcome::Berr,
             "{course:?}"
         );
-        task.restart();
     }
     Ok(())
 }
@@ -223,14 +219,13 @@ static COUNT_BERR: [(Cycle, Given); 6] = [
 #[test]
 fn a_bus_error_of_a_take_unlocks_first(rt: HostRuntime) -> Result<(), Fail> {
     let map = AddressMap::new(rt.alloc(), &BOARDS)?;
-    let mut task = TakeTask::start(&map, 2, 3, MAILBOX)?;
     for course in [&SET_BERR[..], &FETCH_BERR[..], &COUNT_BERR[..]] {
+        let mut task = TakeTask::start(&map, 2, 3, MAILBOX)?;
         assert_eq!(&rt;
             outcome(&rt, &mut task, course),
             SharedOutcome::Berr,
             "{course:?}"
         );
-        task.restart();
     }
     Ok(())
 }

@@ -1,3 +1,5 @@
 pub mod Calls
+pub mod NextSteps
+pub mod Advances
 pub mod Dones
 pub mod CountedStates

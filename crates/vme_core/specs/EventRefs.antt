@@ -15,12 +15,6 @@ call_asked (refs.Board board cmd) = OnBoard board (command_given cmd.now)
 call_asked (refs.Datum board cycle) = OnBoard board (command_given cycle)
 call_asked (refs.Bus cmd) = OnBus cmd
 
--- the object that takes an event that is given by reference
-abbrev pub target_of_ref : EventRef → Target
-target_of_ref (refs.Board board cmd) = at.Board board
-target_of_ref (refs.Datum board cycle) = at.Board board
-target_of_ref (refs.Bus cmd) = at.Bus
-
 -- the object that takes a call
 abbrev pub target_of_call : Call → Target
 target_of_call (OnBoard board command) = at.Board board

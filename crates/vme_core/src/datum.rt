@@ -9,7 +9,7 @@ ghost use Rattle.vme_core.specs.Data.{datum_cycle};
 
 use std::marker::Model;
 use vme_cycle::{Plan, Request};
-use vme_memory::{Access, ByteMemory, Reply};
+use vme_memory::{Access, BoardCmd, ByteMemory, Reply};
 use vme_object::Operation;
 
 /// The cycle of a datum of a lawful transfer, with the offset of its first byte on the selected
@@ -49,6 +49,22 @@ impl<'a> DatumCycle<'a> {
     {
         prove!(i < plan.len());
         DatumCycle { plan, i, at }
+    }
+
+    /// The command, with what the lines of its cycle show.
+    pub(crate) fn to_command(&self) -> BoardCmd
+        ensures { result ≡ self.now }
+    {
+        prove!(self.i < self.plan.len());
+        let f = match self.plan.modify() {
+            Some(f) => Some(f.copy()),
+            None => None,
+        };
+        BoardCmd::Cycle {
+            signals: self.plan.signals(self.i),
+            at: self.at,
+            f,
+        }
     }
 
     /// The datum as an access to the memory.

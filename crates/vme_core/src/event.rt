@@ -1,3 +1,7 @@
+ghost use Rattle.std.specs.Prelude.{◌≡◌};
+ghost use Rattle.vme_core.specs.Calls.{call_of};
+ghost use Rattle.vme_core.specs.EventRefs.{call_asked};
+
 use crate::datum::DatumCycle;
 use vme_arbiter::{ArbCmd, ArbReply};
 use vme_memory::{BoardCmd, Reply};
@@ -21,6 +25,25 @@ pub enum EventRef<'a> {
     Datum { board: usize, cycle: DatumCycle<'a> },
     /// A command to the arbiter.
     Bus(ArbCmd),
+}
+
+impl EventRef<'_> {
+    /// The event itself, with the lines of a cycle.
+    pub fn to_event(&self) -> Event
+        ensures { call_of result ≡ call_asked self.now }
+    {
+        match self {
+            EventRef::Board { board, cmd } => Event::Board {
+                board: *board,
+                cmd: cmd.copy(),
+            },
+            EventRef::Datum { board, cycle } => Event::Board {
+                board: *board,
+                cmd: cycle.to_command(),
+            },
+            EventRef::Bus(cmd) => Event::Bus(*cmd),
+        }
+    }
 }
 
 /// The reply to an event.

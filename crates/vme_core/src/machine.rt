@@ -5,7 +5,7 @@ ghost use Rattle.vme_core.specs.CountedStates.{fresh_count};
 ghost use Rattle.vme_core.specs.Runs.{IsRun, move, target_of};
 ghost use Rattle.vme_memory.specs.Locals.{command_given};
 ghost use Rattle.vme_core.specs.Calls.{OnBoard, OnBus, call_of, machine_step};
-ghost use Rattle.vme_core.specs.EventRefs.{call_asked, target_of_ref, CanCount};
+ghost use Rattle.vme_core.specs.EventRefs.{call_asked, target_of_call, CanCount};
 ghost use Rattle.vme_core.specs.Machines.{opening, process_count, IsThere, steps_of, counts_of, made_of, HasRun};
 
 use crate::counted::Counted;
@@ -96,7 +96,7 @@ impl Core {
     #[inline(always)]
     pub fn apply_ref(&mut self, who: usize, event_ref: &EventRef<'_>) -> EventReply
         requires who { who < process_count self.old }
-        requires can { CanCount self.old (target_of_ref event_ref.now) }
+        requires can { CanCount self.old (target_of_call (call_asked event_ref.now)) }
         ensures step { (self.new, result) ≡ machine_step self.old who (call_asked event_ref.now) }
         ensures boards { length self.new.boards ≡ length self.old.boards }
         ensures process_count { process_count self.new ≡ process_count self.old }

@@ -13,23 +13,22 @@ use Rattle.vme_arbiter.specs.Turns.{may_give, StandsAsReplied}
 use Rattle.vme_core.specs.declared.event.EventReply.{EventReply}
 use Rattle.vme_core.specs.declared.event.EventReply.TheVariants as event_replies
 use Rattle.vme_core.specs.Calls.{Call, OnBoard, OnBus}
+use Rattle.vme_core.specs.NextSteps.{NextStep, NotStarted, Invokes, Returns}
 use Rattle.vme_master.specs.declared.job.Job.{Job}
 use Rattle.vme_master.specs.declared.job.Job.TheVariants.{Bus, Local}
 use Rattle.vme_master.specs.declared.outcome.Outcome.{Outcome}
 use Rattle.vme_master.specs.declared.outcome.Outcome.TheVariants as outcomes
-use Rattle.vme_master.specs.Tables as tasks
-use Rattle.vme_master.specs.Tables.{Next, Given, next_of, next_after, outcome_by, row_of_reply, bus_row, local_row}
+use Rattle.vme_master.specs.Tables.{Given, next_of}
 use Rattle.vme_master.specs.Laws.{last_turn}
 use Rattle.vme_master.proofs.lemmas.Tenures.{turns_go_by, holds_for_data}
 use Rattle.vme_shared.specs.declared.reply.LineReply.{LineReply}
 use Rattle.vme_shared.specs.declared.reply.LineReply.TheVariants as replies
 use Rattle.vme_shared.specs.declared.outcome.SharedOutcome.{SharedOutcome}
 use Rattle.vme_shared.specs.declared.outcome.SharedOutcome.TheVariants as shared
-use Rattle.vme_shared.specs.Tables as shares
-use Rattle.vme_shared.specs.Tables.{SharedNext, shared_next, shared_reported}
+use Rattle.vme_shared.specs.Tables.{shared_next, shared_reported}
 use Rattle.vme_shared.proofs.lemmas.Tenures as laws
 use Rattle.vme_line_task.specs.Scripts.{Attempt, Transferring, Awaiting, Sharing}
-use Rattle.vme_line_task.specs.Tables.{Invokes, Returns, moves_next, waits_next, shares_next, attempt_next}
+use Rattle.vme_line_task.specs.Tables.{moves_next, waits_next, shares_next, attempt_next}
 use Rattle.vme_line_task.specs.Tenures.{job_reported, attempt_reported, IsGood, IsGranted}
 use Rattle.vme_line_task.proofs.lemmas.Below.{moves_makes, waits_makes, shares_makes}
 use Rattle.vme_line_task.proofs.Tenures.{good_end, good_freed, FreedBy, freed_stands, local_never, turn_reported, datum_reported, begin_reported, IsOwnJob}
@@ -48,7 +47,7 @@ IsOwnAttempt slot level (Sharing s) = (s.slot ≡ slot) × (s.level ≡ level)
 
 -- its commands to the arbiter go by what the slot was told last
 job_turns : (slot level : ℕ) (job : Job) (g : Given) (cmd : ArbCmd) → IsOwnJob slot level job → is_level level ≡ true
-    → next_of job g ≡ tasks.Invokes (OnBus cmd) → may_give slot (job_reported job g) cmd ≡ true
+    → next_of job g ≡ Invokes (OnBus cmd) → may_give slot (job_reported job g) cmd ≡ true
 job_turns slot level (Bus j) g cmd own lawful made =
     subst (λ (s : ℕ). may_give s (last_turn g) cmd ≡ true) own.0
     (turns_go_by j g cmd (subst (λ (l : ℕ). is_level l ≡ true) (sym own.1) lawful) made)
@@ -110,15 +109,15 @@ pub record EndsWell (a : Attempt) (g : Given) (reply : EventReply) (answer : Lin
   pub quiet : (datum : Reply) → reply ≡ event_replies.Board datum → attempt_reported a g ≡ None
 
 -- so where its task has ended
-record EndsBy (next : Next) (answer : LineReply) : Type 0 where
+record EndsBy (next : NextStep Outcome) (answer : LineReply) : Type 0 where
   outcome : Outcome
-  ends : next ≡ tasks.Returns outcome
+  ends : next ≡ Returns outcome
   granted : outcome ≢ outcomes.Denied → IsGranted answer
 
-moves_ends : (next : Next) (answer : LineReply) → moves_next next ≡ Returns answer → EndsBy next answer
-moves_ends tasks.NotStarted answer ends = absurd cc
-moves_ends (tasks.Invokes call) answer ends = absurd cc
-moves_ends (tasks.Returns outcome) answer ends = record {
+moves_ends : (next : NextStep Outcome) (answer : LineReply) → moves_next next ≡ Returns answer → EndsBy next answer
+moves_ends NotStarted answer ends = absurd cc
+moves_ends (Invokes call) answer ends = absurd cc
+moves_ends (Returns outcome) answer ends = record {
   outcome = outcome;
   ends = refl;
   granted = λ good. (λ denied. good cc, λ denied. absurd cc);
@@ -128,29 +127,29 @@ found_granted : (b : Bool) (answer : LineReply) → Returns (if b then replies.M
 found_granted true answer ends = (λ denied. absurd cc, λ denied. absurd cc)
 found_granted false answer ends = (λ denied. absurd cc, λ denied. absurd cc)
 
-waits_ends : (want : List ℕ) (next : Next) (answer : LineReply) → waits_next want next ≡ Returns answer → EndsBy next answer
-waits_ends want tasks.NotStarted answer ends = absurd cc
-waits_ends want (tasks.Invokes call) answer ends = absurd cc
-waits_ends want (tasks.Returns (outcomes.Read bytes)) answer ends = record {
+waits_ends : (want : List ℕ) (next : NextStep Outcome) (answer : LineReply) → waits_next want next ≡ Returns answer → EndsBy next answer
+waits_ends want NotStarted answer ends = absurd cc
+waits_ends want (Invokes call) answer ends = absurd cc
+waits_ends want (Returns (outcomes.Read bytes)) answer ends = record {
   outcome = outcomes.Read bytes;
   ends = refl;
   granted = λ good. found_granted (bytes_eq bytes.items want) answer ends;
 }
-waits_ends want (tasks.Returns outcome) answer ends = record {
+waits_ends want (Returns outcome) answer ends = record {
   outcome = outcome;
   ends = refl;
   granted = λ good. (λ denied. good cc, λ denied. absurd cc);
 }
 
-record SharedEnd (next : SharedNext) (answer : LineReply) : Type 0 where
+record SharedEnd (next : NextStep SharedOutcome) (answer : LineReply) : Type 0 where
   outcome : SharedOutcome
-  ends : next ≡ shares.Returns outcome
+  ends : next ≡ Returns outcome
   is : replies.Shared outcome ≡ answer
 
-shares_ends : (next : SharedNext) (answer : LineReply) → shares_next next ≡ Returns answer → SharedEnd next answer
-shares_ends shares.NotStarted answer ends = absurd cc
-shares_ends (shares.Invokes call) answer ends = absurd cc
-shares_ends (shares.Returns outcome) answer ends = record { outcome = outcome; ends = refl; is = cc }
+shares_ends : (next : NextStep SharedOutcome) (answer : LineReply) → shares_next next ≡ Returns answer → SharedEnd next answer
+shares_ends NotStarted answer ends = absurd cc
+shares_ends (Invokes call) answer ends = absurd cc
+shares_ends (Returns outcome) answer ends = record { outcome = outcome; ends = refl; is = cc }
 
 shared_granted : (outcome : SharedOutcome) → outcome ≢ shared.Denied → IsGranted (replies.Shared outcome)
 shared_granted outcome good = (λ denied. absurd cc, λ denied. good cc)
@@ -162,7 +161,7 @@ board_quiet (Local j) g reply datum freed board = refl
 pub attempt_ends : (a : Attempt) (g : Given) (call : Call) (reply : EventReply) (answer : LineReply) → attempt_next a g ≡ Invokes call
     → IsGood call reply → attempt_next a (Some reply ∷ g) ≡ Returns answer → EndsWell a g reply answer
 attempt_ends (Transferring job) g call reply answer made good ends =
-    let was : next_of job g ≡ tasks.Invokes call = moves_makes (next_of job g) call made in
+    let was : next_of job g ≡ Invokes call = moves_makes (next_of job g) call made in
     let by = moves_ends (next_of job (Some reply ∷ g)) answer ends in
     let freed = good_freed job g call reply by.outcome was good by.ends in
     record {
@@ -171,7 +170,7 @@ attempt_ends (Transferring job) g call reply answer made good ends =
       quiet = λ datum board. board_quiet job g reply datum freed board;
     }
 attempt_ends (Awaiting job want) g call reply answer made good ends =
-    let was : next_of job g ≡ tasks.Invokes call = waits_makes want (next_of job g) call made in
+    let was : next_of job g ≡ Invokes call = waits_makes want (next_of job g) call made in
     let by = waits_ends want (next_of job (Some reply ∷ g)) answer ends in
     let freed = good_freed job g call reply by.outcome was good by.ends in
     record {

@@ -4,47 +4,47 @@ use Rattle.std.specs.Prelude.{nat_lt, ◌&&◌}
 use Rattle.std.proofs.lemmas.Bool.{cases_Bool}
 use Rattle.vme_cycle.specs.declared.fault.CycleFault.{CycleFault}
 use Rattle.vme_core.specs.declared.event.EventReply.{EventReply}
+use Rattle.vme_core.specs.NextSteps.{NextStep, NotStarted, Invokes, Returns}
+use Rattle.vme_shared.specs.declared.outcome.SharedOutcome.{SharedOutcome}
 use Rattle.vme_master.specs.declared.job.Job.{Job}
 use Rattle.vme_master.specs.declared.outcome.Outcome.{Outcome}
-use Rattle.vme_master.specs.Tables as tasks
-use Rattle.vme_master.specs.Tables.{Next, Given, next_of, next_after}
+use Rattle.vme_master.specs.Tables.{Given, next_of, next_after}
 use Rattle.vme_shared.specs.declared.reply.LineReply.{LineReply}
 use Rattle.vme_shared.specs.declared.reply.LineReply.TheVariants as replies
 use Rattle.vme_shared.specs.declared.reply.LineReply.TheVariants.{Shared}
 use Rattle.vme_shared.specs.declared.outcome.SharedOutcome.TheVariants as shared
 use Rattle.vme_shared.specs.declared.stage.Stage.{Stage}
 use Rattle.vme_shared.specs.Steps.{first_stage}
-use Rattle.vme_shared.specs.Tables as shares
-use Rattle.vme_shared.specs.Tables.{SharedJob, SharedNext, stage_job, stage_begun, progress_given, next_at, shared_next}
+use Rattle.vme_shared.specs.Tables.{SharedJob, stage_job, stage_begun, progress_given, next_at, shared_next}
 use Rattle.vme_shared.proofs.lemmas.Tenures.{end_stays}
 use Rattle.vme_grammar.specs.declared.line.Line.{Line}
 use Rattle.vme_script.specs.Configurations.{Configuration}
 use Rattle.vme_line_task.specs.Scripts.{Attempt, Transferring, Awaiting, Sharing, line_attempt}
 use Rattle.vme_line_task.specs.Tenures.{IsGranted}
-use Rattle.vme_line_task.specs.Tables.{LineNext, Returns, moves_next, waits_next, shares_next, attempt_next, asks_again, next_wants_retry, Attempts, next_attempt, attempts_of, lawful_next, next_given}
+use Rattle.vme_line_task.specs.Tables.{moves_next, waits_next, shares_next, attempt_next, asks_again, next_wants_retry, Attempts, next_attempt, attempts_of, lawful_next, next_given}
 
 -- a task's end is for good
-task_stays : (job : Job) (given : Given) (last : Option EventReply) (outcome : Outcome) → next_of job given ≡ tasks.Returns outcome
-    → next_of job (last ∷ given) ≡ tasks.Returns outcome
+task_stays : (job : Job) (given : Given) (last : Option EventReply) (outcome : Outcome) → next_of job given ≡ Returns outcome
+    → next_of job (last ∷ given) ≡ Returns outcome
 task_stays job given last outcome ended = ap (λ next. next_after job next last given) ended
 
-moves_stays : (job : Job) (given : Given) (last : Option EventReply) (answer : LineReply) (next : Next) → next_of job given ≡ next
+moves_stays : (job : Job) (given : Given) (last : Option EventReply) (answer : LineReply) (next : NextStep Outcome) → next_of job given ≡ next
     → moves_next next ≡ Returns answer → moves_next (next_of job (last ∷ given)) ≡ Returns answer
-moves_stays job given last answer tasks.NotStarted is ends = absurd cc
-moves_stays job given last answer (tasks.Invokes call) is ends = absurd cc
-moves_stays job given last answer (tasks.Returns outcome) is ends = ap moves_next (task_stays job given last outcome is) ∙ ends
+moves_stays job given last answer NotStarted is ends = absurd cc
+moves_stays job given last answer (Invokes call) is ends = absurd cc
+moves_stays job given last answer (Returns outcome) is ends = ap moves_next (task_stays job given last outcome is) ∙ ends
 
-waits_stays : (job : Job) (want : List ℕ) (given : Given) (last : Option EventReply) (answer : LineReply) (next : Next) → next_of job given ≡ next
+waits_stays : (job : Job) (want : List ℕ) (given : Given) (last : Option EventReply) (answer : LineReply) (next : NextStep Outcome) → next_of job given ≡ next
     → waits_next want next ≡ Returns answer → waits_next want (next_of job (last ∷ given)) ≡ Returns answer
-waits_stays job want given last answer tasks.NotStarted is ends = absurd cc
-waits_stays job want given last answer (tasks.Invokes call) is ends = absurd cc
-waits_stays job want given last answer (tasks.Returns outcome) is ends = ap (waits_next want) (task_stays job given last outcome is) ∙ ends
+waits_stays job want given last answer NotStarted is ends = absurd cc
+waits_stays job want given last answer (Invokes call) is ends = absurd cc
+waits_stays job want given last answer (Returns outcome) is ends = ap (waits_next want) (task_stays job given last outcome is) ∙ ends
 
-shares_stays : (s : SharedJob) (given : Given) (last : Option EventReply) (answer : LineReply) (next : SharedNext) → shared_next s given ≡ next
+shares_stays : (s : SharedJob) (given : Given) (last : Option EventReply) (answer : LineReply) (next : NextStep SharedOutcome) → shared_next s given ≡ next
     → shares_next next ≡ Returns answer → shares_next (shared_next s (last ∷ given)) ≡ Returns answer
-shares_stays s given last answer shares.NotStarted is ends = absurd cc
-shares_stays s given last answer (shares.Invokes call) is ends = absurd cc
-shares_stays s given last answer (shares.Returns outcome) is ends = ap shares_next (end_stays s given outcome last is) ∙ ends
+shares_stays s given last answer NotStarted is ends = absurd cc
+shares_stays s given last answer (Invokes call) is ends = absurd cc
+shares_stays s given last answer (Returns outcome) is ends = ap shares_next (end_stays s given outcome last is) ∙ ends
 
 -- and so is an attempt's
 attempt_stays : (a : Attempt) (given : Given) (last : Option EventReply) (answer : LineReply) → attempt_next a given ≡ Returns answer
@@ -108,7 +108,7 @@ lawful_stays tries (Ok a) given last answer ends =
     let made = attempts_of a tries given in
     let stays : attempt_next a (last ∷ made.given) ≡ Returns answer = attempt_stays a made.given last answer ends in
     let over : (asks_again answer && nat_lt 1 made.left) ≡ false = all_last a tries given answer ends in
-    ap (λ (next : LineNext). attempt_next a (next_attempt (record { given = last ∷ made.given; left = made.left }) next).given) stays
+    ap (λ (next : NextStep LineReply). attempt_next a (next_attempt (record { given = last ∷ made.given; left = made.left }) next).given) stays
     ∙ rw over stays
 
 pub answer_stays : (config : Configuration) (board : ℕ) (line : Line) (given : Given) (last : Option EventReply) (answer : LineReply)

@@ -10,6 +10,7 @@ use Rattle.vme_arbiter.specs.Turns.{StandsAsReplied}
 use Rattle.vme_core.specs.declared.event.EventReply.{EventReply}
 use Rattle.vme_core.specs.declared.event.EventReply.TheVariants as replies
 use Rattle.vme_core.specs.Calls.{Call, OnBus}
+use Rattle.vme_core.specs.NextSteps.{NextStep, Invokes, Returns}
 use Rattle.vme_master.specs.declared.expected.ExpectedReply.{ExpectedReply}
 use Rattle.vme_master.specs.declared.expected.ExpectedReply.TheVariants as expected_replies
 use Rattle.vme_master.specs.declared.job.BusJob.{BusJob}
@@ -20,7 +21,7 @@ use Rattle.vme_master.specs.declared.outcome.Outcome.{Outcome}
 use Rattle.vme_master.specs.declared.outcome.Outcome.TheVariants as outcomes
 use Rattle.vme_master.specs.Jobs.{local_call, fits, expected_outcome}
 use Rattle.vme_master.specs.Tables as tasks
-use Rattle.vme_master.specs.Tables.{Next, Given, next_of, next_after, outcome_by, row_of_reply, bus_row, local_row}
+use Rattle.vme_master.specs.Tables.{Given, next_of, outcome_by, row_of_reply}
 use Rattle.vme_master.proofs.lemmas.Tenures.{ends_freed}
 use Rattle.vme_master.proofs.lemmas.Locals.{local_calls}
 use Rattle.vme_line_task.specs.Tenures.{job_reported, IsGood}
@@ -41,22 +42,22 @@ outcome_granted j (Some place) (Some (replies.Board Done) ∷ before) = expected
 outcome_granted j (Some place) (Some (replies.Board Berr) ∷ before) = λ same. absurd cc
 
 -- an end that is a denial
-abbrev IsDenial : Next → Type 0
-IsDenial (tasks.Returns outcomes.Denied) = Unit {0}
+abbrev IsDenial : NextStep Outcome → Type 0
+IsDenial (Returns outcomes.Denied) = Unit {0}
 IsDenial next = ⊥
 
-end_granted : (outcome : Outcome) → outcome ≢ outcomes.Denied → IsDenial (tasks.Returns outcome) → ⊥
+end_granted : (outcome : Outcome) → outcome ≢ outcomes.Denied → IsDenial (Returns outcome) → ⊥
 end_granted outcomes.Denied good denial = good refl
 end_granted (outcomes.Read bytes) good denial = denial
 end_granted outcomes.Done good denial = denial
 end_granted (outcomes.Old bytes) good denial = denial
 end_granted (outcomes.Berr count bytes) good denial = denial
 
-datum_granted : (j : BusJob) (i : ℕ) → IsDenial (tasks.Invokes (tasks.datum_or_done j i)) → ⊥
+datum_granted : (j : BusJob) (i : ℕ) → IsDenial (Invokes (tasks.datum_or_done j i)) → ⊥
 datum_granted j i denial = denial
 
 -- a good reply's row is no denial
-row_granted : (job : Job) (g : Given) (call : Call) (reply : EventReply) → next_of job g ≡ tasks.Invokes call → IsGood call reply
+row_granted : (job : Job) (g : Given) (call : Call) (reply : EventReply) → next_of job g ≡ Invokes call → IsGood call reply
     → IsDenial (row_of_reply job reply g) → ⊥
 row_granted (Bus j) g call (replies.Bus turned.Waiting) made good denial = denial
 row_granted (Bus j) g call (replies.Bus turned.Granted) made good denial = denial
@@ -74,24 +75,24 @@ row_granted (Local j) g call (replies.Bus reply) made good denial =
     absurd cc
 
 -- after a good reply a task goes by its row
-good_row : (job : Job) (g : Given) (call : Call) (reply : EventReply) → next_of job g ≡ tasks.Invokes call → IsGood call reply
+good_row : (job : Job) (g : Given) (call : Call) (reply : EventReply) → next_of job g ≡ Invokes call → IsGood call reply
     → next_of job (Some reply ∷ g) ≡ row_of_reply job reply g
 good_row job g call reply made good = rw (made, good.fit) refl
 
 -- so its end is no denial
-pub good_end : (job : Job) (g : Given) (call : Call) (reply : EventReply) (outcome : Outcome) → next_of job g ≡ tasks.Invokes call
-    → IsGood call reply → next_of job (Some reply ∷ g) ≡ tasks.Returns outcome → outcome ≢ outcomes.Denied
+pub good_end : (job : Job) (g : Given) (call : Call) (reply : EventReply) (outcome : Outcome) → next_of job g ≡ Invokes call
+    → IsGood call reply → next_of job (Some reply ∷ g) ≡ Returns outcome → outcome ≢ outcomes.Denied
 good_end job g call reply outcome made good ends = λ denied.
     row_granted job g call reply made good
-    (subst IsDenial (sym (ap tasks.Returns denied) ∙ sym ends ∙ good_row job g call reply made good) tt)
+    (subst IsDenial (sym (ap Returns denied) ∙ sym ends ∙ good_row job g call reply made good) tt)
 
 -- and the slot was told so, if it is a transfer's
 abbrev pub FreedBy : Job → EventReply → Type 0
 FreedBy (Bus j) reply = reply ≡ replies.Bus turned.Freed
 FreedBy (Local j) reply = Unit {0}
 
-pub good_freed : (job : Job) (g : Given) (call : Call) (reply : EventReply) (outcome : Outcome) → next_of job g ≡ tasks.Invokes call
-    → IsGood call reply → next_of job (Some reply ∷ g) ≡ tasks.Returns outcome → FreedBy job reply
+pub good_freed : (job : Job) (g : Given) (call : Call) (reply : EventReply) (outcome : Outcome) → next_of job g ≡ Invokes call
+    → IsGood call reply → next_of job (Some reply ∷ g) ≡ Returns outcome → FreedBy job reply
 good_freed (Bus j) g call reply outcome made good ends =
     ends_freed j g call reply outcome made ends (good_end (Bus j) g call reply outcome made good ends)
 good_freed (Local j) g call reply outcome made good ends = tt
@@ -103,12 +104,12 @@ freed_stands (Bus j) g reply bus slot freed stands = subst (λ r. StandsAsReplie
 freed_stands (Local j) g reply bus slot freed stands = stands
 
 -- no command of a local port goes to the arbiter
-pub local_never : (j : LocalJob) (g : Given) (cmd : ArbCmd) → next_of (Local j) g ≡ tasks.Invokes (OnBus cmd) → ⊥
+pub local_never : (j : LocalJob) (g : Given) (cmd : ArbCmd) → next_of (Local j) g ≡ Invokes (OnBus cmd) → ⊥
 local_never j g cmd made = let own : OnBus cmd ≡ local_call j = local_calls j g (OnBus cmd) made in absurd cc
 
 -- a task is told what the arbiter replies
 pub turn_reported : (job : Job) (g : Given) (cmd : ArbCmd) (reply : ArbReply) (bus : Arbitration) (slot : ℕ)
-    → next_of job g ≡ tasks.Invokes (OnBus cmd) → StandsAsReplied bus slot (Some reply)
+    → next_of job g ≡ Invokes (OnBus cmd) → StandsAsReplied bus slot (Some reply)
     → StandsAsReplied bus slot (job_reported job (Some (replies.Bus reply) ∷ g))
 turn_reported (Bus j) g cmd reply bus slot made stands = stands
 turn_reported (Local j) g cmd reply bus slot made stands = absurd (local_never j g cmd made)

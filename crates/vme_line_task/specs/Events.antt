@@ -1,32 +1,17 @@
 -- What a line is seen to do next.
-use Rattle.std.specs.Prelude.{ℕ, ◌<◌, Option, Some, None}
+use Rattle.std.specs.Prelude.{ℕ, ◌<◌}
 use Rattle.vme_core.specs.declared.event.Event.{Event}
 use Rattle.vme_core.specs.declared.event.Event.TheVariants as asked
 use Rattle.vme_core.specs.Calls.{Call, OnBoard, OnBus, call_of}
+use Rattle.vme_core.specs.NextSteps.{NextStep, Invokes, Returns}
 use Rattle.vme_shared.specs.declared.reply.LineReply.{LineReply}
 use Rattle.vme_line_task.specs.declared.todo.LineTodo.{LineTodo}
 use Rattle.vme_line_task.specs.declared.todo.LineTodo.TheVariants as todos
-use Rattle.vme_line_task.specs.Tables.{LineNext, Invokes, Returns}
 
 -- the call of an event that is to be made, or the answer (this project's own)
-abbrev pub next_in : LineTodo → LineNext
+abbrev pub next_in : LineTodo → NextStep LineReply
 next_in (todos.Call event) = Invokes (call_of event)
 next_in (todos.Ended answer) = Returns answer
-
--- the call that is to be made, if one is (this project's own)
-abbrev pub call_in : LineNext → Option Call
-call_in (Invokes call) = Some call
-call_in next = None
-
--- it makes a call next (this project's own)
-abbrev pub MakesCall : LineNext → Type 0
-MakesCall (Invokes call) = Unit {0}
-MakesCall next = ⊥
-
--- the answer of what has ended (this project's own)
-abbrev pub answer_in : LineNext → Option LineReply
-answer_in (Returns answer) = Some answer
-answer_in next = None
 
 -- a call goes to the arbiter, or to one of the first n boards (this project's own)
 abbrev pub IsCallBelow : ℕ → Call → Type 0

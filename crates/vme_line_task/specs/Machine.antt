@@ -3,6 +3,8 @@ use Rattle.std.specs.Prelude.{ℕ, ◌≡◌, ◌-◌, nat_lt, ◌&&◌, if◌th
 use Rattle.vme_cycle.specs.declared.fault.CycleFault.{CycleFault}
 use Rattle.vme_core.specs.declared.event.EventReply.{EventReply}
 use Rattle.vme_core.specs.Calls.{Call}
+use Rattle.vme_core.specs.NextSteps.{NextStep, Invokes, Returns}
+use Rattle.vme_shared.specs.declared.reply.LineReply.{LineReply}
 use Rattle.vme_master.specs.Tables.{Given}
 use Rattle.vme_master.specs.Machine.{fresh_task, advance, to_do}
 use Rattle.vme_master.specs.declared.outcome.Outcome.TheVariants as outcomes
@@ -16,7 +18,7 @@ use Rattle.vme_line_task.specs.declared.attempt.Attempts.{Attempts}
 use Rattle.vme_line_task.specs.declared.attempt.AttemptTask.{AttemptTask}
 use Rattle.vme_line_task.specs.declared.attempt.AttemptTask.TheVariants as tries
 use Rattle.vme_line_task.specs.Scripts.{Attempt, Transferring, Awaiting, Sharing, line_attempt}
-use Rattle.vme_line_task.specs.Tables.{LineNext, Invokes, Returns, moves_next, waits_next, shares_next, next_wants_retry, given_of}
+use Rattle.vme_line_task.specs.Tables.{moves_next, waits_next, shares_next, next_wants_retry, given_of}
 use Rattle.vme_line_task.specs.Events.{IsCallBelow}
 
 -- the task of an attempt before its first call (this project's own)
@@ -43,14 +45,18 @@ attempt_advance (tries.Await w) given = tries.Await (record { task = advance w.t
 attempt_advance (tries.Shared v) given = tries.Shared (shared_advance v given)
 
 -- what an attempt does next (this project's own)
-abbrev pub attempt_to_do : AttemptTask → LineNext
+abbrev pub attempt_to_do : AttemptTask → NextStep LineReply
 attempt_to_do (tries.Transfer t) = moves_next (to_do t)
 attempt_to_do (tries.Await w) = waits_next w.want.items (to_do w.task)
 attempt_to_do (tries.Shared v) = shares_next (shared_to_do v)
 
+-- what attempts do next: what the one at work does
+abbrev pub attempts_to_do : Attempts → NextStep LineReply
+attempts_to_do a = attempt_to_do a.attempt
+
 -- where the attempt at work has ended with an answer that asks for another, that one has begun, while there may be one more
 -- (this project's own)
-abbrev pub attempts_again : Attempts → LineNext → Attempts
+abbrev pub attempts_again : Attempts → NextStep LineReply → Attempts
 attempts_again a next =
     if next_wants_retry next && nat_lt 1 a.left
     then record { attempt = attempt_advance (attempt_anew a.attempt) None; left = a.left - 1 }
@@ -78,7 +84,7 @@ line_advance (Running a) given = Running (attempts_advance a given)
 line_advance Finished given = Finished
 
 -- what a line does next; one whose answer was taken is denied any other (this project's own)
-abbrev pub line_to_do : LineTask → LineNext
+abbrev pub line_to_do : LineTask → NextStep LineReply
 line_to_do (Refused fault) = Returns (replies.Refused fault)
 line_to_do (Running a) = attempt_to_do a.attempt
 line_to_do Finished = Returns (replies.Transfer outcomes.Denied)
@@ -91,7 +97,7 @@ attempts_left (Running a) = a.left
 attempts_left Finished = 0
 
 -- attempts of which this is next: where the answer was taken they are over (this project's own)
-abbrev pub attempts_taken : Attempts → LineNext → LineTask
+abbrev pub attempts_taken : Attempts → NextStep LineReply → LineTask
 attempts_taken a (Returns answer) = Finished
 attempts_taken a next = Running a
 

@@ -3,48 +3,37 @@ use Rattle.std.specs.Prelude.{ℕ, ◌-◌, nat_lt, Bool, true, false, ◌&&◌,
 use Rattle.std.specs.Str.{bytes_eq}
 use Rattle.vme_cycle.specs.declared.fault.CycleFault.{CycleFault}
 use Rattle.vme_core.specs.declared.event.EventReply.{EventReply}
-use Rattle.vme_core.specs.Calls.{Call}
+use Rattle.vme_core.specs.NextSteps.{NextStep, Returns, next_map}
+use Rattle.vme_master.specs.declared.outcome.Outcome.{Outcome}
+use Rattle.vme_shared.specs.declared.outcome.SharedOutcome.{SharedOutcome}
 use Rattle.vme_master.specs.declared.outcome.Outcome.TheVariants as outcomes
-use Rattle.vme_master.specs.Tables as tasks
-use Rattle.vme_master.specs.Tables.{Next, Given, next_of}
+use Rattle.vme_master.specs.Tables.{Given, next_of}
 use Rattle.vme_shared.specs.declared.outcome.SharedOutcome.TheVariants as shared
 use Rattle.vme_shared.specs.declared.reply.LineReply.{LineReply}
 use Rattle.vme_shared.specs.declared.reply.LineReply.TheVariants.{Transfer, Refused, Met, Timeout, Shared}
-use Rattle.vme_shared.specs.Tables as shares
-use Rattle.vme_shared.specs.Tables.{SharedNext, shared_next}
+use Rattle.vme_shared.specs.Tables.{shared_next}
 use Rattle.vme_grammar.specs.declared.line.Line.{Line}
 use Rattle.vme_script.specs.Configurations.{Configuration}
 use Rattle.vme_line_task.specs.Scripts.{Attempt, Transferring, Awaiting, Sharing, line_attempt}
 
--- what a line does next: it rests until its first call; it makes a call, and wants the reply; or it has ended
--- (this project's own)
-pub data LineNext : Type 0 where
-  NotStarted : LineNext
-  Invokes : Call → LineNext
-  Returns : LineReply → LineNext
-
 -- a transfer or a command of a line is answered what comes of it (this project's own)
-abbrev pub moves_next : Next → LineNext
-moves_next tasks.NotStarted = NotStarted
-moves_next (tasks.Invokes call) = Invokes call
-moves_next (tasks.Returns outcome) = Returns (Transfer outcome)
+abbrev pub moves_next : NextStep Outcome → NextStep LineReply
+moves_next next = next_map Transfer next
 
 -- a read that is to find bytes is answered whether these are they, and a bus error or a denial as it is
--- (this project's own)
-abbrev pub waits_next : List ℕ → Next → LineNext
-waits_next want tasks.NotStarted = NotStarted
-waits_next want (tasks.Invokes call) = Invokes call
-waits_next want (tasks.Returns (outcomes.Read bytes)) = Returns (if bytes_eq bytes.items want then Met else Timeout)
-waits_next want (tasks.Returns outcome) = Returns (Transfer outcome)
+abbrev pub await_reply : List ℕ → Outcome → LineReply
+await_reply want (outcomes.Read bytes) = if bytes_eq bytes.items want then Met else Timeout
+await_reply want outcome = Transfer outcome
+
+abbrev pub waits_next : List ℕ → NextStep Outcome → NextStep LineReply
+waits_next want next = next_map (await_reply want) next
 
 -- what is asked of a lock or a mailbox is answered what comes of it (this project's own)
-abbrev pub shares_next : SharedNext → LineNext
-shares_next shares.NotStarted = NotStarted
-shares_next (shares.Invokes call) = Invokes call
-shares_next (shares.Returns outcome) = Returns (Shared outcome)
+abbrev pub shares_next : NextStep SharedOutcome → NextStep LineReply
+shares_next next = next_map Shared next
 
 -- what an attempt does next, by what it was given so far (this project's own)
-abbrev pub attempt_next : Attempt → Given → LineNext
+abbrev pub attempt_next : Attempt → Given → NextStep LineReply
 attempt_next (Transferring job) given = moves_next (next_of job given)
 attempt_next (Awaiting job want) given = waits_next want (next_of job given)
 attempt_next (Sharing s) given = shares_next (shared_next s given)
@@ -65,13 +54,13 @@ pub record Attempts : Type 0 where
   pub left : ℕ
 
 -- whether an attempt that does this next has ended with such an answer (this project's own)
-abbrev pub next_wants_retry : LineNext → Bool
+abbrev pub next_wants_retry : NextStep LineReply → Bool
 next_wants_retry (Returns answer) = asks_again answer
 next_wants_retry next = false
 
 -- an attempt with such an answer is followed by the next, which begins at once, if there may be one more; any other answer is
 -- that of the line (this project's own)
-abbrev pub next_attempt : Attempts → LineNext → Attempts
+abbrev pub next_attempt : Attempts → NextStep LineReply → Attempts
 next_attempt made next =
     if next_wants_retry next && nat_lt 1 made.left then record { given = None ∷ []; left = made.left - 1 } else made
 
@@ -86,13 +75,13 @@ attempts_of attempt tries [] = record { given = []; left = tries }
 attempts_of attempt tries (last ∷ before) = attempt_given attempt last (attempts_of attempt tries before)
 
 -- a line does what the attempt at work does; one whose request is refused has ended without a call (this project's own)
-abbrev pub lawful_next : ℕ → Result Attempt CycleFault → Given → LineNext
+abbrev pub lawful_next : ℕ → Result Attempt CycleFault → Given → NextStep LineReply
 lawful_next tries (Ok attempt) given = attempt_next attempt (attempts_of attempt tries given).given
 lawful_next tries (Err fault) given = Returns (Refused fault)
 
 -- what a line of a board's processor does next, by all that it was given, the newest first: each time the reply to its call,
 -- or none (this project's own)
-unfoldable pub next_given : Configuration → ℕ → Line → Given → LineNext
+unfoldable pub next_given : Configuration → ℕ → Line → Given → NextStep LineReply
 next_given config board line given = lawful_next config.tries (line_attempt config board line) given
 
 -- what a line is given that has these replies, the newest first: none at its first call (this project's own)
@@ -101,5 +90,5 @@ given_of [] = None ∷ []
 given_of (reply ∷ replies) = Some reply ∷ given_of replies
 
 -- what a line of a board's processor does next, by the replies to its calls so far, the newest first (this project's own)
-abbrev pub line_next : Configuration → ℕ → Line → List EventReply → LineNext
+abbrev pub line_next : Configuration → ℕ → Line → List EventReply → NextStep LineReply
 line_next config board line replies = next_given config board line (given_of replies)

@@ -1,14 +1,14 @@
 //! Attempts at a line, one after another.
-ghost use Rattle.std.specs.Prelude.{◌≡◌, ◌≢◌, ◌<◌, length, option_map, option_copied, is_some, true, Some, None, IfSome};
-ghost use Rattle.vme_core.specs.Calls.{Call, call_of, machine_step};
-ghost use Rattle.vme_core.specs.EventRefs.{call_asked, target_of_call, CanCount};
+ghost use Rattle.std.specs.Prelude.{◌≡◌, ◌≢◌, ◌<◌, option_map, option_copied, is_some, true, Some, None};
+ghost use Rattle.vme_core.specs.EventRefs.{call_asked};
 ghost use Rattle.vme_core.specs.Machines.{process_count};
-ghost use Rattle.vme_line_task.specs.Tables.{NotStarted, next_wants_retry};
-ghost use Rattle.vme_line_task.specs.Machine.{attempt_anew, attempt_advance, attempt_to_do, attempts_advance};
-ghost use Rattle.vme_line_task.specs.Events.{call_in, answer_in};
+ghost use Rattle.vme_core.specs.NextSteps.{NotStarted, call_in, result_in};
+ghost use Rattle.vme_core.specs.Advances.{CanMake, AdvancesOn};
+ghost use Rattle.vme_line_task.specs.Tables.{next_wants_retry};
+ghost use Rattle.vme_line_task.specs.Machine.{attempt_anew, attempt_advance, attempt_to_do, attempts_advance, attempts_to_do};
 
 use crate::wait::AwaitTask;
-use vme_core::{Core, Event, EventRef, EventReply};
+use vme_core::{Core, EventRef, EventReply};
 use vme_master::Task;
 use vme_shared::{LineReply, SharedOutcome, SharedTask};
 
@@ -37,7 +37,7 @@ impl Attempts<'_> {
     #[inline(always)]
     pub(crate) fn advance(&mut self, given: Option<&EventReply>)
         ensures task { self.new ≡ attempts_advance self.old (option_copied given.entry) }
-        ensures begun { attempt_to_do self.new.attempt ≢ NotStarted }
+        ensures begun { attempts_to_do self.new ≢ NotStarted }
     {
         self.attempt.advance(given);
         if self.left > 1 && self.attempt.wants_retry() {
@@ -47,49 +47,27 @@ impl Attempts<'_> {
         }
     }
 
-    /// The attempt at work makes its call on boards and arbiter, where it makes one, and is given the
-    /// reply. A transfer or a command, which is attempted once, does so by itself.
+    /// The attempt at work makes its call on boards and arbiter, where it makes one, and advances by
+    /// the reply. A transfer or a command, which is attempted once, does so by itself.
     #[inline(always)]
-    #[tactic(auto, using(crate::proofs::lemmas::Calls::moves_call, crate::proofs::lemmas::Calls::moves_on))]
-    pub(crate) fn make(&mut self, core: &mut Core, who: usize)
+    pub(crate) fn advance_on(&mut self, core: &mut Core, who: usize)
         requires who { who < process_count core.old }
-        requires can { IfSome (call_in (attempt_to_do self.old.attempt))
-            (λ call. CanCount core.old (target_of_call call)) }
-        ensures machine { (call : Call) → call_in (attempt_to_do self.old.attempt) ≡ Some call →
-            core.new ≡ (machine_step core.old who call).0 }
-        ensures task { (call : Call) → call_in (attempt_to_do self.old.attempt) ≡ Some call →
-            self.new ≡ attempts_advance self.old (Some (machine_step core.old who call).1) }
-        ensures begun { (call : Call) → call_in (attempt_to_do self.old.attempt) ≡ Some call →
-            attempt_to_do self.new.attempt ≢ NotStarted }
-        ensures nothing { call_in (attempt_to_do self.old.attempt) ≡ None →
-            (core.new ≡ core.old) × (self.new ≡ self.old) }
-        ensures boards { length core.new.boards ≡ length core.old.boards }
-        ensures process_count { process_count core.new ≡ process_count core.old }
+        requires can { CanMake core.old (call_in (attempts_to_do self.old)) }
+        ensures { AdvancesOn attempts_to_do attempts_advance who core.old core.new self.old self.new }
     {
         if let AttemptTask::Transfer(task) = &mut self.attempt {
-            task.make(core, who);
+            task.advance_on(core, who);
         } else {
-            self.make_in_attempts(core, who);
+            self.advance_on_by_ref(core, who);
         }
     }
 
-    /// The same of what may be attempted again.
+    /// The same by `event_ref`, for what may be attempted again.
     #[inline(never)]
-    #[tactic(auto, using(crate::proofs::lemmas::Calls::asked_of))]
-    fn make_in_attempts(&mut self, core: &mut Core, who: usize)
+    fn advance_on_by_ref(&mut self, core: &mut Core, who: usize)
         requires who { who < process_count core.old }
-        requires can { IfSome (call_in (attempt_to_do self.old.attempt))
-            (λ call. CanCount core.old (target_of_call call)) }
-        ensures machine { (call : Call) → call_in (attempt_to_do self.old.attempt) ≡ Some call →
-            core.new ≡ (machine_step core.old who call).0 }
-        ensures task { (call : Call) → call_in (attempt_to_do self.old.attempt) ≡ Some call →
-            self.new ≡ attempts_advance self.old (Some (machine_step core.old who call).1) }
-        ensures begun { (call : Call) → call_in (attempt_to_do self.old.attempt) ≡ Some call →
-            attempt_to_do self.new.attempt ≢ NotStarted }
-        ensures nothing { call_in (attempt_to_do self.old.attempt) ≡ None →
-            (core.new ≡ core.old) × (self.new ≡ self.old) }
-        ensures boards { length core.new.boards ≡ length core.old.boards }
-        ensures process_count { process_count core.new ≡ process_count core.old }
+        requires can { CanMake core.old (call_in (attempts_to_do self.old)) }
+        ensures { AdvancesOn attempts_to_do attempts_advance who core.old core.new self.old self.new }
     {
         let Some(event_ref) = &self.attempt.event_ref() else {
             return;
@@ -113,17 +91,6 @@ impl AttemptTask<'_> {
     }
 
     /// The event that it makes next, if it makes one.
-    pub(crate) fn event(&self) -> Option<Event>
-        ensures { option_map call_of result ≡ call_in (attempt_to_do self.now) }
-    {
-        match self {
-            AttemptTask::Transfer(task) => task.event(),
-            AttemptTask::Await(wait) => wait.event(),
-            AttemptTask::Shared(task) => task.event(),
-        }
-    }
-
-    /// What that event asks, apart from the lines of a cycle.
     #[inline(always)]
     pub(crate) fn event_ref(&self) -> Option<EventRef<'_>>
         ensures { option_map call_asked result ≡ call_in (attempt_to_do self.now) }
@@ -138,7 +105,7 @@ impl AttemptTask<'_> {
     /// Whether it has ended.
     #[inline(always)]
     pub(crate) fn is_finished(&self) -> bool
-        ensures { result ≡ is_some (answer_in (attempt_to_do self.now)) }
+        ensures { result ≡ is_some (result_in (attempt_to_do self.now)) }
     {
         match self {
             AttemptTask::Transfer(task) => task.is_finished(),
@@ -149,7 +116,7 @@ impl AttemptTask<'_> {
 
     /// Its answer, where it has ended. The bytes that were read go with it.
     pub(crate) fn take_reply(&mut self) -> Option<LineReply>
-        ensures { result ≡ answer_in (attempt_to_do self.old) }
+        ensures { result ≡ result_in (attempt_to_do self.old) }
     {
         match self {
             AttemptTask::Transfer(task) => Some(LineReply::Transfer(task.take_outcome()?)),

@@ -1,22 +1,23 @@
-ghost use Rattle.std.specs.Prelude.{◌≡◌, ◌≢◌, ◌<◌, ◌≤◌, ◌∷◌, [], ℕ, length, option_map, option_copied, is_some, slice_get, Some, None, IfSome};
-ghost use Rattle.vme_core.specs.Calls.{Call, call_of, machine_step};
-ghost use Rattle.vme_core.specs.EventRefs.{call_asked, target_of_call, CanCount};
+ghost use Rattle.std.specs.Prelude.{◌≡◌, ◌≢◌, ◌<◌, ◌≤◌, ◌∷◌, [], ℕ, length, option_map, option_copied, is_some, slice_get, Some, None};
+ghost use Rattle.vme_core.specs.EventRefs.{call_asked};
 ghost use Rattle.vme_core.specs.Machines.{process_count};
+ghost use Rattle.vme_core.specs.NextSteps.{NotStarted, call_in, result_in};
+ghost use Rattle.vme_core.specs.Advances.{CanMake, AdvancesOn};
 ghost use Rattle.vme_grammar.specs.declared.line.Line.{Line as AnyLine};
 ghost use Rattle.vme_script.specs.Configurations.{Configuration};
 ghost use Rattle.vme_master.specs.Tables.{Given};
 ghost use Rattle.vme_line_task.specs.Scripts.{HasItsMailbox, lines_at};
 ghost use Rattle.vme_line_task.specs.ReadBuffers.{line_read_len};
-ghost use Rattle.vme_line_task.specs.Tables.{NotStarted, next_given};
+ghost use Rattle.vme_line_task.specs.Tables.{next_given};
 ghost use Rattle.vme_line_task.specs.Machine.{line_started, line_advance, line_to_do, line_taken, line_given, attempts_left, IsLineBelow};
 ghost use Rattle.vme_line_task.specs.declared.attempt.AttemptTask.TheVariants as tries;
 ghost use Rattle.vme_line_task.specs.declared.task.LineTask.TheVariants.{Running};
-ghost use Rattle.vme_line_task.specs.Events.{next_in, call_in, answer_in, IsEventBelow, IsTodoBelow};
+ghost use Rattle.vme_line_task.specs.Events.{next_in, IsTodoBelow};
 
 use crate::attempt::{AttemptTask, Attempts};
 use crate::start::{attempt_of, transfer};
 use crate::todo::LineTodo;
-use vme_core::{Core, Event, EventRef, EventReply};
+use vme_core::{Core, EventRef, EventReply};
 use vme_cycle::{BlockBuffer, CycleFault};
 use vme_grammar::Line;
 use vme_master::{Outcome, Task};
@@ -83,17 +84,6 @@ impl<'a> LineTask<'a> {
     }
 
     /// The event that it makes next, where it has begun and has not ended.
-    pub fn event(&self) -> Option<Event>
-        ensures event { option_map call_of result ≡ call_in (line_to_do self.now) }
-        ensures there { (n : ℕ) → IsLineBelow n self.now → IfSome result (IsEventBelow n) }
-    {
-        match self {
-            LineTask::Refused(_) | LineTask::Finished => None,
-            LineTask::Running(attempts) => attempts.attempt.event(),
-        }
-    }
-
-    /// What that event asks, apart from the lines of a cycle.
     #[inline(always)]
     pub fn event_ref(&self) -> Option<EventRef<'_>>
         ensures { option_map call_asked result ≡ call_in (line_to_do self.now) }
@@ -104,32 +94,24 @@ impl<'a> LineTask<'a> {
         attempts.attempt.event_ref()
     }
 
-    /// Makes its call on boards and arbiter, where it makes one, and is given the reply: as by `event_ref`
-    /// and `give`, but faster.
+    /// Makes its call on boards and arbiter, where it makes one, and advances by the reply: as by
+    /// `event_ref` and `advance`, but faster.
     #[inline(always)]
-    pub fn make(&mut self, core: &mut Core, who: usize)
+    pub fn advance_on(&mut self, core: &mut Core, who: usize)
         requires who { who < process_count core.old }
-        requires can { IfSome (call_in (line_to_do self.old)) (λ call. CanCount core.old (target_of_call call)) }
-        ensures machine { (call : Call) → call_in (line_to_do self.old) ≡ Some call →
-            core.new ≡ (machine_step core.old who call).0 }
-        ensures task { (call : Call) → call_in (line_to_do self.old) ≡ Some call →
-            self.new ≡ line_advance self.old (Some (machine_step core.old who call).1) }
-        ensures begun { (call : Call) → call_in (line_to_do self.old) ≡ Some call → line_to_do self.new ≢ NotStarted }
-        ensures nothing { call_in (line_to_do self.old) ≡ None → (core.new ≡ core.old) × (self.new ≡ self.old) }
-        ensures below { (call : Call) (n : ℕ) → call_in (line_to_do self.old) ≡ Some call →
-            IsLineBelow n self.old → IsLineBelow n self.new }
-        ensures boards { length core.new.boards ≡ length core.old.boards }
-        ensures process_count { process_count core.new ≡ process_count core.old }
+        requires can { CanMake core.old (call_in (line_to_do self.old)) }
+        ensures step { AdvancesOn line_to_do line_advance who core.old core.new self.old self.new }
+        ensures below { (n : ℕ) → IsLineBelow n self.old → IsLineBelow n self.new }
     {
         if let LineTask::Running(attempts) = self {
-            attempts.make(core, who);
+            attempts.advance_on(core, who);
         }
     }
 
     /// Whether it has ended. A driver that asks this first moves no answer that is none.
     #[inline(always)]
     pub fn is_finished(&self) -> bool
-        ensures { result ≡ is_some (answer_in (line_to_do self.now)) }
+        ensures { result ≡ is_some (result_in (line_to_do self.now)) }
     {
         match self {
             LineTask::Refused(_) | LineTask::Finished => true,
@@ -151,7 +133,7 @@ impl<'a> LineTask<'a> {
     /// Takes its answer, where it has ended. A line is denied any further answer, unless it is refused.
     #[inline(never)]
     pub fn take_reply(&mut self) -> Option<LineReply>
-        ensures answer { result ≡ answer_in (line_to_do self.old) }
+        ensures answer { result ≡ result_in (line_to_do self.old) }
         ensures task { self.new ≡ line_taken self.old }
     {
         match self {
@@ -171,7 +153,11 @@ impl<'a> LineTask<'a> {
         ensures todo { next_in result ≡ line_to_do self.old }
         ensures task { self.new ≡ line_taken self.old }
     {
-        match self.event() {
+        let event = match self.event_ref() {
+            Some(event_ref) => Some(event_ref.to_event()),
+            None => None,
+        };
+        match event {
             Some(event) => LineTodo::Call(event),
             None => LineTodo::Ended(self.take_reply().unwrap()),
         }

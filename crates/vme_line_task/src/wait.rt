@@ -2,15 +2,14 @@
 ghost use Rattle.std.specs.Prelude.{◌≡◌, ◌≢◌, ◌≤◌, if◌then◌else◌, option_map, option_copied, is_some};
 ghost use Rattle.std.specs.Str.{bytes_eq};
 ghost use Rattle.vme_cycle.specs.BlockBuffers.{inline_capacity};
-ghost use Rattle.vme_core.specs.Calls.{call_of};
 ghost use Rattle.vme_core.specs.EventRefs.{call_asked};
+ghost use Rattle.vme_core.specs.NextSteps.{NotStarted, call_in, result_in};
 ghost use Rattle.vme_master.specs.Machine.{advance, fresh_task, to_do, job_read_len};
 ghost use Rattle.vme_shared.specs.declared.reply.LineReply.TheVariants.{Met, Timeout};
-ghost use Rattle.vme_line_task.specs.Tables.{NotStarted, waits_next, next_wants_retry};
-ghost use Rattle.vme_line_task.specs.Events.{call_in, answer_in};
+ghost use Rattle.vme_line_task.specs.Tables.{waits_next, next_wants_retry};
 
 use std::marker::Model;
-use vme_core::{Event, EventRef, EventReply};
+use vme_core::{EventRef, EventReply};
 use vme_lanes::Datum;
 use vme_master::{Outcome, Task};
 use vme_shared::LineReply;
@@ -56,13 +55,6 @@ impl<'a> AwaitTask<'a> {
     }
 
     /// The event that it makes next, if it makes one.
-    pub(crate) fn event(&self) -> Option<Event>
-        ensures { option_map call_of result ≡ call_in (waits_next self.now.want.items (to_do self.now.task)) }
-    {
-        self.task.event()
-    }
-
-    /// What that event asks, apart from the lines of a cycle.
     #[inline(never)]
     pub(crate) fn event_ref(&self) -> Option<EventRef<'_>>
         ensures { option_map call_asked result ≡ call_in (waits_next self.now.want.items (to_do self.now.task)) }
@@ -72,7 +64,7 @@ impl<'a> AwaitTask<'a> {
 
     /// Whether it has ended.
     pub(crate) fn is_finished(&self) -> bool
-        ensures { result ≡ is_some (answer_in (waits_next self.now.want.items (to_do self.now.task))) }
+        ensures { result ≡ is_some (result_in (waits_next self.now.want.items (to_do self.now.task))) }
     {
         self.task.is_finished()
     }
@@ -90,7 +82,7 @@ impl<'a> AwaitTask<'a> {
 
     /// Its answer, where it has ended: whether the bytes are those that it is to find.
     pub(crate) fn take_reply(&mut self) -> Option<LineReply>
-        ensures { result ≡ answer_in (waits_next self.old.want.items (to_do self.old.task)) }
+        ensures { result ≡ result_in (waits_next self.old.want.items (to_do self.old.task)) }
     {
         match self.task.take_outcome()? {
             Outcome::Read(bytes) => Some(self.found(bytes.as_slice())),

@@ -3,24 +3,23 @@ use Rattle.std.proofs.Common.{◌≡◌, ℕ, List, Result, Ok, Err}
 use Rattle.vme_cycle.specs.declared.fault.CycleFault.{CycleFault}
 use Rattle.vme_core.specs.declared.event.EventReply.{EventReply}
 use Rattle.vme_core.specs.Calls.{Call}
+use Rattle.vme_core.specs.NextSteps.{Invokes}
 use Rattle.vme_master.specs.declared.job.Job.{Job}
-use Rattle.vme_master.specs.Tables as tasks
 use Rattle.vme_master.specs.Tables.{Given, next_of}
-use Rattle.vme_shared.specs.Tables as shares
 use Rattle.vme_shared.specs.Tables.{SharedJob, shared_next}
 use Rattle.vme_grammar.specs.declared.line.Line.{Line}
 use Rattle.vme_script.specs.Configurations.{Configuration}
 use Rattle.vme_line_task.specs.Scripts.{Attempt, Transferring, Awaiting, Sharing, line_attempt}
-use Rattle.vme_line_task.specs.Tables.{Invokes, attempts_of, lawful_next, next_given, given_of, line_next}
+use Rattle.vme_line_task.specs.Tables.{attempts_of, lawful_next, next_given, given_of, line_next}
 use Rattle.vme_line_task.proofs.lemmas.Below.{moves_makes, waits_makes, shares_makes}
 
 -- a job makes a call, for some replies
 abbrev pub JobCalls : Job → Call → Type 0
-JobCalls job call = (g : Given) × (next_of job g ≡ tasks.Invokes call)
+JobCalls job call = (g : Given) × (next_of job g ≡ Invokes call)
 
 -- a job of a lock or a mailbox makes a call, for some replies
 abbrev pub SharedCalls : SharedJob → Call → Type 0
-SharedCalls s call = (g : Given) × (shared_next s g ≡ shares.Invokes call)
+SharedCalls s call = (g : Given) × (shared_next s g ≡ Invokes call)
 
 -- an attempt makes a call, if it is not refused
 abbrev pub Calls : Result Attempt CycleFault → Call → Type 0

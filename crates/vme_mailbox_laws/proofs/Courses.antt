@@ -11,12 +11,12 @@ use Rattle.vme_memory.specs.declared.reply.Reply.{Reply}
 use Rattle.vme_core.specs.declared.event.EventReply.{EventReply}
 use Rattle.vme_core.specs.declared.event.EventReply.TheVariants as replies
 use Rattle.vme_core.specs.Calls.{Call, OnBoard}
+use Rattle.vme_core.specs.NextSteps.{NextStep, NotStarted, Invokes, Returns}
 use Rattle.vme_master.specs.declared.job.BusJob.{BusJob}
 use Rattle.vme_master.specs.declared.job.Job.{Job}
 use Rattle.vme_master.specs.declared.job.Job.TheVariants.{Bus}
 use Rattle.vme_master.specs.Jobs.{ask_call, look_call, done_call, expected_outcome}
-use Rattle.vme_master.specs.Tables as tasks
-use Rattle.vme_master.specs.Tables.{Next, Given, next_of}
+use Rattle.vme_master.specs.Tables.{Given, next_of}
 use Rattle.vme_shared.specs.MailboxSteps.{BoardMailbox}
 use Rattle.vme_shared.specs.Phases.{Phase, Idle, after_command}
 use Rattle.vme_shared.specs.Words.{put_by, taken_by}
@@ -33,8 +33,7 @@ use Rattle.vme_shared.specs.declared.stage.Step.TheVariants.{Continue, Finish}
 use Rattle.vme_shared.specs.Mailboxes.{IsAsked}
 use Rattle.vme_shared.proofs.lemmas.Starts.{all_lawful}
 use Rattle.vme_shared.specs.Steps.{first_stage, step_after}
-use Rattle.vme_shared.specs.Tables as shares
-use Rattle.vme_shared.specs.Tables.{SharedJob, Invokes, Progress, At, Over, stage_job, stage_begun, step_begun, progress_by, progress_given, progress_of, task_shown, next_at}
+use Rattle.vme_shared.specs.Tables.{SharedJob, Progress, At, Over, stage_job, stage_begun, step_begun, progress_by, progress_given, progress_of, task_shown, next_at}
 use Rattle.vme_mailbox_laws.specs.Along.{mailbox_in, UsesMailbox, IsGood, AllGood, IsCount, AllCounts, phase_given, phase_along, words_given, put_reported, taken_reported}
 use Rattle.vme_mailbox_laws.proofs.Single.{IsGoodTo, Waits, Answered, reply_bytes, waits_fresh, waits_called, waits_reported, answered_by, ended}
 use Rattle.vme_mailbox_laws.proofs.Stages.{IsStage, is_stage, stage_command, stage_expected}
@@ -157,7 +156,7 @@ module _ (s : SharedJob) (board : ℕ) (m : BoardMailbox) (uses : UsesMailbox s 
   turned_on : (stage : Stage) (job : Job) (g : Given) (at : Option Phase) (put taken : List ℕ) (last : Option EventReply) (call : Call)
       (stands : IsAt m board s.request stage job g at put taken) → Waits stands.own.bus g
       → Before m s.request stage stands.phase × Words s.request stage put taken
-      → ((call ≡ ask_call stands.own.bus) ⊎ (call ≡ look_call stands.own.bus)) → next_of job g ≡ tasks.Invokes call
+      → ((call ≡ ask_call stands.own.bus) ⊎ (call ≡ look_call stands.own.bus)) → next_of job g ≡ Invokes call
       → IsGood (next_at (At stage job g)) last → Moved (At stage job g) last at put taken
   turned_on stage job g at put taken None call stands waits before which makes good =
       absurd (subst (λ n. IsGood (task_shown n) None) makes good)
@@ -169,7 +168,7 @@ module _ (s : SharedJob) (board : ℕ) (m : BoardMailbox) (uses : UsesMailbox s 
       ]
   turned_on stage job g at put taken (Some (replies.Bus reply)) call stands waits before which makes good =
       let fine = subst (λ n. IsGood (task_shown n) (Some (replies.Bus reply))) makes good in
-      let makes_bus : next_of (Bus stands.own.bus) g ≡ tasks.Invokes call = ap (λ j. next_of j g) (sym stands.own.is) ∙ makes in
+      let makes_bus : next_of (Bus stands.own.bus) g ≡ Invokes call = ap (λ j. next_of j g) (sym stands.own.is) ∙ makes in
       let same : phase_given m board (next_at (At stage job g)) (Some (replies.Bus reply)) at ≡ at =
       ap (λ n. phase_given m board (task_shown n) (Some (replies.Bus reply)) at) makes
       ∙ elim which [
@@ -183,14 +182,14 @@ module _ (s : SharedJob) (board : ℕ) (m : BoardMailbox) (uses : UsesMailbox s 
   datum_on : (stage : Stage) (job : Job) (g : Given) (at : Option Phase) (put taken : List ℕ) (last : Option EventReply)
       (stands : IsAt m board s.request stage job g at put taken) → Waits stands.own.bus g
       → Before m s.request stage stands.phase × Words s.request stage put taken
-      → next_of job g ≡ tasks.Invokes (OnBoard board (Some (stage_command m stage))) → IsGood (next_at (At stage job g)) last
+      → next_of job g ≡ Invokes (OnBoard board (Some (stage_command m stage))) → IsGood (next_at (At stage job g)) last
       → IsCount (phase_given m board (next_at (At stage job g)) last at) → Moved (At stage job g) last at put taken
   datum_on stage job g at put taken None stands waits before makes good count = absurd (subst (λ n. IsGood (task_shown n) None) makes good)
   datum_on stage job g at put taken (Some (replies.Bus reply)) stands waits before makes good count =
       let fine = subst (λ n. IsGood (task_shown n) (Some (replies.Bus reply))) makes good in let no_fit = fine.0 in absurd cc
   datum_on stage job g at put taken (Some (replies.Board reply)) stands waits before makes good count =
       let fine = subst (λ n. IsGood (task_shown n) (Some (replies.Board reply))) makes good in
-      let makes_bus : next_of (Bus stands.own.bus) g ≡ tasks.Invokes (OnBoard board (Some (stage_command m stage))) =
+      let makes_bus : next_of (Bus stands.own.bus) g ≡ Invokes (OnBoard board (Some (stage_command m stage))) =
       ap (λ j. next_of j g) (sym stands.own.is) ∙ makes in
       let answered = answered_by stands.own.bus stands.own.one g (OnBoard board (Some (stage_command m stage))) reply waits makes_bus fine in
       let fine_reply : IsFine m stage reply = record { form = fine.0; good = λ error. fine.1 (ap replies.Board error) } in
@@ -216,13 +215,13 @@ module _ (s : SharedJob) (board : ℕ) (m : BoardMailbox) (uses : UsesMailbox s 
       → Leads m s.request (step_after s.request stage (expected_outcome (stage_expected stage) (reply_bytes reply))) stands.phase put taken
       → IsGood (next_at (At stage job g)) last → Moved (At stage job g) last at put taken
   freed stage job g at put taken last reply stands answered leads good =
-      let makes : next_of job g ≡ tasks.Invokes (done_call stands.own.bus) = ap (λ j. next_of j g) stands.own.is ∙ answered.next in
+      let makes : next_of job g ≡ Invokes (done_call stands.own.bus) = ap (λ j. next_of j g) stands.own.is ∙ answered.next in
       let fine : IsGoodTo (next_of (Bus stands.own.bus) g) last =
       subst (λ n. IsGoodTo n last) (sym answered.next) (subst (λ n. IsGood (task_shown n) last) makes good) in
       let end = ended stands.own.bus stands.own.one g last reply stands.own.place stands.own.placed answered fine in
       let outcome = expected_outcome (stage_expected stage) (reply_bytes reply) in
-      let ends : next_of job (last ∷ g) ≡ tasks.Returns outcome =
-      ap (λ j. next_of j (last ∷ g)) stands.own.is ∙ end.1 ∙ ap (λ a. tasks.Returns (expected_outcome a (reply_bytes reply))) stands.own.expected in
+      let ends : next_of job (last ∷ g) ≡ Returns outcome =
+      ap (λ j. next_of j (last ∷ g)) stands.own.is ∙ end.1 ∙ ap (λ a. Returns (expected_outcome a (reply_bytes reply))) stands.own.expected in
       let to : progress_given s last (At stage job g) ≡ step_begun s (step_after s.request stage outcome) =
       ap (progress_by s stage job (last ∷ g)) ends in
       let same : phase_given m board (next_at (At stage job g)) last at ≡ at =
@@ -234,12 +233,12 @@ module _ (s : SharedJob) (board : ℕ) (m : BoardMailbox) (uses : UsesMailbox s 
   -- a stage before its first call
   called : (stage : Stage) (job : Job) (g : Given) (at : Option Phase) (put taken : List ℕ) (last : Option EventReply)
       (stands : IsAt m board s.request stage job g at put taken) → Waits stands.own.bus g
-      → Before m s.request stage stands.phase × Words s.request stage put taken → next_of job g ≡ tasks.NotStarted
+      → Before m s.request stage stands.phase × Words s.request stage put taken → next_of job g ≡ NotStarted
       → IsGood (next_at (At stage job g)) last → Moved (At stage job g) last at put taken
   called stage job g at put taken (Some reply) stands waits before rests good =
       let none = subst (λ n. IsGood (task_shown n) (Some reply)) rests good in absurd cc
   called stage job g at put taken None stands waits before rests good =
-      let rests_bus : next_of (Bus stands.own.bus) g ≡ tasks.NotStarted = ap (λ j. next_of j g) (sym stands.own.is) ∙ rests in
+      let rests_bus : next_of (Bus stands.own.bus) g ≡ NotStarted = ap (λ j. next_of j g) (sym stands.own.is) ∙ rests in
       waits_on stage job g at put taken None stands (waits_called stands.own.bus g waits rests_bus) before
       (ap (λ n. phase_given m board (task_shown n) None at) rests)
 
@@ -258,7 +257,7 @@ module _ (s : SharedJob) (board : ℕ) (m : BoardMailbox) (uses : UsesMailbox s 
               | inr (inr (inl looks)) ↦
                   turned_on stage job g at put taken last (look_call stands.own.bus) stands waiting.0 waiting.1 (inr refl) (to_job ∙ looks) good
               | inr (inr (inr datum)) ↦
-                  datum_on stage job g at put taken last stands waiting.0 waiting.1 (to_job ∙ datum ∙ ap tasks.Invokes stands.own.datum) good count
+                  datum_on stage job g at put taken last stands waiting.0 waiting.1 (to_job ∙ datum ∙ ap Invokes stands.own.datum) good count
             ]
         | inr answered ↦ freed stage job g at put taken last answered.0 stands answered.1 answered.2 good
       ]
@@ -313,7 +312,7 @@ module _ (s : SharedJob) (board : ℕ) (m : BoardMailbox) (uses : UsesMailbox s 
       elim stands.work [
         | inl waiting ↦
             elim waiting.0.next [
-              | inl rests ↦ let no_call : shares.NotStarted ≡ Invokes (OnBoard x command) = ap task_shown (sym rests) ∙ to_job in absurd cc
+              | inl rests ↦ let no_call : NotStarted ≡ Invokes (OnBoard x command) = ap task_shown (sym rests) ∙ to_job in absurd cc
               | inr (inl asks) ↦
                   let other : Invokes (ask_call stands.own.bus) ≡ Invokes (OnBoard x command) = ap task_shown (sym asks) ∙ to_job in absurd cc
               | inr (inr (inl looks)) ↦

@@ -15,9 +15,10 @@ use Rattle.vme_decode.specs.Select.{selection_at}
 use Rattle.vme_memory.specs.Steps.{Command}
 use Rattle.vme_memory.specs.Data.{datum_command}
 use Rattle.vme_core.specs.Calls.{OnBoard}
+use Rattle.vme_core.specs.NextSteps.{Invokes}
 use Rattle.vme_master.specs.declared.job.BusJob.{BusJob}
 use Rattle.vme_master.specs.Jobs.{bus_job}
-use Rattle.vme_master.specs.Tables.{Given, Invokes, data_in, next_of}
+use Rattle.vme_master.specs.Tables.{Given, data_in, next_of}
 use Rattle.vme_master.proofs.lemmas.Tenures.{data_go_on}
 use Rattle.vme_shared.specs.MailboxSteps.{offset_of, len_of}
 use Rattle.vme_script.specs.declared.board_range.BoardRange.{BoardRange}

@@ -16,11 +16,12 @@ use Rattle.vme_memory.proofs.lemmas.Data.{reply_form}
 use Rattle.vme_core.specs.declared.event.EventReply.{EventReply}
 use Rattle.vme_core.specs.declared.event.EventReply.TheVariants as replies
 use Rattle.vme_core.specs.Calls.{OnBoard, command_step}
+use Rattle.vme_core.specs.NextSteps.{NextStep, NotStarted, Invokes, Returns}
+use Rattle.vme_master.specs.declared.outcome.Outcome.{Outcome}
 use Rattle.vme_master.specs.declared.job.BusJob.{BusJob}
 use Rattle.vme_master.specs.declared.job.Job.{Job}
 use Rattle.vme_master.specs.Jobs.{bus_job}
-use Rattle.vme_master.specs.Tables as tasks
-use Rattle.vme_master.specs.Tables.{Next, Given, data_in, next_of}
+use Rattle.vme_master.specs.Tables.{Given, data_in, next_of}
 use Rattle.vme_master.proofs.lemmas.Tenures.{data_go_on}
 use Rattle.vme_shared.specs.MailboxSteps.{BoardMailbox, LiesIn, touches}
 use Rattle.vme_shared.specs.declared.mailbox.Mailbox.{Mailbox}
@@ -31,7 +32,7 @@ use Rattle.vme_shared.specs.declared.stage.Step.{Step}
 use Rattle.vme_shared.specs.declared.stage.Step.TheVariants.{Continue, Finish}
 use Rattle.vme_shared.specs.Mailboxes.{mailbox_request, stage_request, set_lock, clear_lock}
 use Rattle.vme_shared.specs.Steps.{first_stage, step_after}
-use Rattle.vme_shared.specs.Tables.{SharedJob, Invokes, Progress, At, Over, transfer_job, stage_job, stage_begun, step_begun, progress_by, progress_given, progress_of, next_at, shared_next}
+use Rattle.vme_shared.specs.Tables.{SharedJob, Progress, At, Over, transfer_job, stage_job, stage_begun, step_begun, progress_by, progress_given, progress_of, next_at, shared_next}
 use Rattle.vme_shared.proofs.lemmas.Tenures.{shown_makes}
 use Rattle.vme_mailbox_laws.specs.Along.{mailbox_in, LiesAt, UsesMailbox, IsGood, GoesTo}
 use Rattle.vme_mailbox_laws.proofs.Stages.{shape, own_request, distance, distance_within, stage_command, stage_touches}
@@ -51,10 +52,10 @@ own_stepped : (s : SharedJob) (step : Step) → OwnJob s (step_begun s step)
 own_stepped s (Continue stage) = own_begun s stage (None ∷ []) (stage_job s stage) refl
 own_stepped s (Finish end) = tt
 
-own_by : (s : SharedJob) (stage : Stage) (job : Job) (g : Given) (next : Next) → stage_job s stage ≡ Ok job → OwnJob s (progress_by s stage job g next)
-own_by s stage job g tasks.NotStarted own = own
-own_by s stage job g (tasks.Invokes call) own = own
-own_by s stage job g (tasks.Returns outcome) own = own_stepped s (step_after s.request stage outcome)
+own_by : (s : SharedJob) (stage : Stage) (job : Job) (g : Given) (next : NextStep Outcome) → stage_job s stage ≡ Ok job → OwnJob s (progress_by s stage job g next)
+own_by s stage job g NotStarted own = own
+own_by s stage job g (Invokes call) own = own
+own_by s stage job g (Returns outcome) own = own_stepped s (step_after s.request stage outcome)
 
 own_given : (s : SharedJob) (last : Option EventReply) (progress : Progress) → OwnJob s progress → OwnJob s (progress_given s last progress)
 own_given s last (At stage job g) own = own_by s stage job (last ∷ g) (next_of job (last ∷ g)) own
@@ -73,7 +74,7 @@ record Sent (s : SharedJob) (request : Request) (x : ℕ) (command : Option Comm
   own : command ≡ Some (datum_command request 0 offset)
 
 sent_by : (s : SharedJob) (request : Request) (t : Transfer) (g : Given) (x : ℕ) (command : Option Command) → count_of request ≡ 1
-    → transfer_of request ≡ Ok t → next_of (bus_job s.map s.slot s.level t) g ≡ tasks.Invokes (OnBoard x command) → Sent s request x command
+    → transfer_of request ≡ Ok t → next_of (bus_job s.map s.slot s.level t) g ≡ Invokes (OnBoard x command) → Sent s request x command
 sent_by s request t g x command one lawful makes =
     let from = comes_from request t lawful in
     let bus : BusJob = record { slot = s.slot; level = s.level; transfer = t; place = selection_at s.map t.am (addr_of t.request) } in
@@ -93,7 +94,7 @@ sent_by s request t g x command one lawful makes =
     }
 
 sent_in : (s : SharedJob) (request : Request) (result : Result Transfer CycleFault) (job : Job) (g : Given) (x : ℕ) (command : Option Command)
-    → count_of request ≡ 1 → transfer_of request ≡ result → transfer_job s result ≡ Ok job → next_of job g ≡ tasks.Invokes (OnBoard x command)
+    → count_of request ≡ 1 → transfer_of request ≡ result → transfer_job s result ≡ Ok job → next_of job g ≡ Invokes (OnBoard x command)
     → Sent s request x command
 sent_in s request (Ok t) job g x command one is made makes =
     let same : job ≡ bus_job s.map s.slot s.level t = cc in

@@ -1,6 +1,7 @@
 -- The phase in which a put or a take ends, and its words.
 use Rattle.std.proofs.Common.{◌≡◌, ℕ, true, List, Option, refl, ap, subst, ◌∙◌, inl, inr}
 use Rattle.std.specs.Prelude.{is_some}
+use Rattle.vme_core.specs.NextSteps.{Returns}
 use Rattle.vme_master.specs.declared.job.Job.{Job}
 use Rattle.vme_master.specs.Tables.{Given, next_of}
 use Rattle.vme_shared.specs.MailboxSteps.{BoardMailbox}
@@ -9,7 +10,7 @@ use Rattle.vme_shared.specs.Words.{put_by, taken_by}
 use Rattle.vme_shared.specs.declared.outcome.SharedOutcome.{SharedOutcome}
 use Rattle.vme_shared.specs.declared.request.SharedRequest.{SharedRequest}
 use Rattle.vme_shared.specs.declared.stage.Stage.{Stage}
-use Rattle.vme_shared.specs.Tables.{SharedJob, Returns, Progress, At, Over, progress_of, task_shown, next_at, shared_next}
+use Rattle.vme_shared.specs.Tables.{SharedJob, Progress, At, Over, progress_of, task_shown, next_at, shared_next}
 use Rattle.vme_mailbox_laws.specs.Along.{UsesMailbox, AllGood, AllCounts, phase_along, words_given}
 use Rattle.vme_mailbox_laws.proofs.Courses.{IsAt, IsOver, Stands, stands_along}
 

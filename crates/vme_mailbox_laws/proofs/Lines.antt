@@ -13,7 +13,8 @@ use Rattle.vme_core.specs.declared.event.Event.TheVariants as asked
 use Rattle.vme_core.specs.declared.event.EventReply.{EventReply}
 use Rattle.vme_core.specs.declared.event.EventReply.TheVariants as event_replies
 use Rattle.vme_core.specs.Runs.{Transition, move, board_entry, board_part}
-use Rattle.vme_core.specs.Calls.{Call, OnBoard, call_of}
+use Rattle.vme_core.specs.Calls.{OnBoard, call_of}
+use Rattle.vme_core.specs.NextSteps.{NextStep, NotStarted, Invokes, Returns}
 use Rattle.vme_shared.specs.MailboxSteps.{BoardMailbox, touches}
 use Rattle.vme_shared.specs.Phases.{Phase, Idle, after_command}
 use Rattle.vme_shared.specs.Words.{put_by, taken_by}
@@ -22,14 +23,14 @@ use Rattle.vme_shared.specs.declared.outcome.SharedOutcome.{SharedOutcome}
 use Rattle.vme_shared.specs.declared.outcome.SharedOutcome.TheVariants as shared
 use Rattle.vme_shared.specs.declared.reply.LineReply.{LineReply}
 use Rattle.vme_shared.specs.declared.reply.LineReply.TheVariants.{Shared}
-use Rattle.vme_shared.specs.Tables as shares
-use Rattle.vme_shared.specs.Tables.{SharedJob, SharedNext, progress_of, shared_next}
+use Rattle.vme_shared.specs.Tables.{SharedJob, progress_of, shared_next}
 use Rattle.vme_shared.proofs.lemmas.Starts.{rests}
 use Rattle.vme_grammar.specs.declared.line.Line.{Line}
 use Rattle.vme_script.specs.Configurations.{Configuration}
 use Rattle.vme_line_task.specs.Scripts.{Sharing, line_attempt}
-use Rattle.vme_line_task.specs.Tables.{Invokes, Returns, Attempts, shares_next, attempt_next, next_wants_retry, next_attempt, attempts_of, lawful_next, next_given, given_of, line_next}
+use Rattle.vme_line_task.specs.Tables.{Attempts, shares_next, attempt_next, next_wants_retry, next_attempt, attempts_of, lawful_next, next_given, given_of, line_next}
 use Rattle.vme_line_task.specs.Traces.{Continues}
+use Rattle.vme_line_task.proofs.lemmas.Below.{shares_makes}
 use Rattle.vme_mailbox_laws.specs.Along.{UsesMailbox, IsGood, IsCount, phase_given, put_reported, taken_reported}
 use Rattle.vme_mailbox_laws.proofs.Courses.{Stands, IsOver, opening, moves}
 use Rattle.vme_mailbox_laws.proofs.Ends.{ends_in}
@@ -46,33 +47,27 @@ part_cons x m run = by_entry (board_entry x m.who m.event m.reply) refl
     by_entry None is = rw is refl
     by_entry (Some e) is = rw is refl
 
--- a call of the attempt is a call of the line
-shares_makes : (n : SharedNext) (call : Call) → shares_next n ≡ Invokes call → n ≡ shares.Invokes call
-shares_makes shares.NotStarted call is = absurd cc
-shares_makes (shares.Invokes other) call is = cc
-shares_makes (shares.Returns outcome) call is = absurd cc
-
 -- an end of the line is the end of its attempt
-pub shares_ends : (n : SharedNext) (answer : LineReply) → shares_next n ≡ Returns answer → (outcome : SharedOutcome) × (n ≡ shares.Returns outcome) × (answer ≡ Shared outcome)
-shares_ends shares.NotStarted answer is = absurd cc
-shares_ends (shares.Invokes call) answer is = absurd cc
-shares_ends (shares.Returns outcome) answer is = (outcome, refl, cc)
+pub shares_ends : (n : NextStep SharedOutcome) (answer : LineReply) → shares_next n ≡ Returns answer → (outcome : SharedOutcome) × (n ≡ Returns outcome) × (answer ≡ Shared outcome)
+shares_ends NotStarted answer is = absurd cc
+shares_ends (Invokes call) answer is = absurd cc
+shares_ends (Returns outcome) answer is = (outcome, refl, cc)
 
 -- an attempt that is followed by another has put and taken nothing
-again_ends : (n : SharedNext) → next_wants_retry (shares_next n) ≡ true
-    → (outcome : SharedOutcome) × (n ≡ shares.Returns outcome) × ((request : SharedRequest) → put_reported outcome request ≡ []) × (taken_reported outcome ≡ [])
-again_ends shares.NotStarted is = absurd cc
-again_ends (shares.Invokes call) is = absurd cc
-again_ends (shares.Returns shared.Busy) is = (shared.Busy, refl, λ request. refl, refl)
-again_ends (shares.Returns shared.Full) is = (shared.Full, refl, λ request. refl, refl)
-again_ends (shares.Returns shared.Empty) is = (shared.Empty, refl, λ request. refl, refl)
-again_ends (shares.Returns outcome) is = absurd cc
+again_ends : (n : NextStep SharedOutcome) → next_wants_retry (shares_next n) ≡ true
+    → (outcome : SharedOutcome) × (n ≡ Returns outcome) × ((request : SharedRequest) → put_reported outcome request ≡ []) × (taken_reported outcome ≡ [])
+again_ends NotStarted is = absurd cc
+again_ends (Invokes call) is = absurd cc
+again_ends (Returns shared.Busy) is = (shared.Busy, refl, λ request. refl, refl)
+again_ends (Returns shared.Full) is = (shared.Full, refl, λ request. refl, refl)
+again_ends (Returns shared.Empty) is = (shared.Empty, refl, λ request. refl, refl)
+again_ends (Returns outcome) is = absurd cc
 
 module _ (s : SharedJob) (board : ℕ) (m : BoardMailbox) (uses : UsesMailbox s board m) where
   -- a new attempt begins in the idle phase
   begins : IsIn s board m uses (None ∷ []) (Some Idle) [] []
   begins =
-      let rest : shared_next s [] ≡ shares.NotStarted = rests s uses.started in
+      let rest : shared_next s [] ≡ NotStarted = rests s uses.started in
       let good : IsGood (shared_next s []) None = subst (λ n. IsGood n None) (sym rest) refl in
       let same : phase_given m board (shared_next s []) None (Some Idle) ≡ Some Idle = ap (λ n. phase_given m board n None (Some Idle)) rest in
       subst (λ p. Stands m board s.request (progress_of s (None ∷ [])) p (put_by (Some Idle) p) (taken_by (Some Idle) p)) same

@@ -9,10 +9,12 @@ use Rattle.vme_arbiter.specs.declared.command.ArbReply.TheVariants as turned
 use Rattle.vme_core.specs.declared.event.EventReply.{EventReply}
 use Rattle.vme_core.specs.declared.event.EventReply.TheVariants as replies
 use Rattle.vme_core.specs.Calls.{Call}
+use Rattle.vme_core.specs.NextSteps.{NextStep, NotStarted, Invokes, Returns}
+use Rattle.vme_master.specs.declared.outcome.Outcome.{Outcome}
 use Rattle.vme_master.specs.declared.job.BusJob.{BusJob}
 use Rattle.vme_master.specs.declared.job.Job.TheVariants.{Bus}
 use Rattle.vme_master.specs.Jobs.{ask_call, look_call, done_call, datum_call, fits, request_expected, expected_outcome}
-use Rattle.vme_master.specs.Tables.{Next, NotStarted, Invokes, Returns, Given, data_in, bytes_in, datum_or_done, next_of}
+use Rattle.vme_master.specs.Tables.{Given, data_in, bytes_in, datum_or_done, next_of}
 
 -- the bytes of a reply
 abbrev pub reply_bytes : Reply → List ℕ
@@ -21,7 +23,7 @@ reply_bytes Done = []
 reply_bytes Berr = []
 
 -- a reply is good for the next step of a job
-abbrev pub IsGoodTo : Next → Option EventReply → Type 0
+abbrev pub IsGoodTo : NextStep Outcome → Option EventReply → Type 0
 IsGoodTo NotStarted last = last ≡ None
 IsGoodTo (Invokes call) None = ⊥
 IsGoodTo (Invokes call) (Some reply) = IsTrue (fits call reply) × (reply ≢ replies.Board Berr) × (reply ≢ replies.Bus turned.Denied)

@@ -14,11 +14,12 @@ use Rattle.vme_core.specs.declared.event.EventReply.{EventReply}
 use Rattle.vme_core.specs.declared.event.EventReply.TheVariants as replies
 use Rattle.vme_core.specs.Runs.{move, board_part}
 use Rattle.vme_core.specs.Calls.{Call, OnBoard, OnBus, call_of, command_step}
+use Rattle.vme_core.specs.NextSteps.{Invokes}
 use Rattle.vme_master.specs.Tables.{Given}
 use Rattle.vme_shared.specs.MailboxSteps.{BoardMailbox}
 use Rattle.vme_shared.specs.Phases.{Phase, after_command}
 use Rattle.vme_shared.specs.Words.{put_by, taken_by}
-use Rattle.vme_shared.specs.Tables.{SharedJob, Invokes, progress_of, shared_next}
+use Rattle.vme_shared.specs.Tables.{SharedJob, progress_of, shared_next}
 use Rattle.vme_shared.proofs.lemmas.Quiet.{no_put, no_taken}
 use Rattle.vme_mailbox_laws.specs.Along.{UsesMailbox, IsGood, IsCount, phase_given}
 use Rattle.vme_mailbox_laws.proofs.Datums.{commands, answered}

@@ -3,13 +3,14 @@ use Rattle.std.proofs.Common.{◌≡◌, ℕ, ◌+◌, ◌≤◌, ◌<◌, max, 
 use Rattle.std.proofs.lemmas.Bool.{cases_Bool, and_parts, ltb-true, ltb-false}
 use Rattle.vme_memory.specs.Steps.{Command}
 use Rattle.vme_core.specs.Calls.{OnBoard}
+use Rattle.vme_core.specs.NextSteps.{Invokes}
 use Rattle.vme_master.specs.Tables.{Given}
 use Rattle.vme_shared.specs.MailboxSteps.{BoardMailbox, end_of, touches, offset_of, len_of}
 use Rattle.vme_shared.proofs.lemmas.Places.{rest_below}
 use Rattle.vme_shared.specs.declared.mailbox.Mailbox.{Mailbox}
 use Rattle.vme_shared.specs.declared.stage.Stage.{Stage}
 use Rattle.vme_shared.specs.declared.stage.Stage.TheVariants.{Locks, ReadsPutCount, ReadsTakeCount, WritesWord, RaisesPutCount, ReadsWord, RaisesTakeCount, Unlocks}
-use Rattle.vme_shared.specs.Tables.{SharedJob, Invokes, shared_next}
+use Rattle.vme_shared.specs.Tables.{SharedJob, shared_next}
 use Rattle.vme_mailbox_laws.specs.Along.{mailbox_in, LiesAt, UsesMailbox, IsWithin, overlap}
 use Rattle.vme_mailbox_laws.proofs.Stages.{stage_command}
 use Rattle.vme_mailbox_laws.proofs.Courses.{some_slot}

@@ -10,6 +10,7 @@ use Rattle.vme_arbiter.specs.declared.command.ArbReply.TheVariants.{Denied}
 use Rattle.vme_core.specs.declared.event.EventReply.{EventReply}
 use Rattle.vme_core.specs.declared.event.EventReply.TheVariants as replies
 use Rattle.vme_core.specs.Calls.{OnBoard}
+use Rattle.vme_core.specs.NextSteps.{NextStep, NotStarted, Invokes, Returns}
 use Rattle.vme_master.specs.Jobs.{fits}
 use Rattle.vme_master.specs.Tables.{Given}
 use Rattle.vme_shared.specs.Layout.{mailbox_len}
@@ -21,7 +22,7 @@ use Rattle.vme_shared.specs.declared.outcome.SharedOutcome.TheVariants as shared
 use Rattle.vme_shared.specs.declared.request.SharedRequest.{SharedRequest}
 use Rattle.vme_shared.specs.declared.request.SharedRequest.TheVariants as asked
 use Rattle.vme_shared.specs.Mailboxes.{IsAsked, shared_refusal}
-use Rattle.vme_shared.specs.Tables.{SharedJob, SharedNext, NotStarted, Invokes, Returns, shared_next}
+use Rattle.vme_shared.specs.Tables.{SharedJob, shared_next}
 
 -- the mailbox of a put or a take
 abbrev pub mailbox_in : SharedRequest → Option Mailbox
@@ -47,7 +48,7 @@ pub record UsesMailbox (s : SharedJob) (board : ℕ) (m : BoardMailbox) : Type 0
 
 -- a reply is good for the step before it: none before the first call; then it fits the call, and is neither a bus error
 -- nor a denial
-abbrev pub IsGood : SharedNext → Option EventReply → Type 0
+abbrev pub IsGood : NextStep SharedOutcome → Option EventReply → Type 0
 IsGood NotStarted last = last ≡ None
 IsGood (Invokes call) None = ⊥
 IsGood (Invokes call) (Some reply) = IsTrue (fits call reply) × (reply ≢ replies.Board Berr) × (reply ≢ replies.Bus Denied)
@@ -59,7 +60,7 @@ AllGood s [] = Unit {0}
 AllGood s (last ∷ before) = IsGood (shared_next s before) last × AllGood s before
 
 -- the phase after a call and its reply: a command to the board moves it, and every other call leaves it
-abbrev pub phase_given : BoardMailbox → ℕ → SharedNext → Option EventReply → Option Phase → Option Phase
+abbrev pub phase_given : BoardMailbox → ℕ → NextStep SharedOutcome → Option EventReply → Option Phase → Option Phase
 phase_given m board (Invokes (OnBoard x command)) (Some (replies.Board reply)) phase =
     if x == board then after_command m phase command reply else phase
 phase_given m board next last phase = phase

@@ -2,6 +2,7 @@
 use Rattle.std.specs.Prelude.{ℕ, ◌≡◌, ◌%◌, ◌^◌, Bool, false, ◌==◌, if◌then◌else◌, List, [], ◌∷◌, ◌++◌, Some, None}
 use Rattle.vme_core.specs.declared.event.EventReply.{EventReply}
 use Rattle.vme_core.specs.Calls.{OnBoard}
+use Rattle.vme_core.specs.NextSteps.{Invokes}
 use Rattle.vme_memory.specs.Steps.{Command}
 use Rattle.vme_shared.specs.MailboxSteps.{BoardMailbox, touches}
 use Rattle.vme_shared.specs.declared.outcome.SharedOutcome.TheVariants as shared
@@ -14,7 +15,7 @@ use Rattle.vme_grammar.specs.declared.line.Line.TheVariants.{Put, Take}
 use Rattle.vme_script.specs.Boards.{entries_of}
 use Rattle.vme_script.specs.Configurations.{Configuration}
 use Rattle.vme_line_task.specs.Scripts.{mailbox_at, lines_at}
-use Rattle.vme_line_task.specs.Tables.{Invokes, line_next}
+use Rattle.vme_line_task.specs.Tables.{line_next}
 
 -- whether a line is a put or a take of the mailbox with this number
 abbrev pub names : ℕ → Line → Bool

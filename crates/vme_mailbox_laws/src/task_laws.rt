@@ -4,6 +4,7 @@ ghost use Rattle.vme_memory.specs.Boards.{Board};
 ghost use Rattle.vme_memory.specs.Steps.{Command, Write, Modify};
 ghost use Rattle.vme_core.specs.declared.event.EventReply.TheVariants as replies;
 ghost use Rattle.vme_core.specs.Calls.{OnBoard, command_step};
+ghost use Rattle.vme_core.specs.NextSteps.{Invokes, Returns};
 ghost use Rattle.vme_master.specs.Tables.{Given};
 ghost use Rattle.vme_shared.specs.MailboxSteps.{BoardMailbox, LiesIn, touches};
 ghost use Rattle.vme_shared.specs.Phases.{Idle};
@@ -12,7 +13,7 @@ ghost use Rattle.vme_shared.specs.declared.mailbox.Mailbox.{Mailbox};
 ghost use Rattle.vme_shared.specs.declared.outcome.SharedOutcome.{SharedOutcome};
 ghost use Rattle.vme_shared.specs.declared.outcome.SharedOutcome.TheVariants.{Berr, Denied};
 ghost use Rattle.vme_shared.specs.declared.request.SharedRequest.TheVariants.{Lock, Unlock};
-ghost use Rattle.vme_shared.specs.Tables.{SharedJob, Invokes, Returns, shared_next};
+ghost use Rattle.vme_shared.specs.Tables.{SharedJob, shared_next};
 ghost use Rattle.vme_mailbox_laws.specs.Along.{mailbox_in, LiesAt, IsWithin, overlap, UsesMailbox, IsGood, AllGood, AllCounts, phase_along, words_given, put_reported, taken_reported, GoesTo};
 
 /// Each command that a put or a take sends to a board goes to the board of its mailbox and touches

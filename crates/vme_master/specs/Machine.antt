@@ -12,6 +12,7 @@ use Rattle.vme_arbiter.specs.declared.command.ArbReply.{ArbReply}
 use Rattle.vme_arbiter.specs.declared.command.ArbReply.TheVariants as turned
 use Rattle.vme_core.specs.declared.event.EventReply.{EventReply}
 use Rattle.vme_core.specs.declared.event.EventReply.TheVariants as replies
+use Rattle.vme_core.specs.NextSteps.{NextStep, NotStarted, Invokes, Returns}
 use Rattle.vme_master.specs.declared.job.BusJob.{BusJob}
 use Rattle.vme_master.specs.declared.job.LocalJob.{LocalJob}
 use Rattle.vme_master.specs.declared.job.Job.{Job}
@@ -23,7 +24,7 @@ use Rattle.vme_master.specs.declared.expected.ExpectedReply.TheVariants as expec
 use Rattle.vme_master.specs.declared.outcome.Outcome.{Outcome}
 use Rattle.vme_master.specs.declared.outcome.Outcome.TheVariants as outcomes
 use Rattle.vme_master.specs.Jobs.{bus_job, ask_call, look_call, done_call, datum_call, local_call, request_expected, command_expected, expected_outcome, error_outcome}
-use Rattle.vme_master.specs.Tables.{Next, NotStarted, Invokes, Returns, Given}
+use Rattle.vme_master.specs.Tables.{Given}
 
 -- a task: what it is for, how far it has come, and what was read so far (this project's own)
 pub record TaskView : Type 0 where
@@ -130,16 +131,8 @@ abbrev pub is_called : Phase → Bool
 is_called New = false
 is_called phase = true
 
--- whether a job makes a call in a phase (this project's own)
-abbrev pub makes : Job → Phase → Bool
-makes job (Transferring i) = true
-makes (Bus job) Requesting = true
-makes (Bus job) Polling = true
-makes (Bus job) (Releasing berr) = true
-makes job phase = false
-
 -- what a transfer does next, by its phase (this project's own)
-abbrev pub bus_next : BusJob → Phase → List ℕ → Next
+abbrev pub bus_next : BusJob → Phase → List ℕ → NextStep Outcome
 bus_next job New read = NotStarted
 bus_next job Requesting read = Invokes (ask_call job)
 bus_next job Polling read = Invokes (look_call job)
@@ -149,19 +142,19 @@ bus_next job (Finished berr) read = Returns (end_outcome (job_expected (Bus job)
 bus_next job Denied read = Returns outcomes.Denied
 
 -- what a command to a local port does next (this project's own)
-abbrev pub local_next : LocalJob → Phase → List ℕ → Next
+abbrev pub local_next : LocalJob → Phase → List ℕ → NextStep Outcome
 local_next job New read = NotStarted
 local_next job (Transferring i) read = Invokes (local_call job)
 local_next job (Finished berr) read = Returns (end_outcome (job_expected (Local job)) berr read)
 local_next job phase read = Returns outcomes.Denied
 
 -- what a job does next (this project's own)
-abbrev pub job_next : Job → Phase → List ℕ → Next
+abbrev pub job_next : Job → Phase → List ℕ → NextStep Outcome
 job_next (Bus job) phase read = bus_next job phase read
 job_next (Local job) phase read = local_next job phase read
 
 -- what a task does next (this project's own)
-abbrev pub to_do : TaskView → Next
+abbrev pub to_do : TaskView → NextStep Outcome
 to_do t = job_next t.job t.phase t.read
 
 -- the offset of a transfer's first byte is no greater than its address, and leaves the same remainder by four

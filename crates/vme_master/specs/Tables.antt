@@ -7,6 +7,7 @@ use Rattle.vme_arbiter.specs.declared.command.ArbReply.TheVariants as turned
 use Rattle.vme_core.specs.declared.event.EventReply.{EventReply}
 use Rattle.vme_core.specs.declared.event.EventReply.TheVariants as replies
 use Rattle.vme_core.specs.Calls.{Call}
+use Rattle.vme_core.specs.NextSteps.{NextStep, NotStarted, Invokes, Returns}
 use Rattle.vme_master.specs.declared.job.BusJob.{BusJob}
 use Rattle.vme_master.specs.declared.job.LocalJob.{LocalJob}
 use Rattle.vme_master.specs.declared.job.Job.{Job}
@@ -14,13 +15,6 @@ use Rattle.vme_master.specs.declared.job.Job.TheVariants.{Bus, Local}
 use Rattle.vme_master.specs.declared.outcome.Outcome.{Outcome}
 use Rattle.vme_master.specs.declared.outcome.Outcome.TheVariants as outcomes
 use Rattle.vme_master.specs.Jobs.{ask_call, look_call, done_call, datum_call, local_call, fits, request_expected, command_expected, expected_outcome, error_outcome}
-
--- what a task does next: it rests until its first call; it makes a call, and wants the reply; or it has ended
--- (this project's own)
-pub data Next : Type 0 where
-  NotStarted : Next
-  Invokes : Call → Next
-  Returns : Outcome → Next
 
 -- what a task was given so far, the newest first: each time the reply to its call, or none (this project's own)
 abbrev pub Given : Type 0
@@ -51,7 +45,7 @@ outcome_by job (Some place) (Some (replies.Board Berr) ∷ before) = error_outco
 outcome_by job (Some place) before = expected_outcome (request_expected job.transfer.request) (bytes_in before)
 
 -- the table of a transfer over the bus, by the last reply, which fits, and what was given before (this project's own)
-abbrev pub bus_row : BusJob → EventReply → Given → Next
+abbrev pub bus_row : BusJob → EventReply → Given → NextStep Outcome
 bus_row job (replies.Bus turned.Waiting) before = Invokes (look_call job)
 bus_row job (replies.Bus turned.Granted) before = Invokes (datum_or_done job 0)
 bus_row job (replies.Board (Bytes datum)) before = Invokes (datum_or_done job (data_in before + 1))
@@ -61,14 +55,14 @@ bus_row job (replies.Bus turned.Freed) before = Returns (outcome_by job job.plac
 bus_row job (replies.Bus turned.Denied) before = Returns outcomes.Denied
 
 -- the table of a command to a local port, by the reply, which fits (this project's own)
-abbrev pub local_row : LocalJob → EventReply → Next
+abbrev pub local_row : LocalJob → EventReply → NextStep Outcome
 local_row job (replies.Board (Bytes datum)) = Returns (expected_outcome (command_expected (command_given job.cmd)) datum.items)
 local_row job (replies.Board Done) = Returns (expected_outcome (command_expected (command_given job.cmd)) [])
 local_row job (replies.Board Berr) = Returns (error_outcome 0 [])
 local_row job (replies.Bus reply) = Returns outcomes.Denied
 
 -- either table (this project's own)
-abbrev pub row_of_reply : Job → EventReply → Given → Next
+abbrev pub row_of_reply : Job → EventReply → Given → NextStep Outcome
 row_of_reply (Bus job) last before = bus_row job last before
 row_of_reply (Local job) last before = local_row job last
 
@@ -79,7 +73,7 @@ first_call (Local job) = local_call job
 
 -- what comes after what was next: the first call is given no reply, each later one a reply that fits, and an end is for good;
 -- anything else is a denial (this project's own)
-abbrev pub next_after : Job → Next → Option EventReply → Given → Next
+abbrev pub next_after : Job → NextStep Outcome → Option EventReply → Given → NextStep Outcome
 next_after job NotStarted None before = Invokes (first_call job)
 next_after job NotStarted (Some reply) before = Returns outcomes.Denied
 next_after job (Invokes call) None before = Returns outcomes.Denied
@@ -87,6 +81,6 @@ next_after job (Invokes call) (Some reply) before = if fits call reply then row_
 next_after job (Returns outcome) given before = Returns outcome
 
 -- what a task does next, by what it was given so far (this project's own)
-abbrev pub next_of : Job → Given → Next
+abbrev pub next_of : Job → Given → NextStep Outcome
 next_of job [] = NotStarted
 next_of job (last ∷ before) = next_after job (next_of job before) last before

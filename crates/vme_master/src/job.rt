@@ -1,20 +1,20 @@
-ghost use Rattle.std.specs.Prelude.{◌≡◌, ◌<◌, ◌≤◌, ℕ, List, length, Some, IsTrue, option_map};
+ghost use Rattle.std.specs.Prelude.{◌≡◌, ◌<◌, ◌≤◌, ℕ, List, length, Some, option_map};
 ghost use Rattle.vme_cycle.specs.BlockBuffers.{block_limit};
 ghost use Rattle.vme_cycle.specs.Requests.{count_of};
 ghost use Rattle.vme_memory.specs.Locals.{command_given};
-ghost use Rattle.vme_core.specs.Calls.{OnBoard, call_of};
+ghost use Rattle.vme_core.specs.Calls.{OnBoard};
 ghost use Rattle.vme_core.specs.EventRefs.{call_asked};
-ghost use Rattle.vme_master.specs.Jobs.{ask_call, look_call, done_call, datum_call, local_call};
-ghost use Rattle.vme_master.specs.Machine.{job_expected, datum_phase, phase_at, phase_broken, first_phase, phase_answered, phase_replied, makes, bus_next, local_next, job_next, end_outcome, IsPlaced, IsShort, call_count, job_read_len};
+ghost use Rattle.vme_core.specs.NextSteps.{call_in};
+ghost use Rattle.vme_master.specs.Jobs.{datum_call};
+ghost use Rattle.vme_master.specs.Machine.{job_expected, datum_phase, phase_at, first_phase, phase_answered, phase_replied, bus_next, local_next, job_next, end_outcome, IsPlaced, IsShort, call_count, job_read_len};
 ghost use Rattle.vme_master.specs.declared.phase.Phase.TheVariants.{Transferring};
-ghost use Rattle.vme_master.specs.Events.{call_in};
 
 use crate::expected::ExpectedReply;
 use crate::outcome::Outcome;
 use crate::phase::Phase;
 use vme_arbiter::{ArbCmd, ArbReply};
-use vme_core::{DatumCycle, Event, EventRef};
-use vme_cycle::{BlockBuffer, Modify, Transfer};
+use vme_core::{DatumCycle, EventRef};
+use vme_cycle::{BlockBuffer, Transfer};
 use vme_lanes::Datum;
 use vme_memory::{BoardCmd, Reply};
 
@@ -29,58 +29,17 @@ pub struct BusJob<'a> {
 }
 
 impl BusJob<'_> {
-    pub(crate) fn ask(&self) -> Event
-        ensures { call_of result ≡ ask_call self.now }
-    {
-        Event::Bus(ArbCmd::Ask {
-            slot: self.slot,
-            level: self.level,
-        })
-    }
-
-    pub(crate) fn look(&self) -> Event
-        ensures { call_of result ≡ look_call self.now }
-    {
-        Event::Bus(ArbCmd::Look { slot: self.slot })
-    }
-
-    pub(crate) fn done(&self) -> Event
-        ensures { call_of result ≡ done_call self.now }
-    {
-        Event::Bus(ArbCmd::Done { slot: self.slot })
-    }
-
     /// The event of datum `i`: a cycle of the board that the first datum selects. Where there is no
     /// such board, the bus is given back.
-    pub(crate) fn datum(&self, i: u16) -> Event
-        requires in_count { i < count_of self.now.transfer.request }
-        requires placed { IsPlaced (Job.Bus self.now) }
-        ensures { call_of result ≡ datum_call self.now self.now.place i }
-    {
-        let Some((board, offset)) = self.place else {
-            return self.done();
-        };
-        let plan = self.transfer.plan();
-        prove!(i < plan.len());
-        let at = offset + u32::from(i) * u32::from(plan.datum_len());
-        let cmd = BoardCmd::Cycle {
-            signals: plan.signals(i),
-            at,
-            f: copy_function(plan.modify()),
-        };
-        Event::Board { board, cmd }
-    }
-
-    /// The same apart from the lines of its cycle.
     #[inline(always)]
-    fn moves(&self, i: u16) -> EventRef<'_>
+    fn datum(&self, i: u16) -> EventRef<'_>
         requires in_count { i < count_of self.now.transfer.request }
         requires placed { IsPlaced (Job.Bus self.now) }
         ensures { call_asked result ≡ datum_call self.now self.now.place i }
     {
         match self.place {
             Some((board, offset)) => {
-                let cycle = self.moves_to(board, offset, i);
+                let cycle = self.datum_at(board, offset, i);
                 EventRef::Datum { board, cycle }
             }
             None => EventRef::Bus(ArbCmd::Done { slot: self.slot }),
@@ -89,7 +48,7 @@ impl BusJob<'_> {
 
     /// The datum itself, where the board of the first one, and its offset there, are known.
     #[inline(always)]
-    pub(crate) fn moves_to(&self, board: usize, offset: u32, i: u16) -> DatumCycle<'_>
+    pub(crate) fn datum_at(&self, board: usize, offset: u32, i: u16) -> DatumCycle<'_>
         requires in_count { i < count_of self.now.transfer.request }
         requires placed { IsPlaced (Job.Bus self.now) }
         requires place { self.now.place ≡ Some (board, offset) }
@@ -101,7 +60,7 @@ impl BusJob<'_> {
         DatumCycle::new(plan, i, at)
     }
 
-    /// What it asks in a phase, if anything.
+    /// The event that it makes in a phase, if any.
     #[inline(always)]
     fn event_ref(&self, phase: Phase) -> Option<EventRef<'_>>
         requires in_count { (i : ℕ) → phase ≡ Transferring i → i < count_of self.now.transfer.request }
@@ -112,23 +71,8 @@ impl BusJob<'_> {
         match phase {
             Phase::Requesting => Some(EventRef::Bus(ArbCmd::Ask { slot, level })),
             Phase::Polling => Some(EventRef::Bus(ArbCmd::Look { slot })),
-            Phase::Transferring { i } => Some(self.moves(i)),
-            Phase::Releasing { .. } => Some(EventRef::Bus(ArbCmd::Done { slot })),
-            Phase::New | Phase::Finished { .. } | Phase::Denied => None,
-        }
-    }
-
-    /// The event that it makes in a phase, if any.
-    fn event(&self, phase: Phase) -> Option<Event>
-        requires in_count { (i : ℕ) → phase ≡ Transferring i → i < count_of self.now.transfer.request }
-        requires placed { IsPlaced (Job.Bus self.now) }
-        ensures { (read : List ℕ) → option_map call_of result ≡ call_in (bus_next self.now phase read) }
-    {
-        match phase {
-            Phase::Requesting => Some(self.ask()),
-            Phase::Polling => Some(self.look()),
             Phase::Transferring { i } => Some(self.datum(i)),
-            Phase::Releasing { .. } => Some(self.done()),
+            Phase::Releasing { .. } => Some(EventRef::Bus(ArbCmd::Done { slot })),
             Phase::New | Phase::Finished { .. } | Phase::Denied => None,
         }
     }
@@ -149,15 +93,6 @@ impl BusJob<'_> {
     }
 }
 
-fn copy_function(f: Option<&Modify>) -> Option<Modify>
-    ensures { result ≡ option_map (λ f. f.now) f.entry }
-{
-    match f {
-        Some(f) => Some(f.copy()),
-        None => None,
-    }
-}
-
 /// A command to a board's local port.
 #[derive(Debug, Drop)]
 pub struct LocalJob {
@@ -166,7 +101,7 @@ pub struct LocalJob {
 }
 
 impl LocalJob {
-    /// What it asks in a phase, if anything.
+    /// The event that it makes in a phase, if any.
     #[inline(always)]
     fn event_ref(&self, phase: Phase) -> Option<EventRef<'_>>
         ensures { (read : List ℕ) → option_map call_asked result ≡ call_in (local_next self.now phase read) }
@@ -175,19 +110,6 @@ impl LocalJob {
             Phase::Transferring { .. } => Some(EventRef::Board {
                 board: self.board,
                 cmd: &self.cmd,
-            }),
-            _ => None,
-        }
-    }
-
-    /// The event that it makes in a phase, if any.
-    fn event(&self, phase: Phase) -> Option<Event>
-        ensures { (read : List ℕ) → option_map call_of result ≡ call_in (local_next self.now phase read) }
-    {
-        match phase {
-            Phase::Transferring { .. } => Some(Event::Board {
-                board: self.board,
-                cmd: self.cmd.copy(),
             }),
             _ => None,
         }
@@ -214,7 +136,7 @@ impl Job<'_> {
         }
     }
 
-    /// What it asks in a phase, if anything.
+    /// The event that it makes in a phase, if any.
     #[inline(always)]
     pub(crate) fn event_ref(&self, phase: Phase) -> Option<EventRef<'_>>
         requires in_count { (i : ℕ) → phase ≡ Transferring i → i < call_count self.now }
@@ -224,29 +146,6 @@ impl Job<'_> {
         match self {
             Job::Bus(job) => job.event_ref(phase),
             Job::Local(job) => job.event_ref(phase),
-        }
-    }
-
-    /// The event that it makes in a phase, if any.
-    pub(crate) fn event(&self, phase: Phase) -> Option<Event>
-        requires in_count { (i : ℕ) → phase ≡ Transferring i → i < call_count self.now }
-        requires placed { IsPlaced self.now }
-        ensures { (read : List ℕ) → option_map call_of result ≡ call_in (job_next self.now phase read) }
-    {
-        match self {
-            Job::Bus(job) => job.event(phase),
-            Job::Local(job) => job.event(phase),
-        }
-    }
-
-    /// Whether it makes an event in a phase.
-    pub(crate) fn is_at_work(&self, phase: Phase) -> bool
-        ensures { result ≡ makes self.now phase }
-    {
-        match (self, phase) {
-            (_, Phase::Transferring { .. }) => true,
-            (Job::Bus(_), Phase::Requesting | Phase::Polling | Phase::Releasing { .. }) => true,
-            _ => false,
         }
     }
 

@@ -14,6 +14,7 @@ ghost use Rattle.vme_arbiter.specs.Turns.{may_give};
 ghost use Rattle.vme_core.specs.declared.event.EventReply.{EventReply};
 ghost use Rattle.vme_core.specs.declared.event.EventReply.TheVariants as replies;
 ghost use Rattle.vme_core.specs.Calls.{Call, OnBoard, OnBus, command_step};
+ghost use Rattle.vme_core.specs.NextSteps.{Invokes, Returns};
 ghost use Rattle.vme_master.specs.declared.job.BusJob.{BusJob};
 ghost use Rattle.vme_master.specs.declared.job.LocalJob.{LocalJob};
 ghost use Rattle.vme_master.specs.declared.job.Job.{Job};
@@ -21,7 +22,7 @@ ghost use Rattle.vme_master.specs.declared.job.Job.TheVariants.{Bus, Local};
 ghost use Rattle.vme_master.specs.declared.outcome.Outcome.{Outcome};
 ghost use Rattle.vme_master.specs.declared.outcome.Outcome.TheVariants.{Denied};
 ghost use Rattle.vme_master.specs.Jobs.{bus_job, local_call, fits, error_outcome};
-ghost use Rattle.vme_master.specs.Tables.{Given, Invokes, Returns, next_of};
+ghost use Rattle.vme_master.specs.Tables.{Given, next_of};
 ghost use Rattle.vme_master.specs.Machine.{task_given, to_do};
 ghost use Rattle.vme_master.specs.Laws.{last_turn, IsNextDatum, IsBelow};
 

@@ -1,16 +1,17 @@
-ghost use Rattle.std.specs.Prelude.{◌≡◌, ◌≢◌, ◌<◌, ◌≤◌, ◌+◌, [], ◌∷◌, ◌++◌, length, Ok, Some, None, IfSome, IsTrue, option_map, option_copied, is_some};
+ghost use Rattle.std.specs.Prelude.{◌≡◌, ◌≢◌, ◌<◌, ◌≤◌, ◌+◌, [], ◌∷◌, ◌++◌, length, Ok, Some, None, IsTrue, option_map, option_copied, is_some};
 ghost use Rattle.vme_cycle.specs.BlockBuffers.{inline_capacity};
 ghost use Rattle.vme_cycle.specs.Requests.{read_len};
 ghost use Rattle.vme_cycle.specs.Lawful.{Transfer as LawfulRequest, transfer_of};
 ghost use Rattle.vme_core.specs.declared.event.EventReply.TheVariants as replies;
 ghost use Rattle.vme_master.specs.declared.job.Job.{Job as AnyJob};
 ghost use Rattle.vme_master.specs.Jobs.{bus_job, local_job};
-ghost use Rattle.vme_core.specs.Calls.{Call, call_of, machine_step};
-ghost use Rattle.vme_core.specs.EventRefs.{call_asked, target_of_call, CanCount};
+ghost use Rattle.vme_core.specs.EventRefs.{call_asked};
 ghost use Rattle.vme_core.specs.Machines.{process_count};
-ghost use Rattle.vme_master.specs.Tables.{Given, NotStarted, next_of};
+ghost use Rattle.vme_core.specs.NextSteps.{NotStarted, call_in, result_in};
+ghost use Rattle.vme_core.specs.Advances.{CanMake, AdvancesOn};
+ghost use Rattle.vme_master.specs.Tables.{Given, next_of};
 ghost use Rattle.vme_master.specs.Machine.{bytes_of, fresh_task, bus_task, advance, task_given, to_do, is_called, job_read_len, IsPlaced};
-ghost use Rattle.vme_master.specs.Events.{next_in, call_in, outcome_in, read_in, given_out};
+ghost use Rattle.vme_master.specs.Events.{next_in, read_in, given_out};
 
 use crate::expected::ExpectedReply;
 use crate::job::{BusJob, Job, LocalJob};
@@ -20,7 +21,7 @@ use crate::todo::Todo;
 use std::marker::Model;
 use std::mem;
 use vme_arbiter::{ArbCmd, ArbReply};
-use vme_core::{Core, Event, EventRef, EventReply};
+use vme_core::{Core, EventRef, EventReply};
 use vme_cycle::{BlockBuffer, CycleFault, Request, Transfer};
 use vme_decode::AddressMap;
 use vme_memory::{BoardCmd, Reply};
@@ -161,13 +162,6 @@ impl<'a> Task<'a> {
     }
 
     /// The event that it makes next, where it has begun and has not ended.
-    pub fn event(&self) -> Option<Event>
-        ensures { option_map call_of result ≡ call_in (to_do self.now) }
-    {
-        self.job.event(self.phase)
-    }
-
-    /// What that event asks, apart from the lines of a cycle.
     #[inline(always)]
     pub fn event_ref(&self) -> Option<EventRef<'_>>
         ensures { option_map call_asked result ≡ call_in (to_do self.now) }
@@ -175,20 +169,14 @@ impl<'a> Task<'a> {
         self.job.event_ref(self.phase)
     }
 
-    /// Makes its call on boards and arbiter, where it makes one, and is given the reply: as by `event_ref`
-    /// and `give`, but faster, since neither the event_ref nor the reply is laid out in between.
+    /// Makes its call on boards and arbiter, where it makes one, and advances by the reply: as by
+    /// `event_ref` and `advance`, but faster, since neither the event nor the reply is laid out in
+    /// between.
     #[inline(always)]
-    pub fn make(&mut self, core: &mut Core, who: usize)
+    pub fn advance_on(&mut self, core: &mut Core, who: usize)
         requires who { who < process_count core.old }
-        requires can { IfSome (call_in (to_do self.old)) (λ call. CanCount core.old (target_of_call call)) }
-        ensures machine { (call : Call) → call_in (to_do self.old) ≡ Some call →
-            core.new ≡ (machine_step core.old who call).0 }
-        ensures task { (call : Call) → call_in (to_do self.old) ≡ Some call →
-            self.new ≡ advance self.old (Some (machine_step core.old who call).1) }
-        ensures begun { (call : Call) → call_in (to_do self.old) ≡ Some call → to_do self.new ≢ NotStarted }
-        ensures nothing { call_in (to_do self.old) ≡ None → (core.new ≡ core.old) × (self.new ≡ self.old) }
-        ensures boards { length core.new.boards ≡ length core.old.boards }
-        ensures process_count { process_count core.new ≡ process_count core.old }
+        requires can { CanMake core.old (call_in (to_do self.old)) }
+        ensures { AdvancesOn to_do advance who core.old core.new self.old self.new }
     {
         match (&self.job, self.phase) {
             (Job::Bus(job), Phase::Requesting) => {
@@ -209,7 +197,7 @@ impl<'a> Task<'a> {
                     let reply = core.apply_bus(who, ArbCmd::Done { slot: job.slot });
                     return self.turn(Phase::Transferring { i }, reply);
                 };
-                let reply = core.apply_datum(who, board, &job.moves_to(board, offset, i));
+                let reply = core.apply_datum(who, board, &job.datum_at(board, offset, i));
                 self.answer(Phase::Transferring { i }, &reply);
             }
             (Job::Local(job), Phase::Transferring { i }) => {
@@ -223,12 +211,12 @@ impl<'a> Task<'a> {
     /// Whether it has ended. A driver that asks this first moves no outcome that is none.
     #[inline(always)]
     pub fn is_finished(&self) -> bool
-        ensures { result ≡ is_some (outcome_in (to_do self.now)) }
+        ensures { result ≡ is_some (result_in (to_do self.now)) }
     {
         match self.phase {
             Phase::New => false,
             Phase::Finished { .. } | Phase::Denied => true,
-            phase => !self.job.is_at_work(phase),
+            _ => self.event_ref().is_none(),
         }
     }
 
@@ -248,7 +236,7 @@ impl<'a> Task<'a> {
     /// then.
     #[inline(never)]
     pub fn take_outcome(&mut self) -> Option<Outcome>
-        ensures outcome { result ≡ outcome_in (to_do self.old) }
+        ensures outcome { result ≡ result_in (to_do self.old) }
         ensures task { self.new ≡ given_out self.old }
     {
         match self.phase {
@@ -257,7 +245,7 @@ impl<'a> Task<'a> {
                 let read = mem::replace(&mut self.read, BlockBuffer::new());
                 Some(self.job.end(berr, read))
             }
-            phase if self.job.is_at_work(phase) => None,
+            _ if self.event_ref().is_some() => None,
             _ => {
                 self.read.clear();
                 Some(Outcome::Denied)
@@ -326,7 +314,11 @@ impl<'a> Task<'a> {
         ensures todo { next_in result ≡ to_do self.old }
         ensures task { self.new ≡ given_out self.old }
     {
-        match self.event() {
+        let event = match self.event_ref() {
+            Some(event_ref) => Some(event_ref.to_event()),
+            None => None,
+        };
+        match event {
             Some(event) => Todo::Call(event),
             None => Todo::Finished(self.take_outcome().unwrap()),
         }

@@ -19,11 +19,12 @@ use Rattle.vme_core.specs.declared.event.Event.TheVariants as asked
 use Rattle.vme_core.specs.Runs.{Machine, target_of}
 use Rattle.vme_core.specs.Calls.{Call, OnBoard, OnBus, call_of}
 use Rattle.vme_core.specs.Machines.{IsThere}
+use Rattle.vme_core.specs.NextSteps.{NextStep, NotStarted, Invokes, Returns}
+use Rattle.vme_master.specs.declared.outcome.Outcome.{Outcome}
 use Rattle.vme_master.specs.declared.job.BusJob.{BusJob}
 use Rattle.vme_master.specs.declared.job.Job.{Job}
 use Rattle.vme_master.specs.Jobs.{bus_job, local_job, datum_call}
-use Rattle.vme_master.specs.Tables as tasks
-use Rattle.vme_master.specs.Tables.{Next, Given, data_in, next_of}
+use Rattle.vme_master.specs.Tables.{Given, data_in, next_of}
 use Rattle.vme_master.specs.Laws.{IsNextDatum}
 use Rattle.vme_master.proofs.lemmas.ReadLengths.{datum_is}
 use Rattle.vme_master.proofs.lemmas.Tenures.{data_go_on}
@@ -40,10 +41,10 @@ use Rattle.vme_shared.specs.declared.stage.Step.{Step}
 use Rattle.vme_shared.specs.declared.stage.Step.TheVariants.{Continue, Finish}
 use Rattle.vme_shared.specs.Mailboxes.{stage_request, shared_refusal}
 use Rattle.vme_shared.specs.Steps.{first_stage, step_after}
-use Rattle.vme_shared.specs.Tables as shares
-use Rattle.vme_shared.specs.Tables.{SharedJob, Progress, At, Over, transfer_job as shared_transfer, stage_job, stage_begun, step_begun, progress_by, progress_given, progress_of, task_shown, next_at, shared_next}
+use Rattle.vme_shared.specs.Tables.{SharedJob, Progress, At, Over, transfer_job as shared_transfer, stage_job, stage_begun, step_begun, progress_by, progress_given, progress_of, next_at, shared_next}
+use Rattle.vme_shared.proofs.lemmas.Tenures.{shown_makes}
 use Rattle.vme_line_task.specs.Scripts.{Attempt, Transferring, Awaiting, Sharing, slot_at, level_at, mailbox_at, transfer_job, request_attempt, unless_refused, shared_job, line_attempt}
-use Rattle.vme_line_task.specs.Tables.{Invokes, attempt_next, attempts_of, lawful_next, next_given}
+use Rattle.vme_line_task.specs.Tables.{attempt_next, attempts_of, lawful_next, next_given}
 use Rattle.vme_line_task.proofs.lemmas.Below.{moves_makes, waits_makes, shares_makes}
 use Rattle.vme_line_task.specs.Events.{IsCallBelow}
 
@@ -54,7 +55,7 @@ pub record HasEvent (call : Call) : Type 0 where
 
 -- a datum of a lawful transfer, on a board whose range begins at a multiple of four
 data_event : (config : Configuration) → IsLawful config → (slot level : ℕ) (t : Transfer) → IsLawfulTransfer t → (g : Given) (x : ℕ)
-    (command : Option Command) → next_of (bus_job (entries_of config.boards) slot level t) g ≡ tasks.Invokes (OnBoard x command)
+    (command : Option Command) → next_of (bus_job (entries_of config.boards) slot level t) g ≡ Invokes (OnBoard x command)
     → HasEvent (OnBoard x command)
 data_event config lawful slot level t whole g x command made =
     let j : BusJob =
@@ -71,7 +72,7 @@ data_event config lawful slot level t whole g x command made =
 
 -- a command to the local port
 local_event : (board : ℕ) (cmd : BoardCmd) (g : Given) (x : ℕ) (command : Option Command)
-    → next_of (local_job board cmd) g ≡ tasks.Invokes (OnBoard x command) → HasEvent (OnBoard x command)
+    → next_of (local_job board cmd) g ≡ Invokes (OnBoard x command) → HasEvent (OnBoard x command)
 local_event board cmd g x command made =
     let own : OnBoard x command ≡ OnBoard board (command_given cmd) = local_calls (record { board = board; cmd = cmd }) g (OnBoard x command) made in
     record { event = asked.Board board cmd; is = sym own }
@@ -80,7 +81,7 @@ local_event board cmd g x command made =
 lawful_event : (config : Configuration) → IsLawful config → (board : ℕ) (request : Request) (transfer : Result Transfer CycleFault)
     (attempt : Transfer → Attempt) (given : Given) (x : ℕ) (command : Option Command) → transfer_of request ≡ transfer
     → ((t : Transfer) (g : Given) → attempt_next (attempt t) g ≡ Invokes (OnBoard x command)
-    → next_of (transfer_job config board t) g ≡ tasks.Invokes (OnBoard x command))
+    → next_of (transfer_job config board t) g ≡ Invokes (OnBoard x command))
     → lawful_next config.tries (request_attempt attempt transfer) given ≡ Invokes (OnBoard x command) → HasEvent (OnBoard x command)
 lawful_event config lawful board request (Err fault) attempt given x command is makes made = absurd cc
 lawful_event config lawful board request (Ok t) attempt given x command is makes made =
@@ -93,7 +94,7 @@ record IsOfStage (s : SharedJob) (call : Call) : Type 0 where
   job : Job
   given : Given
   own : stage_job s stage ≡ Ok job
-  makes : next_of job given ≡ tasks.Invokes call
+  makes : next_of job given ≡ Invokes call
 
 abbrev OwnAt : SharedJob → Progress → Type 0
 OwnAt s (At stage job given) = stage_job s stage ≡ Ok job
@@ -108,11 +109,11 @@ step_own : (s : SharedJob) (step : Step) → OwnAt s (step_begun s step)
 step_own s (Continue stage) = stage_own s stage (None ∷ []) (stage_job s stage) refl
 step_own s (Finish end) = tt
 
-next_own : (s : SharedJob) (stage : Stage) (job : Job) (given : Given) (next : Next) → stage_job s stage ≡ Ok job
+next_own : (s : SharedJob) (stage : Stage) (job : Job) (given : Given) (next : NextStep Outcome) → stage_job s stage ≡ Ok job
     → OwnAt s (progress_by s stage job given next)
-next_own s stage job given tasks.NotStarted own = own
-next_own s stage job given (tasks.Invokes call) own = own
-next_own s stage job given (tasks.Returns outcome) own = step_own s (step_after s.request stage outcome)
+next_own s stage job given NotStarted own = own
+next_own s stage job given (Invokes call) own = own
+next_own s stage job given (Returns outcome) own = step_own s (step_after s.request stage outcome)
 
 given_own : (s : SharedJob) (last : Option EventReply) (p : Progress) → OwnAt s p → OwnAt s (progress_given s last p)
 given_own s last (At stage job given) own = next_own s stage job (last ∷ given) (next_of job (last ∷ given)) own
@@ -122,25 +123,20 @@ progress_own : (s : SharedJob) (given : Given) → OwnAt s (progress_of s given)
 progress_own s [] = stage_own s (first_stage s.request) [] (stage_job s (first_stage s.request)) refl
 progress_own s (last ∷ before) = given_own s last (progress_of s before) (progress_own s before)
 
-shown_makes : (next : Next) (call : Call) → task_shown next ≡ shares.Invokes call → next ≡ tasks.Invokes call
-shown_makes tasks.NotStarted call made = absurd cc
-shown_makes (tasks.Invokes other) call made = cc
-shown_makes (tasks.Returns outcome) call made = absurd cc
-
-stage_calls : (s : SharedJob) (p : Progress) (call : Call) → OwnAt s p → next_at p ≡ shares.Invokes call → IsOfStage s call
+stage_calls : (s : SharedJob) (p : Progress) (call : Call) → OwnAt s p → next_at p ≡ Invokes call → IsOfStage s call
 stage_calls s (At stage job given) call own made =
     record { stage = stage; job = job; given = given; own = own; makes = shown_makes (next_of job given) call made }
 stage_calls s (Over end) call own made = absurd cc
 
 stage_event : (config : Configuration) → IsLawful config → (board : ℕ) (request : SharedRequest) (cycle : Request)
     (transfer : Result Transfer CycleFault) (job : Job) (g : Given) (x : ℕ) (command : Option Command) → transfer_of cycle ≡ transfer
-    → shared_transfer (shared_job config board request) transfer ≡ Ok job → next_of job g ≡ tasks.Invokes (OnBoard x command)
+    → shared_transfer (shared_job config board request) transfer ≡ Ok job → next_of job g ≡ Invokes (OnBoard x command)
     → HasEvent (OnBoard x command)
 stage_event config lawful board request cycle (Err fault) job g x command is own made = absurd cc
 stage_event config lawful board request cycle (Ok t) job g x command is own made =
     let same : job ≡ transfer_job config board t = sym cc in
     data_event config lawful (slot_at config board) (level_at config board) t (transfer_is_lawful cycle t is) g x command
-    (subst (λ (one : Job). next_of one g ≡ tasks.Invokes (OnBoard x command)) same made)
+    (subst (λ (one : Job). next_of one g ≡ Invokes (OnBoard x command)) same made)
 
 shared_event : (config : Configuration) → IsLawful config → (board : ℕ) (request : SharedRequest) (refusal : Option CycleFault) (given : Given)
     (x : ℕ) (command : Option Command)

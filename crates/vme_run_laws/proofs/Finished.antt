@@ -5,17 +5,18 @@ use Rattle.std.proofs.lemmas.List.Elements.{All-nil, All-cons}
 use Rattle.vme_object.specs.Each.{Each}
 use Rattle.vme_cycle.specs.declared.fault.CycleFault.{CycleFault}
 use Rattle.vme_core.specs.Runs.{Transition}
+use Rattle.vme_core.specs.NextSteps.{NextStep, NotStarted, Invokes, Returns}
+use Rattle.vme_master.specs.declared.outcome.Outcome.{Outcome}
+use Rattle.vme_shared.specs.declared.outcome.SharedOutcome.{SharedOutcome}
 use Rattle.vme_master.specs.declared.outcome.Outcome.TheVariants as outcomes
-use Rattle.vme_master.specs.Tables as tasks
-use Rattle.vme_master.specs.Tables.{Next, Given, next_of}
+use Rattle.vme_master.specs.Tables.{Given, next_of}
 use Rattle.vme_shared.specs.declared.reply.LineReply.{LineReply}
 use Rattle.vme_shared.specs.declared.reply.LineReply.TheVariants.{Met, Timeout, Unfinished}
-use Rattle.vme_shared.specs.Tables as shares
-use Rattle.vme_shared.specs.Tables.{SharedNext, shared_next}
+use Rattle.vme_shared.specs.Tables.{shared_next}
 use Rattle.vme_grammar.specs.declared.line.Line.{Line}
 use Rattle.vme_script.specs.Configurations.{Configuration}
 use Rattle.vme_line_task.specs.Scripts.{Attempt, Transferring, Awaiting, Sharing, lines_at, line_attempt}
-use Rattle.vme_line_task.specs.Tables.{Returns, moves_next, waits_next, shares_next, attempt_next, attempts_of, lawful_next, next_given}
+use Rattle.vme_line_task.specs.Tables.{moves_next, waits_next, shares_next, attempt_next, attempts_of, lawful_next, next_given}
 use Rattle.vme_line_task.specs.Traces.{IsTrace}
 use Rattle.vme_threads.specs.declared.report.Report.{Report}
 use Rattle.vme_threads.specs.Rans.{answers_in}
@@ -23,27 +24,27 @@ use Rattle.vme_threads.specs.Reports.{IsReportOf}
 use Rattle.vme_run_laws.specs.Finished.{AreFinished}
 
 -- a transfer or a command
-by_moves : (next : Next) (answer : LineReply) → moves_next next ≡ Returns answer → answer ≢ Unfinished
-by_moves tasks.NotStarted answer ends over = cc
-by_moves (tasks.Invokes call) answer ends over = cc
-by_moves (tasks.Returns outcome) answer ends over = cc
+by_moves : (next : NextStep Outcome) (answer : LineReply) → moves_next next ≡ Returns answer → answer ≢ Unfinished
+by_moves NotStarted answer ends over = cc
+by_moves (Invokes call) answer ends over = cc
+by_moves (Returns outcome) answer ends over = cc
 
 -- an awaited read, whether its bytes were found or not
 by_bytes : (found : Bool) (answer : LineReply) → Returns (if found then Met else Timeout) ≡ Returns answer → answer ≢ Unfinished
 by_bytes true answer ends over = cc
 by_bytes false answer ends over = cc
 
-by_waits : (want : List ℕ) (next : Next) (answer : LineReply) → waits_next want next ≡ Returns answer → answer ≢ Unfinished
-by_waits want tasks.NotStarted answer ends over = cc
-by_waits want (tasks.Invokes call) answer ends over = cc
-by_waits want (tasks.Returns (outcomes.Read bytes)) answer ends over = by_bytes (bytes_eq bytes.items want) answer ends over
-by_waits want (tasks.Returns outcome) answer ends over = cc
+by_waits : (want : List ℕ) (next : NextStep Outcome) (answer : LineReply) → waits_next want next ≡ Returns answer → answer ≢ Unfinished
+by_waits want NotStarted answer ends over = cc
+by_waits want (Invokes call) answer ends over = cc
+by_waits want (Returns (outcomes.Read bytes)) answer ends over = by_bytes (bytes_eq bytes.items want) answer ends over
+by_waits want (Returns outcome) answer ends over = cc
 
 -- a lock or a mailbox
-by_shares : (next : SharedNext) (answer : LineReply) → shares_next next ≡ Returns answer → answer ≢ Unfinished
-by_shares shares.NotStarted answer ends over = cc
-by_shares (shares.Invokes call) answer ends over = cc
-by_shares (shares.Returns outcome) answer ends over = cc
+by_shares : (next : NextStep SharedOutcome) (answer : LineReply) → shares_next next ≡ Returns answer → answer ≢ Unfinished
+by_shares NotStarted answer ends over = cc
+by_shares (Invokes call) answer ends over = cc
+by_shares (Returns outcome) answer ends over = cc
 
 by_attempt : (a : Attempt) (given : Given) (answer : LineReply) → attempt_next a given ≡ Returns answer → answer ≢ Unfinished
 by_attempt (Transferring job) given answer ends over = by_moves (next_of job given) answer ends over

@@ -23,6 +23,7 @@ use Rattle.vme_core.specs.declared.event.EventReply.{EventReply}
 use Rattle.vme_core.specs.declared.event.EventReply.TheVariants as event_replies
 use Rattle.vme_core.specs.Runs.{Transition, move, IsReplyTo, board_part, bus_part}
 use Rattle.vme_core.specs.Calls.{Call, OnBoard, OnBus, call_of}
+use Rattle.vme_core.specs.NextSteps.{Invokes, Returns}
 use Rattle.vme_master.proofs.lemmas.Locals.{board_fits}
 use Rattle.vme_master.specs.declared.outcome.Outcome.TheVariants.{Denied}
 use Rattle.vme_shared.specs.declared.reply.LineReply.{LineReply}
@@ -31,7 +32,7 @@ use Rattle.vme_grammar.specs.declared.line.Line.{Line}
 use Rattle.vme_script.specs.Configurations.{Configuration, opening_memory}
 use Rattle.vme_script.specs.Lawful.{IsLawful}
 use Rattle.vme_line_task.specs.Scripts.{slot_at, lines_at}
-use Rattle.vme_line_task.specs.Tables.{Invokes, Returns, line_next, given_of}
+use Rattle.vme_line_task.specs.Tables.{line_next, given_of}
 use Rattle.vme_line_task.specs.Traces.{Continues, IsTrace}
 use Rattle.vme_line_task.specs.Tenures.{line_reported, IsGood, IsGranted}
 use Rattle.vme_line_task.proofs.lemmas.Kept.{line_begins, line_first, line_turns, line_turn, line_datum, line_ends}

@@ -14,12 +14,13 @@ use Rattle.vme_core.specs.Runs.{Machine, Transition, IsRun, move}
 use Rattle.vme_core.specs.Calls.{Call, OnBoard, OnBus, call_of, board_after, machine_step}
 use Rattle.vme_core.proofs.lemmas.Calls.{did_call}
 use Rattle.vme_core.proofs.lemmas.Dones.{did_nil}
+use Rattle.vme_core.specs.NextSteps.{NextStep, NotStarted, Invokes, Returns}
 use Rattle.vme_shared.specs.declared.reply.LineReply.{LineReply}
 use Rattle.vme_grammar.specs.declared.line.Line.{Line}
 use Rattle.vme_script.specs.Configurations.{Configuration}
 use Rattle.vme_script.specs.Lawful.{IsLawful}
 use Rattle.vme_line_task.specs.Scripts.{lines_at}
-use Rattle.vme_line_task.specs.Tables.{LineNext, NotStarted, Invokes, Returns, line_next, given_of}
+use Rattle.vme_line_task.specs.Tables.{line_next, given_of}
 use Rattle.vme_line_task.specs.Traces.{ScriptState, IsTracePrefix}
 use Rattle.vme_line_task.specs.Events.{IsCallBelow}
 use Rattle.vme_line_task.proofs.lemmas.Below.{next_below}
@@ -80,7 +81,7 @@ module _ (config : Configuration) (lawful : IsLawful config) (board : ℕ) (ther
   }
 
   -- a line with these replies goes on or has ended
-  settled_follows : (mine : List Transition) (ended : List LineReply) (replies : List EventReply) (line : Line) (next : LineNext)
+  settled_follows : (mine : List Transition) (ended : List LineReply) (replies : List EventReply) (line : Line) (next : NextStep LineReply)
       → slice_get (lines_at config board) (length ended) ≡ Some line → IsTracePrefix config board mine (script_state ended replies)
       → line_next config board line replies ≡ next → IsTracePrefix config board mine (settled ended replies next)
   settled_follows mine ended replies line (Returns answer) found follows is =
@@ -115,7 +116,7 @@ module _ (config : Configuration) (lawful : IsLawful config) (board : ℕ) (ther
       }
 
   -- a turn with these remaining lines
-  by_next : (machine : Machine) (mine : List Transition) (c : ScriptState) (line : Line) (rest : List Line) (next : LineNext) (after : ScriptState → Machine × ScriptState)
+  by_next : (machine : Machine) (mine : List Transition) (c : ScriptState) (line : Line) (rest : List Line) (next : NextStep LineReply) (after : ScriptState → Machine × ScriptState)
       → lines_left config board c ≡ line ∷ rest → length machine.boards ≡ length config.boards → IsTracePrefix config board mine c
       → line_next config board line c.replies ≡ next
       → ((now : ScriptState) → now.replies ≡ [] → lines_left config board now ≡ rest → IsTracePrefix config board mine now

@@ -7,11 +7,12 @@ use Rattle.vme_arbiter.specs.Arbitration.{Arbitration}
 use Rattle.vme_arbiter.specs.Turns.{StandsAsReplied}
 use Rattle.vme_core.specs.declared.event.EventReply.{EventReply}
 use Rattle.vme_core.specs.Calls.{Call}
+use Rattle.vme_core.specs.NextSteps.{NextStep, NotStarted, Invokes, Returns}
 use Rattle.vme_shared.specs.declared.reply.LineReply.{LineReply}
 use Rattle.vme_grammar.specs.declared.line.Line.{Line}
 use Rattle.vme_script.specs.Configurations.{Configuration}
 use Rattle.vme_line_task.specs.Scripts.{slot_at, lines_at}
-use Rattle.vme_line_task.specs.Tables.{LineNext, NotStarted, Invokes, Returns, line_next}
+use Rattle.vme_line_task.specs.Tables.{line_next}
 use Rattle.vme_line_task.specs.Traces.{ScriptState}
 use Rattle.vme_line_task.specs.Tenures.{line_reported, IsGood, IsGranted}
 use Rattle.vme_line_task.proofs.lemmas.Kept.{line_begins, line_ends}
@@ -22,7 +23,7 @@ abbrev pub reported_left : Configuration → ℕ → List Line → List EventRep
 reported_left config board [] replies = None
 reported_left config board (line ∷ lines) replies = line_reported config board line replies
 
-abbrev pub NotEnded : LineNext → Type 0
+abbrev pub NotEnded : NextStep LineReply → Type 0
 NotEnded (Returns answer) = ⊥
 NotEnded next = Unit {0}
 
@@ -64,7 +65,7 @@ ended_begins config board line lines replies answer (inr goes) ends = absurd (su
 
 -- a line goes on
 goes_on : (config : Configuration) (bus : Arbitration) (board : ℕ) (ended : List LineReply) (replies : List EventReply) (line : Line)
-    (rest : List Line) (reply : EventReply) (next : LineNext) → drop (length ended) (lines_at config board) ≡ line ∷ rest
+    (rest : List Line) (reply : EventReply) (next : NextStep LineReply) → drop (length ended) (lines_at config board) ≡ line ∷ rest
     → StandsAsReplied bus (slot_at config board) (line_reported config board line (reply ∷ replies)) → All IsGranted ended
     → line_next config board line (reply ∷ replies) ≡ next → NotEnded next → ScriptStands config bus board (script_state ended (reply ∷ replies))
 goes_on config bus board ended replies line rest reply next left stands granted is open_still = record {
@@ -75,7 +76,7 @@ goes_on config bus board ended replies line rest reply next left stands granted 
 
 -- a line goes on by a good reply, or ends
 pub settled_stands : (config : Configuration) (bus : Arbitration) (board : ℕ) (ended : List LineReply) (replies : List EventReply) (line : Line)
-    (rest : List Line) (call : Call) (reply : EventReply) (next : LineNext) → drop (length ended) (lines_at config board) ≡ line ∷ rest
+    (rest : List Line) (call : Call) (reply : EventReply) (next : NextStep LineReply) → drop (length ended) (lines_at config board) ≡ line ∷ rest
     → line_next config board line replies ≡ Invokes call → IsGood call reply
     → StandsAsReplied bus (slot_at config board) (line_reported config board line (reply ∷ replies)) → All IsGranted ended
     → line_next config board line (reply ∷ replies) ≡ next → ScriptStands config bus board (settled ended (reply ∷ replies) next)

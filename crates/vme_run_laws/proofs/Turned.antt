@@ -14,13 +14,14 @@ use Rattle.vme_core.specs.declared.event.EventReply.{EventReply}
 use Rattle.vme_core.specs.declared.event.EventReply.TheVariants as event_replies
 use Rattle.vme_core.specs.Runs.{Machine}
 use Rattle.vme_core.specs.Calls.{Call, OnBoard, OnBus, machine_step}
+use Rattle.vme_core.specs.NextSteps.{NextStep, NotStarted, Invokes, Returns}
 use Rattle.vme_shared.specs.declared.reply.LineReply.{LineReply}
 use Rattle.vme_grammar.specs.declared.line.Line.{Line}
 use Rattle.vme_grammar.specs.Grammar.{IsOwnLine}
 use Rattle.vme_script.specs.Configurations.{Configuration}
 use Rattle.vme_script.specs.Lawful.{IsLawful}
 use Rattle.vme_line_task.specs.Scripts.{slot_at}
-use Rattle.vme_line_task.specs.Tables.{LineNext, NotStarted, Invokes, Returns, line_next}
+use Rattle.vme_line_task.specs.Tables.{line_next}
 use Rattle.vme_line_task.specs.Traces.{ScriptState}
 use Rattle.vme_line_task.specs.Tenures.{line_reported, IsLocal, IsGranted}
 use Rattle.vme_line_task.proofs.lemmas.Kept.{line_first, line_turns, line_holds, line_turn, line_datum}
@@ -106,7 +107,7 @@ module _ (config : Configuration) (lawful : IsLawful config) (board : ℕ) (ther
       (line_first config board line answer (ap (line_next config board line) (sym none) ∙ ends)))
 
   -- a turn with these remaining lines
-  by_next : (machine : Machine) (c : ScriptState) (line : Line) (rest : List Line) (next : LineNext) (after : ScriptState → Machine × ScriptState)
+  by_next : (machine : Machine) (c : ScriptState) (line : Line) (rest : List Line) (next : NextStep LineReply) (after : ScriptState → Machine × ScriptState)
       → lines_left config board c ≡ line ∷ rest → IsOrderly machine.bus.object → ScriptStands config machine.bus.object board c
       → line_next config board line c.replies ≡ next
       → ((now : ScriptState) → lines_left config board now ≡ rest → ScriptStands config machine.bus.object board now
@@ -129,7 +130,7 @@ module _ (config : Configuration) (lawful : IsLawful config) (board : ℕ) (ther
       (λ now left_now stands_now. script_state_stays rest machine now left_now orderly stands_now)
 
   -- a property of each line's call holds for the next call
-  by_first : (Q : Call → Type 0) (bus : Arbitration) (line : Line) (rest : List Line) (replies : List EventReply) (call : Call) (next : LineNext)
+  by_first : (Q : Call → Type 0) (bus : Arbitration) (line : Line) (rest : List Line) (replies : List EventReply) (call : Call) (next : NextStep LineReply)
       → StandsAsReplied bus (slot_at config board) (line_reported config board line replies) → IsOpen config board (line ∷ rest) replies
       → line_next config board line replies ≡ next → call_or next (first_call config board rest []) ≡ Some call
       → ((made : Call) → line_next config board line replies ≡ Invokes made → Q made)
@@ -190,7 +191,7 @@ machine_called machine None = machine
 machine_called machine (Some one) = (machine_step machine one.0 one.1).0
 
 -- a turn changes the machine as its call does
-by_made : (config : Configuration) (board : ℕ) (line : Line) (rest : List Line) (machine : Machine) (c : ScriptState) (next : LineNext)
+by_made : (config : Configuration) (board : ℕ) (line : Line) (rest : List Line) (machine : Machine) (c : ScriptState) (next : NextStep LineReply)
     (after : ScriptState → Machine × ScriptState)
     → ((now : ScriptState) → now.replies ≡ [] → (after now).0 ≡ machine_called machine (option_map (λ call. (board, call)) (first_call config board rest [])))
     → (turn_by config board line machine c next after).0

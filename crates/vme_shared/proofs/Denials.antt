@@ -2,10 +2,10 @@
 use Rattle.std.proofs.Common.{◌≡◌, false, [], ◌∷◌, Option, Some, None, refl, ap, ◌∙◌}
 use Rattle.vme_core.specs.declared.event.EventReply.{EventReply}
 use Rattle.vme_core.specs.Calls.{Call}
+use Rattle.vme_core.specs.NextSteps.{Invokes, Returns}
 use Rattle.vme_master.specs.declared.job.Job.{Job}
 use Rattle.vme_master.specs.declared.outcome.Outcome.TheVariants as outcomes
 use Rattle.vme_master.specs.Jobs.{bus_job, fits}
-use Rattle.vme_master.specs.Tables as tasks
 use Rattle.vme_master.specs.Tables.{Given, next_of}
 use Rattle.vme_shared.specs.declared.outcome.SharedOutcome.TheVariants as shared
 use Rattle.vme_shared.specs.declared.request.SharedRequest.{SharedRequest}
@@ -15,7 +15,7 @@ use Rattle.vme_shared.specs.declared.stage.Stage.TheVariants.{Locks, ReadsPutCou
 use Rattle.vme_shared.specs.declared.stage.Step.TheVariants.{Finish}
 use Rattle.vme_shared.specs.Mailboxes.{shared_refusal}
 use Rattle.vme_shared.specs.Steps.{first_stage, mailbox_step, step_after}
-use Rattle.vme_shared.specs.Tables.{SharedJob, Invokes, Returns, Progress, At, Over, transfer_job, stage_begun, step_begun, progress_by, progress_given, progress_of, next_at, shared_next}
+use Rattle.vme_shared.specs.Tables.{SharedJob, Progress, At, Over, transfer_job, stage_begun, step_begun, progress_by, progress_given, progress_of, next_at, shared_next}
 use Rattle.vme_shared.proofs.lemmas.Starts.{first_lawful}
 use Rattle.vme_shared.proofs.lemmas.Tenures.{shown_makes}
 
@@ -38,14 +38,14 @@ step_denied (Take mailbox) stage = mailbox_denied (Take mailbox) stage
 
 -- so where a bus task is denied, all is
 task_denied : (s : SharedJob) (stage : Stage) (job : Job) (given : Given) (last : Option EventReply)
-    → next_of job (last ∷ given) ≡ tasks.Returns outcomes.Denied → next_at (progress_given s last (At stage job given)) ≡ Returns shared.Denied
+    → next_of job (last ∷ given) ≡ Returns outcomes.Denied → next_at (progress_given s last (At stage job given)) ≡ Returns shared.Denied
 task_denied s stage job given last ends =
     ap (λ next. next_at (progress_by s stage job (last ∷ given) next)) ends ∙ ap (λ step. next_at (step_begun s step)) (step_denied s.request stage)
 
 misfit_at : (s : SharedJob) (p : Progress) (call : Call) (reply : EventReply) → next_at p ≡ Invokes call → fits call reply ≡ false
     → next_at (progress_given s (Some reply) p) ≡ Returns shared.Denied
 misfit_at s (At stage job given) call reply made misfit =
-    let task : next_of job given ≡ tasks.Invokes call = shown_makes (next_of job given) call made in
+    let task : next_of job given ≡ Invokes call = shown_makes (next_of job given) call made in
     task_denied s stage job given (Some reply) (rw (task, misfit) refl)
 misfit_at s (Over end) call reply made misfit = absurd cc
 
@@ -55,7 +55,7 @@ misfit_denied s g call reply made misfit = misfit_at s (progress_of s g) call re
 
 absent_at : (s : SharedJob) (p : Progress) (call : Call) → next_at p ≡ Invokes call → next_at (progress_given s None p) ≡ Returns shared.Denied
 absent_at s (At stage job given) call made =
-    let task : next_of job given ≡ tasks.Invokes call = shown_makes (next_of job given) call made in
+    let task : next_of job given ≡ Invokes call = shown_makes (next_of job given) call made in
     task_denied s stage job given None (rw task refl)
 absent_at s (Over end) call made = absurd cc
 

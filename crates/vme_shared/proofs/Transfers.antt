@@ -15,6 +15,7 @@ use Rattle.vme_arbiter.specs.declared.command.ArbReply.TheVariants as turned
 use Rattle.vme_core.specs.declared.event.EventReply.{EventReply}
 use Rattle.vme_core.specs.declared.event.EventReply.TheVariants as replies
 use Rattle.vme_core.specs.Calls.{Call, OnBoard, OnBus}
+use Rattle.vme_core.specs.NextSteps.{NextStep, NotStarted, Invokes, Returns}
 use Rattle.vme_master.specs.declared.expected.ExpectedReply.{ExpectedReply}
 use Rattle.vme_master.specs.declared.expected.ExpectedReply.TheVariants as expected_replies
 use Rattle.vme_master.specs.declared.job.BusJob.{BusJob}
@@ -22,7 +23,7 @@ use Rattle.vme_master.specs.declared.job.Job.TheVariants.{Bus}
 use Rattle.vme_master.specs.declared.outcome.Outcome.{Outcome}
 use Rattle.vme_master.specs.declared.outcome.Outcome.TheVariants as outcomes
 use Rattle.vme_master.specs.Jobs.{datum_call, fits, request_expected, expected_outcome}
-use Rattle.vme_master.specs.Tables.{Given, Next, NotStarted, Invokes, Returns, data_in, bytes_in, datum_or_done, outcome_by, bus_row, next_after, next_of}
+use Rattle.vme_master.specs.Tables.{Given, data_in, bytes_in, datum_or_done, outcome_by, bus_row, next_after, next_of}
 use Rattle.vme_master.specs.Machine.{expected_len}
 use Rattle.vme_master.proofs.lemmas.Expected.{datum_len_wanted}
 
@@ -84,7 +85,7 @@ abbrev IsBare : Given → Type 0
 IsBare g = (data_in g ≡ 0) × (bytes_in g ≡ [])
 
 -- what a transfer does next has its form
-abbrev Formed : BusJob → Given → Next → Type 0
+abbrev Formed : BusJob → Given → NextStep Outcome → Type 0
 Formed j g NotStarted = g ≡ []
 Formed j g (Invokes (OnBus (turns.Ask slot level))) = IsBare g
 Formed j g (Invokes (OnBus (turns.Look slot))) = IsBare g
@@ -150,7 +151,7 @@ board_formed j g board command Berr single ((none, empty), some, wanted) form = 
     by_place (Some p) some = berr_formed (request_expected j.transfer.request) (data_in g) (bytes_in g)
 
 -- one call more
-step_formed : (j : BusJob) (g : Given) (next : Next) (last : Option EventReply) → count_of j.transfer.request ≡ 1 → Formed j g next
+step_formed : (j : BusJob) (g : Given) (next : NextStep Outcome) (last : Option EventReply) → count_of j.transfer.request ≡ 1 → Formed j g next
     → Formed j (last ∷ g) (next_after (Bus j) next last g)
 step_formed j g NotStarted None single formed = (ap data_in formed, ap bytes_in formed)
 step_formed j g NotStarted (Some reply) single formed = denied_formed (request_expected j.transfer.request)

@@ -1,22 +1,22 @@
 -- What a lock, a put or a take is seen to do next.
-use Rattle.std.specs.Prelude.{Option, Some, None}
-use Rattle.vme_core.specs.Calls.{Call, call_of}
+use Rattle.std.specs.Prelude.{◌≡◌, ◌∷◌, Option}
+use Rattle.vme_core.specs.declared.event.EventReply.{EventReply}
+use Rattle.vme_core.specs.Calls.{call_of}
+use Rattle.vme_core.specs.NextSteps.{NextStep, Invokes, Returns}
+use Rattle.vme_master.specs.Tables.{Given}
 use Rattle.vme_shared.specs.declared.outcome.SharedOutcome.{SharedOutcome}
 use Rattle.vme_shared.specs.declared.todo.SharedTodo.{SharedTodo}
 use Rattle.vme_shared.specs.declared.todo.SharedTodo.TheVariants as todos
-use Rattle.vme_shared.specs.Tables.{SharedNext, Invokes, Returns}
+use Rattle.vme_shared.specs.Tables.{SharedJob, shared_next}
+use Rattle.vme_shared.specs.Machine.{SharedView, shared_advance, shared_given, shared_to_do}
 
 -- the call of an event that is to be made, or the end (this project's own)
-abbrev pub next_in : SharedTodo → SharedNext
+abbrev pub next_in : SharedTodo → NextStep SharedOutcome
 next_in (todos.Call event) = Invokes (call_of event)
 next_in (todos.Finished outcome) = Returns outcome
 
--- the call that is made next, if one is (this project's own)
-abbrev pub call_in : SharedNext → Option Call
-call_in (Invokes call) = Some call
-call_in next = None
-
--- the end, if it has come (this project's own)
-abbrev pub outcome_in : SharedNext → Option SharedOutcome
-outcome_in (Returns outcome) = Some outcome
-outcome_in next = None
+-- what a task does next when it is given a reply, or none: it advances by that, and does what the table says of all that it was given
+pub record IsNextOf (old new : SharedView) (reply : Option EventReply) (result : SharedTodo) : Type 0 where
+  pub task : new ≡ shared_advance old reply
+  pub todo : next_in result ≡ shared_to_do new
+  pub table : (s : SharedJob) (before : Given) → old ≡ shared_given s before → next_in result ≡ shared_next s (reply ∷ before)

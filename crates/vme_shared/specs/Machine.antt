@@ -2,10 +2,11 @@
 use Rattle.std.specs.Prelude.{◌≢◌, [], ◌∷◌, Option, Some, None, Result, Ok, Err}
 use Rattle.vme_cycle.specs.declared.fault.CycleFault.{CycleFault}
 use Rattle.vme_core.specs.declared.event.EventReply.{EventReply}
+use Rattle.vme_core.specs.NextSteps.{NextStep, Returns}
+use Rattle.vme_shared.specs.declared.outcome.SharedOutcome.{SharedOutcome}
 use Rattle.vme_master.specs.declared.job.Job.{Job}
 use Rattle.vme_master.specs.declared.outcome.Outcome.{Outcome}
-use Rattle.vme_master.specs.Tables as tasks
-use Rattle.vme_master.specs.Tables.{Next, Given}
+use Rattle.vme_master.specs.Tables.{Given}
 use Rattle.vme_master.specs.Machine.{TaskView, fresh_task, advance, to_do}
 use Rattle.vme_shared.specs.declared.outcome.SharedOutcome.TheVariants as shared
 use Rattle.vme_shared.specs.declared.stage.Stage.{Stage}
@@ -15,7 +16,7 @@ use Rattle.vme_shared.specs.declared.work.Work.{Work}
 use Rattle.vme_shared.specs.declared.work.Work.TheVariants.{Running, Finished}
 use Rattle.vme_shared.specs.Mailboxes.{shared_refusal}
 use Rattle.vme_shared.specs.Steps.{first_stage, step_after}
-use Rattle.vme_shared.specs.Tables.{SharedJob, SharedNext, Returns, stage_job, task_shown}
+use Rattle.vme_shared.specs.Tables.{SharedJob, stage_job, task_shown}
 
 -- a lock, a put or a take: what is asked, and the transfer at work (this project's own)
 pub record SharedView : Type 0 where
@@ -43,8 +44,8 @@ work_stepped s (Continue stage) = stage_called stage (stage_job s stage)
 work_stepped s (Finish end) = Finished end
 
 -- a stage by what its bus task does next (this project's own)
-abbrev pub work_by : SharedJob → Stage → TaskView → Next → Work
-work_by s stage task (tasks.Returns outcome) = work_stepped s (step_after s.request stage outcome)
+abbrev pub work_by : SharedJob → Stage → TaskView → NextStep Outcome → Work
+work_by s stage task (Returns outcome) = work_stepped s (step_after s.request stage outcome)
 work_by s stage task next = Running stage task
 
 -- the transfer at work, or where a step leads, if one is taken (this project's own)
@@ -84,15 +85,15 @@ shared_given s [] = shared_fresh s
 shared_given s (last ∷ before) = shared_advance (shared_given s before) last
 
 -- what the transfer at work does next (this project's own)
-abbrev pub work_to_do : Work → SharedNext
+abbrev pub work_to_do : Work → NextStep SharedOutcome
 work_to_do (Running stage task) = task_shown (to_do task)
 work_to_do (Finished end) = Returns end
 
 -- what is done next (this project's own)
-abbrev pub shared_to_do : SharedView → SharedNext
+abbrev pub shared_to_do : SharedView → NextStep SharedOutcome
 shared_to_do v = work_to_do v.work
 
 -- the transfer at work has not ended (this project's own)
 abbrev pub IsGoing : Work → Type 0
-IsGoing (Running stage task) = (outcome : Outcome) → to_do task ≢ tasks.Returns outcome
+IsGoing (Running stage task) = (outcome : Outcome) → to_do task ≢ Returns outcome
 IsGoing (Finished end) = Unit {0}

@@ -5,11 +5,11 @@ use Rattle.vme_cycle.specs.Lawful.{Transfer, transfer_of}
 use Rattle.vme_decode.specs.declared.entry.Entry.{Entry}
 use Rattle.vme_arbiter.specs.declared.command.ArbReply.{ArbReply}
 use Rattle.vme_core.specs.declared.event.EventReply.{EventReply}
-use Rattle.vme_core.specs.Calls.{Call}
+use Rattle.vme_core.specs.NextSteps.{NextStep, Returns, next_map}
+use Rattle.vme_master.specs.declared.outcome.Outcome.{Outcome}
 use Rattle.vme_master.specs.declared.job.Job.{Job}
 use Rattle.vme_master.specs.Jobs.{bus_job}
-use Rattle.vme_master.specs.Tables as tasks
-use Rattle.vme_master.specs.Tables.{Next, Given, next_of}
+use Rattle.vme_master.specs.Tables.{Given, next_of}
 use Rattle.vme_master.specs.Laws.{last_turn}
 use Rattle.vme_shared.specs.declared.outcome.SharedOutcome.{SharedOutcome}
 use Rattle.vme_shared.specs.declared.outcome.SharedOutcome.TheVariants as shared
@@ -26,12 +26,6 @@ pub record SharedJob : Type 0 where
   pub slot : ℕ
   pub level : ℕ
   pub request : SharedRequest
-
--- what it does next: it rests until its first call; it makes a call, and wants the reply; or it has ended (this project's own)
-pub data SharedNext : Type 0 where
-  NotStarted : SharedNext
-  Invokes : Call → SharedNext
-  Returns : SharedOutcome → SharedNext
 
 -- the bus task of a transfer, or the refusal of the transfer (this project's own)
 abbrev pub transfer_job : SharedJob → Result Transfer CycleFault → Result Job CycleFault
@@ -60,8 +54,8 @@ step_begun s (Continue stage) = stage_begun stage (None ∷ []) (stage_job s sta
 step_begun s (Finish end) = Over end
 
 -- a stage by what its bus task does next: where that has ended, its outcome leads on (this project's own)
-abbrev pub progress_by : SharedJob → Stage → Job → Given → Next → Progress
-progress_by s stage job given (tasks.Returns outcome) = step_begun s (step_after s.request stage outcome)
+abbrev pub progress_by : SharedJob → Stage → Job → Given → NextStep Outcome → Progress
+progress_by s stage job given (Returns outcome) = step_begun s (step_after s.request stage outcome)
 progress_by s stage job given next = At stage job given
 
 -- how far it has come, where it was given one thing more (this project's own)
@@ -76,18 +70,16 @@ progress_of s [] = stage_begun (first_stage s.request) [] (stage_job s (first_st
 progress_of s (last ∷ before) = progress_given s last (progress_of s before)
 
 -- what it does next while a bus task is at work, which has not ended (this project's own)
-abbrev pub task_shown : Next → SharedNext
-task_shown tasks.NotStarted = NotStarted
-task_shown (tasks.Invokes call) = Invokes call
-task_shown (tasks.Returns outcome) = Returns shared.Denied
+abbrev pub task_shown : NextStep Outcome → NextStep SharedOutcome
+task_shown next = next_map (λ outcome. shared.Denied) next
 
 -- what it does next, by how far it has come (this project's own)
-abbrev pub next_at : Progress → SharedNext
+abbrev pub next_at : Progress → NextStep SharedOutcome
 next_at (At stage job given) = task_shown (next_of job given)
 next_at (Over end) = Returns end
 
 -- what it does next, by what it was given so far (this project's own)
-abbrev pub shared_next : SharedJob → Given → SharedNext
+abbrev pub shared_next : SharedJob → Given → NextStep SharedOutcome
 shared_next s given = next_at (progress_of s given)
 
 -- what the arbiter told the bus task at work last, if there is one and it was told (this project's own)

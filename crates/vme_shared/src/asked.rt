@@ -1,5 +1,6 @@
 ghost use Rattle.std.specs.Prelude.{◌≡◌, ◌≢◌};
-ghost use Rattle.vme_shared.specs.Tables.{NotStarted, stage_job};
+ghost use Rattle.vme_core.specs.NextSteps.{NotStarted};
+ghost use Rattle.vme_shared.specs.Tables.{stage_job};
 ghost use Rattle.vme_shared.specs.Machine.{stage_task, stage_called, work_stepped, first_work, work_to_do, IsGoing};
 
 use crate::outcome::SharedOutcome;

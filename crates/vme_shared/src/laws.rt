@@ -11,6 +11,7 @@ ghost use Rattle.vme_arbiter.specs.Turns.{may_give, StandsAsReplied};
 ghost use Rattle.vme_core.specs.declared.event.EventReply.{EventReply};
 ghost use Rattle.vme_core.specs.declared.event.EventReply.TheVariants as replies;
 ghost use Rattle.vme_core.specs.Calls.{Call, OnBoard, OnBus};
+ghost use Rattle.vme_core.specs.NextSteps.{NotStarted, Invokes, Returns};
 ghost use Rattle.vme_master.specs.declared.job.Job.{Job};
 ghost use Rattle.vme_master.specs.Jobs.{fits};
 ghost use Rattle.vme_master.specs.Tables.{Given};
@@ -18,7 +19,7 @@ ghost use Rattle.vme_shared.specs.declared.outcome.SharedOutcome.{SharedOutcome}
 ghost use Rattle.vme_shared.specs.declared.outcome.SharedOutcome.TheVariants.{Denied};
 ghost use Rattle.vme_shared.specs.declared.stage.Stage.{Stage};
 ghost use Rattle.vme_shared.specs.Mailboxes.{IsAsked, shared_refusal};
-ghost use Rattle.vme_shared.specs.Tables.{SharedJob, NotStarted, Invokes, Returns, stage_job, shared_next, shared_reported};
+ghost use Rattle.vme_shared.specs.Tables.{SharedJob, stage_job, shared_next, shared_reported};
 ghost use Rattle.vme_shared.specs.Machine.{shared_given, shared_to_do};
 
 /// What is asked of a lock or a mailbox goes by the table: after calls with any replies, fitting or

@@ -1,9 +1,7 @@
-ghost use Rattle.std.specs.Prelude.{◌≡◌, ◌∷◌};
-ghost use Rattle.vme_master.specs.Tables.{Given};
+ghost use Rattle.std.specs.Prelude.{◌≡◌};
 ghost use Rattle.vme_shared.specs.declared.request.SharedRequest.TheVariants.{Lock, Unlock};
-ghost use Rattle.vme_shared.specs.Tables.{SharedJob, shared_next};
-ghost use Rattle.vme_shared.specs.Machine.{shared_fresh, shared_task, shared_advance, shared_given, shared_to_do};
-ghost use Rattle.vme_shared.specs.Events.{next_in};
+ghost use Rattle.vme_shared.specs.Machine.{shared_task};
+ghost use Rattle.vme_shared.specs.Events.{IsNextOf};
 
 use crate::request::SharedRequest;
 use crate::task::SharedTask;
@@ -61,18 +59,8 @@ impl<'a> LockTask<'a> {
     /// What it does next. The first call is given nothing, and each later one the reply to the event
     /// that the call before it gave out.
     pub fn next(&mut self, reply: Option<EventReply>) -> SharedTodo
-        ensures task { self.new ≡ shared_advance self.old reply }
-        ensures todo { next_in result ≡ shared_to_do self.new }
-        ensures table { (s : SharedJob) (before : Given) → self.old ≡ shared_given s before →
-            next_in result ≡ shared_next s (reply ∷ before) }
+        ensures { IsNextOf self.old self.new reply result }
     {
         self.task.next(reply)
-    }
-
-    /// The same task before its first call, to be done once more.
-    pub fn restart(&mut self)
-        ensures { self.new ≡ shared_fresh self.old.job }
-    {
-        self.task.restart();
     }
 }

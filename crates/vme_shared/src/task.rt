@@ -1,12 +1,10 @@
-ghost use Rattle.std.specs.Prelude.{◌≡◌, ◌≢◌, ◌∷◌};
+ghost use Rattle.std.specs.Prelude.{◌≡◌, ◌≢◌};
 ghost use Rattle.std.specs.Option.{option_map, option_copied};
-ghost use Rattle.vme_core.specs.Calls.{call_of};
 ghost use Rattle.vme_core.specs.EventRefs.{call_asked};
-ghost use Rattle.vme_master.specs.Tables.{Given};
+ghost use Rattle.vme_core.specs.NextSteps.{NotStarted, call_in, result_in};
 ghost use Rattle.vme_shared.specs.Mailboxes.{IsAsked};
-ghost use Rattle.vme_shared.specs.Tables.{SharedJob, NotStarted, shared_next};
-ghost use Rattle.vme_shared.specs.Machine.{shared_fresh, shared_task, shared_advance, shared_given, shared_to_do};
-ghost use Rattle.vme_shared.specs.Events.{next_in, call_in, outcome_in};
+ghost use Rattle.vme_shared.specs.Machine.{shared_fresh, shared_task, shared_advance, shared_to_do};
+ghost use Rattle.vme_shared.specs.Events.{next_in, IsNextOf};
 
 use crate::asked::Asked;
 use crate::outcome::SharedOutcome;
@@ -14,7 +12,7 @@ use crate::request::SharedRequest;
 use crate::todo::SharedTodo;
 use crate::work::Work;
 use std::marker::Model;
-use vme_core::{Event, EventRef, EventReply};
+use vme_core::{EventRef, EventReply};
 use vme_cycle::CycleFault;
 use vme_decode::AddressMap;
 
@@ -58,10 +56,7 @@ impl<'a> SharedTask<'a> {
     /// What it does next. The first call is given nothing, and each later one the reply to the event
     /// that the call before it gave out.
     pub fn next(&mut self, reply: Option<EventReply>) -> SharedTodo
-        ensures task { self.new ≡ shared_advance self.old reply }
-        ensures todo { next_in result ≡ shared_to_do self.new }
-        ensures table { (s : SharedJob) (before : Given) → self.old ≡ shared_given s before →
-            next_in result ≡ shared_next s (reply ∷ before) }
+        ensures { IsNextOf self.old self.new reply result }
     {
         self.advance(reply.as_ref());
         self.todo()
@@ -80,16 +75,6 @@ impl<'a> SharedTask<'a> {
     }
 
     /// The event that it makes next, where it has begun and has not ended.
-    pub fn event(&self) -> Option<Event>
-        ensures { option_map call_of result ≡ call_in (shared_to_do self.now) }
-    {
-        match &self.work {
-            Work::Running { task, .. } => task.event(),
-            Work::Finished(_) => None,
-        }
-    }
-
-    /// What that event asks, apart from the lines of a cycle.
     #[inline(never)]
     pub fn event_ref(&self) -> Option<EventRef<'_>>
         ensures { option_map call_asked result ≡ call_in (shared_to_do self.now) }
@@ -102,7 +87,7 @@ impl<'a> SharedTask<'a> {
 
     /// What came of it, where it has ended.
     pub fn outcome(&self) -> Option<SharedOutcome>
-        ensures { result ≡ outcome_in (shared_to_do self.now) }
+        ensures { result ≡ result_in (shared_to_do self.now) }
     {
         match &self.work {
             Work::Running { .. } => None,
@@ -121,8 +106,8 @@ impl<'a> SharedTask<'a> {
         requires { shared_to_do self.now ≢ NotStarted }
         ensures { next_in result ≡ shared_to_do self.now }
     {
-        match self.event() {
-            Some(event) => SharedTodo::Call(event),
+        match self.event_ref() {
+            Some(event_ref) => SharedTodo::Call(event_ref.to_event()),
             None => SharedTodo::Finished(self.outcome().unwrap()),
         }
     }

@@ -1,5 +1,6 @@
 ghost use Rattle.std.specs.Prelude.{◌≡◌, ◌≢◌, None, option_copied};
-ghost use Rattle.vme_shared.specs.Tables.{SharedJob, NotStarted};
+ghost use Rattle.vme_core.specs.NextSteps.{NotStarted};
+ghost use Rattle.vme_shared.specs.Tables.{SharedJob};
 ghost use Rattle.vme_shared.specs.Machine.{work_after, work_or, work_to_do, IsGoing};
 
 use crate::outcome::SharedOutcome;

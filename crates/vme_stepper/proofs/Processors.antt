@@ -4,11 +4,12 @@ use Rattle.std.proofs.lemmas.List.{drop-drop, length_push, length-map, length-dr
 use Rattle.vme_core.specs.declared.event.EventReply.{EventReply}
 use Rattle.vme_core.specs.Runs.{Machine}
 use Rattle.vme_core.specs.Calls.{machine_step}
+use Rattle.vme_core.specs.NextSteps.{NextStep, NotStarted, Invokes, Returns}
 use Rattle.vme_shared.specs.declared.reply.LineReply.{LineReply}
 use Rattle.vme_grammar.specs.declared.line.Line.{Line}
 use Rattle.vme_script.specs.Configurations.{Configuration}
 use Rattle.vme_line_task.specs.Scripts.{lines_at, script_at}
-use Rattle.vme_line_task.specs.Tables.{LineNext, NotStarted, Invokes, Returns, line_next}
+use Rattle.vme_line_task.specs.Tables.{line_next}
 use Rattle.vme_line_task.specs.Machine.{line_after}
 use Rattle.vme_line_task.specs.Traces.{ScriptState}
 use Rattle.vme_stepper.specs.Turns.{script_state, settled, turn_by, script_state_turn, lines_left}
@@ -38,7 +39,7 @@ module _ (config : Configuration) (board : ℕ) where
       rw (script, reported, count, reported_more (script_at config board) ended answer (within (length ended) line lines left), length_push ended answer) refl
 
   -- a task goes on by a reply
-  settled_is : (processor : ProcessorView) (ended : List LineReply) (reply : EventReply) (replies : List EventReply) (line : Line) (lines : List Line) (next : LineNext)
+  settled_is : (processor : ProcessorView) (ended : List LineReply) (reply : EventReply) (replies : List EventReply) (line : Line) (lines : List Line) (next : NextStep LineReply)
       → drop (length ended) (lines_at config board) ≡ line ∷ lines → processor.script ≡ script_at config board
       → processor.lines ≡ reported_lines (script_at config board) ended → processor.ended ≡ length ended
       → processor_settled processor (line_after config board line (reply ∷ replies)) next ≡ processor_of config board (settled ended (reply ∷ replies) next)
@@ -60,7 +61,7 @@ module _ (config : Configuration) (board : ℕ) where
       by_replies [] are = refl
       by_replies (reply ∷ replies) are = rw left refl
 
-  next_is : (machine : Machine) (c : ScriptState) (line : Line) (lines : List Line) (next : LineNext) (processor_after : ProcessorView → Machine × ProcessorView)
+  next_is : (machine : Machine) (c : ScriptState) (line : Line) (lines : List Line) (next : NextStep LineReply) (processor_after : ProcessorView → Machine × ProcessorView)
       (script_state_after : ScriptState → Machine × ScriptState) → lines_left config board c ≡ line ∷ lines
       → ((answer : LineReply) → processor_after (processor_of config board (script_state (c.ended ++ answer ∷ []) [])) ≡ with_processor (script_state_after (script_state (c.ended ++ answer ∷ []) [])))
       → processor_turn_by machine board (processor_of config board c) (line_after config board line c.replies) next processor_after

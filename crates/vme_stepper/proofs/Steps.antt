@@ -9,10 +9,12 @@ use Rattle.vme_core.specs.CountedStates.{CountedState, fresh_count}
 use Rattle.vme_core.specs.Runs.{Machine}
 use Rattle.vme_core.specs.Calls.{Call, OnBoard, OnBus, board_after, machine_step, command_step, counted_step}
 use Rattle.vme_core.specs.Machines.{steps_of}
+use Rattle.vme_core.specs.NextSteps.{NextStep, NotStarted, Invokes, Returns}
+use Rattle.vme_shared.specs.declared.reply.LineReply.{LineReply}
 use Rattle.vme_memory.specs.Steps.{Command}
 use Rattle.vme_grammar.specs.declared.line.Line.{Line}
 use Rattle.vme_script.specs.Configurations.{Configuration, opening_memory}
-use Rattle.vme_line_task.specs.Tables.{LineNext, NotStarted, Invokes, Returns, line_next}
+use Rattle.vme_line_task.specs.Tables.{line_next}
 use Rattle.vme_line_task.specs.Traces.{ScriptState}
 use Rattle.vme_stepper.specs.Turns.{SystemState, script_state, turn_by, script_state_turn, lines_left, turn_in, turn_at, turn, board_in_slot, run, initial_state, state_after}
 use Rattle.vme_stepper.specs.Steppers.{StepsWithin}
@@ -54,7 +56,7 @@ machine_steps n machine who (OnBus cmd) steps = record {
 }
 
 module _ (config : Configuration) where
-  line_steps : (n board : ℕ) (line : Line) (machine : Machine) (c : ScriptState) (next : LineNext) (after : ScriptState → Machine × ScriptState)
+  line_steps : (n board : ℕ) (line : Line) (machine : Machine) (c : ScriptState) (next : NextStep LineReply) (after : ScriptState → Machine × ScriptState)
       → ((now : ScriptState) → StepsWithin (n + 1) (after now).0) → StepsWithin n machine
       → StepsWithin (n + 1) (turn_by config board line machine c next after).0
   line_steps n board line machine c NotStarted after others steps = steps_weaker n (n + 1) machine (omega arith) steps

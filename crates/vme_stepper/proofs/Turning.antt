@@ -6,13 +6,13 @@ use Rattle.std.proofs.lemmas.Option.{slice_get_within, slice_get_cases, get_or_f
 use Rattle.vme_core.specs.Runs.{Machine}
 use Rattle.vme_core.specs.declared.event.EventReply.{EventReply}
 use Rattle.vme_core.specs.Calls.{Call, machine_step}
+use Rattle.vme_core.specs.NextSteps.{Invokes, Returns}
 use Rattle.vme_shared.specs.declared.reply.LineReply.{LineReply}
 use Rattle.vme_grammar.specs.declared.line.Line.{Line}
 use Rattle.vme_script.specs.declared.script.ScriptLine.{ScriptLine}
 use Rattle.vme_script.specs.Configurations.{Configuration}
 use Rattle.vme_line_task.specs.declared.task.LineTask.{LineTask}
 use Rattle.vme_line_task.specs.Scripts.{lines_at}
-use Rattle.vme_line_task.specs.Tables.{Invokes, Returns}
 use Rattle.vme_line_task.specs.Machine.{line_started, line_advance, line_to_do}
 use Rattle.vme_stepper.specs.Steppers.{ProcessorView, processor_answered, processor_settled, processor_called, line_begun, processor_turn}
 

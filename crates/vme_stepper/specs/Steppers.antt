@@ -7,6 +7,7 @@ use Rattle.vme_core.specs.CountedStates.{CountedState}
 use Rattle.vme_core.specs.Runs.{Machine}
 use Rattle.vme_core.specs.Calls.{Call, machine_step}
 use Rattle.vme_core.specs.Machines.{process_count}
+use Rattle.vme_core.specs.NextSteps.{NextStep, Invokes, Returns, MakesCall}
 use Rattle.vme_shared.specs.declared.reply.LineReply.{LineReply}
 use Rattle.vme_grammar.specs.declared.line.Line.{Line}
 use Rattle.vme_report.specs.Boards.{BoardText}
@@ -16,9 +17,7 @@ use Rattle.vme_script.specs.Configurations.{Configuration}
 use Rattle.vme_line_task.specs.declared.task.LineTask.{LineTask}
 use Rattle.vme_line_task.specs.Scripts.{lines_at, script_at}
 use Rattle.vme_line_task.specs.ReadBuffers.{buffers_of}
-use Rattle.vme_line_task.specs.Tables.{LineNext, Invokes, Returns}
 use Rattle.vme_line_task.specs.Machine.{line_started, line_advance, line_to_do, line_after, IsLineBelow}
-use Rattle.vme_line_task.specs.Events.{MakesCall}
 use Rattle.vme_line_task.specs.Traces.{ScriptState}
 use Rattle.vme_stepper.specs.Reports.{reported_lines}
 use Rattle.vme_stepper.specs.Turns.{SystemState, lines_left}
@@ -57,7 +56,7 @@ processor_answered processor answer = record {
 }
 
 -- a task of the next line: at its end the answer is recorded, and else it is at work (this project's own)
-abbrev pub processor_settled : ProcessorView → LineTask → LineNext → ProcessorView
+abbrev pub processor_settled : ProcessorView → LineTask → NextStep LineReply → ProcessorView
 processor_settled processor task (Returns answer) = processor_answered processor answer
 processor_settled processor task next = record { script = processor.script; lines = processor.lines; ended = processor.ended; at = Some task }
 
@@ -70,7 +69,7 @@ processor_called machine board processor task call =
 
 -- a task of the next line that has a call to make makes it; one that has ended is answered, and the lines after it go on
 -- (this project's own)
-abbrev pub processor_turn_by : Machine → ℕ → ProcessorView → LineTask → LineNext → (ProcessorView → Machine × ProcessorView) → Machine × ProcessorView
+abbrev pub processor_turn_by : Machine → ℕ → ProcessorView → LineTask → NextStep LineReply → (ProcessorView → Machine × ProcessorView) → Machine × ProcessorView
 processor_turn_by machine board processor task (Invokes call) after = processor_called machine board processor task call
 processor_turn_by machine board processor task (Returns answer) after = after (processor_answered processor answer)
 processor_turn_by machine board processor task next after = (machine, processor)

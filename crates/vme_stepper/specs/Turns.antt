@@ -6,11 +6,12 @@ use Rattle.vme_core.specs.Runs.{Machine}
 use Rattle.vme_core.specs.Calls.{Call, machine_step}
 use Rattle.vme_arbiter.specs.Arbitration.{opening_bus}
 use Rattle.vme_core.specs.Machines.{opening}
+use Rattle.vme_core.specs.NextSteps.{NextStep, Invokes, Returns}
 use Rattle.vme_shared.specs.declared.reply.LineReply.{LineReply}
 use Rattle.vme_grammar.specs.declared.line.Line.{Line}
 use Rattle.vme_script.specs.Configurations.{Configuration, opening_memory}
 use Rattle.vme_line_task.specs.Scripts.{lines_at}
-use Rattle.vme_line_task.specs.Tables.{LineNext, Invokes, Returns, line_next}
+use Rattle.vme_line_task.specs.Tables.{line_next}
 use Rattle.vme_line_task.specs.Traces.{ScriptState}
 
 -- the boards and the arbiter with their counts, and how far each processor has come in its script, by the board's place
@@ -25,7 +26,7 @@ script_state ended replies = record { ended = ended; replies = replies }
 
 -- a line that was given these replies: where it has ended, its answer is recorded, and the line after it is the next
 -- (this project's own)
-abbrev pub settled : List LineReply → List EventReply → LineNext → ScriptState
+abbrev pub settled : List LineReply → List EventReply → NextStep LineReply → ScriptState
 settled ended replies (Returns answer) = script_state (ended ++ answer ∷ []) []
 settled ended replies next = script_state ended replies
 
@@ -37,7 +38,7 @@ call_made config board line machine c call =
 
 -- a line with a call to make makes it; one that has ended without one is answered, and the lines after it have the turn; no line
 -- rests once it is called (this project's own)
-abbrev pub turn_by : Configuration → ℕ → Line → Machine → ScriptState → LineNext → (ScriptState → Machine × ScriptState) → Machine × ScriptState
+abbrev pub turn_by : Configuration → ℕ → Line → Machine → ScriptState → NextStep LineReply → (ScriptState → Machine × ScriptState) → Machine × ScriptState
 turn_by config board line machine c (Invokes call) after = call_made config board line machine c call
 turn_by config board line machine c (Returns answer) after = after (script_state (c.ended ++ answer ∷ []) [])
 turn_by config board line machine c next after = (machine, c)

@@ -1,11 +1,10 @@
 //! The way of one processor through its script.
-ghost use Rattle.std.specs.Prelude.{◌≡◌, ℕ, ◌<◌, ◌≤◌, ◌-◌, ◌^◌, length, map, slice_set, slice_index_or, is_some, true, Some, None, IfOk, IfSome, IsTrue};
+ghost use Rattle.std.specs.Prelude.{◌≡◌, ◌<◌, ◌≤◌, ◌-◌, ◌^◌, length, map, slice_set, slice_index_or, is_some, true, Some, None, IfOk, IfSome, IsTrue};
 ghost use Rattle.vme_shared.specs.declared.reply.LineReply.TheVariants.{Unfinished};
 ghost use Rattle.vme_core.specs.Runs.{Machine};
 ghost use Rattle.vme_core.specs.Machines.{process_count};
+ghost use Rattle.vme_core.specs.NextSteps.{Returns, result_in};
 ghost use Rattle.vme_script.specs.Configurations.{Configuration};
-ghost use Rattle.vme_line_task.specs.Tables.{Returns};
-ghost use Rattle.vme_line_task.specs.Events.{answer_in};
 ghost use Rattle.vme_line_task.specs.Machine.{line_to_do, IsLineBelow};
 ghost use Rattle.vme_stepper.specs.Steppers.{processor_turn, IsProcessorOf, StepsWithin};
 
@@ -93,7 +92,7 @@ impl<'a> Processor<'a> {
         if self.task.is_none() {
             self.seek(config, board);
         }
-        self.make(core, board);
+        self.advance_on(core, board);
     }
 
     /// Whether each line has ended.
@@ -131,7 +130,7 @@ impl<'a> Processor<'a> {
     /// The line at work makes its event, if one is.
     #[inline(always)]
     #[tactic(auto, using(crate::proofs::Calls::can_make))]
-    fn make(&mut self, core: &mut Core, board: usize)
+    fn advance_on(&mut self, core: &mut Core, board: usize)
         requires who { board < process_count core.old }
         requires below { IfSome self.old.at (IsLineBelow (length core.old.boards)) }
         requires capacity { StepsWithin (2 ^ 64 - 2) core.old }
@@ -147,7 +146,7 @@ impl<'a> Processor<'a> {
         let Some(task) = &mut self.task else {
             return;
         };
-        task.make(core, board);
+        task.advance_on(core, board);
         if task.is_finished() {
             put_answer_of(&mut self.lines, self.ended, task);
             self.ended += 1;
@@ -166,10 +165,10 @@ fn let_go(task: &mut Option<LineTask<'_>>)
 
 /// Puts the answer of a line that is over at its place. Out of line, so that a turn has no room for it.
 #[inline(never)]
-#[tactic(auto, using(crate::proofs::Calls::its_own))]
+#[tactic(auto, using(vme_core::proofs::lemmas::NextSteps::its_own))]
 fn put_answer_of(lines: &mut [(u16, LineReply)], place: usize, task: &mut LineTask<'_>)
     requires place { place < length lines.old }
-    requires over { is_some (answer_in (line_to_do task.old)) ≡ true }
+    requires over { is_some (result_in (line_to_do task.old)) ≡ true }
     ensures len { length lines.new ≡ length lines.old }
     ensures put { (answer : LineReply) → line_to_do task.old ≡ Returns answer → lines.new
         ≡ slice_set lines.old place ((slice_index_or lines.old place (0, answer)).0, answer) }

@@ -1,23 +1,21 @@
 -- A line of a script, event by event.
-use Rattle.std.proofs.Common.{◌≡◌, ◌≢◌, ℕ, zero, suc, ◌<◌, List, [], ◌∷◌, ◌++◌, length, Option, Some, None, refl, ap, sym, ◌∙◌, arith}
+use Rattle.std.proofs.Common.{◌≡◌, ◌≢◌, ℕ, zero, suc, ◌<◌, List, [], ◌∷◌, ◌++◌, length, Some, None, refl, ap, sym, ◌∙◌, arith}
 use Rattle.std.specs.List.{slice_get}
-use Rattle.std.specs.Option.{IsSome, option_map}
 use Rattle.vme_core.specs.declared.event.EventReply.{EventReply}
-use Rattle.vme_core.specs.declared.event.EventRef.{EventRef}
-use Rattle.vme_core.specs.Calls.{Call}
-use Rattle.vme_core.specs.EventRefs.{call_asked}
+use Rattle.vme_core.specs.Calls.{Call, call_of}
 use Rattle.vme_core.specs.Runs.{Transition, move}
+use Rattle.vme_core.specs.NextSteps.{NotStarted, call_in, result_in}
 use Rattle.vme_shared.specs.declared.reply.LineReply.{LineReply}
 use Rattle.vme_grammar.specs.declared.line.Line.{Line}
 use Rattle.vme_script.specs.Configurations.{Configuration}
 use Rattle.vme_line_task.specs.declared.task.LineTask.{LineTask}
 use Rattle.vme_line_task.specs.Scripts.{lines_at}
-use Rattle.vme_line_task.specs.Tables.{LineNext, NotStarted, Invokes, Returns, line_next}
+use Rattle.vme_line_task.specs.Tables.{line_next}
 use Rattle.vme_line_task.specs.Machine.{line_started, line_advance, line_to_do, line_after, IsLineBelow}
-use Rattle.vme_line_task.specs.Events.{call_in, answer_in, MakesCall, IsCallBelow}
+use Rattle.vme_line_task.specs.Events.{IsCallBelow}
 use Rattle.vme_line_task.specs.Traces.{Continues}
 use Rattle.vme_line_task.proofs.lemmas.Lines.{by_the_replies}
-use Rattle.vme_line_task.proofs.lemmas.Calls.{makes_event, ends_so}
+use Rattle.vme_core.proofs.lemmas.NextSteps.{in_makes, ends_so}
 use Rattle.vme_line_task.proofs.lemmas.Below.{calls_below}
 use Rattle.vme_line_task.proofs.lemmas.Traces.{goes-snoc}
 use Rattle.vme_threads.specs.declared.pass_set.PassSet.{PassSet}
@@ -82,7 +80,7 @@ at_more config place d e f call reply task new at asks next advanced begun below
       replies = reply ∷ at.replies;
       goes =
           goes-snoc config d.who at.line [] at.run at.replies (move e.who event reply) at.goes
-          (sym (next_is config place d e task at) ∙ makes_event (line_to_do task) event (ap Some next.calls ∙ asks));
+          (sym (next_is config place d e task at) ∙ in_makes (line_to_do task) (call_of event) (ap Some next.calls ∙ asks));
       is = advanced ∙ ap (λ (t : LineTask). line_advance t (Some reply)) at.is;
       begun = begun;
       below = below;
@@ -91,7 +89,7 @@ at_more config place d e f call reply task new at asks next advanced begun below
 -- the reply of the line
 pub at_end :
     (config : Configuration) (place : ℕ) (d e : PassSet) (task : LineTask) (answer : LineReply) → IsAtWork config place d e task
-    → Some answer ≡ answer_in (line_to_do task) → AddsLine config place answer d e
+    → Some answer ≡ result_in (line_to_do task) → AddsLine config place answer d e
 at_end config place d e task answer at is = record {
   line = at.line;
   there = at.there;
@@ -106,18 +104,6 @@ at_end config place d e task answer at is = record {
   };
 }
 
--- a line that makes a call has an `EventRef` of that call
-pub has_event_ref : (next : LineNext) (event_ref : Option EventRef) → MakesCall next → option_map call_asked event_ref ≡ call_in next → IsSome event_ref
-has_event_ref NotStarted event_ref makes is = absurd makes
-has_event_ref (Invokes call) None makes is = absurd cc
-has_event_ref (Invokes call) (Some event_ref) makes is = refl
-has_event_ref (Returns answer) event_ref makes is = absurd makes
-
 -- what the table does next makes the call that it contains
-in_makes : (next : LineNext) (call : Call) → Some call ≡ call_in next → next ≡ Invokes call
-in_makes NotStarted call is = absurd cc
-in_makes (Invokes other) call is = cc
-in_makes (Returns answer) call is = absurd cc
-
 pub call_there : (n : ℕ) (task : LineTask) (call : Call) → IsLineBelow n task → Some call ≡ call_in (line_to_do task) → IsCallBelow n call
 call_there n task call below is = calls_below n task call below (in_makes (line_to_do task) call is)

@@ -12,13 +12,12 @@ use Rattle.vme_core.specs.declared.event.EventReply.{EventReply}
 use Rattle.vme_core.specs.declared.event.EventReply.TheVariants as event_replies
 use Rattle.vme_core.specs.Calls.{Call, call_of}
 use Rattle.vme_core.specs.Runs.{Transition, move}
+use Rattle.vme_core.specs.NextSteps.{NextStep, NotStarted, Invokes, Returns, call_in, result_in}
 use Rattle.vme_master.specs.declared.job.Job.{Job}
 use Rattle.vme_master.specs.declared.outcome.Outcome.{Outcome}
 use Rattle.vme_master.specs.Jobs.{bus_job, local_job}
-use Rattle.vme_master.specs.Tables as tasks
-use Rattle.vme_master.specs.Tables.{Next, Given, next_of}
+use Rattle.vme_master.specs.Tables.{Given, next_of}
 use Rattle.vme_master.specs.Machine.{TaskView, fresh_task, bus_task, advance, task_given, to_do}
-use Rattle.vme_master.specs.Events as tasks_seen
 use Rattle.vme_master.proofs.lemmas.Stands.{by_the_table}
 use Rattle.vme_shared.specs.declared.reply.LineReply.{LineReply}
 use Rattle.vme_shared.specs.declared.reply.LineReply.TheVariants.{Transfer, Refused}
@@ -28,7 +27,7 @@ use Rattle.vme_script.specs.declared.script.ScriptLine.{ScriptLine}
 use Rattle.vme_script.specs.Boards.{entries_of}
 use Rattle.vme_script.specs.Configurations.{Configuration}
 use Rattle.vme_line_task.specs.Scripts.{Transferring, slot_at, level_at, lines_at, transfer_job, request_attempt, line_attempt}
-use Rattle.vme_line_task.specs.Tables.{Invokes, Returns, moves_next, attempts_of, next_wants_retry, next_given, line_next, given_of}
+use Rattle.vme_line_task.specs.Tables.{moves_next, attempts_of, next_wants_retry, next_given, line_next, given_of}
 use Rattle.vme_line_task.specs.Events.{IsCallBelow}
 use Rattle.vme_line_task.specs.Traces.{Continues}
 use Rattle.vme_line_task.proofs.lemmas.Below.{next_below}
@@ -41,10 +40,10 @@ use Rattle.vme_threads.proofs.PassSets.{made_none, made_more}
 use Rattle.vme_threads.proofs.Runs.{script_is}
 
 -- the table ends a transfer or a command after one attempt
-attempted_once : (next : Next) → next_wants_retry (moves_next next) ≡ false
-attempted_once tasks.NotStarted = refl
-attempted_once (tasks.Invokes call) = refl
-attempted_once (tasks.Returns outcome) = refl
+attempted_once : (next : NextStep Outcome) → next_wants_retry (moves_next next) ≡ false
+attempted_once NotStarted = refl
+attempted_once (Invokes call) = refl
+attempted_once (Returns outcome) = refl
 
 -- the first attempt has all replies to the line
 all_given : (job : Job) (tries : ℕ) (given : Given) → (attempts_of (Transferring job) tries given).given ≡ given
@@ -63,7 +62,7 @@ once_next config board line job replies is =
 -- a command to the local port gets its reply by one call
 pub local_answered :
     (cmd : BoardCmd) (reply : Reply) (outcome : Outcome) (d e : PassSet) → AddsTransitions (move d.who (asked.Board d.who cmd) (event_replies.Board reply) ∷ []) d e
-    → ((board : ℕ) → next_of (local_job board cmd) (Some (event_replies.Board reply) ∷ None ∷ []) ≡ tasks.Returns outcome)
+    → ((board : ℕ) → next_of (local_job board cmd) (Some (event_replies.Board reply) ∷ None ∷ []) ≡ Returns outcome)
     → (config : Configuration) → IsAnsweredBy config (lines.Local cmd) (Transfer outcome) d e
 local_answered cmd reply outcome d e made ends = λ config. record {
   run = move d.who (asked.Board d.who cmd) (event_replies.Board reply) ∷ [];
@@ -94,16 +93,16 @@ answered_there config place line d e (Ok answer) there is = record { line = line
 answered_there config place line d e (Err spent) there is = tt
 
 -- a call of the task is the call of its line
-called : (next : Next) (call : Call) → Some call ≡ tasks_seen.call_in next → moves_next next ≡ Invokes call
-called tasks.NotStarted call is = absurd cc
-called (tasks.Invokes other) call is = cc
-called (tasks.Returns outcome) call is = absurd cc
+called : (next : NextStep Outcome) (call : Call) → Some call ≡ call_in next → moves_next next ≡ Invokes call
+called NotStarted call is = absurd cc
+called (Invokes other) call is = cc
+called (Returns outcome) call is = absurd cc
 
 -- the end of the task is the end of its line
-ended : (next : Next) (outcome : Outcome) → Some outcome ≡ tasks_seen.outcome_in next → moves_next next ≡ Returns (Transfer outcome)
-ended tasks.NotStarted outcome is = absurd cc
-ended (tasks.Invokes call) outcome is = absurd cc
-ended (tasks.Returns other) outcome is = cc
+ended : (next : NextStep Outcome) (outcome : Outcome) → Some outcome ≡ result_in next → moves_next next ≡ Returns (Transfer outcome)
+ended NotStarted outcome is = absurd cc
+ended (Invokes call) outcome is = absurd cc
+ended (Returns other) outcome is = cc
 
 -- a refused request ends without a call
 refused_by : (map : List Entry) (slot level : ℕ) (t : Result LawfulRequest CycleFault) (fault : CycleFault)
@@ -130,7 +129,7 @@ pub record IsMoving (config : Configuration) (request : Request) (before now : P
   pub replies : List EventReply
   pub goes : Continues config before.who (lines.Bus request) [] run replies
   pub is : task ≡ task_given job (given_of replies)
-  pub begun : to_do task ≢ tasks.NotStarted
+  pub begun : to_do task ≢ NotStarted
 
 -- the job of a lawful request
 record IsStarted (map : List Entry) (slot level : ℕ) (t : Result LawfulRequest CycleFault) (task : TaskView) : Type 0 where
@@ -147,7 +146,7 @@ started_by map slot level (Err fault) task is = absurd cc
 pub moving_start :
     (config : Configuration) (map : List Entry) (slot level : ℕ) (request : Request) (d : PassSet) (fresh task : TaskView)
     → map ≡ entries_of config.boards → slot_at config d.who ≡ slot → level_at config d.who ≡ level
-    → Ok fresh ≡ bus_task map slot level (transfer_of request) → task ≡ advance fresh None → to_do task ≢ tasks.NotStarted
+    → Ok fresh ≡ bus_task map slot level (transfer_of request) → task ≡ advance fresh None → to_do task ≢ NotStarted
     → IsMoving config request d d task
 moving_start config map slot level request d fresh task maps slots levels is advanced begun =
     let started = started_by map slot level (transfer_of request) fresh is in
@@ -177,7 +176,7 @@ moving_next config request d e task at =
 -- the boards that the transfer calls exist
 pub moving_below :
     (config : Configuration) (request : Request) (d e : PassSet) (task : TaskView) (n : ℕ) (call : Call) → IsMoving config request d e task
-    → d.who < length config.boards → length config.boards ≡ n → Some call ≡ tasks_seen.call_in (to_do task) → IsCallBelow n call
+    → d.who < length config.boards → length config.boards ≡ n → Some call ≡ call_in (to_do task) → IsCallBelow n call
 moving_below config request d e task n call at there same asks =
     subst (λ (m : ℕ). IsCallBelow m call) same
     (next_below config d.who (lines.Bus request) (given_of at.replies) call there (sym (moving_next config request d e task at) ∙ called (to_do task) call asks))
@@ -185,8 +184,8 @@ moving_below config request d e task n call at there same asks =
 -- the state after one more event
 pub moving_more :
     (config : Configuration) (request : Request) (d e f : PassSet) (call : Call) (reply : EventReply) (task new : TaskView)
-    → IsMoving config request d e task → Some call ≡ tasks_seen.call_in (to_do task) → AddsCall call reply e f → new ≡ advance task (Some reply)
-    → to_do new ≢ tasks.NotStarted → IsMoving config request d f new
+    → IsMoving config request d e task → Some call ≡ call_in (to_do task) → AddsCall call reply e f → new ≡ advance task (Some reply)
+    → to_do new ≢ NotStarted → IsMoving config request d f new
 moving_more config request d e f call reply task new at asks next advanced begun =
     let one = move e.who next.event reply in
     record {
@@ -205,7 +204,7 @@ moving_more config request d e f call reply task new at asks next advanced begun
 -- the reply of the line
 pub moving_end :
     (config : Configuration) (request : Request) (d e : PassSet) (task : TaskView) (outcome : Outcome) → IsMoving config request d e task
-    → Some outcome ≡ tasks_seen.outcome_in (to_do task) → IsAnsweredBy config (lines.Bus request) (Transfer outcome) d e
+    → Some outcome ≡ result_in (to_do task) → IsAnsweredBy config (lines.Bus request) (Transfer outcome) d e
 moving_end config request d e task outcome at is = record {
   run = at.run;
   made = at.made;

@@ -1,26 +1,29 @@
 -- The boards that a line calls are there.
 use Rattle.std.proofs.Common.{◌≡◌, ℕ, ◌<◌, List, [], ◌∷◌, ◌++◌, length, Option, Some, None, Result, Ok, Err, refl, ap, sym, subst, ◌∙◌}
-use Rattle.std.specs.Prelude.{option_map, IfSome}
 use Rattle.std.proofs.lemmas.List.{length-map}
 use Rattle.vme_cycle.specs.declared.fault.CycleFault.{CycleFault}
 use Rattle.vme_cycle.specs.declared.request.Request.TheVariants as requests
 use Rattle.vme_cycle.specs.Lawful.{Transfer, transfer_of}
-use Rattle.vme_core.specs.declared.event.Event.{Event}
 use Rattle.vme_core.specs.declared.event.Event.TheVariants as asked
 use Rattle.vme_core.specs.declared.event.EventReply.{EventReply}
-use Rattle.vme_core.specs.Calls.{Call, OnBoard, OnBus, call_of}
+use Rattle.vme_core.specs.Calls.{Call, OnBoard, OnBus, machine_step}
+use Rattle.vme_core.specs.NextSteps.{NextStep, NotStarted, Invokes, Returns, call_in}
+use Rattle.vme_core.specs.Runs.{Machine}
+use Rattle.vme_core.specs.Advances.{advanced_on, AdvancesOn}
+use Rattle.vme_core.proofs.lemmas.NextSteps.{map_makes}
+use Rattle.vme_master.specs.declared.outcome.Outcome.{Outcome}
+use Rattle.vme_shared.specs.declared.outcome.SharedOutcome.{SharedOutcome}
+use Rattle.vme_shared.specs.declared.reply.LineReply.{LineReply}
+use Rattle.vme_shared.specs.declared.reply.LineReply.TheVariants as answers
 use Rattle.vme_master.specs.declared.job.Job.{Job}
-use Rattle.vme_master.specs.declared.outcome.Outcome.TheVariants as outcomes
 use Rattle.vme_master.specs.Jobs.{bus_job}
-use Rattle.vme_master.specs.Tables as tasks
-use Rattle.vme_master.specs.Tables.{Next, Given, next_of}
+use Rattle.vme_master.specs.Tables.{Given, next_of}
 use Rattle.vme_master.specs.Laws.{IsBelow}
 use Rattle.vme_master.proofs.lemmas.Locals.{bus_below, calls_below as job_calls_below}
 use Rattle.vme_shared.specs.declared.request.SharedRequest.{SharedRequest}
 use Rattle.vme_shared.specs.declared.request.SharedRequest.TheVariants as asked_shared
 use Rattle.vme_shared.specs.Mailboxes.{shared_refusal}
-use Rattle.vme_shared.specs.Tables as shares
-use Rattle.vme_shared.specs.Tables.{SharedNext, shared_next}
+use Rattle.vme_shared.specs.Tables.{shared_next}
 use Rattle.vme_shared.proofs.lemmas.Tenures.{calls_below as shared_calls_below}
 use Rattle.vme_grammar.specs.declared.line.Line.{Line}
 use Rattle.vme_grammar.specs.declared.line.Line.TheVariants as lines
@@ -31,9 +34,9 @@ use Rattle.vme_line_task.specs.declared.task.LineTask.TheVariants.{Refused, Runn
 use Rattle.vme_line_task.specs.declared.todo.LineTodo.{LineTodo}
 use Rattle.vme_line_task.specs.declared.todo.LineTodo.TheVariants as todos
 use Rattle.vme_line_task.specs.Scripts.{Attempt, Transferring, Awaiting, Sharing, slot_at, level_at, mailbox_at, transfer_job, request_attempt, unless_refused, shared_job, shared_attempt, line_attempt}
-use Rattle.vme_line_task.specs.Tables.{LineNext, NotStarted, Invokes, Returns, moves_next, waits_next, shares_next, attempts_of, lawful_next, next_given}
+use Rattle.vme_line_task.specs.Tables.{moves_next, await_reply, waits_next, shares_next, attempts_of, lawful_next, next_given}
 use Rattle.vme_line_task.specs.Machine.{line_started, line_advance, line_to_do, line_taken, attempt_to_do, attempts_taken, line_advanced, IsLineBelow}
-use Rattle.vme_line_task.specs.Events.{next_in, call_in, IsCallBelow, IsEventBelow, IsTodoBelow}
+use Rattle.vme_line_task.specs.Events.{next_in, IsCallBelow, IsTodoBelow}
 use Rattle.vme_line_task.proofs.lemmas.Lines.{by_the_given}
 
 -- the boards of what is attempted
@@ -77,24 +80,17 @@ attempt_below config board (lines.Put box word) there = shared_below config boar
 attempt_below config board (lines.Take box) there = shared_below config board (asked_shared.Take (mailbox_at config box))
 
 -- the calls of a line that are those of its task
-pub moves_makes : (next : Next) (call : Call) → moves_next next ≡ Invokes call → next ≡ tasks.Invokes call
-moves_makes tasks.NotStarted call made = absurd cc
-moves_makes (tasks.Invokes other) call made = cc
-moves_makes (tasks.Returns outcome) call made = absurd cc
+pub moves_makes : (next : NextStep Outcome) (call : Call) → moves_next next ≡ Invokes call → next ≡ Invokes call
+moves_makes next call made = map_makes answers.Transfer next call made
 
-pub waits_makes : (want : List ℕ) (next : Next) (call : Call) → waits_next want next ≡ Invokes call → next ≡ tasks.Invokes call
-waits_makes want tasks.NotStarted call made = absurd cc
-waits_makes want (tasks.Invokes other) call made = cc
-waits_makes want (tasks.Returns (outcomes.Read bytes)) call made = absurd cc
-waits_makes want (tasks.Returns outcome) call made = absurd cc
+pub waits_makes : (want : List ℕ) (next : NextStep Outcome) (call : Call) → waits_next want next ≡ Invokes call → next ≡ Invokes call
+waits_makes want next call made = map_makes (await_reply want) next call made
 
-pub shares_makes : (next : SharedNext) (call : Call) → shares_next next ≡ Invokes call → next ≡ shares.Invokes call
-shares_makes shares.NotStarted call made = absurd cc
-shares_makes (shares.Invokes other) call made = cc
-shares_makes (shares.Returns outcome) call made = absurd cc
+pub shares_makes : (next : NextStep SharedOutcome) (call : Call) → shares_next next ≡ Invokes call → next ≡ Invokes call
+shares_makes next call made = map_makes answers.Shared next call made
 
 -- each board that is called is one of them
-job_below : (n : ℕ) (job : Job) (given : Given) (call : Call) → IsBelow n job → next_of job given ≡ tasks.Invokes call → IsCallBelow n call
+job_below : (n : ℕ) (job : Job) (given : Given) (call : Call) → IsBelow n job → next_of job given ≡ Invokes call → IsCallBelow n call
 job_below n job given (OnBoard board command) below made = job_calls_below n job given board command below made
 job_below n job given (OnBus cmd) below made = tt
 
@@ -126,33 +122,31 @@ started_below config board line there = λ given call made.
     next_below config board line given call there (sym (by_the_given config board line given) ∙ made)
 
 -- and stays so
-advanced_on : (task : LineTask) (last : Option EventReply) (given : Given)
+after_all : (task : LineTask) (last : Option EventReply) (given : Given)
     → line_advanced (line_advance task last) given ≡ line_advanced task (given ++ last ∷ [])
-advanced_on task last [] = refl
-advanced_on task last (next ∷ given) = ap (λ (t : LineTask). line_advance t next) (advanced_on task last given)
+after_all task last [] = refl
+after_all task last (next ∷ given) = ap (λ (t : LineTask). line_advance t next) (after_all task last given)
 
 pub advance_below : (n : ℕ) (task : LineTask) (last : Option EventReply) → IsLineBelow n task → IsLineBelow n (line_advance task last)
 unfolding IsLineBelow
 advance_below n task last below = λ given call made.
-    below (given ++ last ∷ []) call (sym (ap line_to_do (advanced_on task last given)) ∙ made)
+    below (given ++ last ∷ []) call (sym (ap line_to_do (after_all task last given)) ∙ made)
+
+-- also after a call that it makes itself
+pub made_below : (n who : ℕ) (before after : Machine) (task new : LineTask) → AdvancesOn line_to_do line_advance who before after task new
+    → IsLineBelow n task → IsLineBelow n new
+made_below n who before after task new it below = by (call_in (line_to_do task)) it.step
+  where
+    by : (call : Option Call) → (after, new) ≡ advanced_on line_advance call who before task → IsLineBelow n new
+    by None step = subst (IsLineBelow n) (sym (ap (λ (r : Machine × LineTask). r.1) step)) below
+    by (Some call) step =
+        subst (IsLineBelow n) (sym (ap (λ (r : Machine × LineTask). r.1) step))
+        (advance_below n task (Some (machine_step before who call).1) below)
 
 -- a line's call is on a board that is there
 pub calls_below : (n : ℕ) (task : LineTask) (call : Call) → IsLineBelow n task → line_to_do task ≡ Invokes call → IsCallBelow n call
 unfolding IsLineBelow
 calls_below n task call below next = below [] call next
-
--- and so is its event
-in_makes : (next : LineNext) (call : Call) → Some call ≡ call_in next → next ≡ Invokes call
-in_makes NotStarted call is = absurd cc
-in_makes (Invokes other) call is = cc
-in_makes (Returns answer) call is = absurd cc
-
-pub event_below : (n : ℕ) (task : LineTask) (event : Option Event) → IsLineBelow n task → option_map call_of event ≡ call_in (line_to_do task)
-    → IfSome event (IsEventBelow n)
-event_below n task None below is = tt
-event_below n task (Some (asked.Board board cmd)) below is =
-    calls_below n task (OnBoard board _) below (in_makes (line_to_do task) (OnBoard board _) is)
-event_below n task (Some (asked.Bus cmd)) below is = tt
 
 -- and what it has to do
 pub todo_below : (n : ℕ) (task : LineTask) (todo : LineTodo) → IsLineBelow n task → next_in todo ≡ line_to_do task → IsTodoBelow n todo
@@ -173,7 +167,7 @@ pub taken_below : (n : ℕ) (task : LineTask) → IsLineBelow n task → IsLineB
 taken_below n (Refused fault) below = below
 taken_below n (Running a) below = by_next (attempt_to_do a.attempt)
   where
-    by_next : (next : LineNext) → IsLineBelow n (attempts_taken a next)
+    by_next : (next : NextStep LineReply) → IsLineBelow n (attempts_taken a next)
     by_next NotStarted = below
     by_next (Invokes call) = below
     by_next (Returns answer) = over_below n

@@ -19,9 +19,9 @@ use Rattle.vme_arbiter.specs.Turns.{may_give, StandsAsReplied}
 use Rattle.vme_core.specs.declared.event.EventReply.{EventReply}
 use Rattle.vme_core.specs.declared.event.EventReply.TheVariants as event_replies
 use Rattle.vme_core.specs.Calls.{Call, OnBoard, OnBus}
+use Rattle.vme_core.specs.NextSteps.{NextStep, NotStarted, Invokes, Returns}
 use Rattle.vme_master.specs.Jobs.{local_job}
-use Rattle.vme_master.specs.Tables as tasks
-use Rattle.vme_master.specs.Tables.{Next, Given, next_of, next_after, outcome_by, row_of_reply, bus_row, local_row}
+use Rattle.vme_master.specs.Tables.{Given, next_of}
 use Rattle.vme_master.proofs.lemmas.Locals.{local_calls}
 use Rattle.vme_shared.specs.declared.reply.LineReply.{LineReply}
 use Rattle.vme_shared.specs.declared.reply.LineReply.TheVariants as replies
@@ -33,7 +33,7 @@ use Rattle.vme_grammar.specs.declared.line.Line.TheVariants as lines
 use Rattle.vme_grammar.specs.Grammar.{IsOwnLine}
 use Rattle.vme_script.specs.Configurations.{Configuration}
 use Rattle.vme_line_task.specs.Scripts.{Attempt, Transferring, Awaiting, Sharing, slot_at, level_at, mailbox_at, transfer_job, request_attempt, unless_refused, shared_job, shared_attempt, line_attempt}
-use Rattle.vme_line_task.specs.Tables.{LineNext, NotStarted, Invokes, Returns, attempt_next, asks_again, Attempts, next_attempt, attempts_of, lawful_next, next_given, line_next, given_of}
+use Rattle.vme_line_task.specs.Tables.{attempt_next, asks_again, Attempts, next_attempt, attempts_of, lawful_next, next_given, line_next, given_of}
 use Rattle.vme_line_task.specs.Tenures.{attempt_reported, lawful_reported, line_reported, IsLocal, IsGood, IsGranted}
 use Rattle.vme_line_task.proofs.lemmas.Below.{moves_makes}
 use Rattle.vme_line_task.proofs.Ends.{just_begun}
@@ -43,12 +43,12 @@ use Rattle.vme_line_task.proofs.Attempted.{attempt_begins, IsOwnAttempt, attempt
 abbrev now_made : Attempts → Option EventReply → Attempts
 now_made made last = record { given = last ∷ made.given; left = made.left }
 
-record IsFollowed (made : Attempts) (next : LineNext) : Type 0 where
+record IsFollowed (made : Attempts) (next : NextStep LineReply) : Type 0 where
   answer : LineReply
   ended : next ≡ Returns answer
   begun : next_attempt made next ≡ record { given = None ∷ []; left = made.left - 1 }
 
-either : (made : Attempts) (next : LineNext) → (next_attempt made next ≡ made) ⊎ IsFollowed made next
+either : (made : Attempts) (next : NextStep LineReply) → (next_attempt made next ≡ made) ⊎ IsFollowed made next
 either made NotStarted = inl refl
 either made (Invokes call) = inl refl
 either made (Returns answer) =
@@ -161,7 +161,7 @@ shared_holds config board request given b command made = by_refusal (shared_refu
 
 -- those of a local port are its own
 own_local : (board b : ℕ) (cmd : BoardCmd) (g : Given) (command : Option Command) → IsOwnLine (lines.Local cmd)
-    → next_of (local_job board cmd) g ≡ tasks.Invokes (OnBoard b command) → IsLocal command
+    → next_of (local_job board cmd) g ≡ Invokes (OnBoard b command) → IsLocal command
 own_local board b cmd g command own made =
     let one : OnBoard b command ≡ OnBoard board (command_given cmd) = local_calls (record { board = board; cmd = cmd }) g (OnBoard b command) made in
     let same : command_given cmd ≡ command = cc in

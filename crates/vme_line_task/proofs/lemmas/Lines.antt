@@ -4,6 +4,8 @@ use Rattle.std.specs.Prelude.{nat_lt, ◌&&◌}
 use Rattle.std.proofs.lemmas.Bool.{cases_Bool}
 use Rattle.vme_cycle.specs.declared.fault.CycleFault.{CycleFault}
 use Rattle.vme_core.specs.declared.event.EventReply.{EventReply}
+use Rattle.vme_core.specs.NextSteps.{NextStep}
+use Rattle.vme_shared.specs.declared.reply.LineReply.{LineReply}
 use Rattle.vme_master.specs.declared.job.Job.{Job}
 use Rattle.vme_master.specs.Tables.{Given}
 use Rattle.vme_master.specs.Machine.{fresh_task, task_given}
@@ -20,7 +22,7 @@ use Rattle.vme_line_task.specs.declared.attempt.AttemptTask.{AttemptTask}
 use Rattle.vme_line_task.specs.declared.attempt.AttemptTask.TheVariants as tries
 use Rattle.vme_line_task.specs.Scripts.{Attempt, Transferring, Awaiting, Sharing, line_attempt}
 use Rattle.vme_line_task.specs.Tables as table
-use Rattle.vme_line_task.specs.Tables.{LineNext, moves_next, waits_next, shares_next, attempt_next, next_wants_retry, next_attempt, attempts_of, lawful_next, next_given, line_next, given_of}
+use Rattle.vme_line_task.specs.Tables.{moves_next, waits_next, shares_next, attempt_next, next_wants_retry, next_attempt, attempts_of, lawful_next, next_given, line_next, given_of}
 use Rattle.vme_line_task.specs.Machine.{attempt_fresh, attempt_anew, attempt_advance, attempt_to_do, attempts_again, attempts_advance, line_fresh, line_started, line_advance, line_to_do, line_advanced, line_given, line_after}
 
 -- the task of an attempt after calls with what it was given
@@ -57,7 +59,7 @@ abbrev tasks_of : Attempt → table.Attempts → Attempts
 tasks_of a made = record { attempt = attempt_task a made.given; left = made.left }
 
 -- another attempt is begun where the table does
-same_again : (a : Attempt) (made : table.Attempts) (next : LineNext) → attempts_again (tasks_of a made) next ≡ tasks_of a (next_attempt made next)
+same_again : (a : Attempt) (made : table.Attempts) (next : NextStep LineReply) → attempts_again (tasks_of a made) next ≡ tasks_of a (next_attempt made next)
 same_again a made next =
     elim (cases_Bool (next_wants_retry next && nat_lt 1 made.left)) [
       | inl more ↦ rw more (ap (λ (t : AttemptTask). let one : Attempts = record { attempt = t; left = made.left - 1 } in one)

@@ -16,16 +16,18 @@ use Rattle.vme_arbiter.specs.Arbitration.{Arbitration, holds, pends, can_ask, la
 use Rattle.vme_core.specs.declared.event.EventReply.{EventReply}
 use Rattle.vme_core.specs.declared.event.EventReply.TheVariants as replies
 use Rattle.vme_core.specs.Calls.{Call, OnBoard, OnBus, command_step}
+use Rattle.vme_core.specs.NextSteps.{NextStep, NotStarted, Invokes, Returns}
+use Rattle.vme_master.specs.declared.outcome.Outcome.{Outcome}
 use Rattle.vme_master.specs.declared.job.LocalJob.{LocalJob}
 use Rattle.vme_master.specs.declared.job.Job.{Job}
 use Rattle.vme_master.specs.declared.job.Job.TheVariants.{Bus, Local}
 use Rattle.vme_master.specs.Jobs.{bus_job, local_call, answers_turn, fits}
-use Rattle.vme_master.specs.Tables.{Given, Next, NotStarted, Invokes, Returns, next_after, next_of}
+use Rattle.vme_master.specs.Tables.{Given, next_after, next_of}
 use Rattle.vme_master.specs.Laws.{IsBelow}
 use Rattle.vme_master.proofs.lemmas.Tenures.{data_go_on}
 
 -- a local command makes no other call than its own
-abbrev MakesOwn : LocalJob → Next → Type 0
+abbrev MakesOwn : LocalJob → NextStep Outcome → Type 0
 MakesOwn j (Invokes call) = call ≡ local_call j
 MakesOwn j next = Unit {0}
 
@@ -36,7 +38,7 @@ own_row j call (replies.Board Done) g = elim (cases_Bool (fits call (replies.Boa
 own_row j call (replies.Board Berr) g = elim (cases_Bool (fits call (replies.Board Berr))) [ inl fit ↦ rw fit tt | inr misfit ↦ rw misfit tt ]
 own_row j call (replies.Bus reply) g = elim (cases_Bool (fits call (replies.Bus reply))) [ inl fit ↦ rw fit tt | inr misfit ↦ rw misfit tt ]
 
-own_step : (j : LocalJob) (next : Next) (last : Option EventReply) (g : Given) → MakesOwn j (next_after (Local j) next last g)
+own_step : (j : LocalJob) (next : NextStep Outcome) (last : Option EventReply) (g : Given) → MakesOwn j (next_after (Local j) next last g)
 own_step j NotStarted None g = refl
 own_step j NotStarted (Some reply) g = tt
 own_step j (Invokes call) None g = tt

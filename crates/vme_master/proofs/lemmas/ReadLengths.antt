@@ -1,27 +1,19 @@
 -- There is room for what is read, and each datum is where its address is.
-use Rattle.std.proofs.Common.{◌≡◌, ℕ, zero, suc, ◌+◌, ◌*◌, ◌%◌, ◌<◌, ◌≤◌, true, List, ◌++◌, length, Option, Some, None, refl, ap, ◌∙◌, arith, inl, inr, length-append}
+use Rattle.std.proofs.Common.{◌≡◌, ℕ, zero, suc, ◌+◌, ◌*◌, ◌%◌, ◌<◌, ◌≤◌, true, List, ◌++◌, length, Option, Some, None, refl, arith, inl, inr, length-append}
 use Rattle.std.specs.Prelude.{◌==◌, nat_lt, unwrap_or}
 use Rattle.std.proofs.Math.Nat.{mul-le-mul_left}
 use Rattle.std.proofs.lemmas.Bool.{cases_Bool, ltb-true, eqb-true}
 use Rattle.vme_cycle.specs.declared.request.Request.{Request}
 use Rattle.vme_cycle.specs.declared.request.Request.TheVariants as requests
-use Rattle.vme_cycle.specs.declared.modify.Modify.{Modify}
-use Rattle.vme_cycle.specs.Requests.{addr_of, datum_len, count_of, function_of, address_of, read_len}
-use Rattle.vme_cycle.specs.Lawful.{IsLawfulTransfer}
-use Rattle.vme_cycle.specs.SignalLines.{SignalLines}
-use Rattle.vme_cycle.specs.Plans.{signals_of}
-use Rattle.vme_memory.specs.declared.command.BoardCmd.TheVariants as given
+use Rattle.vme_cycle.specs.Requests.{datum_len, count_of, read_len}
 use Rattle.vme_memory.specs.declared.reply.Reply.{Reply}
 use Rattle.vme_memory.specs.declared.reply.Reply.TheVariants.{Bytes, Done, Berr}
-use Rattle.vme_memory.specs.Locals.{command_given}
-use Rattle.vme_memory.specs.Data.{datum_command, has_form}
-use Rattle.vme_memory.proofs.lemmas.Data.{own_command}
-use Rattle.vme_core.specs.Calls.{OnBoard}
+use Rattle.vme_memory.specs.Data.{has_form}
 use Rattle.vme_master.specs.declared.job.BusJob.{BusJob}
 use Rattle.vme_master.specs.declared.job.Job.{Job}
 use Rattle.vme_master.specs.declared.job.Job.TheVariants.{Bus, Local}
 use Rattle.vme_master.specs.declared.phase.Phase.TheVariants.{Transferring}
-use Rattle.vme_master.specs.Jobs.{datum_call, request_expected}
+use Rattle.vme_master.specs.Jobs.{request_expected}
 use Rattle.vme_master.specs.Machine.{job_expected, expected_len, bytes_of, phase_at, datum_phase, phase_broken, phase_replied, IsPlaced, HasRead, IsEnough, IsSound, call_count, most_bytes, job_read_len}
 
 -- one datum more of at most r bytes
@@ -41,18 +33,6 @@ offset_below offset addr n count i most within less some end =
 -- a datum's offset leaves the remainder of its address
 pub same_place : (offset addr distance : ℕ) → offset % 4 ≡ addr % 4 → (offset + distance) % 4 ≡ (addr + distance) % 4
 same_place offset addr distance same = omega arith
-
--- the cycle of a datum at its place is the request's own command
-pub datum_is : (job : BusJob) (place : ℕ × ℕ) (i at : ℕ) (signals : SignalLines) (f : Option Modify) → job.place ≡ Some place
-    → at ≡ place.1 + i * datum_len job.transfer.request → signals ≡ signals_of job.transfer i
-    → f ≡ function_of job.transfer.request → IsLawfulTransfer job.transfer → i < count_of job.transfer.request
-    → place.1 % 4 ≡ addr_of job.transfer.request % 4
-    → OnBoard place.0 (command_given (given.Cycle signals at f)) ≡ datum_call job job.place i
-datum_is job place i at signals f placed here shown function lawful less same =
-    let aligned : at % 4 ≡ address_of job.transfer.request i % 4 =
-    rw here (same_place place.1 (addr_of job.transfer.request) (i * datum_len job.transfer.request) same) in
-    let own = own_command job.transfer i at lawful less aligned in
-    rw (placed, shown, function) (ap (OnBoard place.0) own ∙ ap (λ n. OnBoard place.0 (Some (datum_command job.transfer.request i n))) here)
 
 -- all calls together read as many bytes at most as the request does
 pub all_bytes : (job : Job) → most_bytes job * call_count job ≡ job_read_len job

@@ -11,6 +11,7 @@ use Rattle.vme_arbiter.specs.declared.command.ArbReply.{ArbReply}
 use Rattle.vme_arbiter.specs.declared.command.ArbReply.TheVariants as turned
 use Rattle.vme_core.specs.declared.event.EventReply.{EventReply}
 use Rattle.vme_core.specs.declared.event.EventReply.TheVariants as replies
+use Rattle.vme_core.specs.NextSteps.{Invokes, Returns}
 use Rattle.vme_master.specs.declared.job.BusJob.{BusJob}
 use Rattle.vme_master.specs.declared.job.LocalJob.{LocalJob}
 use Rattle.vme_master.specs.declared.job.Job.{Job}
@@ -19,7 +20,7 @@ use Rattle.vme_master.specs.declared.phase.Phase.{Phase}
 use Rattle.vme_master.specs.declared.phase.Phase.TheVariants.{New, Requesting, Polling, Transferring, Releasing, Finished, Denied}
 use Rattle.vme_master.specs.declared.outcome.Outcome.TheVariants as outcomes
 use Rattle.vme_master.specs.Jobs.{ask_call, look_call, done_call, datum_call, local_call, fits, request_expected, expected_outcome, error_outcome}
-use Rattle.vme_master.specs.Tables.{Given, Invokes, Returns, data_in, bytes_in, datum_or_done, outcome_by, next_of}
+use Rattle.vme_master.specs.Tables.{Given, data_in, bytes_in, datum_or_done, outcome_by, next_of}
 use Rattle.vme_master.specs.Machine.{TaskView, job_expected, expected_len, end_outcome, datum_phase, phase_answered, phase_replied, bytes_of, task_after, task_given, job_next, to_do}
 use Rattle.vme_master.proofs.lemmas.Expected.{datum_len_wanted, local_len_wanted}
 

@@ -14,12 +14,13 @@ use Rattle.vme_arbiter.specs.Turns.{may_give}
 use Rattle.vme_core.specs.declared.event.EventReply.{EventReply}
 use Rattle.vme_core.specs.declared.event.EventReply.TheVariants as replies
 use Rattle.vme_core.specs.Calls.{Call, OnBoard, OnBus}
+use Rattle.vme_core.specs.NextSteps.{NextStep, NotStarted, Invokes, Returns}
 use Rattle.vme_master.specs.declared.job.BusJob.{BusJob}
 use Rattle.vme_master.specs.declared.job.Job.TheVariants.{Bus}
 use Rattle.vme_master.specs.declared.outcome.Outcome.{Outcome}
 use Rattle.vme_master.specs.declared.outcome.Outcome.TheVariants as outcomes
 use Rattle.vme_master.specs.Jobs.{datum_call, fits, error_outcome}
-use Rattle.vme_master.specs.Tables.{Given, Next, NotStarted, Invokes, Returns, data_in, datum_or_done, outcome_by, bus_row, next_after, next_of}
+use Rattle.vme_master.specs.Tables.{Given, data_in, datum_or_done, outcome_by, bus_row, next_after, next_of}
 use Rattle.vme_master.specs.Laws.{last_turn, IsNextDatum}
 
 -- a command to the arbiter is the slot's own, and goes by the last reply
@@ -29,7 +30,7 @@ TurnStands j g (turns.Look slot) = (slot ≡ j.slot) × (last_turn g ≡ Some tu
 TurnStands j g (turns.Done slot) = (slot ≡ j.slot) × (last_turn g ≡ Some turned.Granted)
 
 -- what a transfer does next stands by what it was given
-abbrev Stands : BusJob → Given → Next → Type 0
+abbrev Stands : BusJob → Given → NextStep Outcome → Type 0
 Stands j g NotStarted = g ≡ []
 Stands j g (Invokes (OnBus cmd)) = TurnStands j g cmd
 Stands j g (Invokes (OnBoard board command)) = IsNextDatum j g board command × (last_turn g ≡ Some turned.Granted)
@@ -63,7 +64,7 @@ board_stands j g board command Done stands = on_stands j (Some (replies.Board Do
 board_stands j g board command Berr stands = (refl, stands.1)
 
 -- one call more
-step_stands : (j : BusJob) (g : Given) (next : Next) (last : Option EventReply) → Stands j g next
+step_stands : (j : BusJob) (g : Given) (next : NextStep Outcome) (last : Option EventReply) → Stands j g next
     → Stands j (last ∷ g) (next_after (Bus j) next last g)
 step_stands j g NotStarted None stands = (refl, refl, ap last_turn stands, ap data_in stands)
 step_stands j g NotStarted (Some reply) stands = inl refl

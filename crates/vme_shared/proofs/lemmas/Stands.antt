@@ -3,11 +3,11 @@ use Rattle.std.proofs.Common.{◌≡◌, [], ◌∷◌, Option, None, Result, Ok
 use Rattle.std.specs.Option.{option_map}
 use Rattle.vme_cycle.specs.declared.fault.CycleFault.{CycleFault}
 use Rattle.vme_core.specs.declared.event.EventReply.{EventReply}
+use Rattle.vme_core.specs.NextSteps.{NextStep, NotStarted, Invokes, Returns, result_in}
+use Rattle.vme_master.specs.declared.outcome.Outcome.{Outcome}
 use Rattle.vme_master.specs.declared.job.Job.{Job}
-use Rattle.vme_master.specs.Tables as tasks
-use Rattle.vme_master.specs.Tables.{Next, Given, next_of}
+use Rattle.vme_master.specs.Tables.{Given, next_of}
 use Rattle.vme_master.specs.Machine.{TaskView, task_given}
-use Rattle.vme_master.specs.Events.{outcome_in}
 use Rattle.vme_master.proofs.lemmas.Stands.{by_the_table}
 use Rattle.vme_shared.specs.declared.stage.Stage.{Stage}
 use Rattle.vme_shared.specs.declared.stage.Step.{Step}
@@ -19,11 +19,11 @@ use Rattle.vme_shared.specs.Tables.{SharedJob, Progress, At, Over, stage_job, st
 use Rattle.vme_shared.specs.Machine.{SharedView, stage_fresh, stage_called, work_stepped, work_by, work_or, work_after, shared_advance, shared_given, work_to_do, shared_to_do}
 
 -- a transfer that is given something goes on, or its outcome leads on
-pub by_outcome : (s : SharedJob) (stage : Stage) (task : TaskView) (next : Next)
-    → work_by s stage task next ≡ work_or s (works.Running stage task) (option_map (step_after s.request stage) (outcome_in next))
-by_outcome s stage task tasks.NotStarted = refl
-by_outcome s stage task (tasks.Invokes call) = refl
-by_outcome s stage task (tasks.Returns outcome) = refl
+pub by_outcome : (s : SharedJob) (stage : Stage) (task : TaskView) (next : NextStep Outcome)
+    → work_by s stage task next ≡ work_or s (works.Running stage task) (option_map (step_after s.request stage) (result_in next))
+by_outcome s stage task NotStarted = refl
+by_outcome s stage task (Invokes call) = refl
+by_outcome s stage task (Returns outcome) = refl
 
 -- the transfer at work, by how far it has come
 abbrev work_of : Progress → Work
@@ -42,11 +42,11 @@ stepped_is : (s : SharedJob) (step : Step) → work_stepped s step ≡ work_of (
 stepped_is s (Continue stage) = called_is stage (stage_job s stage)
 stepped_is s (Finish end) = refl
 
-by_is : (s : SharedJob) (stage : Stage) (job : Job) (given : Given) (next : Next)
+by_is : (s : SharedJob) (stage : Stage) (job : Job) (given : Given) (next : NextStep Outcome)
     → work_by s stage (task_given job given) next ≡ work_of (progress_by s stage job given next)
-by_is s stage job given tasks.NotStarted = refl
-by_is s stage job given (tasks.Invokes call) = refl
-by_is s stage job given (tasks.Returns outcome) = stepped_is s (step_after s.request stage outcome)
+by_is s stage job given NotStarted = refl
+by_is s stage job given (Invokes call) = refl
+by_is s stage job given (Returns outcome) = stepped_is s (step_after s.request stage outcome)
 
 after_is : (s : SharedJob) (p : Progress) (last : Option EventReply) → work_after s (work_of p) last ≡ work_of (progress_given s last p)
 after_is s (At stage job given) last =

@@ -18,6 +18,7 @@ use Rattle.vme_cycle.specs.Parts.{IsLawful}
 use Rattle.vme_cycle.proofs.lemmas.Transfers.{comes_from, transfer_is_lawful, lawful_parts}
 use Rattle.vme_arbiter.specs.declared.command.ArbCmd.TheVariants.{Ask}
 use Rattle.vme_core.specs.Calls.{OnBus}
+use Rattle.vme_core.specs.NextSteps.{NotStarted, Invokes}
 use Rattle.vme_master.specs.declared.job.Job.{Job}
 use Rattle.vme_shared.specs.declared.mailbox.Mailbox.{Mailbox}
 use Rattle.vme_shared.specs.declared.request.SharedRequest.{SharedRequest}
@@ -26,7 +27,7 @@ use Rattle.vme_shared.specs.declared.stage.Stage.{Stage}
 use Rattle.vme_shared.specs.declared.stage.Stage.TheVariants as stages
 use Rattle.vme_shared.specs.Mailboxes.{put_count_at, take_count_at, word_at, raised, IsMailbox, IsAsked, set_lock, clear_lock, read_word, write_word, mailbox_request, stage_request, refusal_in, mailbox_refusal, shared_refusal}
 use Rattle.vme_shared.specs.Steps.{first_stage}
-use Rattle.vme_shared.specs.Tables.{SharedJob, NotStarted, Invokes, transfer_job, stage_job, stage_begun, next_at, progress_given, shared_next}
+use Rattle.vme_shared.specs.Tables.{SharedJob, transfer_job, stage_job, stage_begun, next_at, progress_given, shared_next}
 
 -- a transfer that is not refused
 abbrev pub IsLawfulRequest : Request → Type 0

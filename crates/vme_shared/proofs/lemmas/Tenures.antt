@@ -17,14 +17,15 @@ use Rattle.vme_arbiter.specs.Turns.{may_give, StandsAsReplied}
 use Rattle.vme_core.specs.declared.event.EventReply.{EventReply}
 use Rattle.vme_core.specs.declared.event.EventReply.TheVariants as replies
 use Rattle.vme_core.specs.Calls.{Call, OnBoard, OnBus}
+use Rattle.vme_core.specs.NextSteps.{NextStep, NotStarted, Invokes, Returns}
+use Rattle.vme_core.proofs.lemmas.NextSteps.{map_makes}
 use Rattle.vme_master.specs.declared.job.BusJob.{BusJob}
 use Rattle.vme_master.specs.declared.job.Job.{Job}
 use Rattle.vme_master.specs.declared.job.Job.TheVariants.{Bus}
 use Rattle.vme_master.specs.declared.outcome.Outcome.{Outcome}
 use Rattle.vme_master.specs.declared.outcome.Outcome.TheVariants as outcomes
 use Rattle.vme_master.specs.Jobs.{bus_job, fits, request_expected}
-use Rattle.vme_master.specs.Tables as tasks
-use Rattle.vme_master.specs.Tables.{Next, Given, next_of}
+use Rattle.vme_master.specs.Tables.{Given, next_of}
 use Rattle.vme_master.specs.Laws.{last_turn, IsBelow}
 use Rattle.vme_master.proofs.lemmas.Tenures as transfers
 use Rattle.vme_master.proofs.lemmas.Locals as locals
@@ -39,7 +40,7 @@ use Rattle.vme_shared.specs.declared.stage.Step.{Step}
 use Rattle.vme_shared.specs.declared.stage.Step.TheVariants.{Continue, Finish}
 use Rattle.vme_shared.specs.Mailboxes.{mailbox_request, stage_request}
 use Rattle.vme_shared.specs.Steps.{first_stage, step_after}
-use Rattle.vme_shared.specs.Tables.{SharedJob, Invokes, Returns, Progress, At, Over, transfer_job, stage_job, stage_begun, step_begun, progress_by, progress_given, progress_of, task_shown, next_at, shared_next, reported_at, shared_reported}
+use Rattle.vme_shared.specs.Tables.{SharedJob, Progress, At, Over, transfer_job, stage_job, stage_begun, step_begun, progress_by, progress_given, progress_of, task_shown, next_at, shared_next, reported_at, shared_reported}
 use Rattle.vme_shared.proofs.Transfers.{IsFormed, good_end, ends_formed}
 use Rattle.vme_shared.proofs.Steps.{IsSound, IsGood, GoesSound, first_sound, step_goes, step_good}
 
@@ -47,7 +48,7 @@ use Rattle.vme_shared.proofs.Steps.{IsSound, IsGood, GoesSound, first_sound, ste
 record AtWork (s : SharedJob) (stage : Stage) (job : Job) (given : Given) : Type 0 where
   own : stage_job s stage ≡ Ok job
   sound : IsSound stage
-  going : (outcome : Outcome) → next_of job given ≢ tasks.Returns outcome
+  going : (outcome : Outcome) → next_of job given ≢ Returns outcome
 
 abbrev Standing : SharedJob → Progress → Type 0
 Standing s (At stage job given) = AtWork s stage job given
@@ -67,16 +68,16 @@ step_standing : (s : SharedJob) (step : Step) → GoesSound step → Standing s 
 step_standing s (Continue stage) sound = called_standing s stage (stage_job s stage) refl sound
 step_standing s (Finish end) sound = tt
 
-by_standing : (s : SharedJob) (stage : Stage) (job : Job) (given : Given) (next : Next) → next_of job given ≡ next
+by_standing : (s : SharedJob) (stage : Stage) (job : Job) (given : Given) (next : NextStep Outcome) → next_of job given ≡ next
     → stage_job s stage ≡ Ok job → IsSound stage → Standing s (progress_by s stage job given next)
-by_standing s stage job given tasks.NotStarted is own sound =
-    record { own = own; sound = sound; going = λ outcome ends. let same : tasks.NotStarted ≡ tasks.Returns outcome = sym is ∙ ends in absurd cc }
-by_standing s stage job given (tasks.Invokes call) is own sound = record {
+by_standing s stage job given NotStarted is own sound =
+    record { own = own; sound = sound; going = λ outcome ends. let same : NotStarted ≡ Returns outcome = sym is ∙ ends in absurd cc }
+by_standing s stage job given (Invokes call) is own sound = record {
   own = own;
   sound = sound;
-  going = λ outcome ends. let same : tasks.Invokes call ≡ tasks.Returns outcome = sym is ∙ ends in absurd cc;
+  going = λ outcome ends. let same : Invokes call ≡ Returns outcome = sym is ∙ ends in absurd cc;
 }
-by_standing s stage job given (tasks.Returns outcome) is own sound =
+by_standing s stage job given (Returns outcome) is own sound =
     step_standing s (step_after s.request stage outcome) (step_goes s.request stage outcome)
 
 given_standing : (s : SharedJob) (p : Progress) (last : Option EventReply) → Standing s p → Standing s (progress_given s last p)
@@ -133,18 +134,16 @@ single (Put mailbox word) stage = mailbox_single mailbox stage
 single (Take mailbox) stage = mailbox_single mailbox stage
 
 -- a call is that of the bus task at work
-pub shown_makes : (next : Next) (call : Call) → task_shown next ≡ Invokes call → next ≡ tasks.Invokes call
-shown_makes tasks.NotStarted call made = absurd cc
-shown_makes (tasks.Invokes other) call made = cc
-shown_makes (tasks.Returns outcome) call made = absurd cc
+pub shown_makes : (next : NextStep Outcome) (call : Call) → task_shown next ≡ Invokes call → next ≡ Invokes call
+shown_makes next call made = map_makes (λ outcome. shared.Denied) next call made
 
 -- the commands to the arbiter go by what the slot was told
 turns_at : (s : SharedJob) (p : Progress) (cmd : ArbCmd) → Standing s p → is_level s.level ≡ true → next_at p ≡ Invokes (OnBus cmd)
     → may_give s.slot (reported_at p) cmd ≡ true
 turns_at s (At stage job given) cmd at lawful made =
     let own = own_task s stage job at.own in
-    let task : next_of (Bus own.bus) given ≡ tasks.Invokes (OnBus cmd) =
-    subst (λ (one : Job). next_of one given ≡ tasks.Invokes (OnBus cmd)) own.is (shown_makes (next_of job given) (OnBus cmd) made) in
+    let task : next_of (Bus own.bus) given ≡ Invokes (OnBus cmd) =
+    subst (λ (one : Job). next_of one given ≡ Invokes (OnBus cmd)) own.is (shown_makes (next_of job given) (OnBus cmd) made) in
     subst (λ (slot : ℕ). may_give slot (last_turn given) cmd ≡ true) own.slot
     (transfers.turns_go_by own.bus given cmd (ap is_level own.level ∙ lawful) task)
 turns_at s (Over end) cmd at lawful made = absurd cc
@@ -159,7 +158,7 @@ holds_at : (s : SharedJob) (p : Progress) (board : ℕ) (command : Option Comman
 holds_at s (At stage job given) board command at made =
     let own = own_task s stage job at.own in
     transfers.holds_for_data own.bus given board command
-    (subst (λ (one : Job). next_of one given ≡ tasks.Invokes (OnBoard board command)) own.is
+    (subst (λ (one : Job). next_of one given ≡ Invokes (OnBoard board command)) own.is
     (shown_makes (next_of job given) (OnBoard board command) made))
 holds_at s (Over end) board command at made = absurd cc
 
@@ -173,7 +172,7 @@ below_at : (s : SharedJob) (p : Progress) (board : ℕ) (command : Option Comman
 below_at s (At stage job given) board command at made =
     let own = own_task s stage job at.own in
     locals.calls_below (length s.map) (Bus own.bus) given board command own.below
-    (subst (λ (one : Job). next_of one given ≡ tasks.Invokes (OnBoard board command)) own.is
+    (subst (λ (one : Job). next_of one given ≡ Invokes (OnBoard board command)) own.is
     (shown_makes (next_of job given) (OnBoard board command) made))
 below_at s (Over end) board command at made = absurd cc
 
@@ -205,14 +204,14 @@ record EndsWell (s : SharedJob) (stage : Stage) (reply : EventReply) (outcome : 
   good : IsGood (step_after s.request stage outcome)
 
 task_ends : (s : SharedJob) (stage : Stage) (job : Job) (given : Given) (call : Call) (reply : EventReply) (outcome : Outcome)
-    → AtWork s stage job given → next_of job given ≡ tasks.Invokes call → fits call reply ≡ true → reply ≢ replies.Bus turned.Denied
-    → next_of job (Some reply ∷ given) ≡ tasks.Returns outcome → EndsWell s stage reply outcome
+    → AtWork s stage job given → next_of job given ≡ Invokes call → fits call reply ≡ true → reply ≢ replies.Bus turned.Denied
+    → next_of job (Some reply ∷ given) ≡ Returns outcome → EndsWell s stage reply outcome
 task_ends s stage job given call reply outcome at made fit good ends =
     let own = own_task s stage job at.own in
-    let task : next_of (Bus own.bus) given ≡ tasks.Invokes call =
-    subst (λ (one : Job). next_of one given ≡ tasks.Invokes call) own.is made in
-    let over : next_of (Bus own.bus) (Some reply ∷ given) ≡ tasks.Returns outcome =
-    subst (λ (one : Job). next_of one (Some reply ∷ given) ≡ tasks.Returns outcome) own.is ends in
+    let task : next_of (Bus own.bus) given ≡ Invokes call =
+    subst (λ (one : Job). next_of one given ≡ Invokes call) own.is made in
+    let over : next_of (Bus own.bus) (Some reply ∷ given) ≡ Returns outcome =
+    subst (λ (one : Job). next_of one (Some reply ∷ given) ≡ Returns outcome) own.is ends in
     let granted : outcome ≢ outcomes.Denied = good_end own.bus given call reply outcome task fit good over in
     let one : count_of own.bus.transfer.request ≡ 1 = ap count_of own.request ∙ single s.request stage in
     record {
@@ -223,12 +222,12 @@ task_ends s stage job given call reply outcome at made fit good ends =
     }
 
 -- a good reply of the arbiter is what was told last, or it has freed the slot
-turn_by : (s : SharedJob) (stage : Stage) (job : Job) (given : Given) (reply : ArbReply) (bus : Arbitration) (slot : ℕ) (next : Next)
-    → ((outcome : Outcome) → next ≡ tasks.Returns outcome → replies.Bus reply ≡ replies.Bus turned.Freed) → StandsAsReplied bus slot (Some reply)
+turn_by : (s : SharedJob) (stage : Stage) (job : Job) (given : Given) (reply : ArbReply) (bus : Arbitration) (slot : ℕ) (next : NextStep Outcome)
+    → ((outcome : Outcome) → next ≡ Returns outcome → replies.Bus reply ≡ replies.Bus turned.Freed) → StandsAsReplied bus slot (Some reply)
     → StandsAsReplied bus slot (reported_at (progress_by s stage job (Some (replies.Bus reply) ∷ given) next))
-turn_by s stage job given reply bus slot tasks.NotStarted freed stands = stands
-turn_by s stage job given reply bus slot (tasks.Invokes call) freed stands = stands
-turn_by s stage job given reply bus slot (tasks.Returns outcome) freed stands =
+turn_by s stage job given reply bus slot NotStarted freed stands = stands
+turn_by s stage job given reply bus slot (Invokes call) freed stands = stands
+turn_by s stage job given reply bus slot (Returns outcome) freed stands =
     let free : reply ≡ turned.Freed = let one = freed outcome refl in cc in
     subst (StandsAsReplied bus slot) (sym (step_reported s (step_after s.request stage outcome)))
     (subst (λ (r : ArbReply). StandsAsReplied bus slot (Some r)) free stands)
@@ -250,12 +249,12 @@ pub turn_reported : (s : SharedJob) (g : Given) (cmd : ArbCmd) (reply : ArbReply
 turn_reported s g cmd reply bus slot made fit good stands = turn_at s (progress_of s g) cmd reply bus slot (standing s g) made fit good stands
 
 -- a good reply of a board changes nothing of it
-datum_by : (s : SharedJob) (stage : Stage) (job : Job) (given : Given) (reply : Reply) (next : Next)
-    → ((outcome : Outcome) → next ≡ tasks.Returns outcome → replies.Board reply ≡ replies.Bus turned.Freed)
+datum_by : (s : SharedJob) (stage : Stage) (job : Job) (given : Given) (reply : Reply) (next : NextStep Outcome)
+    → ((outcome : Outcome) → next ≡ Returns outcome → replies.Board reply ≡ replies.Bus turned.Freed)
     → reported_at (progress_by s stage job (Some (replies.Board reply) ∷ given) next) ≡ last_turn given
-datum_by s stage job given reply tasks.NotStarted freed = refl
-datum_by s stage job given reply (tasks.Invokes call) freed = refl
-datum_by s stage job given reply (tasks.Returns outcome) freed = let one = freed outcome refl in absurd cc
+datum_by s stage job given reply NotStarted freed = refl
+datum_by s stage job given reply (Invokes call) freed = refl
+datum_by s stage job given reply (Returns outcome) freed = let one = freed outcome refl in absurd cc
 
 datum_at : (s : SharedJob) (p : Progress) (call : Call) (reply : Reply) → Standing s p → next_at p ≡ Invokes call
     → fits call (replies.Board reply) ≡ true → reported_at (progress_given s (Some (replies.Board reply)) p) ≡ reported_at p
@@ -286,15 +285,15 @@ step_ends : (s : SharedJob) (step : Step) (end : SharedOutcome) → IsGood step 
 step_ends s (Continue stage) end good ends = λ denied. let berr = called_ends stage (stage_job s stage) end ends in absurd cc
 step_ends s (Finish stop) end good ends = λ denied. let same : stop ≡ end = cc in good (same ∙ denied)
 
-ends_by : (s : SharedJob) (stage : Stage) (job : Job) (given : Given) (reply : EventReply) (end : SharedOutcome) (next : Next)
-    → next_of job (Some reply ∷ given) ≡ next → ((outcome : Outcome) → next ≡ tasks.Returns outcome → EndsWell s stage reply outcome)
+ends_by : (s : SharedJob) (stage : Stage) (job : Job) (given : Given) (reply : EventReply) (end : SharedOutcome) (next : NextStep Outcome)
+    → next_of job (Some reply ∷ given) ≡ next → ((outcome : Outcome) → next ≡ Returns outcome → EndsWell s stage reply outcome)
     → next_at (progress_by s stage job (Some reply ∷ given) next) ≡ Returns end
     → GoodEnd reply end (reported_at (progress_by s stage job (Some reply ∷ given) next))
-ends_by s stage job given reply end tasks.NotStarted is well ends =
-    let same : task_shown tasks.NotStarted ≡ Returns end = ap task_shown (sym is) ∙ ends in absurd cc
-ends_by s stage job given reply end (tasks.Invokes call) is well ends =
-    let same : task_shown (tasks.Invokes call) ≡ Returns end = ap task_shown (sym is) ∙ ends in absurd cc
-ends_by s stage job given reply end (tasks.Returns outcome) is well ends =
+ends_by s stage job given reply end NotStarted is well ends =
+    let same : task_shown NotStarted ≡ Returns end = ap task_shown (sym is) ∙ ends in absurd cc
+ends_by s stage job given reply end (Invokes call) is well ends =
+    let same : task_shown (Invokes call) ≡ Returns end = ap task_shown (sym is) ∙ ends in absurd cc
+ends_by s stage job given reply end (Returns outcome) is well ends =
     let one = well outcome refl in
     record {
       granted = step_ends s (step_after s.request stage outcome) end one.good ends;
@@ -320,10 +319,10 @@ stays_at : (s : SharedJob) (p : Progress) (end : SharedOutcome) (last : Option E
     → next_at (progress_given s last p) ≡ Returns end
 stays_at s (At stage job given) end last at ends = absurd (never (next_of job given) refl)
   where
-    never : (next : Next) → next_of job given ≡ next → ⊥
-    never tasks.NotStarted is = let same : task_shown tasks.NotStarted ≡ Returns end = ap task_shown (sym is) ∙ ends in absurd cc
-    never (tasks.Invokes call) is = let same : task_shown (tasks.Invokes call) ≡ Returns end = ap task_shown (sym is) ∙ ends in absurd cc
-    never (tasks.Returns outcome) is = at.going outcome is
+    never : (next : NextStep Outcome) → next_of job given ≡ next → ⊥
+    never NotStarted is = let same : task_shown NotStarted ≡ Returns end = ap task_shown (sym is) ∙ ends in absurd cc
+    never (Invokes call) is = let same : task_shown (Invokes call) ≡ Returns end = ap task_shown (sym is) ∙ ends in absurd cc
+    never (Returns outcome) is = at.going outcome is
 stays_at s (Over stop) end last at ends = ends
 
 pub end_stays : (s : SharedJob) (g : Given) (end : SharedOutcome) (last : Option EventReply) → shared_next s g ≡ Returns end

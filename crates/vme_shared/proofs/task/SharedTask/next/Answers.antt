@@ -4,8 +4,11 @@ use Rattle.vme_shared.proofs.lemmas.Stands.{next_by_the_given}
 use Rattle.vme_shared.proofs.task.SharedTask.next.Goals as goal
 
 -- what it does next is what the table says
-pub returns-clause-table : goal.returns-clause-table
-returns-clause-table c = λ s before same.
-    c.todo.ensures ∙ ap shared_to_do c.advance.ensures.task
-    ∙ ap (λ reply. shared_to_do (shared_advance c.args.self.now reply)) c.as_ref.ensures.value
-    ∙ next_by_the_given s before c.args.self.now c.args.reply same
+pub returns : goal.returns
+returns c =
+    let task = c.advance.ensures.task ∙ ap (shared_advance c.args.self.now) c.as_ref.ensures.value in
+    record {
+      task = task;
+      todo = c.todo.ensures;
+      table = λ s before same. c.todo.ensures ∙ ap shared_to_do task ∙ next_by_the_given s before c.args.self.now c.args.reply same;
+    }

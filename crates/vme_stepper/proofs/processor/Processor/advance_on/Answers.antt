@@ -2,16 +2,16 @@ use Rattle.std.proofs.Common.{◌≡◌, ℕ, List, length, Option, sym, ◌∙�
 use Rattle.std.specs.Vec.{with_items}
 use Rattle.std.proofs.lemmas.List.{with_items_is}
 use Rattle.vme_core.specs.Calls.{machine_step}
+use Rattle.vme_core.specs.Runs.{Machine}
+use Rattle.vme_core.proofs.lemmas.NextSteps.{is_begun, at_work, its_call, its_result}
 use Rattle.vme_shared.specs.declared.reply.LineReply.{LineReply}
 use Rattle.vme_script.specs.declared.script.ScriptLine.{ScriptLine}
 use Rattle.vme_line_task.specs.declared.task.LineTask.{LineTask}
 use Rattle.vme_line_task.specs.Machine.{line_to_do}
-use Rattle.vme_line_task.specs.Events.{call_in}
-use Rattle.vme_line_task.proofs.lemmas.Calls.{at_work, its_call}
 use Rattle.vme_stepper.specs.Steppers.{ProcessorView}
-use Rattle.vme_stepper.proofs.Calls.{its_answer}
+use Rattle.vme_stepper.proofs.Calls.{made_by}
 use Rattle.vme_stepper.proofs.Turning.{turn_goes_on, turn_ends}
-use Rattle.vme_stepper.proofs.processor.Processor.make.Goals as goal
+use Rattle.vme_stepper.proofs.processor.Processor.advance_on.Goals as goal
 
 -- a processor by the parts of its fields
 abbrev processor_with : List ScriptLine → List (ℕ × LineReply) → ℕ → Option LineTask → ProcessorView
@@ -21,18 +21,15 @@ processor_with script lines ended at = record { script = script; lines = lines; 
 pub invariant_of-self-else-is_finished : goal.invariant_of-self-else-is_finished
 invariant_of-self-else-is_finished c =
     let sound = rw c.in-Some.is at c.self.invariant.work in
-    let call = its_call (line_to_do c.in-Some.task) sound.1 in
-    let called = ap call_in (sym call.1) in
+    let begun = is_begun (line_to_do c.in-Some.task) sound.1 in
     record {
-      work = (sound.0, at_work (line_to_do c.make.new.self) (c.make.ensures.begun call.0 called) (sym c.is_finished.ensures ∙ c.if-is_finished.false));
+      work = (sound.0, at_work (line_to_do c.advance_on.new.self) (c.advance_on.ensures.step.begun begun) (sym c.is_finished.ensures ∙ c.if-is_finished.false));
       left = rw c.in-Some.is at c.self.invariant.left;
     }
 
 pub returns-else-is_finished-clause-below : goal.returns-else-is_finished-clause-below
 returns-else-is_finished-clause-below c =
-    let sound = rw c.in-Some.is at c.self.invariant.work in
-    let call = its_call (line_to_do c.in-Some.task) sound.1 in
-    c.make.ensures.below call.0 (length c.args.core.now.boards) (ap call_in (sym call.1)) (rw (← c.self.view_is, c.in-Some.is) at c.requires.below)
+    c.advance_on.ensures.below (length c.args.core.now.boards) (rw (← c.self.view_is, c.in-Some.is) at c.requires.below)
 
 pub returns-else-is_finished-clause-turn : goal.returns-else-is_finished-clause-turn
 returns-else-is_finished-clause-turn c =
@@ -40,25 +37,28 @@ returns-else-is_finished-clause-turn c =
     let is = ap (processor_with c.self.inside.script.now c.self.inside.lines.items c.self.inside.ended) (sym c.in-Some.is) ∙ c.self.view_is in
     let call = its_call (line_to_do c.in-Some.task) sound.1 in
     let reply = (machine_step c.args.core.now c.args.board call.0).1 in
-    let called = ap call_in (sym call.1) in
-    let step = ap (λ machine. (machine, reply)) (c.make.ensures.machine call.0 called) in
-    let given = c.make.ensures.task call.0 called in
-    let next = its_call (line_to_do c.make.new.self)
-    (at_work (line_to_do c.make.new.self) (c.make.ensures.begun call.0 called) (sym c.is_finished.ensures ∙ c.if-is_finished.false)) in
+    let begun = is_begun (line_to_do c.in-Some.task) sound.1 in
+    let made =
+    made_by c.args.board c.args.core.now c.advance_on.new.core c.in-Some.task c.advance_on.new.self call.0 call.1 c.advance_on.ensures.step in
+    let step = ap (λ (r : Machine × LineTask). (r.0, reply)) made in
+    let given = ap (λ (r : Machine × LineTask). r.1) made in
+    let next = its_call (line_to_do c.advance_on.new.self)
+    (at_work (line_to_do c.advance_on.new.self) (c.advance_on.ensures.step.begun begun) (sym c.is_finished.ensures ∙ c.if-is_finished.false)) in
     λ config processor over.
-    turn_goes_on config c.args.board c.args.core.now c.make.new.core c.args.self.now c.self.inside.script.now c.self.inside.lines.items c.self.inside.ended c.in-Some.task
-    c.make.new.self call.0 next.0 reply is processor.lines sound.0 (sym call.1) step given next.1
+    turn_goes_on config c.args.board c.args.core.now c.advance_on.new.core c.args.self.now c.self.inside.script.now c.self.inside.lines.items c.self.inside.ended c.in-Some.task
+    c.advance_on.new.self call.0 next.0 reply is processor.lines sound.0 (sym call.1) step given next.1
 
 pub returns-then-is_finished-clause-turn : goal.returns-then-is_finished-clause-turn
 returns-then-is_finished-clause-turn c =
-    let end = its_answer (line_to_do c.make.new.self) (sym c.is_finished.ensures ∙ c.if-is_finished.true) in
+    let end = its_result (line_to_do c.advance_on.new.self) (sym c.is_finished.ensures ∙ c.if-is_finished.true) in
     let sound = rw c.in-Some.is at c.self.invariant.work in
     let is = ap (processor_with c.self.inside.script.now c.self.inside.lines.items c.self.inside.ended) (sym c.in-Some.is) ∙ c.self.view_is in
     let call = its_call (line_to_do c.in-Some.task) sound.1 in
     let reply = (machine_step c.args.core.now c.args.board call.0).1 in
-    let called = ap call_in (sym call.1) in
-    let step = ap (λ machine. (machine, reply)) (c.make.ensures.machine call.0 called) in
-    let given = c.make.ensures.task call.0 called in
+    let made =
+    made_by c.args.board c.args.core.now c.advance_on.new.core c.in-Some.task c.advance_on.new.self call.0 call.1 c.advance_on.ensures.step in
+    let step = ap (λ (r : Machine × LineTask). (r.0, reply)) made in
+    let given = ap (λ (r : Machine × LineTask). r.1) made in
     let put : c.put_answer_of.new.lines ≡ slice_set c.self.inside.lines.items c.self.inside.ended
     ((slice_index_or c.self.inside.lines.items c.self.inside.ended (0, end.0)).0, end.0)
     = rw c.deref_mut.ensures.value at c.put_answer_of.ensures.put end.0 (sym end.1) in
@@ -66,5 +66,5 @@ returns-then-is_finished-clause-turn c =
     = with_items_is c.self.inside.lines c.put_answer_of.new.lines (c.put_answer_of.ensures.len ∙ c.deref_mut.ensures.len) in
     λ config processor over.
     rw (lines, put, c.let_go.ensures)
-    (turn_ends config c.args.board c.args.core.now c.make.new.core c.args.self.now c.self.inside.script.now c.self.inside.lines.items c.self.inside.ended c.in-Some.task
-    c.make.new.self call.0 end.0 reply is processor.lines sound.0 (sym call.1) step given end.1)
+    (turn_ends config c.args.board c.args.core.now c.advance_on.new.core c.args.self.now c.self.inside.script.now c.self.inside.lines.items c.self.inside.ended c.in-Some.task
+    c.advance_on.new.self call.0 end.0 reply is processor.lines sound.0 (sym call.1) step given end.1)

@@ -1,0 +1,30 @@
+-- What a task does next, whatever its result is.
+use Rattle.std.specs.Prelude.{Option, Some, None}
+use Rattle.vme_core.specs.Calls.{Call}
+
+-- what a task does next: it rests until its first call; it makes a call, and wants the reply; or it has ended with a result
+pub data NextStep (R : Type 0) : Type 0 where
+  NotStarted : NextStep R
+  Invokes : Call → NextStep R
+  Returns : R → NextStep R
+
+-- the call that is made next, if one is
+abbrev pub call_in : {R : Type 0} → NextStep R → Option Call
+call_in (Invokes call) = Some call
+call_in next = None
+
+-- it makes a call next
+abbrev pub MakesCall : {R : Type 0} → NextStep R → Type 0
+MakesCall (Invokes call) = Unit {0}
+MakesCall next = ⊥
+
+-- the result of what has ended
+abbrev pub result_in : {R : Type 0} → NextStep R → Option R
+result_in (Returns result) = Some result
+result_in next = None
+
+-- the same step with its result read by a function
+abbrev pub next_map : {R S : Type 0} → (R → S) → NextStep R → NextStep S
+next_map f NotStarted = NotStarted
+next_map f (Invokes call) = Invokes call
+next_map f (Returns result) = Returns (f result)
