@@ -5,7 +5,7 @@ use Rattle.vme_cycle.specs.Plans.{signals_of}
 use Rattle.vme_master.proofs.lemmas.ReadLengths.{datum_is}
 use Rattle.vme_master.proofs.job.BusJob.datum.Goals as goal
 
--- the cycle is the request's own command
+-- the cycle stands for the request's own command
 pub returns : goal.returns
 returns c =
     let whole : c.plan-plan.result ≡ c.args.self.now.transfer = c.plan-plan.ensures.value in
