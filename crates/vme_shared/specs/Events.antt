@@ -1,4 +1,4 @@
--- What a lock, a put or a take is seen to do next.
+-- What a lock, a put or a take does next, as the result of its functions shows it.
 use Rattle.std.specs.Prelude.{Option, Some, None}
 use Rattle.vme_core.specs.Calls.{Call, call_of}
 use Rattle.vme_shared.specs.declared.outcome.SharedOutcome.{SharedOutcome}
@@ -6,17 +6,17 @@ use Rattle.vme_shared.specs.declared.todo.SharedTodo.{SharedTodo}
 use Rattle.vme_shared.specs.declared.todo.SharedTodo.TheVariants as todos
 use Rattle.vme_shared.specs.Tables.{SharedNext, Invokes, Returns}
 
--- the call of an event that is to be made, or the end (this project's own)
+-- what a `SharedTodo` states: the call of the next event, or the outcome
 abbrev pub next_in : SharedTodo → SharedNext
 next_in (todos.Call event) = Invokes (call_of event)
 next_in (todos.Finished outcome) = Returns outcome
 
--- the call that is made next, if one is (this project's own)
+-- the call that comes next, if there is one
 abbrev pub call_in : SharedNext → Option Call
 call_in (Invokes call) = Some call
 call_in next = None
 
--- the end, if it has come (this project's own)
+-- the outcome, if the task has ended
 abbrev pub outcome_in : SharedNext → Option SharedOutcome
 outcome_in (Returns outcome) = Some outcome
 outcome_in next = None
