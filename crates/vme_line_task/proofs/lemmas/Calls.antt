@@ -1,4 +1,4 @@
--- What a line does next, by the event and the answer that it gives.
+-- What a line does next, by its event and its reply.
 use Rattle.std.proofs.Common.{◌≡◌, ◌≢◌, ℕ, false, true, is_some, Option, Some, None, refl, sym}
 use Rattle.std.specs.Option.{IsSome, option_map}
 use Rattle.vme_core.specs.declared.event.Event.{Event}
@@ -21,95 +21,100 @@ use Rattle.vme_line_task.specs.declared.attempt.AttemptTask.TheVariants.{Transfe
 use Rattle.vme_line_task.specs.Machine.{line_to_do, line_taken, attempt_to_do, attempts_taken, attempts_advance}
 use Rattle.vme_line_task.specs.Events.{call_in, answer_in, MakesCall}
 
--- its event is that of its call
+-- the next event is that of the next call
 pub makes_event : (next : LineNext) (event : Event) → Some (call_of event) ≡ call_in next → next ≡ Invokes (call_of event)
 makes_event NotStarted event is = absurd cc
 makes_event (Invokes call) event is = cc
 makes_event (Returns answer) event is = absurd cc
 
--- where it makes a call there is an event
+-- what makes a call has an event
 pub has_event : (next : LineNext) (event : Option Event) → MakesCall next → option_map call_of event ≡ call_in next → IsSome event
 has_event NotStarted event makes is = absurd makes
 has_event (Invokes call) None makes is = absurd cc
 has_event (Invokes call) (Some event) makes is = refl
 has_event (Returns answer) event makes is = absurd makes
 
--- a line that is called and has no answer makes a call
+-- a line that was called and has no reply makes a call
 pub goes_on : (next : LineNext) → next ≢ NotStarted → None ≡ answer_in next → MakesCall next
 goes_on NotStarted called is = absurd (called refl)
 goes_on (Invokes call) called is = tt
 goes_on (Returns answer) called is = absurd cc
 
--- and so does one that is called and is not over
+-- a line that was called and has not ended makes a call
 pub at_work : (next : LineNext) → next ≢ NotStarted → is_some (answer_in next) ≡ false → MakesCall next
 at_work NotStarted called is = absurd (called refl)
 at_work (Invokes call) called is = tt
 at_work (Returns answer) called is = absurd cc
 
+-- what makes a call has one
 pub its_call : (next : LineNext) → MakesCall next → (call : Call) × (Invokes call ≡ next)
 its_call NotStarted makes = absurd makes
 its_call (Invokes call) makes = (call, refl)
 its_call (Returns answer) makes = absurd makes
 
--- and one that has an answer has ended
+-- what has a reply has ended with it
 pub ends_so : (next : LineNext) (answer : LineReply) → Some answer ≡ answer_in next → Returns answer ≡ next
 ends_so NotStarted answer is = absurd cc
 ends_so (Invokes call) answer is = absurd cc
 ends_so (Returns other) answer is = cc
 
--- a line that is called and makes no call has an answer
+-- a line that was called and makes no call has a reply
 pub has_answer : (next : LineNext) (answer : Option LineReply) → next ≢ NotStarted → None ≡ call_in next → answer ≡ answer_in next → IsSome answer
 has_answer NotStarted answer called none is = absurd (called refl)
 has_answer (Invokes call) answer called none is = absurd cc
 has_answer (Returns end) None called none is = absurd cc
 has_answer (Returns end) (Some answer) called none is = refl
 
--- a line that makes a call has no answer that could be taken
+-- attempts that make a call have no reply to take
 attempts_stay : (a : Attempts) (next : LineNext) (event : Event) → Some (call_of event) ≡ call_in next → attempts_taken a next ≡ Running a
 attempts_stay a NotStarted event is = refl
 attempts_stay a (Invokes call) event is = refl
 attempts_stay a (Returns answer) event is = absurd cc
 
+-- a line that makes a call has no reply to take
 pub stays : (task : LineTask) (event : Event) → Some (call_of event) ≡ call_in (line_to_do task) → task ≡ line_taken task
 stays (Refused fault) event is = refl
 stays (Running a) event is = sym (attempts_stay a (attempt_to_do a.attempt) event is)
 stays Finished event is = refl
 
--- nor has one that is not over
+-- attempts that have not ended have no reply to take
 attempts_on : (a : Attempts) (next : LineNext) → is_some (answer_in next) ≡ false → attempts_taken a next ≡ Running a
 attempts_on a NotStarted is = refl
 attempts_on a (Invokes call) is = refl
 attempts_on a (Returns answer) is = absurd cc
 
+-- a line whose attempts have not ended has no reply to take
 pub goes_untaken : (a : Attempts) → is_some (answer_in (attempt_to_do a.attempt)) ≡ false → Running a ≡ line_taken (Running a)
 goes_untaken a is = sym (attempts_on a (attempt_to_do a.attempt) is)
 
--- attempts that are over have their answer taken
+-- attempts that have ended are finished once their reply is taken
 attempts_end : (a : Attempts) (next : LineNext) → is_some (answer_in next) ≡ true → attempts_taken a next ≡ Finished
 attempts_end a NotStarted is = absurd cc
 attempts_end a (Invokes call) is = absurd cc
 attempts_end a (Returns answer) is = refl
 
+-- a line whose attempts have ended is finished once its reply is taken
 pub is_taken : (a : Attempts) → is_some (answer_in (attempt_to_do a.attempt)) ≡ true → Finished ≡ line_taken (Running a)
 is_taken a is = sym (attempts_end a (attempt_to_do a.attempt) is)
 
--- what a transfer or a command calls is what its task calls
+-- the call of a transfer or a local command is that of its task
 pub moves_call : (next : Next) → call_in (moves_next next) ≡ tasks_seen.call_in next
 moves_call tasks.NotStarted = refl
 moves_call (tasks.Invokes call) = refl
 moves_call (tasks.Returns outcome) = refl
 
--- and it is attempted once
+-- a transfer or a local command is attempted once
 moves_once : (next : Next) → next_wants_retry (moves_next next) ≡ false
 moves_once tasks.NotStarted = refl
 moves_once (tasks.Invokes call) = refl
 moves_once (tasks.Returns outcome) = refl
 
+-- a transfer or a local command advances as its task does
 pub moves_on : (t : TaskView) (left : ℕ) (given : Option EventReply)
     → record { attempt = Transfer (advance t given); left = left } ≡ attempts_advance (record { attempt = Transfer t; left = left }) given
 moves_on t left given = rw (moves_once (to_do (advance t given))) refl
 
--- what a event_ref is given to is what its call is given to
+-- an event reference goes to the target of its call
 pub asked_of : (machine : Machine) (event_ref : EventRef) → CanCount machine (target_of_call (call_asked event_ref)) → CanCount machine (target_of_ref event_ref)
 asked_of machine (refs.Board board cmd) can = can
 asked_of machine (refs.Datum board access) can = can
