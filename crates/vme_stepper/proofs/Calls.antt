@@ -1,4 +1,4 @@
--- Calls of lines at work: they are to boards that are there, and their objects can count them.
+-- The calls of lines at work: they go to boards of the configuration, and their objects can count them.
 use Rattle.std.proofs.Common.{◌≡◌, ◌-◌, ◌^◌, length, refl, true, Some, ap, ◌∙◌}
 use Rattle.std.specs.Prelude.{IfSome, is_some}
 use Rattle.std.proofs.lemmas.Option.{same_Some}
@@ -15,7 +15,7 @@ use Rattle.vme_line_task.proofs.lemmas.Below.{calls_below}
 use Rattle.vme_stepper.specs.Steppers.{StepsWithin}
 use Rattle.vme_stepper.proofs.Steps.{none_spent}
 
--- what a line calls is there, and is not spent
+-- the object of a line's call exists and can count it
 can_call : (machine : Machine) (task : LineTask) (call : Call) → IsLineBelow (length machine.boards) task → StepsWithin (2 ^ 64 - 2) machine
     → line_to_do task ≡ Invokes call → CanCount machine (target_of_call call)
 can_call machine task (OnBoard board command) below steps makes = record {
@@ -33,17 +33,17 @@ can_next machine task NotStarted is below steps = tt
 can_next machine task (Invokes call) is below steps = can_call machine task call below steps is
 can_next machine task (Returns answer) is below steps = tt
 
--- so it can make its call, if it makes one
+-- a line can make its call, if it has one
 pub can_make : (machine : Machine) (task : LineTask) → IsLineBelow (length machine.boards) task → StepsWithin (2 ^ 64 - 2) machine
     → IfSome (call_in (line_to_do task)) (λ call. CanCount machine (target_of_call call))
 can_make machine task below steps = can_next machine task (line_to_do task) refl below steps
 
--- a line that is over has its answer
+-- a line that has ended has its reply
 pub its_answer : (next : LineNext) → is_some (answer_in next) ≡ true → (answer : LineReply) × (Returns answer ≡ next)
 its_answer NotStarted over = absurd cc
 its_answer (Invokes call) over = absurd cc
 its_answer (Returns answer) over = (answer, refl)
 
--- and no other
+-- a line that has ended has no other reply
 pub its_own : (next : LineNext) (answer other : LineReply) → Some answer ≡ answer_in next → next ≡ Returns other → answer ≡ other
 its_own next answer other has ends = same_Some _ _ (has ∙ ap answer_in ends)
