@@ -18,8 +18,8 @@ use vme_cycle::{BlockBuffer, Modify, Transfer};
 use vme_lanes::Datum;
 use vme_memory::{BoardCmd, Reply};
 
-/// A transfer over the bus: whose it is, and where its first byte lies, by the place of a board in
-/// the map and the offset there, if a board is selected.
+/// A transfer over the bus: the slot and the level of its request, the lawful request, and the
+/// place and offset of its first byte, if a board is selected.
 #[derive(Debug, Drop)]
 pub struct BusJob<'a> {
     pub(crate) slot: u16,
@@ -50,8 +50,8 @@ impl BusJob<'_> {
         Event::Bus(ArbCmd::Done { slot: self.slot })
     }
 
-    /// The event of datum `i`: a cycle of the board that the first datum selects. Where there is no
-    /// such board, the bus is given back.
+    /// The event of datum `i`: a cycle of the selected board, or the release of the bus if no board
+    /// is selected.
     pub(crate) fn datum(&self, i: u16) -> Event
         requires in_count { i < count_of self.now.transfer.request }
         requires placed { IsPlaced (Job.Bus self.now) }
@@ -71,7 +71,7 @@ impl BusJob<'_> {
         Event::Board { board, cmd }
     }
 
-    /// The same apart from the lines of its cycle.
+    /// The event of datum `i` as a reference, without the signals of its cycle.
     #[inline(always)]
     fn moves(&self, i: u16) -> EventRef<'_>
         requires in_count { i < count_of self.now.transfer.request }
@@ -87,7 +87,7 @@ impl BusJob<'_> {
         }
     }
 
-    /// The datum itself, where the board of the first one, and its offset there, are known.
+    /// The cycle of datum `i`, by the board and the offset of the first datum.
     #[inline(always)]
     pub(crate) fn moves_to(&self, board: usize, offset: u32, i: u16) -> DatumCycle<'_>
         requires in_count { i < count_of self.now.transfer.request }
@@ -101,7 +101,7 @@ impl BusJob<'_> {
         DatumCycle::new(plan, i, at)
     }
 
-    /// What it asks in a phase, if anything.
+    /// The event in a phase, if there is one, without the signals of a cycle.
     #[inline(always)]
     fn event_ref(&self, phase: Phase) -> Option<EventRef<'_>>
         requires in_count { (i : ℕ) → phase ≡ Transferring i → i < count_of self.now.transfer.request }
@@ -118,7 +118,7 @@ impl BusJob<'_> {
         }
     }
 
-    /// The event that it makes in a phase, if any.
+    /// The event in a phase, if there is one.
     fn event(&self, phase: Phase) -> Option<Event>
         requires in_count { (i : ℕ) → phase ≡ Transferring i → i < count_of self.now.transfer.request }
         requires placed { IsPlaced (Job.Bus self.now) }
@@ -133,7 +133,8 @@ impl BusJob<'_> {
         }
     }
 
-    /// Where it is at datum `i`, if there is such a one and a board for it.
+    /// The phase at datum `i`: the transfer of it, or the release of the bus if there is no such
+    /// datum or no board.
     fn at(&self, i: u16, count: u16) -> Phase
         requires { count ≡ count_of self.now.transfer.request }
         ensures { result ≡ datum_phase self.now self.now.place i }
@@ -166,7 +167,7 @@ pub struct LocalJob {
 }
 
 impl LocalJob {
-    /// What it asks in a phase, if anything.
+    /// The event in a phase, if there is one, as a reference.
     #[inline(always)]
     fn event_ref(&self, phase: Phase) -> Option<EventRef<'_>>
         ensures { (read : List ℕ) → option_map call_asked result ≡ call_in (local_next self.now phase read) }
@@ -180,7 +181,7 @@ impl LocalJob {
         }
     }
 
-    /// The event that it makes in a phase, if any.
+    /// The event in a phase, if there is one.
     fn event(&self, phase: Phase) -> Option<Event>
         ensures { (read : List ℕ) → option_map call_of result ≡ call_in (local_next self.now phase read) }
     {
@@ -194,7 +195,7 @@ impl LocalJob {
     }
 }
 
-/// What a task is for.
+/// What a task is to do.
 #[derive(Debug, Drop)]
 pub enum Job<'a> {
     /// A transfer over the bus.
@@ -214,7 +215,7 @@ impl Job<'_> {
         }
     }
 
-    /// What it asks in a phase, if anything.
+    /// The event in a phase, if there is one, without the signals of a cycle.
     #[inline(always)]
     pub(crate) fn event_ref(&self, phase: Phase) -> Option<EventRef<'_>>
         requires in_count { (i : ℕ) → phase ≡ Transferring i → i < call_count self.now }
@@ -227,7 +228,7 @@ impl Job<'_> {
         }
     }
 
-    /// The event that it makes in a phase, if any.
+    /// The event in a phase, if there is one.
     pub(crate) fn event(&self, phase: Phase) -> Option<Event>
         requires in_count { (i : ℕ) → phase ≡ Transferring i → i < call_count self.now }
         requires placed { IsPlaced self.now }
@@ -239,7 +240,7 @@ impl Job<'_> {
         }
     }
 
-    /// Whether it makes an event in a phase.
+    /// Whether the job makes an event in a phase.
     pub(crate) fn is_at_work(&self, phase: Phase) -> bool
         ensures { result ≡ makes self.now phase }
     {
@@ -250,7 +251,7 @@ impl Job<'_> {
         }
     }
 
-    /// The number of its calls on a board.
+    /// The number of calls that the job makes on a board.
     pub(crate) fn count(&self) -> u16
         ensures value { result ≡ call_count self.now }
         ensures some { 0 < result }
@@ -262,7 +263,7 @@ impl Job<'_> {
         }
     }
 
-    /// Where it is at its call `i` on a board.
+    /// The phase at call `i` on a board.
     fn at(&self, i: u16, count: u16) -> Phase
         requires { count ≡ call_count self.now }
         ensures { result ≡ phase_at self.now i }
@@ -274,7 +275,7 @@ impl Job<'_> {
         }
     }
 
-    /// Where the first call leads.
+    /// The phase after the first call.
     pub(crate) fn first_phase(&self, count: u16) -> Phase
         requires { count ≡ call_count self.now }
         ensures { result ≡ first_phase self.now }
@@ -285,7 +286,7 @@ impl Job<'_> {
         }
     }
 
-    /// Where the arbiter's reply to an ask or a look leads.
+    /// The phase after the arbiter's reply to a request or a poll.
     pub(crate) fn phase_answered(&self, reply: ArbReply, count: u16) -> Phase
         requires { count ≡ call_count self.now }
         ensures { result ≡ phase_answered self.now reply }
@@ -297,7 +298,7 @@ impl Job<'_> {
         }
     }
 
-    /// Where a board's reply to its call `i` leads.
+    /// The phase after a board's reply to call `i`.
     pub(crate) fn phase_replied(&self, i: u16, reply: &Reply, count: u16) -> Phase
         requires in_count { i < call_count self.now }
         requires count { count ≡ call_count self.now }
@@ -311,8 +312,8 @@ impl Job<'_> {
         }
     }
 
-    /// What comes of it in the end, with what was read, and perhaps a bus error that came after so
-    /// many data.
+    /// The outcome, with the bytes that were read and the number of data before a bus error, if one
+    /// came.
     pub(crate) fn end(&self, berr: Option<u16>, read: BlockBuffer) -> Outcome
         requires { length read.items ≤ job_read_len self.now }
         ensures { result ≡ end_outcome (job_expected self.now) berr read.items }
