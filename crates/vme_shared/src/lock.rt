@@ -13,7 +13,7 @@ use vme_core::EventReply;
 use vme_cycle::CycleFault;
 use vme_decode::AddressMap;
 
-/// A lock that is taken or given back, call by call. The lock is bit 7 of a byte.
+/// A lock that is taken or released, call by call. The lock is bit 7 of a byte.
 #[derive(Debug, Drop)]
 pub struct LockTask<'a> {
     task: SharedTask<'a>,
@@ -28,7 +28,12 @@ impl<'a> Model for LockTask<'a> {
 }
 
 impl<'a> LockTask<'a> {
-    /// To take it, by one read-modify-write; or else the refusal of that.
+    /// Returns the task that takes a lock by one cycle: IEEE 1014-1987, 2.3.8 (read-modify-write).
+    /// The slot requests the bus on `level`.
+    ///
+    /// # Errors
+    ///
+    /// The refusal of that cycle's request.
     pub fn lock(
         map: &'a AddressMap,
         slot: u16,
@@ -43,7 +48,12 @@ impl<'a> LockTask<'a> {
         Ok(LockTask { task })
     }
 
-    /// To give it back, by one write of zero; or else the refusal of that.
+    /// Returns the task that releases a lock by one write of zero. The slot requests the bus on
+    /// `level`.
+    ///
+    /// # Errors
+    ///
+    /// The refusal of that write.
     pub fn unlock(
         map: &'a AddressMap,
         slot: u16,
@@ -58,8 +68,8 @@ impl<'a> LockTask<'a> {
         Ok(LockTask { task })
     }
 
-    /// What it does next. The first call is given nothing, and each later one the reply to the event
-    /// that the call before it gave out.
+    /// Returns what the task does next. `reply` is `None` at the first call, and then the reply to
+    /// the event that the call before returned.
     pub fn next(&mut self, reply: Option<EventReply>) -> SharedTodo
         ensures task { self.new ≡ shared_advance self.old reply }
         ensures todo { next_in result ≡ shared_to_do self.new }
@@ -69,7 +79,7 @@ impl<'a> LockTask<'a> {
         self.task.next(reply)
     }
 
-    /// The same task before its first call, to be done once more.
+    /// Puts the task back before its first call.
     pub fn restart(&mut self)
         ensures { self.new ≡ shared_fresh self.old.job }
     {

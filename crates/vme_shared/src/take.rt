@@ -30,7 +30,11 @@ impl<'a> Model for TakeTask<'a> {
 }
 
 impl<'a> TakeTask<'a> {
-    /// To take a word; or else the refusal of the lock's transfer, or of a read of the last word.
+    /// Returns the task that takes a word from `mailbox`. The slot requests the bus on `level`.
+    ///
+    /// # Errors
+    ///
+    /// The refusal of the lock's transfer, or else that of a read of the mailbox's last word.
     pub fn start(
         map: &'a AddressMap,
         slot: u16,
@@ -45,8 +49,8 @@ impl<'a> TakeTask<'a> {
         Ok(TakeTask { task })
     }
 
-    /// What it does next. The first call is given nothing, and each later one the reply to the event
-    /// that the call before it gave out.
+    /// Returns what the task does next. `reply` is `None` at the first call, and then the reply to
+    /// the event that the call before returned.
     pub fn next(&mut self, reply: Option<EventReply>) -> SharedTodo
         ensures task { self.new ≡ shared_advance self.old reply }
         ensures todo { next_in result ≡ shared_to_do self.new }
@@ -56,7 +60,7 @@ impl<'a> TakeTask<'a> {
         self.task.next(reply)
     }
 
-    /// The same task before its first call, to be done once more.
+    /// Puts the task back before its first call.
     pub fn restart(&mut self)
         ensures { self.new ≡ shared_fresh self.old.job }
     {
