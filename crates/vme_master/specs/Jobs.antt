@@ -37,7 +37,7 @@ bus_job map slot level t =
 abbrev pub local_job : ℕ → BoardCmd → Job
 local_job board cmd = Local (record { board = board; cmd = cmd })
 
--- the slot requests the bus on its level; IEEE 1014-1987, 3.2 (bus request lines)
+-- the slot requests the bus on its level; IEEE 1014-1987, 3.2 (lines of the arbitration bus)
 abbrev pub ask_call : BusJob → Call
 ask_call job = OnBus (Ask job.slot job.level)
 
