@@ -33,7 +33,7 @@ use Rattle.vme_line_task.specs.Tenures.{job_reported, attempt_reported, IsGood, 
 use Rattle.vme_line_task.proofs.lemmas.Below.{moves_makes, waits_makes, shares_makes}
 use Rattle.vme_line_task.proofs.Tenures.{good_end, good_freed, FreedBy, freed_stands, local_never, turn_reported, datum_reported, begin_reported, IsOwnJob}
 
--- before the first call
+-- an attempt begins without a reply of the arbiter
 pub attempt_begins : (a : Attempt) → attempt_reported a (None ∷ []) ≡ None
 attempt_begins (Transferring job) = begin_reported job
 attempt_begins (Awaiting job want) = begin_reported job
@@ -45,7 +45,7 @@ IsOwnAttempt slot level (Transferring job) = IsOwnJob slot level job
 IsOwnAttempt slot level (Awaiting job want) = IsOwnJob slot level job
 IsOwnAttempt slot level (Sharing s) = (s.slot ≡ slot) × (s.level ≡ level)
 
--- its commands to the arbiter go by what the slot was told last
+-- the arbiter's last reply allows each command to the arbiter
 job_turns : (slot level : ℕ) (job : Job) (g : Given) (cmd : ArbCmd) → IsOwnJob slot level job → is_level level ≡ true
     → next_of job g ≡ Invokes (OnBus cmd) → may_give slot (job_reported job g) cmd ≡ true
 job_turns slot level (Bus j) g cmd own lawful made =
@@ -63,7 +63,7 @@ attempt_turns slot level (Sharing s) g cmd own lawful made =
     subst (λ (one : ℕ). may_give one (shared_reported s g) cmd ≡ true) own.0
     (laws.turns_go_by s g cmd (subst (λ (l : ℕ). is_level l ≡ true) (sym own.1) lawful) (shares_makes (shared_next s g) (OnBus cmd) made))
 
--- data go to a board while the slot is told that it holds the bus, or are those of a command to the local port
+-- the attempt is no command to the local port
 abbrev pub IsTransfer : Attempt → Type 0
 IsTransfer (Transferring (Bus j)) = Unit {0}
 IsTransfer (Transferring (Local j)) = ⊥
@@ -82,7 +82,7 @@ attempt_holds (Awaiting (Local j) want) g b command transfer made = absurd trans
 attempt_holds (Sharing s) g b command transfer made =
     laws.holds_for_data s g b command (shares_makes (shared_next s g) (OnBoard b command) made)
 
--- a good reply of the arbiter is what the slot is told
+-- after a good reply of the arbiter the slot stands as it states
 pub attempt_turn : (a : Attempt) (g : Given) (cmd : ArbCmd) (reply : ArbReply) (bus : Arbitration) (slot : ℕ)
     → attempt_next a g ≡ Invokes (OnBus cmd) → IsGood (OnBus cmd) (event_replies.Bus reply) → StandsAsReplied bus slot (Some reply)
     → StandsAsReplied bus slot (attempt_reported a (Some (event_replies.Bus reply) ∷ g))
@@ -93,7 +93,7 @@ attempt_turn (Awaiting job want) g cmd reply bus slot made good stands =
 attempt_turn (Sharing s) g cmd reply bus slot made good stands =
     laws.turn_reported s g cmd reply bus slot (shares_makes (shared_next s g) (OnBus cmd) made) good.fit good.granted stands
 
--- and one of a board is not
+-- a good reply of a board leaves the arbiter's last reply the same
 pub attempt_datum : (a : Attempt) (g : Given) (call : Call) (reply : Reply) → attempt_next a g ≡ Invokes call → IsGood call (event_replies.Board reply)
     → attempt_reported a (Some (event_replies.Board reply) ∷ g) ≡ attempt_reported a g
 attempt_datum (Transferring job) g call reply made good = datum_reported job g reply
@@ -101,14 +101,14 @@ attempt_datum (Awaiting job want) g call reply made good = datum_reported job g 
 attempt_datum (Sharing s) g call reply made good =
     laws.datum_reported s g call reply (shares_makes (shared_next s g) call made) good.fit
 
--- an attempt that ends with a good reply is not denied, and leaves the slot as one that was told nothing; where the reply is a
--- board's, the slot was told nothing before
+-- an attempt that ends with a good reply is no denial, and leaves the slot as one without a reply of the arbiter; if
+-- the reply is a board's, there was none before
 pub record EndsWell (a : Attempt) (g : Given) (reply : EventReply) (answer : LineReply) : Type 0 where
   pub granted : IsGranted answer
   pub free : (bus : Arbitration) (slot : ℕ) → StandsAsReplied bus slot (attempt_reported a (Some reply ∷ g)) → StandsAsReplied bus slot None
   pub quiet : (datum : Reply) → reply ≡ event_replies.Board datum → attempt_reported a g ≡ None
 
--- so where its task has ended
+-- an attempt's end is that of its task
 record EndsBy (next : NextStep Outcome) (answer : LineReply) : Type 0 where
   outcome : Outcome
   ends : next ≡ Returns outcome

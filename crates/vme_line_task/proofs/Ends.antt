@@ -1,4 +1,4 @@
--- An answer of a line is for good.
+-- A line's reply is final.
 use Rattle.std.proofs.Common.{◌≡◌, ℕ, false, List, [], ◌∷◌, Option, None, Result, Ok, Err, refl, ap, subst, ◌∙◌, inl, inr}
 use Rattle.std.specs.Prelude.{nat_lt, ◌&&◌}
 use Rattle.std.proofs.lemmas.Bool.{cases_Bool}
@@ -23,7 +23,7 @@ use Rattle.vme_line_task.specs.Scripts.{Attempt, Transferring, Awaiting, Sharing
 use Rattle.vme_line_task.specs.Tenures.{IsGranted}
 use Rattle.vme_line_task.specs.Tables.{moves_next, waits_next, shares_next, attempt_next, asks_again, next_wants_retry, Attempts, next_attempt, attempts_of, lawful_next, next_given}
 
--- a task's end is for good
+-- a task's outcome is final
 task_stays : (job : Job) (given : Given) (last : Option EventReply) (outcome : Outcome) → next_of job given ≡ Returns outcome
     → next_of job (last ∷ given) ≡ Returns outcome
 task_stays job given last outcome ended = ap (λ next. next_after job next last given) ended
@@ -46,14 +46,14 @@ shares_stays s given last answer NotStarted is ends = absurd cc
 shares_stays s given last answer (Invokes call) is ends = absurd cc
 shares_stays s given last answer (Returns outcome) is ends = ap shares_next (end_stays s given outcome last is) ∙ ends
 
--- and so is an attempt's
+-- an attempt's reply is final
 attempt_stays : (a : Attempt) (given : Given) (last : Option EventReply) (answer : LineReply) → attempt_next a given ≡ Returns answer
     → attempt_next a (last ∷ given) ≡ Returns answer
 attempt_stays (Transferring job) given last answer ends = moves_stays job given last answer (next_of job given) refl ends
 attempt_stays (Awaiting job want) given last answer ends = waits_stays job want given last answer (next_of job given) refl ends
 attempt_stays (Sharing s) given last answer ends = shares_stays s given last answer (shared_next s given) refl ends
 
--- an attempt that ends before its first call, or with it, is no denial and not made again: a transfer of it is refused
+-- the reply of an attempt that ends at or before its first call is no denial and asks for no other attempt
 pub record EndsAtOnce (answer : LineReply) : Type 0 where
   pub granted : IsGranted answer
   pub last : asks_again answer ≡ false
@@ -100,7 +100,7 @@ all_last a tries (last ∷ before) =
     let made = attempts_of a tries before in
     last_attempt a (record { given = last ∷ made.given; left = made.left })
 
--- so the line does not go on
+-- the reply of a line's attempts is final
 lawful_stays : (tries : ℕ) (attempt : Result Attempt CycleFault) (given : Given) (last : Option EventReply) (answer : LineReply)
     → lawful_next tries attempt given ≡ Returns answer → lawful_next tries attempt (last ∷ given) ≡ Returns answer
 lawful_stays tries (Err fault) given last answer ends = ends

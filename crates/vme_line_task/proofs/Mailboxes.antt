@@ -1,4 +1,4 @@
--- The mailbox that a line of a lawful configuration names is there.
+-- The mailbox that a line of a lawful configuration names exists.
 use Rattle.std.proofs.Common.{◌≡◌, ℕ, ◌-◌, ◌<◌, ◌≤◌, true, List, length, map, Some, ap, sym, subst, ◌∙◌, arith, inl, inr}
 use Rattle.std.specs.Prelude.{nat_le, ◌&&◌, option_map, slice_get}
 use Rattle.std.proofs.lemmas.Option.{slice_get_cases, get_or_from_slice_get, same_Some, slice_get-map, slice_get_within}
@@ -43,7 +43,7 @@ asked config lawful (lines.Unlock am addr) may = tt
 asked config lawful (lines.Put box word) may = named config lawful box may
 asked config lawful (lines.Take box) may = named config lawful box may
 
--- so the line at each place of a script has its mailbox
+-- the line at each place of a script has its mailbox
 pub its_mailbox : (config : Configuration) → IsLawful config → (i j : ℕ) (script : List ScriptLine) (line : Line)
     → slice_get config.scripts i ≡ Some script → slice_get (map (λ one. one.line) script) j ≡ Some line → HasItsMailbox config line
 its_mailbox config lawful i j script line in_scripts in_script =

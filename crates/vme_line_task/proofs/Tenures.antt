@@ -1,4 +1,4 @@
--- A transfer keeps its tenure of the bus: what good replies lead to.
+-- A transfer keeps its tenure of the bus: what follows good replies.
 use Rattle.std.proofs.Common.{◌≡◌, ◌≢◌, ℕ, true, List, [], ◌∷◌, Option, Some, None, refl, ap, sym, subst, ◌∙◌}
 use Rattle.vme_memory.specs.declared.reply.Reply.{Reply}
 use Rattle.vme_memory.specs.declared.reply.Reply.TheVariants.{Bytes, Done, Berr}
@@ -26,7 +26,7 @@ use Rattle.vme_master.proofs.lemmas.Tenures.{ends_freed}
 use Rattle.vme_master.proofs.lemmas.Locals.{local_calls}
 use Rattle.vme_line_task.specs.Tenures.{job_reported, IsGood}
 
--- what comes of bytes is no denial
+-- an outcome without a bus error is no denial
 expected_granted : (expected : ExpectedReply) (bytes : List ℕ) → expected_outcome expected bytes ≢ outcomes.Denied
 expected_granted (expected_replies.Read n) bytes = λ same. absurd cc
 expected_granted (expected_replies.Modify n) bytes = λ same. absurd cc
@@ -56,7 +56,7 @@ end_granted (outcomes.Berr count bytes) good denial = denial
 datum_granted : (j : BusJob) (i : ℕ) → IsDenial (Invokes (tasks.datum_or_done j i)) → ⊥
 datum_granted j i denial = denial
 
--- a good reply's row is no denial
+-- what follows a good reply is no denial
 row_granted : (job : Job) (g : Given) (call : Call) (reply : EventReply) → next_of job g ≡ Invokes call → IsGood call reply
     → IsDenial (row_of_reply job reply g) → ⊥
 row_granted (Bus j) g call (replies.Bus turned.Waiting) made good denial = denial
@@ -74,19 +74,19 @@ row_granted (Local j) g call (replies.Bus reply) made good denial =
     let fit : fits (local_call j) (replies.Bus reply) ≡ true = subst (λ c. fits c (replies.Bus reply) ≡ true) own good.fit in
     absurd cc
 
--- after a good reply a task goes by its row
+-- after a good reply a task goes by its table
 good_row : (job : Job) (g : Given) (call : Call) (reply : EventReply) → next_of job g ≡ Invokes call → IsGood call reply
     → next_of job (Some reply ∷ g) ≡ row_of_reply job reply g
 good_row job g call reply made good = rw (made, good.fit) refl
 
--- so its end is no denial
+-- an outcome after a good reply is no denial
 pub good_end : (job : Job) (g : Given) (call : Call) (reply : EventReply) (outcome : Outcome) → next_of job g ≡ Invokes call
     → IsGood call reply → next_of job (Some reply ∷ g) ≡ Returns outcome → outcome ≢ outcomes.Denied
 good_end job g call reply outcome made good ends = λ denied.
     row_granted job g call reply made good
     (subst IsDenial (sym (ap Returns denied) ∙ sym ends ∙ good_row job g call reply made good) tt)
 
--- and the slot was told so, if it is a transfer's
+-- the reply of a transfer is `Freed`
 abbrev pub FreedBy : Job → EventReply → Type 0
 FreedBy (Bus j) reply = reply ≡ replies.Bus turned.Freed
 FreedBy (Local j) reply = Unit {0}
@@ -97,24 +97,24 @@ good_freed (Bus j) g call reply outcome made good ends =
     ends_freed j g call reply outcome made ends (good_end (Bus j) g call reply outcome made good ends)
 good_freed (Local j) g call reply outcome made good ends = tt
 
--- a slot that was told so stands as one that was told nothing
+-- a slot that was freed stands as one without a reply of the arbiter
 pub freed_stands : (job : Job) (g : Given) (reply : EventReply) (bus : Arbitration) (slot : ℕ) → FreedBy job reply
     → StandsAsReplied bus slot (job_reported job (Some reply ∷ g)) → StandsAsReplied bus slot None
 freed_stands (Bus j) g reply bus slot freed stands = subst (λ r. StandsAsReplied bus slot (job_reported (Bus j) (Some r ∷ g))) freed stands
 freed_stands (Local j) g reply bus slot freed stands = stands
 
--- no command of a local port goes to the arbiter
+-- a local command never goes to the arbiter
 pub local_never : (j : LocalJob) (g : Given) (cmd : ArbCmd) → next_of (Local j) g ≡ Invokes (OnBus cmd) → ⊥
 local_never j g cmd made = let own : OnBus cmd ≡ local_call j = local_calls j g (OnBus cmd) made in absurd cc
 
--- a task is told what the arbiter replies
+-- the arbiter's reply is its last reply to the task
 pub turn_reported : (job : Job) (g : Given) (cmd : ArbCmd) (reply : ArbReply) (bus : Arbitration) (slot : ℕ)
     → next_of job g ≡ Invokes (OnBus cmd) → StandsAsReplied bus slot (Some reply)
     → StandsAsReplied bus slot (job_reported job (Some (replies.Bus reply) ∷ g))
 turn_reported (Bus j) g cmd reply bus slot made stands = stands
 turn_reported (Local j) g cmd reply bus slot made stands = absurd (local_never j g cmd made)
 
--- and not what a board replies
+-- a board's reply leaves the arbiter's last reply the same
 pub datum_reported : (job : Job) (g : Given) (reply : Reply) → job_reported job (Some (replies.Board reply) ∷ g) ≡ job_reported job g
 datum_reported (Bus j) g reply = refl
 datum_reported (Local j) g reply = refl

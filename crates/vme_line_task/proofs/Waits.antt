@@ -1,4 +1,4 @@
--- What a read that is to find bytes reads: few bytes.
+-- A read that waits for bytes reads few bytes.
 use Rattle.std.proofs.Common.{◌≡◌, ℕ, ◌≤◌, List, length, Result, Ok, Err, ap, subst, ◌∙◌}
 use Rattle.arrayvec.specs.ArrayVec.{ArrayVec}
 use Rattle.vme_cycle.specs.BlockBuffers.{inline_capacity}
@@ -22,7 +22,7 @@ use Rattle.vme_line_task.specs.Machine.{fresh_of}
 pub reads_so_many : (am addr n : ℕ) (t : Transfer) → transfer_of (Read am addr n) ≡ Ok t → read_len t.request ≡ n
 reads_so_many am addr n t is = ap read_len (comes_from (Read am addr n) t is).same
 
--- and so its task needs no more room
+-- the task of a short read needs no more than the inline capacity
 pub task_is_short : (map : List Entry) (slot level : ℕ) (transfer : Result Transfer CycleFault) (task : TaskView)
     → ((t : Transfer) → transfer ≡ Ok t → read_len t.request ≤ inline_capacity) → Ok task ≡ bus_task map slot level transfer
     → job_read_len task.job ≤ inline_capacity
@@ -31,7 +31,7 @@ task_is_short map slot level (Ok t) task short is =
     rw same (short t cc)
 task_is_short map slot level (Err fault) task short is = absurd cc
 
--- a wait by its task and what it is to find
+-- a wait, by its task and the bytes that it waits for
 pub waits_so : (config : Configuration) (board am addr : ℕ) (bytes want : List ℕ) (task : TaskView) (wait : AwaitView)
     → Ok task ≡ bus_task (entries_of config.boards) (slot_at config board) (level_at config board) (transfer_of (Read am addr (length bytes)))
     → bytes ≡ want → wait.task ≡ task → wait.want ≡ record { items = want }

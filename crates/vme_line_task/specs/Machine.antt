@@ -1,4 +1,4 @@
--- A line as a machine, which keeps a task in place of the replies: for the drivers' own functions.
+-- A line as a machine that keeps a task in place of the replies so far, for the drivers' own functions.
 use Rattle.std.specs.Prelude.{ℕ, ◌≡◌, ◌-◌, nat_lt, ◌&&◌, if◌then◌else◌, List, [], ◌∷◌, Option, None, Result, Ok, Err}
 use Rattle.vme_cycle.specs.declared.fault.CycleFault.{CycleFault}
 use Rattle.vme_core.specs.declared.event.EventReply.{EventReply}
@@ -21,30 +21,30 @@ use Rattle.vme_line_task.specs.Scripts.{Attempt, Transferring, Awaiting, Sharing
 use Rattle.vme_line_task.specs.Tables.{moves_next, waits_next, shares_next, next_wants_retry, given_of}
 use Rattle.vme_line_task.specs.Events.{IsCallBelow}
 
--- the task of an attempt before its first call (this project's own)
+-- the task of an attempt before its first call
 abbrev pub attempt_fresh : Attempt → AttemptTask
 attempt_fresh (Transferring job) = tries.Transfer (fresh_task job)
 attempt_fresh (Awaiting job want) = tries.Await (record { task = fresh_task job; want = record { items = want } })
 attempt_fresh (Sharing s) = tries.Shared (shared_fresh s)
 
--- the task of what is attempted, or the refusal (this project's own)
+-- the task of an attempt before its first call, or the refusal
 abbrev pub fresh_of : Result Attempt CycleFault → Result AttemptTask CycleFault
 fresh_of (Ok attempt) = Ok (attempt_fresh attempt)
 fresh_of (Err fault) = Err fault
 
--- the same attempt before its first call (this project's own)
+-- an attempt put back before its first call
 abbrev pub attempt_anew : AttemptTask → AttemptTask
 attempt_anew (tries.Transfer t) = tries.Transfer (fresh_task t.job)
 attempt_anew (tries.Await w) = tries.Await (record { task = fresh_task w.task.job; want = w.want })
 attempt_anew (tries.Shared v) = tries.Shared (shared_fresh v.job)
 
--- an attempt after a call of it (this project's own)
+-- an attempt after the next reply, or an absent one
 abbrev pub attempt_advance : AttemptTask → Option EventReply → AttemptTask
 attempt_advance (tries.Transfer t) given = tries.Transfer (advance t given)
 attempt_advance (tries.Await w) given = tries.Await (record { task = advance w.task given; want = w.want })
 attempt_advance (tries.Shared v) given = tries.Shared (shared_advance v given)
 
--- what an attempt does next (this project's own)
+-- what an attempt does next
 abbrev pub attempt_to_do : AttemptTask → NextStep LineReply
 attempt_to_do (tries.Transfer t) = moves_next (to_do t)
 attempt_to_do (tries.Await w) = waits_next w.want.items (to_do w.task)
@@ -54,71 +54,70 @@ attempt_to_do (tries.Shared v) = shares_next (shared_to_do v)
 abbrev pub attempts_to_do : Attempts → NextStep LineReply
 attempts_to_do a = attempt_to_do a.attempt
 
--- where the attempt at work has ended with an answer that asks for another, that one has begun, while there may be one more
--- (this project's own)
+-- if the current attempt has ended with a reply that asks for another, that one has begun, as long as one is left
 abbrev pub attempts_again : Attempts → NextStep LineReply → Attempts
 attempts_again a next =
     if next_wants_retry next && nat_lt 1 a.left
     then record { attempt = attempt_advance (attempt_anew a.attempt) None; left = a.left - 1 }
     else a
 
--- attempts after a call of the one at work (this project's own)
+-- the attempts after the next reply, or an absent one
 abbrev pub attempts_advance : Attempts → Option EventReply → Attempts
 attempts_advance a given =
     attempts_again (record { attempt = attempt_advance a.attempt given; left = a.left })
     (attempt_to_do (attempt_advance a.attempt given))
 
--- a line before its first call, by what is attempted for it, or its refusal (this project's own)
+-- a line before its first call, by its attempt, or its refusal
 abbrev pub line_fresh : ℕ → Result Attempt CycleFault → LineTask
 line_fresh tries (Ok attempt) = Running (record { attempt = attempt_fresh attempt; left = tries })
 line_fresh tries (Err fault) = Refused fault
 
--- a line of a board's processor before its first call (this project's own)
+-- a line of a board's processor before its first call
 unfoldable pub line_started : Configuration → ℕ → Line → LineTask
 line_started config board line = line_fresh config.tries (line_attempt config board line)
 
--- a line after a call of it (this project's own)
+-- a line after the next reply, or an absent one
 abbrev pub line_advance : LineTask → Option EventReply → LineTask
 line_advance (Refused fault) given = Refused fault
 line_advance (Running a) given = Running (attempts_advance a given)
 line_advance Finished given = Finished
 
--- what a line does next; one whose answer was taken is denied any other (this project's own)
+-- what a line does next; one whose reply was taken is denied any other
 abbrev pub line_to_do : LineTask → NextStep LineReply
 line_to_do (Refused fault) = Returns (replies.Refused fault)
 line_to_do (Running a) = attempt_to_do a.attempt
 line_to_do Finished = Returns (replies.Transfer outcomes.Denied)
 
--- how many attempts at a line there may be yet, the one at work among them; there is none at one that is refused or
--- answered (this project's own)
+-- the number of attempts that are left, the current one among them; none at a line that is refused or whose reply was
+-- taken
 abbrev pub attempts_left : LineTask → ℕ
 attempts_left (Refused fault) = 0
 attempts_left (Running a) = a.left
 attempts_left Finished = 0
 
--- attempts of which this is next: where the answer was taken they are over (this project's own)
+-- the attempts after their reply was taken, if they have one
 abbrev pub attempts_taken : Attempts → NextStep LineReply → LineTask
 attempts_taken a (Returns answer) = Finished
 attempts_taken a next = Running a
 
--- a line after its answer was taken, if it has one: a refusal stays as it is (this project's own)
+-- a line after its reply was taken, if it has one; a refusal stays
 abbrev pub line_taken : LineTask → LineTask
 line_taken (Running a) = attempts_taken a (attempt_to_do a.attempt)
 line_taken task = task
 
--- a line after calls with what it was given (this project's own)
+-- a line after all that it was given, the newest first
 abbrev pub line_advanced : LineTask → Given → LineTask
 line_advanced task [] = task
 line_advanced task (last ∷ before) = line_advance (line_advanced task before) last
 
--- a line of a board's processor after calls with what it was given (this project's own)
+-- a line of a board's processor after all that it was given, the newest first
 abbrev pub line_given : Configuration → ℕ → Line → Given → LineTask
 line_given config board line given = line_advanced (line_started config board line) given
 
--- a line after its first call and those with these replies, the newest first (this project's own)
+-- a line after its first call and these replies, the newest first
 abbrev pub line_after : Configuration → ℕ → Line → List EventReply → LineTask
 line_after config board line replies = line_given config board line (given_of replies)
 
--- the boards that a line calls, whatever it is given, are among the first n (this project's own)
+-- the boards that a line calls, whatever it is given, are among the first n
 unfoldable pub IsLineBelow : ℕ → LineTask → Type 0
 IsLineBelow n task = (given : Given) (call : Call) → line_to_do (line_advanced task given) ≡ Invokes call → IsCallBelow n call

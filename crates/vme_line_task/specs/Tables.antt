@@ -1,4 +1,4 @@
--- What a line of a script does next: attempts by a table over the replies so far.
+-- What a line of a script does next: attempts, by a table over the replies so far.
 use Rattle.std.specs.Prelude.{ℕ, ◌-◌, nat_lt, Bool, true, false, ◌&&◌, if◌then◌else◌, List, [], ◌∷◌, Option, Some, None, Result, Ok, Err}
 use Rattle.std.specs.Str.{bytes_eq}
 use Rattle.vme_cycle.specs.declared.fault.CycleFault.{CycleFault}
@@ -16,7 +16,7 @@ use Rattle.vme_grammar.specs.declared.line.Line.{Line}
 use Rattle.vme_script.specs.Configurations.{Configuration}
 use Rattle.vme_line_task.specs.Scripts.{Attempt, Transferring, Awaiting, Sharing, line_attempt}
 
--- a transfer or a command of a line is answered what comes of it (this project's own)
+-- a transfer or a local command: its outcome is the line's reply
 abbrev pub moves_next : NextStep Outcome → NextStep LineReply
 moves_next next = next_map Transfer next
 
@@ -25,21 +25,22 @@ abbrev pub await_reply : List ℕ → Outcome → LineReply
 await_reply want (outcomes.Read bytes) = if bytes_eq bytes.items want then Met else Timeout
 await_reply want outcome = Transfer outcome
 
+-- a read that waits for bytes: the line's reply is whether they were read, or the bus error or the denial
 abbrev pub waits_next : List ℕ → NextStep Outcome → NextStep LineReply
 waits_next want next = next_map (await_reply want) next
 
--- what is asked of a lock or a mailbox is answered what comes of it (this project's own)
+-- a request to a lock or a mailbox: its outcome is the line's reply
 abbrev pub shares_next : NextStep SharedOutcome → NextStep LineReply
 shares_next next = next_map Shared next
 
--- what an attempt does next, by what it was given so far (this project's own)
+-- what an attempt does next, by all that it was given
 abbrev pub attempt_next : Attempt → Given → NextStep LineReply
 attempt_next (Transferring job) given = moves_next (next_of job given)
 attempt_next (Awaiting job want) given = waits_next want (next_of job given)
 attempt_next (Sharing s) given = shares_next (shared_next s given)
 
--- the answers after which another attempt is made: other bytes were read; the lock was busy; the mailbox had no room, or no
--- word (this project's own)
+-- the replies after which another attempt is made: other bytes were read, the lock was busy, or the mailbox was full or
+-- empty
 abbrev pub asks_again : LineReply → Bool
 asks_again Timeout = true
 asks_again (Shared shared.Busy) = true
@@ -47,48 +48,48 @@ asks_again (Shared shared.Full) = true
 asks_again (Shared shared.Empty) = true
 asks_again answer = false
 
--- the attempts at a line: what the one at work was given so far, the newest first, and how many there may be yet, that one
--- among them (this project's own)
+-- the attempts at a line: what the current one was given, the newest first, and how many are left, the current one
+-- among them
 pub record Attempts : Type 0 where
   pub given : Given
   pub left : ℕ
 
--- whether an attempt that does this next has ended with such an answer (this project's own)
+-- whether an attempt has ended with a reply that asks for another
 abbrev pub next_wants_retry : NextStep LineReply → Bool
 next_wants_retry (Returns answer) = asks_again answer
 next_wants_retry next = false
 
--- an attempt with such an answer is followed by the next, which begins at once, if there may be one more; any other answer is
--- that of the line (this project's own)
+-- an attempt that asks for another is followed by the next, which begins at once, if one is left; any other reply is
+-- the line's
 abbrev pub next_attempt : Attempts → NextStep LineReply → Attempts
 next_attempt made next =
     if next_wants_retry next && nat_lt 1 made.left then record { given = None ∷ []; left = made.left - 1 } else made
 
--- the attempts where the one at work was given one thing more (this project's own)
+-- the attempts after one reply more, or an absent one
 abbrev pub attempt_given : Attempt → Option EventReply → Attempts → Attempts
 attempt_given attempt last made =
     next_attempt (record { given = last ∷ made.given; left = made.left }) (attempt_next attempt (last ∷ made.given))
 
--- the attempts, by all that the line was given, the newest first; there may be so many (this project's own)
+-- the attempts, at most so many, by all that the line was given, the newest first
 abbrev pub attempts_of : Attempt → ℕ → Given → Attempts
 attempts_of attempt tries [] = record { given = []; left = tries }
 attempts_of attempt tries (last ∷ before) = attempt_given attempt last (attempts_of attempt tries before)
 
--- a line does what the attempt at work does; one whose request is refused has ended without a call (this project's own)
+-- a line does what its current attempt does; one whose request is refused has ended without a call
 abbrev pub lawful_next : ℕ → Result Attempt CycleFault → Given → NextStep LineReply
 lawful_next tries (Ok attempt) given = attempt_next attempt (attempts_of attempt tries given).given
 lawful_next tries (Err fault) given = Returns (Refused fault)
 
--- what a line of a board's processor does next, by all that it was given, the newest first: each time the reply to its call,
--- or none (this project's own)
+-- what a line of a board's processor does next, by all that it was given, the newest first: the reply to each call, or
+-- none
 unfoldable pub next_given : Configuration → ℕ → Line → Given → NextStep LineReply
 next_given config board line given = lawful_next config.tries (line_attempt config board line) given
 
--- what a line is given that has these replies, the newest first: none at its first call (this project's own)
+-- what a line with these replies was given, the newest first: none at its first call
 abbrev pub given_of : List EventReply → Given
 given_of [] = None ∷ []
 given_of (reply ∷ replies) = Some reply ∷ given_of replies
 
--- what a line of a board's processor does next, by the replies to its calls so far, the newest first (this project's own)
+-- what a line of a board's processor does next, by the replies to its calls so far, the newest first
 abbrev pub line_next : Configuration → ℕ → Line → List EventReply → NextStep LineReply
 line_next config board line replies = next_given config board line (given_of replies)

@@ -1,4 +1,4 @@
--- How a line stands to the arbiter by the replies to it, and what comes of replies that fit.
+-- How a line stands at the arbiter by the replies to it, and which replies are good ones.
 use Rattle.std.specs.Prelude.{ℕ, ◌≢◌, IsTrue, List, Option, Some, None, Result, Ok, Err}
 use Rattle.vme_cycle.specs.declared.fault.CycleFault.{CycleFault}
 use Rattle.vme_memory.specs.Steps.{Command, LocalRead, LocalWrite, LocalModify}
@@ -22,40 +22,38 @@ use Rattle.vme_script.specs.Configurations.{Configuration}
 use Rattle.vme_line_task.specs.Scripts.{Attempt, Transferring, Awaiting, Sharing, line_attempt}
 use Rattle.vme_line_task.specs.Tables.{attempts_of, given_of}
 
--- what the arbiter told a transfer last, if anything; a command to a local port has nothing to do with it
--- (this project's own)
+-- the arbiter's last reply to a job, if there was one; a local command has none
 abbrev pub job_reported : Job → Given → Option ArbReply
 job_reported (Bus job) given = last_turn given
 job_reported (Local job) given = None
 
--- what the arbiter told an attempt last, if anything (this project's own)
+-- the arbiter's last reply to an attempt, if there was one
 abbrev pub attempt_reported : Attempt → Given → Option ArbReply
 attempt_reported (Transferring job) given = job_reported job given
 attempt_reported (Awaiting job want) given = job_reported job given
 attempt_reported (Sharing s) given = shared_reported s given
 
--- the same of a line: what the attempt at work was told (this project's own)
+-- the arbiter's last reply to the current attempt at a line, if there was one
 abbrev pub lawful_reported : ℕ → Result Attempt CycleFault → Given → Option ArbReply
 lawful_reported tries (Ok attempt) given = attempt_reported attempt (attempts_of attempt tries given).given
 lawful_reported tries (Err fault) given = None
 
--- what the arbiter told the transfer at work of a line last, if anything, by the replies to the line so far
--- (this project's own)
+-- the arbiter's last reply to the current attempt at a line, if there was one, by the replies to the line so far
 unfoldable pub line_reported : Configuration → ℕ → Line → List EventReply → Option ArbReply
 line_reported config board line replies = lawful_reported config.tries (line_attempt config board line) (given_of replies)
 
--- a command of a board's local port (this project's own)
+-- a command of a board's local port
 abbrev pub IsLocal : Option Command → Type 0
 IsLocal (Some (LocalRead at n)) = Unit {0}
 IsLocal (Some (LocalWrite at new)) = Unit {0}
 IsLocal (Some (LocalModify at n f)) = Unit {0}
 IsLocal command = ⊥
 
--- a reply that fits a call, and is no denial of the arbiter (this project's own)
+-- a reply that fits a call, and is no denial of the arbiter
 pub record IsGood (call : Call) (reply : EventReply) : Type 0 where
   pub fit : IsTrue (fits call reply)
   pub granted : reply ≢ event_replies.Bus turned.Denied
 
--- an answer that is no denial (this project's own)
+-- a line's reply that is no denial
 abbrev pub IsGranted : LineReply → Type 0
 IsGranted answer = (answer ≢ Transfer outcomes.Denied) × (answer ≢ Shared shared.Denied)

@@ -1,4 +1,4 @@
--- The way of a processor through its script, as a list of moves.
+-- The trace of a processor through its script, as a list of transitions.
 use Rattle.std.specs.Prelude.{ℕ, ◌≡◌, List, [], ◌∷◌, ◌++◌}
 use Rattle.vme_core.specs.declared.event.EventReply.{EventReply}
 use Rattle.vme_core.specs.Calls.{call_of}
@@ -10,20 +10,20 @@ use Rattle.vme_script.specs.Configurations.{Configuration}
 use Rattle.vme_line_task.specs.Scripts.{lines_at}
 use Rattle.vme_line_task.specs.Tables.{line_next}
 
--- a line goes on by moves, from the replies before them to all replies, the newest first: each move is the call that the line
--- makes next, with the reply to it (this project's own)
+-- a line continues by transitions, from the replies before them to all replies, the newest first: each transition is
+-- the line's next call with the reply to it
 abbrev pub Continues : Configuration → ℕ → Line → List EventReply → List Transition → List EventReply → Type 0
 Continues config board line before [] replies = before ≡ replies
 Continues config board line before (m ∷ moves) replies =
     (line_next config board line before ≡ Invokes (call_of m.event)) × Continues config board line (m.reply ∷ before) moves replies
 
--- a line is answered by moves: these are all its calls, and the answer is what the last reply leads to (this project's own)
+-- the trace of a line: these transitions are all its calls, and the last reply leads to the line's reply
 pub record LineTrace (config : Configuration) (board : ℕ) (line : Line) (moves : List Transition) (answer : LineReply) : Type 0 where
   pub replies : List EventReply
   pub goes : Continues config board line [] moves replies
   pub ends : line_next config board line replies ≡ Returns answer
 
--- lines are answered by moves, one after another (this project's own)
+-- the trace of lines, one after another
 abbrev pub IsTrace : Configuration → ℕ → List Line → List Transition → List LineReply → Type 0
 IsTrace config board [] moves [] = moves ≡ []
 IsTrace config board (line ∷ lines) moves (answer ∷ answers) =
@@ -31,19 +31,19 @@ IsTrace config board (line ∷ lines) moves (answer ∷ answers) =
     × IsTrace config board lines rest answers
 IsTrace config board lines moves answers = ⊥
 
--- how far a processor has come in its script: the answers of the lines that have ended, and the replies so far to the next one,
--- the newest first (this project's own)
+-- how far a processor has come in its script: the replies of the lines that have ended, and the replies so far to the
+-- next line's calls, the newest first
 pub record ScriptState : Type 0 where
   pub ended : List LineReply
   pub replies : List EventReply
 
--- the moves of the next line so far, with the replies to it; where none is left there are none (this project's own)
+-- the transitions of the next line so far, with the replies to its calls; none if no line is left
 abbrev pub AtWork : Configuration → ℕ → List Line → List Transition → List EventReply → Type 0
 AtWork config board [] moves replies = (moves ≡ []) × (replies ≡ [])
 AtWork config board (line ∷ left) moves replies = Continues config board line [] moves replies
 
--- a processor has come so far in its script by these moves: the first of them answered the lines that have ended, and the rest
--- are those of the next line (this project's own)
+-- the transitions of a processor up to a script state: the first of them are the trace of the lines that have ended,
+-- and the rest are those of the next line
 pub record IsTracePrefix (config : Configuration) (board : ℕ) (moves : List Transition) (script_state : ScriptState) : Type 0 where
   pub finished : List Line
   pub left : List Line

@@ -12,28 +12,28 @@ use vme_core::{Core, EventRef, EventReply};
 use vme_master::Task;
 use vme_shared::{LineReply, SharedOutcome, SharedTask};
 
-/// Attempts at a line, of which one is at work.
+/// Attempts at a line, one of which is at work.
 #[derive(Debug, Drop)]
 pub struct Attempts<'a> {
     pub(crate) attempt: AttemptTask<'a>,
-    /// How many there may be yet, the one at work among them.
+    /// The number of attempts that are left, the current one among them.
     pub(crate) left: u32,
 }
 
-/// What is done once in an attempt at a line.
+/// An attempt at a line.
 #[derive(Debug, Drop)]
 pub enum AttemptTask<'a> {
     /// A transfer over the bus, or a command to the local port.
     Transfer(Task<'a>),
-    /// A read that is to find bytes.
+    /// A read that waits for bytes.
     Await(AwaitTask<'a>),
-    /// What is asked of a lock or a mailbox.
+    /// A lock, an unlock, a put or a take.
     Shared(SharedTask<'a>),
 }
 
 impl Attempts<'_> {
-    /// The attempt at work is given nothing at first, and then the reply to each of its events. Where
-    /// it ends with an answer that asks for another, this is begun, while there may be one more.
+    /// Gives the current attempt the reply to its event, or `None` at the first call. If the
+    /// attempt ends with a reply that asks for another and one is left, that one begins.
     #[inline(always)]
     pub(crate) fn advance(&mut self, given: Option<&EventReply>)
         ensures task { self.new ≡ attempts_advance self.old (option_copied given.entry) }
@@ -47,8 +47,9 @@ impl Attempts<'_> {
         }
     }
 
-    /// The attempt at work makes its call on boards and arbiter, where it makes one, and advances by
-    /// the reply. A transfer or a command, which is attempted once, does so by itself.
+    /// Performs the current attempt's next event on `core` for processor `who` and gives the
+    /// attempt the reply. A transfer or a local command is attempted once, so its task does this by
+    /// itself.
     #[inline(always)]
     pub(crate) fn advance_on(&mut self, core: &mut Core, who: usize)
         requires who { who < process_count core.old }
@@ -90,7 +91,8 @@ impl AttemptTask<'_> {
         }
     }
 
-    /// The event that it makes next, if it makes one.
+    /// Returns the event that comes next as a reference, if there is one, without the signals of a
+    /// cycle.
     #[inline(always)]
     pub(crate) fn event_ref(&self) -> Option<EventRef<'_>>
         ensures { option_map call_asked result ≡ call_in (attempt_to_do self.now) }
@@ -102,7 +104,7 @@ impl AttemptTask<'_> {
         }
     }
 
-    /// Whether it has ended.
+    /// Returns whether the attempt has ended.
     #[inline(always)]
     pub(crate) fn is_finished(&self) -> bool
         ensures { result ≡ is_some (result_in (attempt_to_do self.now)) }
@@ -114,7 +116,8 @@ impl AttemptTask<'_> {
         }
     }
 
-    /// Its answer, where it has ended. The bytes that were read go with it.
+    /// Returns the line's reply, if the attempt has ended, and takes the bytes that were read out
+    /// of the attempt.
     pub(crate) fn take_reply(&mut self) -> Option<LineReply>
         ensures { result ≡ result_in (attempt_to_do self.old) }
     {
@@ -125,7 +128,7 @@ impl AttemptTask<'_> {
         }
     }
 
-    /// Whether it has ended with an answer that asks for another attempt.
+    /// Returns whether the attempt has ended with a reply that asks for another attempt.
     #[inline(always)]
     fn wants_retry(&self) -> bool
         ensures { result ≡ next_wants_retry (attempt_to_do self.now) }
@@ -140,8 +143,7 @@ impl AttemptTask<'_> {
         }
     }
 
-    /// The same before its first call, to be done once more. A transfer or a command never asks for
-    /// this.
+    /// Puts the attempt back before its first call. A transfer or a local command never needs this.
     #[inline(never)]
     fn restart(&mut self)
         requires { next_wants_retry (attempt_to_do self.old) ≡ true }

@@ -24,8 +24,8 @@ ghost use Rattle.vme_line_task.specs.Events.{IsCallBelow};
 ghost use Rattle.vme_line_task.specs.Traces.{ScriptState, IsTracePrefix};
 ghost use Rattle.vme_line_task.specs.Tenures.{line_reported, IsLocal, IsGood, IsGranted};
 
-/// A line goes by the table: after calls with any replies, fitting or not, it does next what the
-/// table says of them; and an answer is for good.
+/// A line follows the table: after calls with any replies it does next what the table says. A
+/// line's reply is final.
 pub fn lines_go_by_the_table()
     ensures given { (config : Configuration) (board : ℕ) (line : Line) (given : Given) →
         line_to_do (line_given config board line given) ≡ next_given config board line given }
@@ -37,15 +37,16 @@ pub fn lines_go_by_the_table()
         next_given config board line (last ∷ given) ≡ Returns answer }
 {}
 
-/// Each board that a line calls is there.
+/// Each board that a line calls is one of the configuration.
 pub fn lines_call_boards_that_are_there()
     ensures { (config : Configuration) (board : ℕ) (line : Line) (given : Given) (call : Call) →
         board < length config.boards → next_given config board line given ≡ Invokes call →
         IsCallBelow (length config.boards) call }
 {}
 
-/// A processor comes through its script line by line: it begins before the first line; a call of the
-/// next line with its reply leads on in that line; and where that line is answered, past it.
+/// A processor goes through its script line by line. Its trace begins before the first line. A call
+/// of the next line with its reply extends the trace within that line, and the line's reply leads
+/// to the line after it.
 pub fn traces_go_line_by_line()
     ensures begin { (config : Configuration) (board : ℕ) →
         IsTracePrefix config board [] (record { ended = []; replies = [] }) }
@@ -62,11 +63,11 @@ pub fn traces_go_line_by_line()
         IsTracePrefix config board moves (record { ended = script_state.ended ++ answer ∷ []; replies = [] }) }
 {}
 
-/// A line keeps its tenure of the bus, as its transfers do. Its commands to the arbiter are its
-/// slot's own, and go by what that slot was told last; while the data of a transfer go to a board,
-/// that is `Granted`. After a good reply, one that fits and is no denial, it goes on by what the slot
-/// was told; and where it is answered, it is no denial, and the slot is as one that was told nothing.
-/// Nor is the answer of a line without a call a denial.
+/// A line keeps its tenure of the bus, as its transfers do. The arbiter's last reply to its slot
+/// allows each command to the arbiter. The data of a transfer go to a board only while that reply
+/// is `Granted`. After a reply that fits and is no denial, the slot stands at the arbiter as the
+/// last reply states. A line that ends with it has no denial as its reply, and its slot stands as
+/// one without a reply of the arbiter. The reply of a line without a call is no denial.
 pub fn lines_keep_their_tenure()
     ensures begin { (config : Configuration) (board : ℕ) (line : Line) →
         line_reported config board line [] ≡ None }

@@ -1,6 +1,9 @@
-//! How one processor goes through its script: what each line asks next of the arbiter and of the
-//! boards of the data transfer bus (ANSI/IEEE Std 1014-1987, chapters 2 and 3), by the replies to
-//! it so far, and what it is answered in the end. Drivers on one thread and on several go by it.
+//! How a processor goes through its script on the data transfer bus (ANSI/IEEE Std 1014-1987,
+//! chapters 2 and 3): what each line does next, by the replies of the arbiter and of the boards,
+//! and the line's own reply in the end.
+//!
+//! A line is one attempt or several, each a task of `vme_master` or of `vme_shared`. Drivers on one
+//! thread and on several use it.
 #![tactic(auto)]
 
 mod attempt;

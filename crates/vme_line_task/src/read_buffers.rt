@@ -1,4 +1,4 @@
-//! BlockBuffer for the bytes that the lines of a script read.
+//! Buffers for the bytes that the lines of a script read.
 ghost use Rattle.std.specs.Prelude.{◌≡◌, ◌<◌, ◌≤◌, ◌∷◌, length, IfOk};
 ghost use Rattle.vme_cycle.specs.BlockBuffers.{inline_capacity};
 ghost use Rattle.vme_line_task.specs.ReadBuffers.{line_read_len, buffers_of};
@@ -10,13 +10,15 @@ use vme_cycle::{BlockBuffer, INLINE_LEN, Plan};
 use vme_grammar::Line;
 use vme_script::Script;
 
-/// Empty rooms, one for each line of a script that has not begun, in order. Only those that take
-/// memory are kept: any other is made anew as its line begins, so that most lines need one byte here.
+/// Empty buffers for the lines of a script that have not begun, in order.
+///
+/// Only buffers that allocate are kept. Any other is made as its line begins, so that most lines
+/// need one byte here.
 #[derive(Drop)]
 pub struct ReadBuffers {
-    /// Whether the room of each line takes memory.
+    /// Whether the buffer of each line allocates.
     take_memory: IntoIter<bool, Global>,
-    /// Those that do.
+    /// The buffers that allocate.
     long: IntoIter<BlockBuffer, Global>,
 }
 
@@ -36,7 +38,12 @@ impl Model for ReadBuffers {
 }
 
 impl ReadBuffers {
-    /// A room for each line of a script. All memory that their bytes need is taken here.
+    /// Returns a buffer for each line of a script, and allocates everything that the bytes of the
+    /// lines need.
+    ///
+    /// # Errors
+    ///
+    /// `AllocError`: an allocation failed.
     pub fn new(alloc: Global, script: &Script) -> Result<ReadBuffers, AllocError>
         ensures { IfOk result (λ buffers. buffers ≡ buffers_of script.now) }
     {
@@ -56,7 +63,7 @@ impl ReadBuffers {
         })
     }
 
-    /// The room of the next line, which is its own from then on.
+    /// Returns the buffer of the next line, and removes it here.
     pub fn take(&mut self) -> BlockBuffer
         requires { 0 < length self.old }
         ensures { self.old ≡ result ∷ self.new }
@@ -69,8 +76,8 @@ impl ReadBuffers {
     }
 }
 
-/// How many bytes a line reads, where they may be more than lie in a room itself; the request of any
-/// other line is not judged here.
+/// Returns the number of bytes that a line reads, if they may be more than a buffer holds inline.
+/// The request of any other line is not checked here.
 fn long_buffer(line: &Line) -> usize
     ensures long { inline_capacity < result → result ≡ line_read_len line.now }
     ensures short { result ≤ inline_capacity → line_read_len line.now ≤ inline_capacity }
@@ -81,7 +88,8 @@ fn long_buffer(line: &Line) -> usize
     }
 }
 
-/// How many bytes a line reads by a request over the bus.
+/// Returns the number of bytes that a line reads by a request over the bus. It is 0 for a refused
+/// request and for any other line.
 pub fn line_read_len(line: &Line) -> usize
     ensures { result ≡ line_read_len line.now }
 {

@@ -1,4 +1,4 @@
-//! What is attempted for a line, before its first call.
+//! The attempt at a line, before its first call.
 ghost use Rattle.std.specs.Prelude.{◌≡◌, ◌<◌, ◌≤◌, [], length, Ok};
 ghost use Rattle.vme_cycle.specs.BlockBuffers.{inline_capacity};
 ghost use Rattle.vme_cycle.specs.declared.request.Request.TheVariants.{Read};
@@ -20,8 +20,8 @@ use vme_master::Task;
 use vme_script::Config;
 use vme_shared::{Mailbox, SharedRequest, SharedTask};
 
-/// What is attempted for a line of a board's processor, or the refusal of its request. What a request
-/// over the bus reads goes into the room.
+/// Returns the attempt at a line of a board's processor, or the refusal of its request. A request
+/// over the bus reads into `buffer`.
 pub(crate) fn attempt_of<'a>(
     config: &'a Config,
     board: usize,
@@ -72,7 +72,7 @@ pub(crate) fn attempt_of<'a>(
     }
 }
 
-/// The task of a request of a board's processor, or the refusal of the request.
+/// Returns the task of a request of a board's processor, or the refusal of the request.
 #[inline(always)]
 pub(crate) fn transfer<'a>(
     config: &Config,
@@ -91,7 +91,7 @@ pub(crate) fn transfer<'a>(
     Task::start(config.map(), slot, level, request, buffer)
 }
 
-/// A read over the bus that is to find these bytes.
+/// Returns a read over the bus that waits for these bytes, or the refusal of the read.
 #[inline(never)]
 fn waits<'a>(
     config: &Config,
@@ -111,7 +111,8 @@ fn waits<'a>(
     Ok(AttemptTask::Await(AwaitTask::of(task, want)))
 }
 
-/// The task of a request of a board's processor that reads few bytes, or the refusal of the request.
+/// Returns the task of a request of a board's processor that reads few bytes, or the refusal of the
+/// request.
 fn short_transfer<'a>(
     config: &Config,
     board: usize,
@@ -130,7 +131,7 @@ fn short_transfer<'a>(
     )
 }
 
-/// What is asked of a lock or a mailbox.
+/// Returns a request to a lock or a mailbox, or its refusal.
 #[inline(never)]
 fn shares<'a>(
     config: &'a Config,
@@ -147,7 +148,7 @@ fn shares<'a>(
     Ok(AttemptTask::Shared(task))
 }
 
-/// The mailbox with a number, counted from 1 on.
+/// Returns the mailbox with a number; numbers start at 1.
 fn mailbox_at(config: &Config, number: u8) -> Mailbox
     requires { HasMailbox config.now number }
     ensures { result ≡ mailbox_at config.now number }

@@ -27,17 +27,18 @@ use vme_shared::LineReply;
 /// A line of a script at work.
 #[derive(Debug, Drop)]
 pub enum LineTask<'a> {
-    /// Its request is refused.
+    /// The line's request is refused.
     Refused(CycleFault),
-    /// Attempts at it, one after another.
+    /// Attempts at the line, one after another.
     Running(Attempts<'a>),
-    /// Its answer was taken.
+    /// The line's reply was taken.
     Finished,
 }
 
 impl<'a> LineTask<'a> {
-    /// A line of the script of a board's processor, by its place among those that ask for something,
-    /// before its first call. What it reads by a request over the bus goes into the room.
+    /// Returns a line of the script of a board's processor before its first call. `board` is the
+    /// board's place, and `line` the line's place among those that request something. A request
+    /// over the bus reads into `buffer`.
     #[inline(always)]
     #[tactic(auto, using(crate::proofs::lemmas::Below::started_below))]
     pub fn start(config: &'a Config, board: usize, line: usize, buffer: BlockBuffer) -> LineTask<'a>
@@ -55,8 +56,8 @@ impl<'a> LineTask<'a> {
         LineTask::of(config, board, config.script(board).line(line), buffer)
     }
 
-    /// What the line does next. The first call is given nothing, and each later one the reply to the
-    /// event that the call before it gave out. Where the line has ended, its answer is taken.
+    /// Returns what the line does next. `given` is `None` at the first call, and then the reply to
+    /// the event that the call before returned. If the line has ended, its reply is taken.
     pub fn next(&mut self, given: Option<EventReply>) -> LineTodo
         ensures task { self.new ≡ line_taken (line_advance self.old given) }
         ensures todo { next_in result ≡ line_to_do (line_advance self.old given) }
@@ -70,8 +71,8 @@ impl<'a> LineTask<'a> {
         self.todo()
     }
 
-    /// The first half of `next`, for a driver that asks for the event or the answer apart: the line is
-    /// given nothing at first, and then each time the reply to its event.
+    /// Gives the line the reply to its event, or `None` at the first call. `event_ref` then returns
+    /// the next event, and `take_reply` the line's reply.
     #[inline(always)]
     pub fn advance(&mut self, given: Option<&EventReply>)
         ensures task { self.new ≡ line_advance self.old (option_copied given.entry) }
@@ -83,7 +84,8 @@ impl<'a> LineTask<'a> {
         }
     }
 
-    /// The event that it makes next, where it has begun and has not ended.
+    /// Returns the event that comes next as a reference, without the signals of a cycle; or `None`
+    /// before the first call and after the end.
     #[inline(always)]
     pub fn event_ref(&self) -> Option<EventRef<'_>>
         ensures { option_map call_asked result ≡ call_in (line_to_do self.now) }
@@ -94,8 +96,9 @@ impl<'a> LineTask<'a> {
         attempts.attempt.event_ref()
     }
 
-    /// Makes its call on boards and arbiter, where it makes one, and advances by the reply: as by
-    /// `event_ref` and `advance`, but faster.
+    /// Performs the next event on `core` for processor `who` and gives the line the reply. Without
+    /// a next event nothing changes. This is `event_ref`, `Core::apply_ref` and `advance` in one,
+    /// and faster.
     #[inline(always)]
     pub fn advance_on(&mut self, core: &mut Core, who: usize)
         requires who { who < process_count core.old }
@@ -108,7 +111,8 @@ impl<'a> LineTask<'a> {
         }
     }
 
-    /// Whether it has ended. A driver that asks this first moves no answer that is none.
+    /// Returns whether the line has ended. A driver asks this first, so that it moves no empty
+    /// reply.
     #[inline(always)]
     pub fn is_finished(&self) -> bool
         ensures { result ≡ is_some (result_in (line_to_do self.now)) }
@@ -119,8 +123,8 @@ impl<'a> LineTask<'a> {
         }
     }
 
-    /// How many attempts at it there may be yet, the one at work among them. Where this falls as it is
-    /// given a reply, another attempt has begun, for which a driver on a thread may wait.
+    /// Returns the number of attempts that are left, the current one among them. If it falls with a
+    /// reply, another attempt has begun, and a driver on a thread may wait before that one.
     pub fn attempts_left(&self) -> u32
         ensures { result ≡ attempts_left self.now }
     {
@@ -130,7 +134,8 @@ impl<'a> LineTask<'a> {
         }
     }
 
-    /// Takes its answer, where it has ended. A line is denied any further answer, unless it is refused.
+    /// Takes the line's reply, if the line has ended. Any later reply is a denial, unless the
+    /// request is refused.
     #[inline(never)]
     pub fn take_reply(&mut self) -> Option<LineReply>
         ensures answer { result ≡ result_in (line_to_do self.old) }
@@ -163,7 +168,7 @@ impl<'a> LineTask<'a> {
         }
     }
 
-    /// A line of a board's processor before its first call.
+    /// Returns a line of a board's processor before its first call.
     #[inline(always)]
     #[tactic(auto, unfolding(crate::specs::Machine::line_started))]
     fn of(config: &'a Config, board: usize, line: &'a Line, buffer: BlockBuffer) -> LineTask<'a>
@@ -183,7 +188,8 @@ impl<'a> LineTask<'a> {
         }
     }
 
-    /// The same of any line. Out of line, so that a task that is attempted once is made in its place.
+    /// Returns any line of a board's processor before its first call. Out of line, so that a task
+    /// that is attempted once is made in its place.
     #[inline(never)]
     #[tactic(auto, unfolding(crate::specs::Machine::line_started))]
     fn of_any(config: &'a Config, board: usize, line: &'a Line, buffer: BlockBuffer) -> LineTask<'a>
@@ -203,7 +209,7 @@ impl<'a> LineTask<'a> {
     }
 }
 
-/// A transfer or a command, with the attempts that there may be at a line.
+/// Returns a transfer or a local command as a line with `left` attempts.
 #[inline(always)]
 fn once(task: Task<'_>, left: u32) -> LineTask<'_>
     ensures { result ≡ Running (record { attempt = tries.Transfer task.entry; left = left }) }
@@ -214,7 +220,7 @@ fn once(task: Task<'_>, left: u32) -> LineTask<'_>
     })
 }
 
-/// The number of lines of the script of a board's processor that ask for something.
+/// Returns the number of lines of the script of a board's processor that request something.
 pub fn line_count(config: &Config, board: usize) -> usize
     requires { board < length config.now.boards }
     ensures { result ≡ length (lines_at config.now board) }

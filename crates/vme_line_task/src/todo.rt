@@ -4,8 +4,8 @@ use vme_shared::LineReply;
 /// What a line does next.
 #[derive(Debug, Drop)]
 pub enum LineTodo {
-    /// It makes this event, and wants the reply to it.
+    /// The caller performs this event and gives the line the reply.
     Call(Event),
-    /// It has come to its end with this answer.
+    /// The line has ended with this reply.
     Ended(LineReply),
 }

@@ -1,4 +1,4 @@
-//! Reads that are to find bytes.
+//! Reads that wait for bytes.
 ghost use Rattle.std.specs.Prelude.{◌≡◌, ◌≢◌, ◌≤◌, if◌then◌else◌, option_map, option_copied, is_some};
 ghost use Rattle.std.specs.Str.{bytes_eq};
 ghost use Rattle.vme_cycle.specs.BlockBuffers.{inline_capacity};
@@ -14,7 +14,7 @@ use vme_lanes::Datum;
 use vme_master::{Outcome, Task};
 use vme_shared::LineReply;
 
-/// A read that is to find bytes: so few that they lie in the task itself.
+/// A read that waits for bytes, which are so few that they lie in the task itself.
 #[derive(Debug, Drop)]
 pub struct AwaitTask<'a> {
     task: Task<'a>,
@@ -35,7 +35,7 @@ impl<'a> Model for AwaitTask<'a> {
 }
 
 impl<'a> AwaitTask<'a> {
-    /// A read, by its task, with the bytes that it is to find.
+    /// Returns a read, by its task, that waits for `want`.
     pub(crate) fn of(task: Task<'a>, want: Datum) -> AwaitTask<'a>
         requires { job_read_len task.job ≤ inline_capacity }
         ensures task { result.task ≡ task.entry }
@@ -44,7 +44,7 @@ impl<'a> AwaitTask<'a> {
         AwaitTask { task, want }
     }
 
-    /// It is given nothing at first, and then the reply to each of its events.
+    /// Gives the read the reply to its event, or `None` at the first call.
     #[inline(never)]
     #[tactic(auto, using(vme_master::proofs::lemmas::Stands::job_stays))]
     pub(crate) fn advance(&mut self, given: Option<&EventReply>)
@@ -54,7 +54,8 @@ impl<'a> AwaitTask<'a> {
         self.task.advance(given);
     }
 
-    /// The event that it makes next, if it makes one.
+    /// Returns the event that comes next as a reference, if there is one, without the signals of a
+    /// cycle.
     #[inline(never)]
     pub(crate) fn event_ref(&self) -> Option<EventRef<'_>>
         ensures { option_map call_asked result ≡ call_in (waits_next self.now.want.items (to_do self.now.task)) }
@@ -62,14 +63,14 @@ impl<'a> AwaitTask<'a> {
         self.task.event_ref()
     }
 
-    /// Whether it has ended.
+    /// Returns whether the read has ended.
     pub(crate) fn is_finished(&self) -> bool
         ensures { result ≡ is_some (result_in (waits_next self.now.want.items (to_do self.now.task))) }
     {
         self.task.is_finished()
     }
 
-    /// Whether it has ended with other bytes than it is to find.
+    /// Returns whether the read has ended with other bytes than it waits for.
     #[inline(never)]
     pub(crate) fn wants_retry(&self) -> bool
         ensures { result ≡ next_wants_retry (waits_next self.now.want.items (to_do self.now.task)) }
@@ -80,7 +81,8 @@ impl<'a> AwaitTask<'a> {
         }
     }
 
-    /// Its answer, where it has ended: whether the bytes are those that it is to find.
+    /// Returns the line's reply, if the read has ended: whether its bytes are those that it waits
+    /// for.
     pub(crate) fn take_reply(&mut self) -> Option<LineReply>
         ensures { result ≡ result_in (waits_next self.old.want.items (to_do self.old.task)) }
     {
@@ -90,14 +92,14 @@ impl<'a> AwaitTask<'a> {
         }
     }
 
-    /// The same read before its first call, to be done once more.
+    /// Puts the read back before its first call.
     pub(crate) fn restart(&mut self)
         ensures { self.new ≡ record self.old { task = fresh_task self.old.task.job } }
     {
         self.task.restart();
     }
 
-    /// The answer of a read of these bytes.
+    /// Returns the line's reply to a read of these bytes.
     fn found(&self, bytes: &[u8]) -> LineReply
         ensures { result ≡ (if bytes_eq bytes.now self.now.want.items then Met else Timeout) }
     {
@@ -108,7 +110,7 @@ impl<'a> AwaitTask<'a> {
         }
     }
 
-    /// Whether these bytes are those that it is to find.
+    /// Returns whether these bytes are those that the read waits for.
     fn is_met(&self, bytes: &[u8]) -> bool
         ensures { result ≡ bytes_eq bytes.now self.now.want.items }
     {

@@ -1,4 +1,4 @@
--- What a task is for: the calls that it makes, the replies that fit them, and what comes of the whole.
+-- What a task is to do: its calls, the replies that fit them, and its outcome.
 use Rattle.std.specs.Prelude.{ℕ, ◌+◌, ◌*◌, Bool, true, false, List, Option, Some, None}
 use Rattle.std.specs.Option.{option_and_then}
 use Rattle.vme_cycle.specs.declared.request.Request.{Request}
@@ -27,40 +27,40 @@ use Rattle.vme_master.specs.declared.expected.ExpectedReply.TheVariants as expec
 use Rattle.vme_master.specs.declared.outcome.Outcome.{Outcome}
 use Rattle.vme_master.specs.declared.outcome.Outcome.TheVariants as outcomes
 
--- the job of a slot, on a level, of a lawful request: its first byte selects a board of the map, or none
--- (IEEE 1014, section 2.3.5)
+-- the job of a slot's lawful request on a level, with the board that its first byte selects, if any;
+-- IEEE 1014-1987, 2.3.5 (addressing)
 abbrev pub bus_job : List Entry → ℕ → ℕ → Transfer → Job
 bus_job map slot level t =
     Bus (record { slot = slot; level = level; transfer = t; place = selection_at map t.am (addr_of t.request) })
 
--- the job of a command to the local port of the board at a place (this project's own)
+-- the job of a command to the local port of the board at a place
 abbrev pub local_job : ℕ → BoardCmd → Job
 local_job board cmd = Local (record { board = board; cmd = cmd })
 
--- the slot asks for the bus on its level (IEEE 1014, section 3.2)
+-- the slot requests the bus on its level; IEEE 1014-1987, 3.2 (lines of the arbitration bus)
 abbrev pub ask_call : BusJob → Call
 ask_call job = OnBus (Ask job.slot job.level)
 
--- it looks whether it holds the bus (this project's own)
+-- the slot polls whether it holds the bus
 abbrev pub look_call : BusJob → Call
 look_call job = OnBus (Look job.slot)
 
--- it gives the bus back (this project's own)
+-- the slot releases the bus
 abbrev pub done_call : BusJob → Call
 done_call job = OnBus (Done job.slot)
 
--- datum i goes to the board that the first datum selects, which counts the offset on (IEEE 1014, section 2.3.6); where none is
--- selected the bus is given back
+-- datum i goes to the selected board, at the first datum's offset counted on; with no board the slot releases the bus;
+-- IEEE 1014-1987, 2.3.7 (block transfer)
 abbrev pub datum_call : BusJob → Option (ℕ × ℕ) → ℕ → Call
 datum_call job None i = done_call job
 datum_call job (Some place) i =
     OnBoard place.0 (Some (datum_command job.transfer.request i (place.1 + i * datum_len job.transfer.request)))
 
--- the one call of a command to a board's local port (this project's own)
+-- the one call of a command to a board's local port
 abbrev pub local_call : LocalJob → Call
 local_call job = OnBoard job.board (command_given job.cmd)
 
--- whether the arbiter may reply so to a command (this project's own)
+-- whether the arbiter can reply so: `Freed` only to a release, `Granted` and `Waiting` only to a request or a poll
 abbrev pub answers_turn : ArbCmd → ArbReply → Bool
 answers_turn (Ask slot level) Freed = false
 answers_turn (Look slot) Freed = false
@@ -68,14 +68,14 @@ answers_turn (Done slot) Granted = false
 answers_turn (Done slot) Waiting = false
 answers_turn cmd reply = true
 
--- whether a reply fits a call: the arbiter's is one to such a command; a board's has the bytes that are wanted, or none where
--- none are wanted, or is a bus error (this project's own)
+-- whether a reply fits a call: the arbiter can reply so to the command; or the board replies as many bytes as the
+-- command reads, done if it reads none, or a bus error
 abbrev pub fits : Call → EventReply → Bool
 fits (OnBus cmd) (replies.Bus reply) = answers_turn cmd reply
 fits (OnBoard board command) (replies.Board reply) = has_form (option_and_then reply_len command) reply
 fits call reply = false
 
--- what a request is for, with the length of its data (this project's own)
+-- the reply that each datum of a request expects, with the number of bytes
 abbrev pub request_expected : Request → ExpectedReply
 request_expected (requests.Read am addr n) = expected_replies.Read n
 request_expected (requests.BlockRead am addr n count) = expected_replies.Read n
@@ -84,7 +84,7 @@ request_expected (requests.Write am addr bytes) = expected_replies.Write
 request_expected (requests.BlockWrite am addr n bytes) = expected_replies.Write
 request_expected (requests.BlockFill am addr n count bytes) = expected_replies.Write
 
--- the same of a command to a board; what is none is answered by a bus error, and no bytes are wanted (this project's own)
+-- the reply that a board command expects; an absent command expects no bytes, since the board replies a bus error
 abbrev pub command_expected : Option Command → ExpectedReply
 command_expected (Some (LocalRead at n)) = expected_replies.Read n
 command_expected (Some (Read at n)) = expected_replies.Read n
@@ -96,12 +96,12 @@ command_expected (Some (Write at new)) = expected_replies.Write
 command_expected (Some (BlockWrite at new)) = expected_replies.Write
 command_expected None = expected_replies.Write
 
--- what comes of it where all was answered, with the bytes that were replied (this project's own)
+-- the outcome if no bus error came, with the bytes that were read
 abbrev pub expected_outcome : ExpectedReply → List ℕ → Outcome
 expected_outcome (expected_replies.Read n) bytes = outcomes.Read (record { items = bytes })
 expected_outcome (expected_replies.Modify n) bytes = outcomes.Old (record { items = bytes })
 expected_outcome expected_replies.Write bytes = outcomes.Done
 
--- and where a bus error came after so many data, with the bytes that were replied before it (this project's own)
+-- the outcome if a bus error came after so many data, with the bytes that were read before it
 abbrev pub error_outcome : ℕ → List ℕ → Outcome
 error_outcome count bytes = outcomes.Berr count (record { items = bytes })

@@ -1,4 +1,4 @@
--- What a task's calls go by: its tenure of the bus, and the data of its request in their order.
+-- What the laws of a task's calls rest on: the arbiter's last reply, and the data of a request in their order.
 use Rattle.std.specs.Prelude.{ℕ, ◌≡◌, ◌+◌, ◌*◌, ◌<◌, [], ◌∷◌, Option, Some, None}
 use Rattle.vme_cycle.specs.Requests.{datum_len, count_of}
 use Rattle.vme_memory.specs.Steps.{Command}
@@ -10,14 +10,14 @@ use Rattle.vme_master.specs.declared.job.Job.{Job}
 use Rattle.vme_master.specs.declared.job.Job.TheVariants.{Bus, Local}
 use Rattle.vme_master.specs.Tables.{Given, data_in}
 
--- the last reply of the arbiter, if there was one (this project's own)
+-- the last reply of the arbiter, if there was one
 abbrev pub last_turn : Given → Option ArbReply
 last_turn [] = None
 last_turn (Some (replies.Bus reply) ∷ before) = Some reply
 last_turn (given ∷ before) = last_turn before
 
--- a command to a board is that of the datum which comes next: as many data were answered as stand before it in the request,
--- and it goes to the board that the first datum selected, so far on (this project's own)
+-- a board's command is that of the next datum: as many data as were answered precede it in the request, and it goes to
+-- the board and offset that the first datum selected, counted on
 pub record IsNextDatum (job : BusJob) (given : Given) (board : ℕ) (command : Option Command) : Type 0 where
   pub offset : ℕ
   pub placed : job.place ≡ Some (board, offset)
@@ -25,7 +25,7 @@ pub record IsNextDatum (job : BusJob) (given : Given) (board : ℕ) (command : O
   pub own : command
       ≡ Some (datum_command job.transfer.request (data_in given) (offset + data_in given * datum_len job.transfer.request))
 
--- the boards that a job may call are among the first n (this project's own)
+-- every board that a job can call is among the first n
 abbrev pub IsBelow : ℕ → Job → Type 0
 IsBelow n (Bus job) = (board offset : ℕ) → job.place ≡ Some (board, offset) → board < n
 IsBelow n (Local job) = job.board < n

@@ -10,19 +10,19 @@ ghost use Rattle.vme_cycle.specs.Requests.{read_len};
 use vme_cycle::{Plan, Signals};
 use vme_memory::{BoardCmd, Reply};
 
-/// What a request or a command is for, with the number of bytes that are replied at a time.
+/// The reply that a call expects of a board, with the number of bytes of each datum.
 #[derive(Clone, Copy, Debug, PartialEq, Eq)]
 pub enum ExpectedReply {
-    /// To read.
+    /// The `n` bytes that were read.
     Read { n: u8 },
-    /// To read, and to write in its place: the reply is what was read.
+    /// The `n` bytes that a read-modify-write found.
     Modify { n: u8 },
-    /// To write.
+    /// No bytes: the call writes.
     Write,
 }
 
 impl ExpectedReply {
-    /// Of the request of a plan.
+    /// The reply that each datum of a plan's request expects.
     pub(crate) fn of_plan(plan: &Plan) -> ExpectedReply
         ensures value { result ≡ request_expected plan.now.request }
         ensures short { IsShort result (read_len plan.now.request) }
@@ -37,7 +37,7 @@ impl ExpectedReply {
         }
     }
 
-    /// Of a command to a board.
+    /// The reply that a board command expects.
     pub(crate) fn of_command(cmd: &BoardCmd) -> ExpectedReply
         ensures { result ≡ command_expected (command_given cmd.now) }
     {
@@ -53,7 +53,7 @@ impl ExpectedReply {
         }
     }
 
-    /// Of the command that a cycle at an offset stands for, with a function or without.
+    /// The reply that a cycle at an offset expects, with a modify function or without.
     fn of_cycle(signals: &Signals, at: u32, modifies: bool) -> ExpectedReply
         ensures { (f : Option functions.Modify) → is_some f ≡ modifies →
             result ≡ command_expected (command_of signals.now at f) }
@@ -79,7 +79,7 @@ impl ExpectedReply {
         }
     }
 
-    /// How many bytes are wanted of a reply, if any.
+    /// The number of bytes that are expected, if any.
     fn wanted(self) -> Option<u8>
         ensures { result ≡ expected_len self }
     {
@@ -89,7 +89,7 @@ impl ExpectedReply {
         }
     }
 
-    /// Whether a reply of a board is as wanted: so many bytes, or that it was done; or a bus error.
+    /// Whether a board's reply has the expected form or is a bus error.
     pub(crate) fn accepts(self, reply: &Reply) -> bool
         ensures value { result ≡ has_form (expected_len self) reply.now }
         ensures small { length (bytes_of reply.now) ≤ 8 }

@@ -18,8 +18,8 @@ use vme_cycle::{BlockBuffer, Transfer};
 use vme_lanes::Datum;
 use vme_memory::{BoardCmd, Reply};
 
-/// A transfer over the bus: whose it is, and where its first byte lies, by the place of a board in
-/// the map and the offset there, if a board is selected.
+/// A transfer over the bus: the slot and the level of its request, the lawful request, and the
+/// place and offset of its first byte, if a board is selected.
 #[derive(Debug, Drop)]
 pub struct BusJob<'a> {
     pub(crate) slot: u16,
@@ -29,8 +29,8 @@ pub struct BusJob<'a> {
 }
 
 impl BusJob<'_> {
-    /// The event of datum `i`: a cycle of the board that the first datum selects. Where there is no
-    /// such board, the bus is given back.
+    /// The event of datum `i`: a cycle of the selected board, or the release of the bus if no board
+    /// is selected.
     #[inline(always)]
     fn datum(&self, i: u16) -> EventRef<'_>
         requires in_count { i < count_of self.now.transfer.request }
@@ -46,7 +46,7 @@ impl BusJob<'_> {
         }
     }
 
-    /// The datum itself, where the board of the first one, and its offset there, are known.
+    /// The cycle of datum `i`, by the board and the offset of the first datum.
     #[inline(always)]
     pub(crate) fn datum_at(&self, board: usize, offset: u32, i: u16) -> DatumCycle<'_>
         requires in_count { i < count_of self.now.transfer.request }
@@ -60,7 +60,7 @@ impl BusJob<'_> {
         DatumCycle::new(plan, i, at)
     }
 
-    /// The event that it makes in a phase, if any.
+    /// The event in a phase, if there is one, without the signals of a cycle.
     #[inline(always)]
     fn event_ref(&self, phase: Phase) -> Option<EventRef<'_>>
         requires in_count { (i : ℕ) → phase ≡ Transferring i → i < count_of self.now.transfer.request }
@@ -77,7 +77,8 @@ impl BusJob<'_> {
         }
     }
 
-    /// Where it is at datum `i`, if there is such a one and a board for it.
+    /// The phase at datum `i`: the transfer of it, or the release of the bus if there is no such
+    /// datum or no board.
     fn at(&self, i: u16, count: u16) -> Phase
         requires { count ≡ count_of self.now.transfer.request }
         ensures { result ≡ datum_phase self.now self.now.place i }
@@ -101,7 +102,7 @@ pub struct LocalJob {
 }
 
 impl LocalJob {
-    /// The event that it makes in a phase, if any.
+    /// The event in a phase, if there is one, as a reference.
     #[inline(always)]
     fn event_ref(&self, phase: Phase) -> Option<EventRef<'_>>
         ensures { (read : List ℕ) → option_map call_asked result ≡ call_in (local_next self.now phase read) }
@@ -116,7 +117,7 @@ impl LocalJob {
     }
 }
 
-/// What a task is for.
+/// What a task is to do.
 #[derive(Debug, Drop)]
 pub enum Job<'a> {
     /// A transfer over the bus.
@@ -136,7 +137,7 @@ impl Job<'_> {
         }
     }
 
-    /// The event that it makes in a phase, if any.
+    /// The event in a phase, if there is one, without the signals of a cycle.
     #[inline(always)]
     pub(crate) fn event_ref(&self, phase: Phase) -> Option<EventRef<'_>>
         requires in_count { (i : ℕ) → phase ≡ Transferring i → i < call_count self.now }
@@ -149,7 +150,7 @@ impl Job<'_> {
         }
     }
 
-    /// The number of its calls on a board.
+    /// The number of calls that the job makes on a board.
     pub(crate) fn count(&self) -> u16
         ensures value { result ≡ call_count self.now }
         ensures some { 0 < result }
@@ -161,7 +162,7 @@ impl Job<'_> {
         }
     }
 
-    /// Where it is at its call `i` on a board.
+    /// The phase at call `i` on a board.
     fn at(&self, i: u16, count: u16) -> Phase
         requires { count ≡ call_count self.now }
         ensures { result ≡ phase_at self.now i }
@@ -173,7 +174,7 @@ impl Job<'_> {
         }
     }
 
-    /// Where the first call leads.
+    /// The phase after the first call.
     pub(crate) fn first_phase(&self, count: u16) -> Phase
         requires { count ≡ call_count self.now }
         ensures { result ≡ first_phase self.now }
@@ -184,7 +185,7 @@ impl Job<'_> {
         }
     }
 
-    /// Where the arbiter's reply to an ask or a look leads.
+    /// The phase after the arbiter's reply to a request or a poll.
     pub(crate) fn phase_answered(&self, reply: ArbReply, count: u16) -> Phase
         requires { count ≡ call_count self.now }
         ensures { result ≡ phase_answered self.now reply }
@@ -196,7 +197,7 @@ impl Job<'_> {
         }
     }
 
-    /// Where a board's reply to its call `i` leads.
+    /// The phase after a board's reply to call `i`.
     pub(crate) fn phase_replied(&self, i: u16, reply: &Reply, count: u16) -> Phase
         requires in_count { i < call_count self.now }
         requires count { count ≡ call_count self.now }
@@ -210,8 +211,8 @@ impl Job<'_> {
         }
     }
 
-    /// What comes of it in the end, with what was read, and perhaps a bus error that came after so
-    /// many data.
+    /// The outcome, with the bytes that were read and the number of data before a bus error, if one
+    /// came.
     pub(crate) fn end(&self, berr: Option<u16>, read: BlockBuffer) -> Outcome
         requires { length read.items ≤ job_read_len self.now }
         ensures { result ≡ end_outcome (job_expected self.now) berr read.items }

@@ -26,9 +26,8 @@ ghost use Rattle.vme_master.specs.Tables.{Given, next_of};
 ghost use Rattle.vme_master.specs.Machine.{task_given, to_do};
 ghost use Rattle.vme_master.specs.Laws.{last_turn, IsNextDatum, IsBelow};
 
-/// A task goes by the table: after calls with any replies, fitting or not, it does next what the
-/// table says of them. What does not fit, is absent or comes early is a denial, and an end is for
-/// good.
+/// A task follows the table: after calls with any replies it does next what the table says. A reply
+/// that does not fit, is absent or comes before the first call is a denial. An outcome is final.
 #[tactic(auto, using(crate::proofs::lemmas::Stands::by_the_table))]
 pub fn tasks_go_by_the_table()
     ensures table { (job : Job) (given : Given) → to_do (task_given job given) ≡ next_of job given }
@@ -43,8 +42,8 @@ pub fn tasks_go_by_the_table()
 {}
 
 /// A transfer's calls on a board are the commands of its data, one for each and in their order, on
-/// the board that its first byte selects; a command to a local port is its one call. Where no board
-/// is selected there is no such call, and the bus timer's error is what comes of it.
+/// the board that its first byte selects. A local command makes its one call alone. With no board
+/// selected, a transfer makes no call on a board and ends with the bus timer's error or a denial.
 pub fn data_go_in_order()
     ensures data { (job : BusJob) (given : Given) (board : ℕ) (command : Option Command) →
         next_of (Bus job) given ≡ Invokes (OnBoard board command) →
@@ -56,8 +55,9 @@ pub fn data_go_in_order()
         (outcome ≡ Denied) ⊎ (outcome ≡ error_outcome 0 []) }
 {}
 
-/// Each board that a transfer calls is one of the map, by the code and the address of its first
-/// byte; and each that any job calls is among the first n, where its own are.
+/// Each board that a transfer calls is the one of the map to which the code and the address of its
+/// first byte fall. Each board that any job calls is among the first `n` if the job's own boards
+/// are.
 pub fn boards_are_of_the_map()
     ensures falls { (map : List Entry) (slot level : ℕ) (t : Transfer) (given : Given) (board : ℕ)
         (command : Option Command) →
@@ -69,9 +69,9 @@ pub fn boards_are_of_the_map()
         IsBelow n job → next_of job given ≡ Invokes (OnBoard board command) → board < n }
 {}
 
-/// A transfer keeps to its tenure of the bus. Its commands to the arbiter are its slot's own, and go
-/// by the arbiter's last reply; while its data go to the board that reply is `Granted`; and without a
-/// denial it ends with the reply `Freed` alone.
+/// A transfer keeps its tenure of the bus. Its commands to the arbiter are its own slot's, and the
+/// arbiter's last reply allows each of them. Data go to a board only while that reply is `Granted`.
+/// Without a denial the transfer ends only with the reply `Freed`.
 pub fn transfers_keep_their_tenure()
     ensures own { (job : BusJob) (given : Given) (cmd : ArbCmd) →
         next_of (Bus job) given ≡ Invokes (OnBus cmd) →
@@ -88,7 +88,7 @@ pub fn transfers_keep_their_tenure()
         reply ≡ replies.Bus Freed }
 {}
 
-/// Whatever a board or the arbiter is told, its reply fits.
+/// Every reply of a board or of the arbiter fits the command that it answers.
 pub fn replies_fit()
     ensures board { (memory : Board) (board : ℕ) (command : Option Command) →
         IsTrue (fits (OnBoard board command) (replies.Board (command_step memory command).1)) }

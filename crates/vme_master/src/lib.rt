@@ -1,6 +1,9 @@
-//! Tasks of a master on the data transfer bus (ANSI/IEEE Std 1014-1987, chapters 2 and 3). A task
-//! says, call by call, what a transfer over the bus asks of the arbiter and of a board next, or a
-//! command to a board's local port of that board; and in the end what came of it.
+//! Tasks of a bus master: ANSI/IEEE Std 1014-1987, chapters 2 (data transfer bus) and 3
+//! (arbitration).
+//!
+//! A `Task` returns, call by call, the next event of a transfer over the bus or of a command to a
+//! board's local port, and at last its outcome. Its caller performs the events, on one thread or on
+//! several.
 #![tactic(auto)]
 
 mod expected;

@@ -1,22 +1,23 @@
 use vme_cycle::Block;
 use vme_lanes::Datum;
 
-/// What comes of a task: a transfer over the bus, or a command to a board's local port.
+/// The outcome of a transfer over the bus, or of a command to a board's local port.
 #[derive(Debug, PartialEq, Eq, Drop)]
 pub enum Outcome {
     /// All bytes that were read, in order of address.
     Read(Block),
-    /// All was written.
+    /// All bytes were written.
     Done,
     /// The bytes that a read-modify-write found.
     Old(Datum),
-    /// BERR* (section 2.3.3), by a board or by the bus timer.
+    /// A bus error of a board or of the bus timer:
+    /// IEEE 1014-1987, 2.3.3 (data transfer acknowledge and bus error).
     Berr {
-        /// How many data were answered before it.
+        /// The number of data that were answered before the error.
         count: u16,
-        /// The bytes that were read by then, in order of address.
+        /// The bytes that were read before the error, in order of address.
         bytes: Block,
     },
-    /// A reply that did not fit, or a denial of the arbiter.
+    /// The arbiter denied a command, or a reply did not fit, was absent or came too early.
     Denied,
 }

@@ -1,18 +1,18 @@
 /// How far a task has come.
 #[derive(Clone, Copy, Debug, PartialEq, Eq)]
 pub enum Phase {
-    /// It was not called yet.
+    /// Before the first call.
     New,
-    /// It has asked for the bus.
+    /// The slot requests the bus.
     Requesting,
-    /// It has looked whether it holds the bus.
+    /// The slot polls whether it holds the bus.
     Polling,
-    /// Datum `i` is at the board.
+    /// The board has call `i`: datum `i`, or the one command to a local port.
     Transferring { i: u16 },
-    /// It gives the bus back, perhaps after a bus error that came after so many data.
+    /// The slot releases the bus. `berr` is the number of data before a bus error, if one came.
     Releasing { berr: Option<u16> },
-    /// It has its outcome, perhaps a bus error that came after so many data.
+    /// The outcome is known. `berr` is the number of data before a bus error, if one came.
     Finished { berr: Option<u16> },
-    /// It was given what does not fit, or was denied.
+    /// The arbiter denied a command, or a reply did not fit, was absent or came too early.
     Denied,
 }

@@ -26,15 +26,16 @@ use vme_cycle::{BlockBuffer, CycleFault, Request, Transfer};
 use vme_decode::AddressMap;
 use vme_memory::{BoardCmd, Reply};
 
-/// What a master asks of the bus, call by call: a transfer over it, or a command to a board's local
-/// port. It reads into a room that it is given, and so takes no memory; a call of it does the same
-/// amount of work whatever was before.
+/// A transfer over the bus or a command to a board's local port, call by call.
+///
+/// A task reads into a buffer that it is given and allocates nothing. The work of a call does not
+/// grow with the calls before.
 #[derive(Debug, Drop)]
 pub struct Task<'a> {
     job: Job<'a>,
     phase: Phase,
     read: BlockBuffer,
-    // Of the job, and kept, since each reply asks for them.
+    // Facts of the job that every reply needs.
     expected: ExpectedReply,
     count: u16,
 }
@@ -50,8 +51,13 @@ impl<'a> Model for Task<'a> {
 }
 
 impl<'a> Task<'a> {
-    /// The task of a slot's request for a transfer over the bus, for which it asks on a level; or
-    /// else the first refusal of the request. What is read goes into a room that is enough for it.
+    /// Returns the task of a slot's request for a transfer over the bus, which the slot requests on
+    /// `level`. It borrows the request and reads into `buffer`, whose capacity must be enough. The
+    /// selected board is that of the first byte: IEEE 1014-1987, 2.3.5 (addressing).
+    ///
+    /// # Errors
+    ///
+    /// The first refusal of the request.
     #[inline(always)]
     pub fn start(
         map: &AddressMap,
@@ -69,8 +75,13 @@ impl<'a> Task<'a> {
         Ok(Task::bus(map, slot, level, transfer, buffer))
     }
 
-    /// The same of a request that is the task's own from then on, and reads no more than has room
-    /// in the task itself.
+    /// Returns the task of a request that the task owns. The request may read no more bytes than a
+    /// buffer holds inline. The selected board is that of the first byte:
+    /// IEEE 1014-1987, 2.3.5 (addressing).
+    ///
+    /// # Errors
+    ///
+    /// The first refusal of the request.
     pub fn start_owned(
         map: &AddressMap,
         slot: u16,
@@ -85,7 +96,7 @@ impl<'a> Task<'a> {
         Ok(Task::bus(map, slot, level, transfer, BlockBuffer::new()))
     }
 
-    /// The task of a command to the local port of the board at a place.
+    /// Returns the task of a command to the local port of the board at place `board`.
     #[inline(always)]
     pub fn local(board: usize, cmd: BoardCmd) -> Task<'a>
         ensures { result ≡ fresh_task (local_job board cmd) }
@@ -135,8 +146,9 @@ impl<'a> Task<'a> {
         }
     }
 
-    /// What the task does next. The first call is given nothing, and each later one the reply to the
-    /// event that the call before it gave out. Its end is given out with the bytes that were read.
+    /// Returns what the task does next. `reply` is `None` at the first call, and then the reply to
+    /// the event that the call before returned. The outcome takes the bytes that were read out of
+    /// the task.
     pub fn next(&mut self, reply: Option<EventReply>) -> Todo
         ensures task { self.new ≡ given_out (advance self.old reply) }
         ensures todo { next_in result ≡ to_do (advance self.old reply) }
@@ -147,8 +159,8 @@ impl<'a> Task<'a> {
         self.todo()
     }
 
-    /// The first half of `next`, for a driver that asks for the event or the outcome apart: the task
-    /// is given nothing at first, and then each time the reply to its event.
+    /// Gives the task the reply to its event, or `None` at the first call. `event_ref` then returns
+    /// the next event, and `take_outcome` the outcome.
     #[inline(always)]
     pub fn advance(&mut self, reply: Option<&EventReply>)
         ensures task { self.new ≡ advance self.old (option_copied reply.entry) }
@@ -161,7 +173,8 @@ impl<'a> Task<'a> {
         }
     }
 
-    /// The event that it makes next, where it has begun and has not ended.
+    /// Returns the event that comes next as a reference, without the signals of a cycle; or `None`
+    /// before the first call and after the end.
     #[inline(always)]
     pub fn event_ref(&self) -> Option<EventRef<'_>>
         ensures { option_map call_asked result ≡ call_in (to_do self.now) }
@@ -169,9 +182,9 @@ impl<'a> Task<'a> {
         self.job.event_ref(self.phase)
     }
 
-    /// Makes its call on boards and arbiter, where it makes one, and advances by the reply: as by
-    /// `event_ref` and `advance`, but faster, since neither the event nor the reply is laid out in
-    /// between.
+    /// Performs the next event on `core` for processor `who` and gives the task the reply. Without
+    /// a next event nothing changes. This is `event_ref`, `Core::apply_ref` and `advance` in one,
+    /// and faster, since neither event nor reply is copied in between.
     #[inline(always)]
     pub fn advance_on(&mut self, core: &mut Core, who: usize)
         requires who { who < process_count core.old }
@@ -208,7 +221,8 @@ impl<'a> Task<'a> {
         }
     }
 
-    /// Whether it has ended. A driver that asks this first moves no outcome that is none.
+    /// Returns whether the task has ended. A driver asks this first, so that it moves no empty
+    /// outcome.
     #[inline(always)]
     pub fn is_finished(&self) -> bool
         ensures { result ≡ is_some (result_in (to_do self.now)) }
@@ -220,7 +234,8 @@ impl<'a> Task<'a> {
         }
     }
 
-    /// All bytes that it was to read, where it has ended with them. They stay with it.
+    /// Returns all bytes that the task was to read, if it has ended with them. They stay in the
+    /// task.
     pub fn read(&self) -> Option<&[u8]>
         ensures { option_map (λ bytes. bytes.now) result ≡ read_in (to_do self.now) }
     {
@@ -232,8 +247,8 @@ impl<'a> Task<'a> {
         }
     }
 
-    /// What came of it, where it has ended, with the bytes that were read: the task has none of them
-    /// then.
+    /// Returns the outcome, if the task has ended, and takes the bytes that were read out of the
+    /// task.
     #[inline(never)]
     pub fn take_outcome(&mut self) -> Option<Outcome>
         ensures outcome { result ≡ result_in (to_do self.old) }
@@ -253,8 +268,8 @@ impl<'a> Task<'a> {
         }
     }
 
-    /// The same task before its first call, to be done once more. Its room may have been given out,
-    /// so what it reads has room in the task itself.
+    /// Puts the task back before its first call. The buffer may have been taken, so the job may
+    /// read no more bytes than a buffer holds inline.
     pub fn restart(&mut self)
         requires { job_read_len self.old.job ≤ inline_capacity }
         ensures { self.new ≡ fresh_task self.old.job }
@@ -263,7 +278,7 @@ impl<'a> Task<'a> {
         self.read.clear();
     }
 
-    /// The first call, and any later one without a reply.
+    /// Handles the first call, and any later one without a reply.
     #[inline(always)]
     fn call(&mut self)
         ensures task { self.new ≡ advance self.old None }
@@ -276,7 +291,7 @@ impl<'a> Task<'a> {
         };
     }
 
-    /// The arbiter has replied in a phase, which the caller knows.
+    /// Handles the arbiter's reply. `phase` is the task's own, which the caller knows.
     #[inline(always)]
     fn turn(&mut self, phase: Phase, reply: ArbReply)
         requires { self.old.phase ≡ phase }
@@ -291,7 +306,7 @@ impl<'a> Task<'a> {
         };
     }
 
-    /// A board has replied in a phase, which the caller knows.
+    /// Handles a board's reply. `phase` is the task's own, which the caller knows.
     #[inline(always)]
     fn answer(&mut self, phase: Phase, reply: &Reply)
         requires { self.old.phase ≡ phase }
@@ -325,14 +340,14 @@ impl<'a> Task<'a> {
     }
 }
 
-/// The bytes of a reply are appended to those that were read.
+/// Appends the bytes of a reply to those that were read.
 fn append(read: &mut BlockBuffer, reply: &Reply)
     requires { length read.old.items + length (bytes_of reply.now) ≤ read.old.capacity }
     ensures { read.new ≡ record read.old { items = read.old.items ++ bytes_of reply.now } }
 {
     if let Reply::Bytes(datum) = reply {
         match datum.as_slice() {
-            // As literals, so that few bytes are copied in place.
+            // Short literals are copied in place.
             [a] => read.extend_from_slice(&[*a]),
             [a, b, c, d] => read.extend_from_slice(&[*a, *b, *c, *d]),
             bytes => read.extend_from_slice(bytes),

@@ -4,8 +4,8 @@ use vme_core::Event;
 /// What a task does next.
 #[derive(Debug, Drop)]
 pub enum Todo {
-    /// It makes this event, and wants the reply to it.
+    /// The caller performs this event and gives the task the reply.
     Call(Event),
-    /// It has ended.
+    /// The task has ended with this outcome.
     Finished(Outcome),
 }

@@ -1,4 +1,4 @@
--- What does not fit, is absent or comes early is a denial.
+-- A reply that does not fit, is absent or comes early is a denial.
 use Rattle.std.proofs.Common.{◌≡◌, false, [], ◌∷◌, Option, Some, None, refl, ap, ◌∙◌}
 use Rattle.vme_core.specs.declared.event.EventReply.{EventReply}
 use Rattle.vme_core.specs.Calls.{Call}
@@ -19,7 +19,7 @@ use Rattle.vme_shared.specs.Tables.{SharedJob, Progress, At, Over, transfer_job,
 use Rattle.vme_shared.proofs.lemmas.Starts.{first_lawful}
 use Rattle.vme_shared.proofs.lemmas.Tenures.{shown_makes}
 
--- a denial stops at any stage
+-- a denial ends a put or a take at any stage
 mailbox_denied : (request : SharedRequest) (stage : Stage) → mailbox_step request stage outcomes.Denied ≡ Finish shared.Denied
 mailbox_denied request Locks = refl
 mailbox_denied request ReadsPutCount = refl
@@ -36,7 +36,7 @@ step_denied (Unlock am addr) stage = refl
 step_denied (Put mailbox word) stage = mailbox_denied (Put mailbox word) stage
 step_denied (Take mailbox) stage = mailbox_denied (Take mailbox) stage
 
--- so where a bus task is denied, all is
+-- a denied bus job ends the task with a denial
 task_denied : (s : SharedJob) (stage : Stage) (job : Job) (given : Given) (last : Option EventReply)
     → next_of job (last ∷ given) ≡ Returns outcomes.Denied → next_at (progress_given s last (At stage job given)) ≡ Returns shared.Denied
 task_denied s stage job given last ends =

@@ -1,4 +1,4 @@
--- The example goes by the rows.
+-- The example keeps the protocol.
 use Rattle.std.proofs.Common.{◌≡◌, ℕ, zero, suc, Bool, true, false, eqb, ltb, ◌<◌, ◌≤◌, List, [], ◌∷◌, refl, ap, Some, arith}
 use Rattle.std.specs.Prelude.{is_some, ◌&&◌}
 use Rattle.std.proofs.lemmas.Bool.{false≢true, ne_eqb, ltb-true, and_parts}
@@ -18,12 +18,12 @@ pub example_legal : IsLegal board_step example_board example_history
 unfolding zeros answer_given location_at location_sensed location_from signals_of
 example_legal = (refl, (refl, (refl, (refl, (refl, (refl, (refl, (refl, (refl, (refl, (refl, (refl, (refl, tt)))))))))))))
 
--- whether all entries are of the first three
+-- whether all entries are of the first three masters
 all_early : List (Entry BoardCmd Reply) → Bool
 all_early [] = true
 all_early (e ∷ h) = ltb e.who 3 && all_early h
 
--- the others have none
+-- the other masters have no entries
 none_later : (who : ℕ) (h : List (Entry BoardCmd Reply)) → 3 ≤ who → all_early h ≡ true → own who h ≡ []
 unfolding all_early
 none_later who [] later early = refl
@@ -36,7 +36,7 @@ example_early : all_early example_history ≡ true
 unfolding all_early
 example_early = refl
 
--- masters 1 and 2, and all others
+-- each master keeps the protocol in the example
 pub example_proper : IsProper example_mailbox example_history
 unfolding location_at location_sensed location_from signals_of
 example_proper zero = refl

@@ -1,4 +1,4 @@
--- Where the steps of a lock, a put and a take lead: to no denial, where the outcomes have their form.
+-- What follows the transfers of a lock, a put and a take: no denial, if the outcomes have their form.
 use Rattle.std.proofs.Common.{◌≡◌, ◌≢◌, ℕ, ◌-◌, ◌^◌, List, length, Option, Some, None, refl, inl, inr}
 use Rattle.std.specs.Prelude.{◌==◌, nat_le}
 use Rattle.std.proofs.lemmas.Bool.{cases_Bool, eq-eqb}
@@ -20,17 +20,17 @@ use Rattle.vme_shared.specs.Mailboxes.{mailbox_request, stage_request}
 use Rattle.vme_shared.specs.Steps.{first_stage, has_top_bit, word_in, on_word, words_between, counted_stage, lock_step, unlock_step, mailbox_step, step_after}
 use Rattle.vme_shared.proofs.Transfers.{IsFormed}
 
--- what is told after an unlock is no denial
+-- the outcome after an unlock is no denial
 abbrev pub IsSound : Stage → Type 0
 IsSound (Unlocks end) = end ≢ shared.Denied
 IsSound stage = Unit {0}
 
--- nor where a step stops
+-- an end is no denial, and the next stage is sound
 abbrev pub IsGood : Step → Type 0
 IsGood (Continue stage) = IsSound stage
 IsGood (Finish end) = end ≢ shared.Denied
 
--- nor where it goes on
+-- the next stage is sound, if there is one
 abbrev pub GoesSound : Step → Type 0
 GoesSound (Continue stage) = IsSound stage
 GoesSound (Finish end) = Unit {0}
@@ -74,7 +74,7 @@ unlock_goes end (outcomes.Old bytes) = tt
 unlock_goes end (outcomes.Berr count bytes) = tt
 unlock_goes end outcomes.Denied = tt
 
--- a step of a put or a take, whatever the outcome
+-- the stage after a step of a put or a take is sound, whatever the outcome
 mailbox_goes : (request : SharedRequest) (stage : Stage) (outcome : Outcome) → GoesSound (mailbox_step request stage outcome)
 mailbox_goes request Locks (outcomes.Old old) = elim (cases_Bool (has_top_bit old.items)) [ inl busy ↦ rw busy tt | inr free ↦ rw free tt ]
 mailbox_goes request Locks (outcomes.Read bytes) = tt
@@ -104,7 +104,7 @@ step_goes (Unlock am addr) stage outcome = unlock_goes shared.Unlocked outcome
 step_goes (Put mailbox word) stage outcome = mailbox_goes (Put mailbox word) stage outcome
 step_goes (Take mailbox) stage outcome = mailbox_goes (Take mailbox) stage outcome
 
--- four bytes are a word
+-- four bytes give a word
 word_is : (bytes : List ℕ) → length bytes ≡ 4 → word_in bytes ≡ Some (number_of bytes)
 word_is bytes len = rw (eq-eqb (length bytes) 4 len) refl
 
@@ -124,7 +124,7 @@ unlock_good end (outcomes.Old bytes) sound formed good = absurd formed
 unlock_good end (outcomes.Berr count bytes) sound formed good = λ same. absurd cc
 unlock_good end outcomes.Denied sound formed good = absurd (good refl)
 
--- a step of a put or a take, where the outcome has the form of the stage's transfer and is no denial
+-- a step of a put or a take is good, if the outcome has its form and is no denial
 mailbox_good : (m : Mailbox) (request : SharedRequest) (stage : Stage) (outcome : Outcome) → IsSound stage
     → IsFormed (request_expected (mailbox_request m stage)) outcome → outcome ≢ outcomes.Denied → IsGood (mailbox_step request stage outcome)
 mailbox_good m request Locks (outcomes.Old old) sound formed good =

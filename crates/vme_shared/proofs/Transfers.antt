@@ -1,5 +1,5 @@
--- What comes of a transfer of one datum: as many bytes as it wants, or a bus error; and a denial only by a reply that does not
--- fit, or by the arbiter's.
+-- The outcome of a transfer of one datum: as many bytes as it expects, or a bus error. A denial comes only of a reply
+-- that does not fit, or of the arbiter.
 use Rattle.std.proofs.Common.{◌≡◌, ◌≢◌, ℕ, ◌+◌, true, List, [], ◌∷◌, length, Option, Some, None, refl, ap, sym, subst, ◌∙◌, inl, inr}
 use Rattle.std.specs.Prelude.{is_some}
 use Rattle.std.specs.Option.{option_and_then}
@@ -27,7 +27,7 @@ use Rattle.vme_master.specs.Tables.{Given, data_in, bytes_in, datum_or_done, out
 use Rattle.vme_master.specs.Machine.{expected_len}
 use Rattle.vme_master.proofs.lemmas.Expected.{datum_len_wanted}
 
--- what comes of bytes is no denial
+-- an outcome without a bus error is no denial
 expected_granted : (expected : ExpectedReply) (bytes : List ℕ) → expected_outcome expected bytes ≢ outcomes.Denied
 expected_granted (expected_replies.Read n) bytes = λ same. absurd cc
 expected_granted (expected_replies.Modify n) bytes = λ same. absurd cc
@@ -56,12 +56,12 @@ row_granted j g (replies.Board (Bytes datum)) outcome good row = λ denied. absu
 row_granted j g (replies.Board Done) outcome good row = λ denied. absurd cc
 row_granted j g (replies.Board Berr) outcome good row = λ denied. absurd cc
 
--- after a reply that fits and is no denial, an end is none
+-- after a reply that fits and is no denial, the outcome is no denial
 pub good_end : (j : BusJob) (g : Given) (call : Call) (reply : EventReply) (outcome : Outcome) → next_of (Bus j) g ≡ Invokes call
     → fits call reply ≡ true → reply ≢ replies.Bus turned.Denied → next_of (Bus j) (Some reply ∷ g) ≡ Returns outcome → outcome ≢ outcomes.Denied
 good_end j g call reply outcome made fit good ends = row_granted j g reply outcome good (let after = rw (made, fit) at ends in after)
 
--- an outcome has as many bytes as are wanted
+-- an outcome has as many bytes as are expected
 abbrev pub IsFormed : ExpectedReply → Outcome → Type 0
 IsFormed (expected_replies.Read n) (outcomes.Read bytes) = length bytes.items ≡ n
 IsFormed (expected_replies.Modify n) (outcomes.Old bytes) = length bytes.items ≡ n
@@ -80,7 +80,7 @@ denied_formed (expected_replies.Read n) = tt
 denied_formed (expected_replies.Modify n) = tt
 denied_formed expected_replies.Write = tt
 
--- nothing was answered yet
+-- no datum was answered yet
 abbrev IsBare : Given → Type 0
 IsBare g = (data_in g ≡ 0) × (bytes_in g ≡ [])
 
@@ -94,7 +94,7 @@ Formed j g (Invokes (OnBoard board command)) =
     IsBare g × (is_some j.place ≡ true) × (option_and_then reply_len command ≡ expected_len (request_expected j.transfer.request))
 Formed j g (Returns outcome) = IsFormed (request_expected j.transfer.request) outcome
 
--- the one datum comes first
+-- the call of the one datum has its form
 datum_formed : (j : BusJob) (place : Option (ℕ × ℕ)) (g : Given) → j.place ≡ place → IsBare g → Formed j g (Invokes (datum_call j place 0))
 datum_formed j None g placed bare = rw placed (berr_formed (request_expected j.transfer.request) 0 [])
 datum_formed j (Some p) g placed bare = (bare, rw placed refl, datum_len_wanted j.transfer.request 0 _)
@@ -102,12 +102,12 @@ datum_formed j (Some p) g placed bare = (bare, rw placed refl, datum_len_wanted 
 first_formed : (j : BusJob) (g : Given) → count_of j.transfer.request ≡ 1 → IsBare g → Formed j g (Invokes (datum_or_done j 0))
 first_formed j g single bare = rw single (datum_formed j j.place g refl bare)
 
--- and then the bus is given back
+-- the release of the bus after the one datum has its form
 last_formed : (j : BusJob) (g : Given) (count : ℕ) → count_of j.transfer.request ≡ 1 → count ≡ 0
     → IsFormed (request_expected j.transfer.request) (outcome_by j j.place g) → Formed j g (Invokes (datum_or_done j (count + 1)))
 last_formed j g count single none formed = rw (single, none) formed
 
--- an outcome of a reply that fits
+-- the outcome of a reply that fits has its form
 expected_formed : (expected : ExpectedReply) (bytes : List ℕ) (wanted : Option ℕ) → wanted ≡ expected_len expected
     → (n : ℕ) → wanted ≡ Some n → length bytes ≡ n → IsFormed expected (expected_outcome expected bytes)
 expected_formed (expected_replies.Read m) bytes wanted same n is len = let one : Some m ≡ Some n = sym same ∙ is in cc
@@ -125,7 +125,7 @@ done_formed (expected_replies.Modify n) None same form = absurd cc
 done_formed expected_replies.Write None same form = tt
 done_formed expected (Some n) same form = absurd cc
 
--- a board's reply
+-- what follows a board's reply has its form
 board_formed : (j : BusJob) (g : Given) (board : ℕ) (command : Option Command) (reply : Reply) → count_of j.transfer.request ≡ 1
     → Formed j g (Invokes (OnBoard board command)) → has_form (option_and_then reply_len command) reply ≡ true
     → Formed j (Some (replies.Board reply) ∷ g) (bus_row j (replies.Board reply) g)
@@ -150,7 +150,7 @@ board_formed j g board command Berr single ((none, empty), some, wanted) form = 
     by_place None some = absurd cc
     by_place (Some p) some = berr_formed (request_expected j.transfer.request) (data_in g) (bytes_in g)
 
--- one call more
+-- what follows one reply more has its form
 step_formed : (j : BusJob) (g : Given) (next : NextStep Outcome) (last : Option EventReply) → count_of j.transfer.request ≡ 1 → Formed j g next
     → Formed j (last ∷ g) (next_after (Bus j) next last g)
 step_formed j g NotStarted None single formed = (ap data_in formed, ap bytes_in formed)

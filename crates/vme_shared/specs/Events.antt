@@ -1,4 +1,4 @@
--- What a lock, a put or a take is seen to do next.
+-- What a lock, a put or a take does next, as the result of its functions shows it.
 use Rattle.std.specs.Prelude.{◌≡◌, ◌∷◌, Option}
 use Rattle.vme_core.specs.declared.event.EventReply.{EventReply}
 use Rattle.vme_core.specs.Calls.{call_of}
@@ -10,7 +10,7 @@ use Rattle.vme_shared.specs.declared.todo.SharedTodo.TheVariants as todos
 use Rattle.vme_shared.specs.Tables.{SharedJob, shared_next}
 use Rattle.vme_shared.specs.Machine.{SharedView, shared_advance, shared_given, shared_to_do}
 
--- the call of an event that is to be made, or the end (this project's own)
+-- what a `SharedTodo` states: the call of the next event, or the outcome
 abbrev pub next_in : SharedTodo → NextStep SharedOutcome
 next_in (todos.Call event) = Invokes (call_of event)
 next_in (todos.Finished outcome) = Returns outcome

@@ -1,4 +1,5 @@
--- A lock, a put or a take as a machine, which keeps how far it has come in place of what it was given: for functions.
+-- The task of a lock, a put or a take as a machine that keeps its progress in place of the replies so far, for
+-- functions.
 use Rattle.std.specs.Prelude.{◌≢◌, [], ◌∷◌, Option, Some, None, Result, Ok, Err}
 use Rattle.vme_cycle.specs.declared.fault.CycleFault.{CycleFault}
 use Rattle.vme_core.specs.declared.event.EventReply.{EventReply}
@@ -18,82 +19,82 @@ use Rattle.vme_shared.specs.Mailboxes.{shared_refusal}
 use Rattle.vme_shared.specs.Steps.{first_stage, step_after}
 use Rattle.vme_shared.specs.Tables.{SharedJob, stage_job, task_shown}
 
--- a lock, a put or a take: what is asked, and the transfer at work (this project's own)
+-- the task of a shared request: what is requested, and the transfer at work
 pub record SharedView : Type 0 where
   pub job : SharedJob
   pub work : Work
 
--- the bus task of a stage, or the refusal of its transfer (this project's own)
+-- the bus task of a stage, or the refusal of its transfer
 abbrev pub stage_task : Result Job CycleFault → Result TaskView CycleFault
 stage_task (Ok job) = Ok (fresh_task job)
 stage_task (Err fault) = Err fault
 
--- the bus task of a stage before its first call (this project's own)
+-- a stage before its first call; a refused transfer ends the task with a bus error
 abbrev pub stage_fresh : Stage → Result Job CycleFault → Work
 stage_fresh stage (Ok job) = Running stage (fresh_task job)
 stage_fresh stage (Err fault) = Finished shared.Berr
 
--- the same after it (this project's own)
+-- a stage after its first call; a refused transfer ends the task with a bus error
 abbrev pub stage_called : Stage → Result Job CycleFault → Work
 stage_called stage (Ok job) = Running stage (advance (fresh_task job) None)
 stage_called stage (Err fault) = Finished shared.Berr
 
--- where a step leads (this project's own)
+-- what follows a transfer: the next stage, or the end
 abbrev pub work_stepped : SharedJob → Step → Work
 work_stepped s (Continue stage) = stage_called stage (stage_job s stage)
 work_stepped s (Finish end) = Finished end
 
--- a stage by what its bus task does next (this project's own)
+-- a stage by what its bus task does next: an outcome leads on
 abbrev pub work_by : SharedJob → Stage → TaskView → NextStep Outcome → Work
 work_by s stage task (Returns outcome) = work_stepped s (step_after s.request stage outcome)
 work_by s stage task next = Running stage task
 
--- the transfer at work, or where a step leads, if one is taken (this project's own)
+-- the transfer at work, or what follows it if it has ended
 abbrev pub work_or : SharedJob → Work → Option Step → Work
 work_or s work None = work
 work_or s work (Some step) = work_stepped s step
 
--- the transfer at work, after a call (this project's own)
+-- the transfer at work after the next reply, or an absent one
 abbrev pub work_after : SharedJob → Work → Option EventReply → Work
 work_after s (Running stage task) given = work_by s stage (advance task given) (to_do (advance task given))
 work_after s (Finished end) given = Finished end
 
--- the transfer that comes first, before its first call (this project's own)
+-- the first transfer before its first call
 abbrev pub first_work : SharedJob → Work
 first_work s = stage_fresh (first_stage s.request) (stage_job s (first_stage s.request))
 
--- before the first call (this project's own)
+-- the task before its first call
 abbrev pub shared_fresh : SharedJob → SharedView
 shared_fresh s = record { job = s; work = first_work s }
 
--- what is asked, before the first call, or its refusal (this project's own)
+-- the task before its first call, or the refusal of the request
 abbrev pub shared_started : SharedJob → Option CycleFault → Result SharedView CycleFault
 shared_started s None = Ok (shared_fresh s)
 shared_started s (Some fault) = Err fault
 
--- what is asked of a lock or a mailbox, before the first call, or the first refusal (this project's own)
+-- the task of a shared request before its first call, or the first refusal
 abbrev pub shared_task : SharedJob → Result SharedView CycleFault
 shared_task s = shared_started s (shared_refusal s.request)
 
--- after a call (this project's own)
+-- the task after the next reply, or an absent one
 abbrev pub shared_advance : SharedView → Option EventReply → SharedView
 shared_advance v given = record { job = v.job; work = work_after v.job v.work given }
 
--- after calls with what was given (this project's own)
+-- the task after these replies, the newest first
 abbrev pub shared_given : SharedJob → Given → SharedView
 shared_given s [] = shared_fresh s
 shared_given s (last ∷ before) = shared_advance (shared_given s before) last
 
--- what the transfer at work does next (this project's own)
+-- what the transfer at work does next, or the end
 abbrev pub work_to_do : Work → NextStep SharedOutcome
 work_to_do (Running stage task) = task_shown (to_do task)
 work_to_do (Finished end) = Returns end
 
--- what is done next (this project's own)
+-- what the task does next
 abbrev pub shared_to_do : SharedView → NextStep SharedOutcome
 shared_to_do v = work_to_do v.work
 
--- the transfer at work has not ended (this project's own)
+-- the transfer at work has not ended
 abbrev pub IsGoing : Work → Type 0
 IsGoing (Running stage task) = (outcome : Outcome) → to_do task ≢ Returns outcome
 IsGoing (Finished end) = Unit {0}

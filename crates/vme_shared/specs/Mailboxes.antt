@@ -1,4 +1,4 @@
--- Where the parts of a mailbox lie, what is asked of a lock or a mailbox, and which transfers that takes.
+-- Where the parts of a mailbox lie, and which transfers a lock, an unlock, a put or a take makes.
 use Rattle.std.specs.Prelude.{ℕ, ◌≡◌, ◌+◌, ◌-◌, ◌%◌, ◌^◌, ◌≤◌, [], ◌∷◌, Option, Some, None, Result, Ok, Err}
 use Rattle.vme_cycle.specs.declared.fault.CycleFault.{CycleFault}
 use Rattle.vme_cycle.specs.declared.modify.Modify.TheVariants.{Set}
@@ -14,57 +14,57 @@ use Rattle.vme_shared.specs.declared.request.SharedRequest.TheVariants.{Lock, Un
 use Rattle.vme_shared.specs.declared.stage.Stage.{Stage}
 use Rattle.vme_shared.specs.declared.stage.Stage.TheVariants as stages
 
--- the address of the number of words put (this project's own)
+-- the address of the count of words put
 abbrev pub put_count_at : Mailbox → ℕ
 put_count_at m = put_count_from m.addr
 
--- the address of the number of words taken (this project's own)
+-- the address of the count of words taken
 abbrev pub take_count_at : Mailbox → ℕ
 take_count_at m = take_count_from m.addr
 
--- the address of the word with each number (this project's own)
+-- the address of the word with number n
 abbrev pub word_at : Mailbox → ℕ → ℕ
 word_at m n = word_from m.addr m.slots n
 
--- the address behind a mailbox (this project's own)
+-- the address after the last byte
 abbrev pub mailbox_end : Mailbox → ℕ
 mailbox_end m = m.addr + mailbox_len m.slots
 
--- a count raised by one, modulo 2 ^ 32 (this project's own)
+-- a count plus one, modulo 2 ^ 32
 abbrev pub raised : ℕ → ℕ
 raised count = (count + 1) % 2 ^ 32
 
--- a mailbox lies at a multiple of four, has 1 to 64 slots, and ends within the addresses (this project's own)
+-- a mailbox lies at a multiple of four, has 1 to 64 slots, and ends within the 32-bit addresses
 pub record IsMailbox (m : Mailbox) : Type 0 where
   pub aligned : m.addr % 4 ≡ 0
   pub some_slot : 1 ≤ m.slots
   pub few_slots : m.slots ≤ 64
   pub within : mailbox_end m ≤ 2 ^ 32
 
--- so does the mailbox that is asked for, if one is (this project's own)
+-- the mailbox of a put or a take is one
 abbrev pub IsAsked : SharedRequest → Type 0
 IsAsked (Lock am addr) = Unit {0}
 IsAsked (Unlock am addr) = Unit {0}
 IsAsked (Put mailbox word) = IsMailbox mailbox
 IsAsked (Take mailbox) = IsMailbox mailbox
 
--- a lock is taken by one read-modify-write of its byte, which sets bit 7 (this project's own)
+-- a lock is taken by one read-modify-write of its byte, which sets bit 7
 abbrev pub set_lock : ℕ → ℕ → Request
 set_lock am addr = cycles.Modify am addr 1 Set
 
--- and given back by one write of zero (this project's own)
+-- a lock is released by one write of zero
 abbrev pub clear_lock : ℕ → ℕ → Request
 clear_lock am addr = cycles.Write am addr (record { items = 0 ∷ [] })
 
--- a count or a word is read as four bytes (this project's own)
+-- a count or a word is read as four bytes
 abbrev pub read_word : ℕ → ℕ → Request
 read_word am addr = cycles.Read am addr 4
 
--- and written as four, the first most significant (this project's own)
+-- a count or a word is written as four bytes, the most significant first
 abbrev pub write_word : ℕ → ℕ → ℕ → Request
 write_word am addr n = cycles.Write am addr (record { items = number_bytes 4 n })
 
--- the transfer of each stage of a put or a take (this project's own)
+-- the transfer of each stage of a put or a take
 abbrev pub mailbox_request : Mailbox → Stage → Request
 mailbox_request m stages.Locks = set_lock m.am m.addr
 mailbox_request m stages.ReadsPutCount = read_word m.am (put_count_at m)
@@ -75,19 +75,19 @@ mailbox_request m (stages.ReadsWord t) = read_word m.am (word_at m t)
 mailbox_request m (stages.RaisesTakeCount t word) = write_word m.am (take_count_at m) (raised t)
 mailbox_request m (stages.Unlocks end) = clear_lock m.am m.addr
 
--- the transfer of a stage: a lock alone has one, which takes it or gives it back (this project's own)
+-- the transfer of a stage; a lock and an unlock have one transfer each
 abbrev pub stage_request : SharedRequest → Stage → Request
 stage_request (Lock am addr) stage = set_lock am addr
 stage_request (Unlock am addr) stage = clear_lock am addr
 stage_request (Put mailbox word) stage = mailbox_request mailbox stage
 stage_request (Take mailbox) stage = mailbox_request mailbox stage
 
--- the refusal of a request, if it has one (this project's own)
+-- the refusal in a result, if there is one
 abbrev pub refusal_in : {T : Type 0} → Result T CycleFault → Option CycleFault
 refusal_in (Ok x) = None
 refusal_in (Err fault) = Some fault
 
--- the refusal of a mailbox: that of the lock's transfer, else that of a read of the last word (this project's own)
+-- the refusal of a mailbox: that of the lock's transfer, else that of a read of the last word
 abbrev pub mailbox_refusal : Mailbox → Option CycleFault
 mailbox_refusal m =
     first_of
@@ -95,7 +95,7 @@ mailbox_refusal m =
     ∷ refusal_in (transfer_of (read_word m.am (word_at m (m.slots - 1))))
     ∷ [])
 
--- the refusal of what is asked of a lock or a mailbox, if there is one (this project's own)
+-- the refusal of a shared request, if there is one
 abbrev pub shared_refusal : SharedRequest → Option CycleFault
 shared_refusal (Lock am addr) = refusal_in (transfer_of (set_lock am addr))
 shared_refusal (Unlock am addr) = refusal_in (transfer_of (clear_lock am addr))

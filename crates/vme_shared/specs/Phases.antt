@@ -1,4 +1,4 @@
--- How a master goes through a mailbox, one access after another, and the histories in which all masters do.
+-- The protocol of a mailbox, one access after another, and the histories in which every master keeps it.
 use Rattle.std.specs.Prelude.{ℕ, ◌+◌, ◌-◌, ◌%◌, ◌^◌, nat_le, nat_lt, Bool, not, ◌==◌, ◌&&◌, if◌then◌else◌, List, [], ◌∷◌, length, Option, Some, None, is_some, IsTrue}
 use Rattle.vme_object.specs.declared.history.Entry.{Entry}
 use Rattle.vme_object.specs.History.{own}
@@ -11,9 +11,8 @@ use Rattle.vme_memory.specs.Steps.{Command, Read, Write, Modify}
 use Rattle.vme_memory.specs.Locals.{command_given}
 use Rattle.vme_shared.specs.MailboxSteps.{BoardMailbox, lock_at, put_count_at, take_count_at, word_at, touches}
 
--- where a master stands with a mailbox: it does not hold it; it has the lock; it has read the put count, p, and then the take
--- count, t; it has written the word x with number p, or read the word x with number t; and it has raised the count
--- (this project's own)
+-- where a master stands: idle; the lock taken; the put count p read; the take count t read too; the word x with number
+-- p written; the word x with number t read; the count raised
 pub data Phase : Type 0 where
   Idle : Phase
   Locked : Phase
@@ -23,37 +22,35 @@ pub data Phase : Type 0 where
   Fetched : ℕ → ℕ → Phase
   Counted : Phase
 
--- what an answered command of the bus did, with its place, its length and the number that it read or wrote: it set bit 7 of the
--- first byte and found the number before it; it read; it wrote; or it was another (this project's own)
+-- what an answered bus command did, with its offset, its length and its number: it set bit 7 of a byte and found the
+-- number there; it read the number; it wrote the number; or it did something else
 pub data Access : Type 0 where
   Sets : ℕ → ℕ → ℕ → Access
   Reads : ℕ → ℕ → ℕ → Access
   Writes : ℕ → ℕ → ℕ → Access
   Others : Access
 
--- what a command did by its reply (this project's own)
+-- what a command did, by its reply
 abbrev pub access_of : Command → Reply → Access
 access_of (Modify at len functions.Set) (Bytes old) = Sets at len (number_of old.items)
 access_of (Read at len) (Bytes datum) = Reads at len (number_of datum.items)
 access_of (Write at new) Done = Writes at (length new) (number_of new)
 access_of command reply = Others
 
--- whether a put with these counts goes on: the count can be raised, and fewer words than slots stand there, modulo 2 ^ 32
--- (this project's own)
+-- whether a put with these counts goes on: the put count can rise, and fewer words than slots are there, modulo 2 ^ 32
 abbrev pub has_space : BoardMailbox → ℕ → ℕ → Bool
 has_space m p t = nat_lt p (2 ^ 32 - 1) && nat_lt ((p + 2 ^ 32 - t) % 2 ^ 32) m.slots
 
--- whether a write unlocks: a zero byte over the lock (this project's own)
+-- whether a write releases the lock: one zero byte over it
 abbrev pub is_unlock : BoardMailbox → ℕ → ℕ → ℕ → Bool
 is_unlock m at len new = at == lock_at m && len == 1 && new == 0
 
--- a phase, where it is reached (this project's own)
+-- a phase, if a condition holds
 abbrev pub reached : Bool → Phase → Option Phase
 reached is phase = if is then Some phase else None
 
--- the phase after an access of the mailbox, if the access is one that comes then: set the lock, which was held or not; read
--- both counts; write the next word if there is room, or read the oldest if there is one, or unlock; raise the count; unlock
--- (this project's own)
+-- the phase after an access that the protocol allows: lock; read both counts; write the next word if a slot is free,
+-- read the oldest if there is one, or unlock; write the count plus one; unlock
 abbrev pub next_phase : BoardMailbox → Phase → Access → Option Phase
 next_phase m Idle (Sets at len old) = reached (at == lock_at m && len == 1) (if nat_le 128 old then Idle else Locked)
 next_phase m Locked (Reads at len p) = reached (at == put_count_at m && len == 4) (First p)
@@ -66,23 +63,23 @@ next_phase m (Fetched t x) (Writes at len n) = reached (at == take_count_at m &&
 next_phase m Counted (Writes at len new) = reached (is_unlock m at len new) Idle
 next_phase m phase access = None
 
--- the phase after a command with its reply, while all goes by the rows: a command that touches no byte of the mailbox leaves
--- it, as does what stands for no command (this project's own)
+-- the phase after a command and its reply, while the protocol is kept; an absent command, and one that touches no byte
+-- of the mailbox, leave it
 abbrev pub after_command : BoardMailbox → Option Phase → Option Command → Reply → Option Phase
 after_command m None command reply = None
 after_command m (Some phase) None reply = Some phase
 after_command m (Some phase) (Some command) reply =
     if touches m command then next_phase m phase (access_of command reply) else Some phase
 
--- the phase after an entry of a master's own (this project's own)
+-- the phase after one of the master's own entries
 abbrev pub after_entry : BoardMailbox → Option Phase → Entry BoardCmd Reply → Option Phase
 after_entry m phase e = after_command m phase (command_given e.cmd) e.reply
 
--- the phase after all entries of a master's own (this project's own)
+-- the phase after all of the master's own entries
 abbrev pub phase_after : BoardMailbox → Option Phase → List (Entry BoardCmd Reply) → Option Phase
 phase_after m phase [] = phase
 phase_after m phase (e ∷ h) = phase_after m (after_entry m phase e) h
 
--- a history is proper for a mailbox: the entries of each who that touch it go by the rows, from idle on (this project's own)
+-- a history is proper for a mailbox: the entries of each master keep the protocol, from idle on
 abbrev pub IsProper : BoardMailbox → List (Entry BoardCmd Reply) → Type 0
 IsProper m h = (who : ℕ) → IsTrue (is_some (phase_after m (Some Idle) (own who h)))

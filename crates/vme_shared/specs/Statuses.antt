@@ -9,7 +9,7 @@ use Rattle.vme_shared.specs.declared.reply.LineReply.TheVariants.{Transfer, Refu
 use Rattle.vme_shared.specs.declared.status.Status.{Status}
 use Rattle.vme_shared.specs.declared.status.Status.TheVariants.{Clean, Marked}
 
--- clean where all was read or written, or the old bytes were found (this project's own)
+-- clean if all was read or written, or the old bytes were found
 abbrev pub outcome_status : Outcome → Status
 outcome_status (Read bytes) = Clean
 outcome_status Done = Clean
@@ -17,7 +17,7 @@ outcome_status (Old bytes) = Clean
 outcome_status (Berr count bytes) = Marked
 outcome_status Denied = Marked
 
--- clean where the lock is taken or given back, or the word was put or taken (this project's own)
+-- clean if the lock was taken or released, or the word was put or taken
 abbrev pub shared_status : SharedOutcome → Status
 shared_status shared.Taken = Clean
 shared_status shared.Unlocked = Clean
@@ -30,7 +30,7 @@ shared_status shared.Spent = Marked
 shared_status shared.Berr = Marked
 shared_status shared.Denied = Marked
 
--- clean where a line came to a good end: done, read, old, met, taken, put or took (this project's own)
+-- clean if a line ended well: its transfer, lock, unlock, put or take did, or the bytes that it waits for were met
 abbrev pub reply_status : LineReply → Status
 reply_status (Transfer outcome) = outcome_status outcome
 reply_status (Refused fault) = Marked
@@ -39,12 +39,12 @@ reply_status Timeout = Marked
 reply_status (Shared outcome) = shared_status outcome
 reply_status Unfinished = Marked
 
--- marked where one of the two is (this project's own)
+-- marked if one of the two is
 abbrev pub worse_of : Status → Status → Status
 worse_of Clean status = status
 worse_of Marked status = Marked
 
--- marked where one of these is (this project's own)
+-- marked if one of these is
 abbrev pub worst : List Status → Status
 worst [] = Clean
 worst (status ∷ more) = worse_of status (worst more)

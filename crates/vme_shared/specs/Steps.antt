@@ -1,4 +1,4 @@
--- The table of steps: where the outcome of each transfer of a lock, a put or a take leads.
+-- The table of a lock, an unlock, a put and a take: what follows the outcome of each transfer.
 use Rattle.std.specs.Prelude.{ℕ, ◌+◌, ◌-◌, ◌%◌, ◌^◌, nat_le, Bool, false, ◌==◌, if◌then◌else◌, List, [], ◌∷◌, length, Option, Some, None}
 use Rattle.vme_cycle.specs.Functions.{number_of}
 use Rattle.vme_master.specs.declared.outcome.Outcome.{Outcome}
@@ -12,33 +12,33 @@ use Rattle.vme_shared.specs.declared.stage.Stage.TheVariants.{Locks, ReadsPutCou
 use Rattle.vme_shared.specs.declared.stage.Step.{Step}
 use Rattle.vme_shared.specs.declared.stage.Step.TheVariants.{Continue, Finish}
 
--- a put and a take begin with the lock, as does what takes it; what gives it back has this transfer alone (this project's own)
+-- the first stage: an unlock has one transfer, and all others begin with the lock
 abbrev pub first_stage : SharedRequest → Stage
 first_stage (Lock am addr) = Locks
 first_stage (Unlock am addr) = Unlocks shared.Unlocked
 first_stage (Put mailbox word) = Locks
 first_stage (Take mailbox) = Locks
 
--- whether bit 7 of the byte at the lowest address is set (this project's own)
+-- whether bit 7 of the byte at the lowest address is set
 abbrev pub has_top_bit : List ℕ → Bool
 has_top_bit [] = false
 has_top_bit (byte ∷ bytes) = nat_le 128 byte
 
--- the number that four bytes spell, the first most significant; no other bytes are one (this project's own)
+-- the number that four bytes give, the most significant first; other lengths give none
 abbrev pub word_in : List ℕ → Option ℕ
 word_in bytes = if length bytes == 4 then Some (number_of bytes) else None
 
--- where four bytes were read, their number leads on; other bytes do not fit (this project's own)
+-- what follows a number that was read; bytes of another length do not fit
 abbrev pub on_word : Option ℕ → (ℕ → Step) → Step
 on_word (Some word) lead = lead word
 on_word None lead = Finish shared.Denied
 
--- how many words a mailbox has by its counts, modulo 2 ^ 32 (this project's own)
+-- the number of words in a mailbox by its counts, modulo 2 ^ 32
 abbrev pub words_between : ℕ → ℕ → ℕ
 words_between p t = (p + 2 ^ 32 - t) % 2 ^ 32
 
--- where both counts are known: a put writes its word where the put count can be raised and a slot is free, and a take reads
--- one where there is one; else the lock is given back (this project's own)
+-- once both counts are known: a put writes its word if the put count can rise and a slot is free, and a take reads a
+-- word if there is one; else the lock is released
 abbrev pub counted_stage : SharedRequest → ℕ → ℕ → Stage
 counted_stage (Put mailbox word) p t =
     if p == 2 ^ 32 - 1 then Unlocks shared.Spent
@@ -46,20 +46,20 @@ counted_stage (Put mailbox word) p t =
     else WritesWord p word
 counted_stage request p t = if p == t then Unlocks shared.Empty else ReadsWord t
 
--- the table of a lock that is to be taken (this project's own)
+-- the table of a lock
 abbrev pub lock_step : Outcome → Step
 lock_step (outcomes.Old old) = Finish (if has_top_bit old.items then shared.Busy else shared.Taken)
 lock_step (outcomes.Berr count bytes) = Finish shared.Berr
 lock_step outcome = Finish shared.Denied
 
--- the table of a lock that is given back, with what is told then (this project's own)
+-- the table of an unlock, which ends with this outcome
 abbrev pub unlock_step : SharedOutcome → Outcome → Step
 unlock_step end outcomes.Done = Finish end
 unlock_step end (outcomes.Berr count bytes) = Finish shared.Berr
 unlock_step end outcome = Finish shared.Denied
 
--- the table of a put and of a take, by the stage and the outcome of its transfer. A bus error after the lock was taken is
--- followed by the unlock (this project's own)
+-- the table of a put and a take, by the stage and its transfer's outcome; after a bus error the lock is released, if it
+-- was taken
 abbrev pub mailbox_step : SharedRequest → Stage → Outcome → Step
 mailbox_step request Locks (outcomes.Old old) = if has_top_bit old.items then Finish shared.Busy else Continue ReadsPutCount
 mailbox_step request ReadsPutCount (outcomes.Read bytes) = on_word (word_in bytes.items) (λ p. Continue (ReadsTakeCount p))
@@ -74,7 +74,7 @@ mailbox_step request Locks (outcomes.Berr count bytes) = Finish shared.Berr
 mailbox_step request stage (outcomes.Berr count bytes) = Continue (Unlocks shared.Berr)
 mailbox_step request stage outcome = Finish shared.Denied
 
--- the table: where the outcome of a stage's transfer leads (this project's own)
+-- what follows the outcome of a stage's transfer
 abbrev pub step_after : SharedRequest → Stage → Outcome → Step
 step_after (Lock am addr) stage outcome = lock_step outcome
 step_after (Unlock am addr) stage outcome = unlock_step shared.Unlocked outcome

@@ -12,7 +12,7 @@ use vme_cycle::CycleFault;
 use vme_decode::AddressMap;
 use vme_master::Task;
 
-/// What a slot asks of a lock or a mailbox, for which it requests the bus on a level.
+/// A slot's request to a lock or a mailbox, with the level on which the slot requests the bus.
 #[derive(Debug, Drop)]
 pub(crate) struct Asked<'a> {
     map: &'a AddressMap,
@@ -59,7 +59,7 @@ impl<'a> Asked<'a> {
         self.request
     }
 
-    /// The transfer that comes first, before its first call.
+    /// Returns the first transfer before its first call.
     pub(crate) fn first_work(&self) -> Work<'a>
         ensures work { result ≡ first_work self.now }
         ensures going { IsGoing result }
@@ -71,7 +71,7 @@ impl<'a> Asked<'a> {
         }
     }
 
-    /// Where a step leads: the next transfer begins at once.
+    /// Returns what follows a transfer: the next one, with its first call made, or the end.
     pub(crate) fn stepped(&self, step: Step) -> Work<'a>
         ensures work { result ≡ work_stepped self.now step }
         ensures going { IsGoing result }
@@ -83,7 +83,7 @@ impl<'a> Asked<'a> {
         }
     }
 
-    /// The transfer of a stage after its first call.
+    /// Returns the transfer of a stage after its first call.
     fn called(&self, stage: Stage) -> Work<'a>
         ensures work { result ≡ stage_called stage (stage_job self.now stage) }
         ensures going { IsGoing result }
@@ -98,7 +98,7 @@ impl<'a> Asked<'a> {
         }
     }
 
-    /// The bus task of a stage.
+    /// Returns the bus task of a stage.
     fn task(&self, stage: Stage) -> Result<Task<'a>, CycleFault>
         ensures { result ≡ stage_task (stage_job self.now stage) }
     {

@@ -22,9 +22,9 @@ ghost use Rattle.vme_shared.specs.Mailboxes.{IsAsked, shared_refusal};
 ghost use Rattle.vme_shared.specs.Tables.{SharedJob, stage_job, shared_next, shared_reported};
 ghost use Rattle.vme_shared.specs.Machine.{shared_given, shared_to_do};
 
-/// What is asked of a lock or a mailbox goes by the table: after calls with any replies, fitting or
-/// not, it does next what the table says of them. What does not fit, or is absent, is a denial, as is
-/// a reply before the first call; and an end is for good.
+/// A lock, an unlock, a put or a take follows its table: after calls with any replies it does next
+/// what the table says. A reply that does not fit, is absent or comes before the first call is a
+/// denial. An outcome is final.
 pub fn shared_tasks_go_by_the_table()
     ensures table { (s : SharedJob) (given : Given) →
         shared_to_do (shared_given s given) ≡ shared_next s given }
@@ -40,8 +40,8 @@ pub fn shared_tasks_go_by_the_table()
         shared_next s (last ∷ given) ≡ Returns end }
 {}
 
-/// What was not refused at the start rests until its first call, which asks for the bus; and none of
-/// its transfers is refused later.
+/// A request that is not refused at the start rests until its first call, which requests the bus.
+/// None of its transfers is refused later.
 pub fn shared_tasks_are_refused_at_the_start()
     ensures rests { (s : SharedJob) → shared_refusal s.request ≡ None → shared_next s [] ≡ NotStarted }
     ensures asks { (s : SharedJob) → shared_refusal s.request ≡ None →
@@ -56,11 +56,11 @@ pub fn shared_tasks_call_boards_of_the_map()
         shared_next s given ≡ Invokes (OnBoard board command) → board < length s.map }
 {}
 
-/// What is asked of a lock or a mailbox keeps its tenure of the bus, as each of its transfers does.
-/// Its commands to the arbiter are its slot's own, and go by what that slot was told last; while data
-/// go to a board, that is `Granted`. After a good reply, one that fits and is no denial, it goes on by
-/// what the slot was told; and where it ends by such a reply, it ends without a denial, and the slot
-/// is free.
+/// A lock, an unlock, a put or a take keeps its tenure of the bus, transfer by transfer. The
+/// arbiter's last reply allows each command to the arbiter. Data go to a board only while that
+/// reply is `Granted`. After a reply that fits and is no denial, the slot stands at the arbiter as
+/// the last reply states. An outcome that comes with it is no denial, it comes with the reply
+/// `Freed`, and the slot is free.
 pub fn shared_tasks_keep_their_tenure()
     ensures begin { (s : SharedJob) → shared_reported s (None ∷ []) ≡ None }
     ensures turns { (s : SharedJob) (given : Given) (cmd : ArbCmd) → IsTrue (is_level s.level) →

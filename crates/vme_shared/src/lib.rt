@@ -1,7 +1,9 @@
-//! What a line of a script is answered: what comes of its transfer over the data transfer bus
-//! (ANSI/IEEE Std 1014-1987, chapter 2) or of its command to the local port, and whether that is a
-//! good end. And what board software builds on transfers: locks, and mailboxes of words, whose tasks
-//! say call by call what they ask of the bus next.
+//! Locks and mailboxes over the data transfer bus (ANSI/IEEE Std 1014-1987, chapter 2), and the
+//! replies to the lines of a script.
+//!
+//! A lock is bit 7 of a byte. A mailbox is a queue of words in a board's memory. Their tasks return
+//! the next event, call by call. `LineReply` is the reply to a line, and `Status` states whether it
+//! is a good one.
 #![tactic(auto)]
 
 mod asked;

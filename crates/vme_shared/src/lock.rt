@@ -11,7 +11,7 @@ use vme_core::EventReply;
 use vme_cycle::CycleFault;
 use vme_decode::AddressMap;
 
-/// A lock that is taken or given back, call by call. The lock is bit 7 of a byte.
+/// A lock that is taken or released, call by call. The lock is bit 7 of a byte.
 #[derive(Debug, Drop)]
 pub struct LockTask<'a> {
     task: SharedTask<'a>,
@@ -26,7 +26,12 @@ impl<'a> Model for LockTask<'a> {
 }
 
 impl<'a> LockTask<'a> {
-    /// To take it, by one read-modify-write; or else the refusal of that.
+    /// Returns the task that takes a lock by one cycle: IEEE 1014-1987, 2.3.8 (read-modify-write).
+    /// The slot requests the bus on `level`.
+    ///
+    /// # Errors
+    ///
+    /// The refusal of that cycle's request.
     pub fn lock(
         map: &'a AddressMap,
         slot: u16,
@@ -41,7 +46,12 @@ impl<'a> LockTask<'a> {
         Ok(LockTask { task })
     }
 
-    /// To give it back, by one write of zero; or else the refusal of that.
+    /// Returns the task that releases a lock by one write of zero. The slot requests the bus on
+    /// `level`.
+    ///
+    /// # Errors
+    ///
+    /// The refusal of that write.
     pub fn unlock(
         map: &'a AddressMap,
         slot: u16,
@@ -56,8 +66,8 @@ impl<'a> LockTask<'a> {
         Ok(LockTask { task })
     }
 
-    /// What it does next. The first call is given nothing, and each later one the reply to the event
-    /// that the call before it gave out.
+    /// Returns what the task does next. `reply` is `None` at the first call, and then the reply to
+    /// the event that the call before returned.
     pub fn next(&mut self, reply: Option<EventReply>) -> SharedTodo
         ensures { IsNextOf self.old self.new reply result }
     {

@@ -21,11 +21,12 @@ const WORDS_AT: u32 = 16;
 /// The number of bytes of a word.
 const WORD_LEN: u32 = 4;
 
-/// A mailbox of words in the memory of a board: the code that its transfers have, the address of its
-/// first byte, and the number of words that it has room for.
+/// A mailbox of words in the memory of a board: the address modifier code of its transfers, the
+/// address of its first byte, and its number of slots.
 ///
 /// The lock byte lies at `addr`, the count of words put at `addr + 4`, the count of words taken at
-/// `addr + 8`, and the words from `addr + 16` on. Counts and words have four bytes.
+/// `addr + 8`, and the words from `addr + 16` on. Each count and each word has four bytes, the most
+/// significant first.
 #[derive(Clone, Copy, Debug, PartialEq, Eq)]
 pub struct Mailbox {
     pub am: u8,
@@ -55,7 +56,7 @@ impl Mailbox {
         self.addr + TAKE_COUNT_AT
     }
 
-    /// Where the word with this number lies.
+    /// Returns the address of the word with this number.
     fn word_at(self, number: u32) -> u32
         requires { IsMailbox self }
         ensures { result ≡ word_at self number }
@@ -63,7 +64,7 @@ impl Mailbox {
         self.addr + WORDS_AT + WORD_LEN * (number % u32::from(self.slots))
     }
 
-    /// The refusal of the lock's transfer, or else of a read of the word that lies last.
+    /// Returns the refusal of the lock's transfer, or else that of a read of the last word.
     pub(crate) fn check(self) -> Result<(), CycleFault>
         requires { IsMailbox self }
         ensures { refusal_in result ≡ mailbox_refusal self }
@@ -73,7 +74,7 @@ impl Mailbox {
         check_request(&read_word(self.am, last))
     }
 
-    /// The transfer of a stage of a put or a take.
+    /// Returns the transfer of a stage of a put or a take.
     pub(crate) fn request(self, stage: Stage) -> Request
         requires { IsMailbox self }
         ensures value { result ≡ mailbox_request self stage }
@@ -97,7 +98,7 @@ impl Mailbox {
     }
 }
 
-/// The read-modify-write that takes a lock.
+/// Returns the read-modify-write that takes a lock.
 pub(crate) fn set_lock(am: u8, addr: u32) -> Request
     ensures { result ≡ set_lock am addr }
 {
@@ -109,7 +110,7 @@ pub(crate) fn set_lock(am: u8, addr: u32) -> Request
     }
 }
 
-/// The write that gives a lock back.
+/// Returns the write that releases a lock.
 pub(crate) fn clear_lock(am: u8, addr: u32) -> Request
     ensures { result ≡ clear_lock am addr }
 {
@@ -130,7 +131,7 @@ fn write_word(am: u8, addr: u32, word: u32) -> Request
     Request::Write { am, addr, bytes }
 }
 
-/// The refusal of a request.
+/// Returns the refusal of a request.
 pub(crate) fn check_request(request: &Request) -> Result<(), CycleFault>
     ensures { refusal_in result ≡ refusal_in (transfer_of request.now) }
 {

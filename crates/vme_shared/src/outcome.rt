@@ -1,25 +1,25 @@
-/// What comes of taking or giving back a lock, or of putting a word into a mailbox or taking one from
-/// it.
+/// The outcome of a lock, an unlock, a put or a take.
 #[derive(Clone, Copy, Debug, PartialEq, Eq)]
 pub enum SharedOutcome {
     /// The lock was free, and is taken now.
     Taken,
-    /// The lock is free now.
+    /// The lock is released.
     Unlocked,
-    /// Another has the lock.
+    /// The lock was already taken.
     Busy,
     /// The word was put.
     Put,
     /// This word was taken.
     Took(u32),
-    /// The mailbox has as many words as it has room for.
+    /// The mailbox has a word in every slot.
     Full,
     /// The mailbox has no word.
     Empty,
-    /// As many words were put into the mailbox as its count can tell.
+    /// The mailbox's count of words put is at its greatest value.
     Spent,
-    /// BERR* (section 2.3.3), by a board or by the bus timer.
+    /// A bus error of a board or of the bus timer:
+    /// IEEE 1014-1987, 2.3.3 (data transfer acknowledge and bus error).
     Berr,
-    /// A reply that did not fit, or a denial of the arbiter.
+    /// The arbiter denied a command, or a reply did not fit, was absent or came too early.
     Denied,
 }

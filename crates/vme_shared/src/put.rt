@@ -28,7 +28,11 @@ impl<'a> Model for PutTask<'a> {
 }
 
 impl<'a> PutTask<'a> {
-    /// To put a word; or else the refusal of the lock's transfer, or of a read of the last word.
+    /// Returns the task that puts `word` into `mailbox`. The slot requests the bus on `level`.
+    ///
+    /// # Errors
+    ///
+    /// The refusal of the lock's transfer, or else that of a read of the mailbox's last word.
     pub fn start(
         map: &'a AddressMap,
         slot: u16,
@@ -44,8 +48,8 @@ impl<'a> PutTask<'a> {
         Ok(PutTask { task })
     }
 
-    /// What it does next. The first call is given nothing, and each later one the reply to the event
-    /// that the call before it gave out.
+    /// Returns what the task does next. `reply` is `None` at the first call, and then the reply to
+    /// the event that the call before returned.
     pub fn next(&mut self, reply: Option<EventReply>) -> SharedTodo
         ensures { IsNextOf self.old self.new reply result }
     {

@@ -6,26 +6,27 @@ use crate::status::Status;
 use vme_cycle::CycleFault;
 use vme_master::Outcome;
 
-/// What a line of a script is answered.
+/// The reply to a line of a script.
 #[derive(Debug, PartialEq, Eq, Drop)]
 pub enum LineReply {
-    /// What came of its transfer over the bus, or of its command to the local port.
+    /// The outcome of the line's transfer over the bus, or of its command to the local port.
     Transfer(Outcome),
-    /// Its request is refused.
+    /// The refusal of the line's request.
     Refused(CycleFault),
     /// A line that waits read the bytes that it waits for.
     Met,
-    /// A line that waits has made all the reads that it may make.
+    /// A line that waits made all the reads that it may make, and found other bytes.
     Timeout,
-    /// What came of its lock or its mailbox.
+    /// The outcome of the line's lock, unlock, put or take.
     Shared(SharedOutcome),
-    /// The run was over before the line was at its end.
+    /// The run ended before the line did.
     Unfinished,
 }
 
 impl LineReply {
-    /// Whether it is a good one: done, bytes that were read or found, met, a lock that was taken, or a
-    /// word that was put or taken.
+    /// Returns `Clean` for a good reply: bytes that were read, written or found, an `await` that
+    /// was met, a lock that was taken or released, and a word that was put or taken. Any other
+    /// reply is `Marked`.
     pub fn status(&self) -> Status
         ensures { result ≡ reply_status self.now }
     {

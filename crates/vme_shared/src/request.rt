@@ -11,21 +11,21 @@ use crate::word::word_in;
 use vme_cycle::{CycleFault, Request};
 use vme_master::Outcome;
 
-/// What is asked of a lock or of a mailbox.
+/// A request to a lock or a mailbox.
 #[derive(Clone, Copy, Debug, PartialEq, Eq)]
 pub enum SharedRequest {
-    /// To take the lock in bit 7 of a byte.
+    /// Takes the lock in bit 7 of a byte.
     Lock { am: u8, addr: u32 },
-    /// To give it back.
+    /// Releases the lock in bit 7 of a byte.
     Unlock { am: u8, addr: u32 },
-    /// To put a word into a mailbox.
+    /// Puts a word into a mailbox.
     Put { mailbox: Mailbox, word: u32 },
-    /// To take a word from a mailbox.
+    /// Takes a word from a mailbox.
     Take { mailbox: Mailbox },
 }
 
 impl SharedRequest {
-    /// The refusal of its transfers, if there is one.
+    /// Returns the first refusal of the request's transfers.
     pub(crate) fn check(self) -> Result<(), CycleFault>
         requires { IsAsked self }
         ensures { refusal_in result ≡ shared_refusal self }
@@ -48,7 +48,7 @@ impl SharedRequest {
         }
     }
 
-    /// The transfer of a stage.
+    /// Returns the transfer of a stage.
     pub(crate) fn transfer(self, stage: Stage) -> Request
         requires { IsAsked self }
         ensures value { result ≡ stage_request self stage }
@@ -63,7 +63,7 @@ impl SharedRequest {
         }
     }
 
-    /// Where the outcome of a stage's transfer leads.
+    /// Returns what follows the outcome of a stage's transfer.
     pub(crate) fn step_after(self, stage: Stage, outcome: &Outcome) -> Step
         ensures { result ≡ step_after self stage outcome.now }
     {
@@ -76,7 +76,7 @@ impl SharedRequest {
         }
     }
 
-    /// The same of a put or a take.
+    /// Returns what follows the outcome of a transfer of a put or a take.
     fn mailbox_step(self, stage: Stage, outcome: &Outcome) -> Step
         ensures { result ≡ mailbox_step self stage outcome.now }
     {
@@ -102,7 +102,7 @@ impl SharedRequest {
         }
     }
 
-    /// The same where a stage has read a count or a word.
+    /// Returns what follows a transfer of a put or a take that has read a count or a word.
     fn read_step(self, stage: Stage, word: u32) -> Step
         ensures { (bytes : List ℕ) → word_in bytes ≡ Some word →
             result ≡ mailbox_step self stage (Outcome.Read (record { items = bytes })) }
@@ -119,7 +119,7 @@ impl SharedRequest {
         }
     }
 
-    /// The stage where both counts are known.
+    /// Returns the next stage, once both counts are known.
     fn counted_stage(self, put_count: u32, take_count: u32) -> Stage
         ensures { result ≡ counted_stage self put_count take_count }
     {
@@ -145,7 +145,7 @@ impl SharedRequest {
     }
 }
 
-/// Where a stage leads that has written.
+/// Returns what follows a transfer of a put or a take that has written.
 fn write_step(stage: Stage) -> Step
     ensures { (request : AnyRequest) → result ≡ mailbox_step request stage Outcome.Done }
 {
@@ -162,7 +162,7 @@ fn write_step(stage: Stage) -> Step
     }
 }
 
-/// Where the outcome of a lock's transfer leads.
+/// Returns what follows the outcome of a lock's transfer.
 fn lock_step(outcome: &Outcome) -> Step
     ensures { result ≡ lock_step outcome.now }
 {
@@ -174,7 +174,7 @@ fn lock_step(outcome: &Outcome) -> Step
     })
 }
 
-/// Where the outcome of an unlock's transfer leads, with what is told then.
+/// Returns what follows the outcome of an unlock's transfer, which ends the task with `end`.
 fn unlock_step(end: SharedOutcome, outcome: &Outcome) -> Step
     ensures { result ≡ unlock_step end outcome.now }
 {
@@ -185,7 +185,7 @@ fn unlock_step(end: SharedOutcome, outcome: &Outcome) -> Step
     })
 }
 
-/// Whether bit 7 of the byte at the lowest address is set.
+/// Returns whether bit 7 of the byte at the lowest address is set.
 fn has_top_bit(bytes: &[u8]) -> bool
     ensures { result ≡ has_top_bit bytes.now }
 {
@@ -195,7 +195,7 @@ fn has_top_bit(bytes: &[u8]) -> bool
     }
 }
 
-/// How many words a mailbox has by its counts, modulo two to the power of 32.
+/// Returns the number of words in a mailbox by its counts, modulo 2^32.
 fn words_between(put_count: u32, take_count: u32) -> u32
     ensures { result ≡ words_between put_count take_count }
 {

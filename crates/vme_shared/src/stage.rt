@@ -1,31 +1,31 @@
 use crate::outcome::SharedOutcome;
 
-/// The transfer of a lock, a put or a take that is at work.
+/// A transfer of a lock, an unlock, a put or a take.
 #[derive(Clone, Copy, Debug, PartialEq, Eq)]
 pub enum Stage {
-    /// It sets the lock, and sees whether it was free.
+    /// Sets the lock and reads whether it was free.
     Locks,
-    /// It reads how many words were put.
+    /// Reads the count of words put.
     ReadsPutCount,
-    /// It reads how many words were taken.
+    /// Reads the count of words taken.
     ReadsTakeCount { put_count: u32 },
-    /// It writes the word that is put.
+    /// Writes the word that is put.
     WritesWord { put_count: u32, word: u32 },
-    /// It writes that one word more was put.
+    /// Writes the count of words put, plus one.
     RaisesPutCount { put_count: u32 },
-    /// It reads the word that is taken.
+    /// Reads the word that is taken.
     ReadsWord { take_count: u32 },
-    /// It writes that one word more was taken.
+    /// Writes the count of words taken, plus one.
     RaisesTakeCount { take_count: u32, word: u32 },
-    /// It gives the lock back, and then has its end.
+    /// Releases the lock. The task then ends with `end`.
     Unlocks { end: SharedOutcome },
 }
 
-/// What comes after a transfer.
+/// What follows a transfer.
 #[derive(Clone, Copy, Debug, PartialEq, Eq)]
 pub enum Step {
     /// The transfer of this stage.
     Continue(Stage),
-    /// The end.
+    /// The end of the task.
     Finish(SharedOutcome),
 }

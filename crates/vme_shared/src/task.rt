@@ -16,8 +16,10 @@ use vme_core::{EventRef, EventReply};
 use vme_cycle::CycleFault;
 use vme_decode::AddressMap;
 
-/// What a processor asks of a lock or a mailbox, call by call: each of its transfers is a bus task of
-/// its own, which begins at once where the one before has ended. It takes no memory.
+/// A lock, an unlock, a put or a take, call by call.
+///
+/// Each of its transfers is a bus task of its own, which begins at once as the one before ends. The
+/// task allocates nothing.
 #[derive(Debug, Drop)]
 pub struct SharedTask<'a> {
     asked: Asked<'a>,
@@ -35,8 +37,12 @@ impl<'a> Model for SharedTask<'a> {
 }
 
 impl<'a> SharedTask<'a> {
-    /// The task of what a slot asks of a lock or a mailbox, for which it requests the bus on a level;
-    /// or else the first refusal of its transfers.
+    /// Returns the task of a slot's request to a lock or a mailbox. The slot requests the bus on
+    /// `level`.
+    ///
+    /// # Errors
+    ///
+    /// The first refusal of the request's transfers.
     pub fn start(
         map: &'a AddressMap,
         slot: u16,
@@ -53,8 +59,8 @@ impl<'a> SharedTask<'a> {
         Ok(SharedTask { asked, work })
     }
 
-    /// What it does next. The first call is given nothing, and each later one the reply to the event
-    /// that the call before it gave out.
+    /// Returns what the task does next. `reply` is `None` at the first call, and then the reply to
+    /// the event that the call before returned.
     pub fn next(&mut self, reply: Option<EventReply>) -> SharedTodo
         ensures { IsNextOf self.old self.new reply result }
     {
@@ -62,8 +68,8 @@ impl<'a> SharedTask<'a> {
         self.todo()
     }
 
-    /// The first half of `next`, for a driver that asks for the event or the outcome apart: it is
-    /// given nothing at first, and then each time the reply to its event.
+    /// Gives the task the reply to its event, or `None` at the first call. `event_ref` then returns
+    /// the next event, and `outcome` the outcome.
     #[inline(never)]
     pub fn advance(&mut self, reply: Option<&EventReply>)
         ensures task { self.new ≡ shared_advance self.old (option_copied reply.entry) }
@@ -74,7 +80,8 @@ impl<'a> SharedTask<'a> {
         }
     }
 
-    /// The event that it makes next, where it has begun and has not ended.
+    /// Returns the event that comes next as a reference, without the signals of a cycle; or `None`
+    /// before the first call and after the end.
     #[inline(never)]
     pub fn event_ref(&self) -> Option<EventRef<'_>>
         ensures { option_map call_asked result ≡ call_in (shared_to_do self.now) }
@@ -85,7 +92,7 @@ impl<'a> SharedTask<'a> {
         }
     }
 
-    /// What came of it, where it has ended.
+    /// Returns the outcome, if the task has ended.
     pub fn outcome(&self) -> Option<SharedOutcome>
         ensures { result ≡ result_in (shared_to_do self.now) }
     {
@@ -95,7 +102,7 @@ impl<'a> SharedTask<'a> {
         }
     }
 
-    /// The same task before its first call, to be done once more.
+    /// Puts the task back before its first call.
     pub fn restart(&mut self)
         ensures { self.new ≡ shared_fresh self.old.job }
     {

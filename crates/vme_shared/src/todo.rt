@@ -1,11 +1,11 @@
 use crate::outcome::SharedOutcome;
 use vme_core::Event;
 
-/// What a lock, a put or a take does next.
+/// What a lock, an unlock, a put or a take does next.
 #[derive(Debug, Drop)]
 pub enum SharedTodo {
-    /// It makes this event, and wants the reply to it.
+    /// The caller performs this event and gives the task the reply.
     Call(Event),
-    /// It has ended.
+    /// The task has ended with this outcome.
     Finished(SharedOutcome),
 }

@@ -1,18 +1,18 @@
-//! Words and counts, as the four bytes that a board has of each.
+//! Words and counts, as four bytes of a board's memory.
 ghost use Rattle.std.specs.Prelude.{◌≡◌};
 ghost use Rattle.vme_cycle.specs.Functions.{number_bytes};
 ghost use Rattle.vme_shared.specs.Steps.{word_in};
 
 use vme_lanes::Datum;
 
-/// The bytes of a word, the first most significant.
+/// Returns the bytes of a word, the most significant first.
 pub(crate) fn word_bytes(word: u32) -> Datum
     ensures { result.items ≡ number_bytes 4 word }
 {
     Datum::try_from(&word.to_be_bytes()[..]).unwrap()
 }
 
-/// The word that four bytes spell; no other bytes are one.
+/// Returns the word that four bytes give, the most significant first; other lengths give none.
 pub(crate) fn word_in(bytes: &[u8]) -> Option<u32>
     ensures { result ≡ word_in bytes.now }
 {

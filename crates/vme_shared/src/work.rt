@@ -14,13 +14,13 @@ use vme_master::Task;
 pub enum Work<'a> {
     /// The bus task of this stage.
     Running { stage: Stage, task: Task<'a> },
-    /// It has ended so.
+    /// The task has ended with this outcome.
     Finished(SharedOutcome),
 }
 
 impl Work<'_> {
-    /// The transfer at work is given the reply to its event, or nothing. Where it has ended by that,
-    /// this is where its outcome leads.
+    /// Gives the transfer at work the reply to its event, or nothing. Returns what follows it, if
+    /// it has ended.
     #[tactic(auto, using(crate::proofs::lemmas::Stands::by_outcome))]
     pub(crate) fn advance(
         &mut self,

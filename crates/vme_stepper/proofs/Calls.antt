@@ -1,4 +1,4 @@
--- Calls of lines at work: they are to boards that are there, and their objects can count them.
+-- The calls of lines at work: they go to boards of the configuration, and their objects can count them.
 use Rattle.std.proofs.Common.{◌≡◌, ℕ, ◌-◌, ◌^◌, length, Some, refl, ap, sym, ◌∙◌}
 use Rattle.vme_core.specs.declared.event.Target.TheVariants as at
 use Rattle.vme_core.specs.Runs.{Machine}
@@ -13,7 +13,7 @@ use Rattle.vme_line_task.proofs.lemmas.Below.{calls_below}
 use Rattle.vme_stepper.specs.Steppers.{StepsWithin}
 use Rattle.vme_stepper.proofs.Steps.{none_spent}
 
--- what a line calls is there, and is not spent
+-- the object of a line's call exists and can count it
 can_call : (machine : Machine) (task : LineTask) (call : Call) → IsLineBelow (length machine.boards) task → StepsWithin (2 ^ 64 - 2) machine
     → line_to_do task ≡ Invokes call → CanCount machine (target_of_call call)
 can_call machine task (OnBoard board command) below steps makes = record {
@@ -31,7 +31,7 @@ can_next machine task NotStarted is below steps = tt
 can_next machine task (Invokes call) is below steps = can_call machine task call below steps is
 can_next machine task (Returns answer) is below steps = tt
 
--- so it can make its call, if it makes one
+-- a line can make its call, if it has one
 pub can_make : (machine : Machine) (task : LineTask) → IsLineBelow (length machine.boards) task → StepsWithin (2 ^ 64 - 2) machine
     → CanMake machine (call_in (line_to_do task))
 can_make machine task below steps = can_next machine task (line_to_do task) refl below steps

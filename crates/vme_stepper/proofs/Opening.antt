@@ -19,12 +19,12 @@ use Rattle.vme_stepper.specs.Steppers.{ProcessorView, processor_of, processors_f
 use Rattle.vme_stepper.proofs.Reported.{reported_length, reported_none, unfinished, get_map, map_next}
 use Rattle.vme_stepper.proofs.SystemStates.{processors_get}
 
--- no line of a script has an answer
+-- no line of a script has a reply
 abbrev pub fresh_script_state : List ScriptLine → ScriptState
 fresh_script_state script = script_state [] []
 
 module _ (config : Configuration) where
-  -- a processor more
+  -- one processor more
   processors_push : (from place : ℕ) (script_states : List ScriptState) (c : ScriptState) → place ≡ from + length script_states
       → processors_from config from (script_states ++ c ∷ []) ≡ processors_from config from script_states ++ processor_of config place c ∷ []
   processors_push from place [] c at = let same : from ≡ place = omega arith in ap (λ p. processor_of config p c ∷ []) same
@@ -54,7 +54,7 @@ module _ (config : Configuration) where
       ∙ ap (processors_from config 0)
       (sym (map_next fresh_script_state config.scripts board (script_state [] []) (get_map fresh_script_state config.scripts board ∙ ap (option_map fresh_script_state) found)))
 
-  -- the stepper of the opening system, by its parts
+  -- the stepper of the initial state, by its parts
   pub opens : (machine : Machine) (processors : List ProcessorView) (memories : List Board) (bus : Arbitration) (k : ℕ) → machine ≡ opening memories bus k
       → memories ≡ map opening_memory config.boards → bus ≡ opening_bus config.arbiter → k ≡ length config.boards → processors ≡ processors_from config 0 (initial_state config).script_states
       → record { machine = machine; processors = processors } ≡ stepper_of config (initial_state config)

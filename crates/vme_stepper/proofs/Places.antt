@@ -29,7 +29,7 @@ slot_found boards i own found =
       | inr past ↦ absurd (omega (arith, slice_get_within _ i own found, length-map boards (λ (board : BoardConfig). board.slot), past.0))
     ]
 
--- the next board is it, or it is among those after
+-- the next board is in the slot, or the place is among the boards after it
 pub place_next : (boards : List BoardConfig) (slot i own : ℕ) → slice_get (map (λ board. board.slot) boards) i ≡ Some own
     → place_from slot i (drop i boards) ≡ cond (own == slot) (Some i) (place_from slot (i + 1) (drop (i + 1) boards))
 place_next boards slot i own found =
@@ -39,7 +39,7 @@ place_next boards slot i own found =
 pub place_over : (boards : List BoardConfig) (slot i : ℕ) → length boards ≤ i → place_from slot i (drop i boards) ≡ None
 place_over boards slot i over = rw (drop_all i boards over) refl
 
--- of boards of which no other has its slot, the place of a board is its own
+-- if no other board has a board's slot, the place of that slot is the board's own
 place_own : (boards : List BoardConfig) (board : BoardConfig) (i from : ℕ) → slice_get boards i ≡ Some board
     → ((j : ℕ) (other : BoardConfig) → slice_get boards j ≡ Some other → other.slot ≡ board.slot → j ≡ i)
     → place_from board.slot from boards ≡ Some (from + i)

@@ -1,4 +1,4 @@
--- A turn of a processor is the turn of its script_state.
+-- A turn of a processor is the turn of its script state.
 use Rattle.std.proofs.Common.{◌≡◌, ℕ, ◌<◌, List, [], ◌∷◌, ◌++◌, length, drop, refl, ap, sym, ◌∙◌, arith}
 use Rattle.std.proofs.lemmas.List.{drop-drop, length_push, length-map, length-drop}
 use Rattle.vme_core.specs.declared.event.EventReply.{EventReply}
@@ -19,7 +19,7 @@ use Rattle.vme_line_task.proofs.lemmas.Lines.{by_the_replies}
 use Rattle.vme_stepper.proofs.Reported.{reported_more}
 
 module _ (config : Configuration) (board : ℕ) where
-  -- there is a next line, so one more is answered within the script
+  -- if a line is left, its place is within the script
   within : (n : ℕ) (line : Line) (lines : List Line) → drop n (lines_at config board) ≡ line ∷ lines → n < length (script_at config board)
   within n line lines left =
       omega (arith, ap length left, length-drop n (lines_at config board), length-map (script_at config board) (λ one. one.line))
@@ -30,7 +30,7 @@ module _ (config : Configuration) (board : ℕ) where
   left_after ended answer line lines left =
       ap (λ n. drop n (lines_at config board)) (length_push ended answer) ∙ sym (drop-drop 1 (length ended) (lines_at config board)) ∙ ap (λ ls. drop 1 ls) left
 
-  -- an answer is recorded
+  -- a reply is recorded
   answered_is : (processor : ProcessorView) (ended : List LineReply) (answer : LineReply) (line : Line) (lines : List Line)
       → drop (length ended) (lines_at config board) ≡ line ∷ lines → processor.script ≡ script_at config board
       → processor.lines ≡ reported_lines (script_at config board) ended → processor.ended ≡ length ended
@@ -38,7 +38,7 @@ module _ (config : Configuration) (board : ℕ) where
   answered_is processor ended answer line lines left script reported count =
       rw (script, reported, count, reported_more (script_at config board) ended answer (within (length ended) line lines left), length_push ended answer) refl
 
-  -- a task goes on by a reply
+  -- a task advances by a reply
   settled_is : (processor : ProcessorView) (ended : List LineReply) (reply : EventReply) (replies : List EventReply) (line : Line) (lines : List Line) (next : NextStep LineReply)
       → drop (length ended) (lines_at config board) ≡ line ∷ lines → processor.script ≡ script_at config board
       → processor.lines ≡ reported_lines (script_at config board) ended → processor.ended ≡ length ended
@@ -47,7 +47,7 @@ module _ (config : Configuration) (board : ℕ) where
   settled_is processor ended reply replies line lines (Invokes call) left script reported count = rw (script, reported, count, left) refl
   settled_is processor ended reply replies line lines NotStarted left script reported count = rw (script, reported, count, left) refl
 
-  -- the machine and the processor of a script_state
+  -- the machine and the processor of a script state
   abbrev with_processor : Machine × ScriptState → Machine × ProcessorView
   with_processor next = (next.0, processor_of config board next.1)
 
@@ -85,7 +85,7 @@ module _ (config : Configuration) (board : ℕ) where
       (λ now. script_state_turn config board lines machine now) left
       (λ answer. lines_is lines machine (script_state (c.ended ++ answer ∷ []) []) (left_after c.ended answer line lines left))))
 
-  -- a turn
+  -- a turn of a processor is that of its script state
   pub turn_is : (machine : Machine) (c : ScriptState)
       → processor_turn config board machine (processor_of config board c) ≡ with_processor (script_state_turn config board (lines_left config board c) machine c)
   turn_is machine c = lines_is (lines_left config board c) machine c refl

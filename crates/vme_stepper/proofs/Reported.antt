@@ -1,4 +1,4 @@
--- The lines of a script as they are told.
+-- The lines of a script in the report.
 use Rattle.std.proofs.Common.{◌≡◌, ℕ, zero, suc, ◌+◌, ◌<◌, List, [], ◌∷◌, ◌++◌, length, map, take, Option, Some, None, refl, sym, ap, ◌∙◌, arith, inl, inr, slice_index_or, slice_set}
 use Rattle.std.specs.Prelude.{slice_get, option_map}
 use Rattle.std.proofs.lemmas.List.{map-append, take_more, length-map}
@@ -8,7 +8,7 @@ use Rattle.vme_shared.specs.declared.reply.LineReply.TheVariants.{Unfinished}
 use Rattle.vme_script.specs.declared.script.ScriptLine.{ScriptLine}
 use Rattle.vme_stepper.specs.Reports.{reported_lines}
 
--- one answer more
+-- one reply more
 pub reported_more :
     (script : List ScriptLine) (ended : List LineReply) (answer : LineReply) → length ended < length script
     → slice_set (reported_lines script ended) (length ended) ((slice_index_or (reported_lines script ended) (length ended) (0, answer)).0, answer)
@@ -17,13 +17,13 @@ reported_more [] ended answer more = absurd (omega arith)
 reported_more (line ∷ script) [] answer more = refl
 reported_more (line ∷ script) (first ∷ ended) answer more = ap (λ lines. (line.number, first) ∷ lines) (reported_more script ended answer (omega arith))
 
--- no line is left out
+-- each line of the script is in the report
 pub reported_length : (script : List ScriptLine) (ended : List LineReply) → length (reported_lines script ended) ≡ length script
 reported_length [] ended = refl
 reported_length (line ∷ script) [] = ap suc (reported_length script [])
 reported_length (line ∷ script) (first ∷ ended) = ap suc (reported_length script ended)
 
--- before the first answer all are unfinished
+-- before the first reply all lines are unfinished
 pub reported_none : (script : List ScriptLine) → map (λ line. (line.number, Unfinished)) script ≡ reported_lines script []
 reported_none [] = refl
 reported_none (line ∷ script) = ap (λ lines. (line.number, Unfinished) ∷ lines) (reported_none script)
@@ -46,7 +46,7 @@ map_next f xs i y found =
       | inr past ↦ absurd (omega (arith, slice_get_within _ i y found, length-map xs f, past.0))
     ]
 
--- a line without an answer
+-- a line without a reply
 abbrev pub unfinished : ScriptLine → ℕ × LineReply
 unfinished line = (line.number, Unfinished)
 

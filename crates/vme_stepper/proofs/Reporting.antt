@@ -1,4 +1,4 @@
--- What is told of the boards, one after another.
+-- The report's entries for the boards, one after another.
 use Rattle.std.proofs.Common.{◌≡◌, ℕ, ◌+◌, ◌<◌, ◌≤◌, List, [], ◌∷◌, ◌++◌, length, map, drop, get_or, Some, refl, sym, ap, ◌∙◌, arith, inl, inr}
 use Rattle.std.specs.Prelude.{slice_get}
 use Rattle.std.proofs.lemmas.List.{append-nil, drop_all, drop-drop, get_or-drop}
@@ -20,12 +20,12 @@ use Rattle.vme_stepper.proofs.Reported.{get_map}
 use Rattle.vme_stepper.proofs.Places.{slot_found}
 use Rattle.vme_stepper.proofs.Turning.{next_first}
 
--- a value of a counted
+-- a value of a counted state
 counted_is : {B : Type 0} (f : CountedState Board → B) (counted_states : List (CountedState Board)) (i : ℕ) (counted : CountedState Board) (y : B) → slice_get counted_states i ≡ Some counted
     → slice_get (map f counted_states) i ≡ Some y → f counted ≡ y
 counted_is f counted_states i counted y at found = same_Some _ _ (sym (rw at at (get_map f counted_states i)) ∙ found)
 
--- one board more is told
+-- one entry more
 pub board_more : (boards : List BoardConfig) (processors : List ProcessorView) (counted_states : List (CountedState Board)) (i slot steps : ℕ) (processor : ProcessorView) (lines : List (ℕ × LineReply)) (object : Board)
     (made : List ℕ)
     → slice_get (map (λ board. board.slot) boards) i ≡ Some slot → i < length processors → processor ≡ get_or processors i processor → lines ≡ processor.lines
@@ -50,12 +50,12 @@ board_more boards processors counted_states i slot steps processor lines object 
       | inr past ↦ absurd (omega (arith, past.0))
     ]
 
--- after the last board nothing is left to tell
+-- after the last board no entry is left
 pub board_over : (boards : List BoardConfig) (processors : List ProcessorView) (counted_states : List (CountedState Board)) (i : ℕ) (reported : List BoardText) → length boards ≤ i
     → reported ++ processors_reported (drop i boards) (drop i processors) (drop i counted_states) ≡ processors_reported boards processors counted_states → reported ≡ processors_reported boards processors counted_states
 board_over boards processors counted_states i reported over whole = sym (append-nil reported) ∙ ap (λ ts. reported ++ ts) (sym (rw (drop_all i boards over) refl)) ∙ whole
 
--- what is told by the processors is what is told of their script_states
+-- the entries by the processors are those by their script states
 script_states_reported : (config : Configuration) (boards : List BoardConfig) (scripts : List (List ScriptLine)) (script_states : List ScriptState) (counted_states : List (CountedState Board)) (from : ℕ)
     → drop from config.scripts ≡ scripts → length scripts ≡ length boards
     → processors_reported boards (processors_from config from script_states) counted_states ≡ reported_boards boards scripts script_states counted_states
@@ -74,7 +74,7 @@ pub system_reported : (config : Configuration) (system : SystemState) → length
     → processors_reported config.boards (stepper_of config system).processors (stepper_of config system).machine.boards ≡ reported_system config system
 system_reported config system count = script_states_reported config config.boards config.scripts system.script_states system.machine.boards 0 refl count
 
--- what a stepper tells after turns is what is told of their system
+-- the entries of a stepper after turns are those of its system
 pub stepper_reported : (config : Configuration) (stepper : StepperView) (slots : List ℕ) → IsLawful config → stepper ≡ stepper_of config (state_after config slots)
     → processors_reported config.boards stepper.processors stepper.machine.boards ≡ reported_system config (state_after config slots)
 stepper_reported config stepper slots lawful is =

@@ -1,4 +1,4 @@
--- Turns one after another.
+-- Turns, one after another.
 use Rattle.std.proofs.Common.{◌≡◌, ℕ, zero, suc, ◌+◌, ◌-◌, ◌*◌, ◌^◌, ◌<◌, ◌≤◌, List, [], ◌∷◌, ◌++◌, length, take, get_or, replicate, Option, None, refl, sym, ap, subst, ◌∙◌, arith, append_assoc, length-append, add-one}
 use Rattle.std.proofs.Math.Nat.{mul-le-mul}
 use Rattle.std.proofs.lemmas.List.{append-nil, take_more, length-replicate, length-take, flat_map_more}
@@ -17,12 +17,12 @@ pub turn_more : (config : Configuration) (stepper : StepperView) (before : List 
     → place ≡ board_in_slot config slot → stepper_turn_at config stepper place ≡ stepper_of config (state_after config (before ++ slot ∷ []))
 turn_more config stepper before slot place is at = rw (is, at) (sym (system_more config before slot))
 
--- few turns leave room for steps
+-- few turns leave every object able to count its steps
 pub few_steps : (config : Configuration) (stepper : StepperView) (before : List ℕ) → stepper ≡ stepper_of config (state_after config before)
     → length before ≤ 2 ^ 64 - 2 → StepsWithin (2 ^ 64 - 2) stepper.machine
 few_steps config stepper before is few = subst (λ (d : StepperView). StepsWithin (2 ^ 64 - 2) d.machine) (sym is) (steps_after config (2 ^ 64 - 2) before few)
 
--- turns of a slot without a board do nothing
+-- turns of a slot without a board change nothing
 pub none_more : (config : Configuration) (before : List ℕ) (slot n : ℕ) → None ≡ board_in_slot config slot
     → stepper_of config (state_after config before) ≡ stepper_of config (state_after config (before ++ replicate n slot))
 none_more config before slot zero none = ap (λ slots. stepper_of config (state_after config slots)) (sym (append-nil before))
@@ -38,7 +38,7 @@ schedule_more schedule i within =
     flat_map_more (λ (turns : ℕ × ℕ). replicate turns.1 turns.0) [] (take i schedule) (get_or schedule i (0, 0))
     ∙ ap schedule_turns (sym (take_more schedule i (0, 0) within))
 
--- so many turns are in a schedule
+-- a schedule has as many turns as its pairs state
 schedule_length : (schedule : List (ℕ × ℕ)) → length (schedule_turns schedule) ≡ turns_of schedule
 schedule_length [] = refl
 schedule_length (turns ∷ schedule) =
@@ -46,7 +46,7 @@ schedule_length (turns ∷ schedule) =
     ∙ ap (λ n. n + length (schedule_turns schedule)) (length-replicate turns.1 turns.0) ∙ ap (λ n. turns.1 + n) (schedule_length schedule)
     ∙ sym (sum_by-cons (λ (t : ℕ × ℕ). t.1) turns schedule)
 
--- and at most so many in its first pairs and a part of the next
+-- the first pairs of a schedule and a part of the next have few turns
 pub schedule_few : (schedule : List (ℕ × ℕ)) (i k most : ℕ) → i < length schedule → k ≤ (get_or schedule i (0, 0)).1 → turns_of schedule ≤ most
     → length (schedule_turns (take i schedule) ++ replicate k (get_or schedule i (0, 0)).0) ≤ most
 schedule_few schedule i k most within part few =
@@ -74,7 +74,7 @@ round_length : (n : ℕ) (slots : List ℕ) → length (round_turns n slots) ≡
 round_length zero slots = omega arith
 round_length (suc n) slots = length-append slots (round_turns n slots) ∙ ap (λ m. length slots + m) (round_length n slots) ∙ omega arith
 
--- so many turns are in a schedule, rounds and a part of the next
+-- a schedule, rounds and a part of the next round have few turns
 pub rounds_few : (config : Configuration) (slots : List ℕ) (i k : ℕ) → IsLawful config → i ≤ config.rounds → length slots ≤ 21
     → length (schedule_turns config.schedule ++ (round_turns i slots ++ take k slots)) ≤ 2 ^ 64 - 2
 rounds_few config slots i k lawful within few =

@@ -1,4 +1,4 @@
--- A turn makes one step at most.
+-- A turn makes at most one step.
 use Rattle.std.proofs.Common.{◌≡◌, ℕ, zero, suc, ◌+◌, ◌-◌, ◌^◌, ◌≤◌, List, [], ◌∷◌, ◌++◌, length, map, Option, Some, None, refl, ap, sym, subst, ◌∙◌, arith}
 use Rattle.std.specs.Prelude.{slice_get, slice_set, option_map}
 use Rattle.std.proofs.lemmas.Option.{same_Some}
@@ -20,7 +20,7 @@ use Rattle.vme_stepper.specs.Turns.{SystemState, script_state, turn_by, script_s
 use Rattle.vme_stepper.specs.Steppers.{StepsWithin}
 use Rattle.vme_stepper.proofs.Reported.{get_map}
 
--- what holds of each element holds after one of them is another
+-- a fact of each element holds after one of them is replaced
 pub set_each : {A : Type 0} (P : ℕ → A → Type 0) (xs : List A) (i k : ℕ) (new x : A) → ((j : ℕ) (y : A) → slice_get xs j ≡ Some y → P j y) → P i new
     → slice_get (slice_set xs i new) k ≡ Some x → P k x
 set_each P [] i k new x each is found = each k x found
@@ -29,7 +29,7 @@ set_each P (y ∷ ys) zero (suc k) new x each is found = each (suc k) x found
 set_each P (y ∷ ys) (suc i) zero new x each is found = each zero x found
 set_each P (y ∷ ys) (suc i) (suc k) new x each is found = set_each (λ j z. P (suc j) z) ys i k new x (λ j z there. each (suc j) z there) is found
 
--- more is more
+-- a greater bound holds too
 pub steps_weaker : (n m : ℕ) (machine : Machine) → n ≤ m → StepsWithin n machine → StepsWithin m machine
 steps_weaker n m machine more steps = record {
   boards = λ b counted found. let few = steps.boards b counted found in omega arith;
@@ -47,7 +47,7 @@ board_steps n machine who x command (Some board) there steps = record {
   bus = let few = steps.bus in omega arith;
 }
 
--- a call
+-- a call makes at most one step
 machine_steps : (n : ℕ) (machine : Machine) (who : ℕ) (call : Call) → StepsWithin n machine → StepsWithin (n + 1) (machine_step machine who call).0
 machine_steps n machine who (OnBoard x command) steps = board_steps n machine who x command (slice_get machine.boards x) refl steps
 machine_steps n machine who (OnBus cmd) steps = record {
@@ -108,7 +108,7 @@ board_unspent : (machine : Machine) (board : ℕ) (found : Option (CountedState 
 board_unspent machine board None is steps spent = cc
 board_unspent machine board (Some t) is steps spent = let few = steps.boards board t is in let all = same_Some _ _ spent in omega arith
 
--- and none has made as many as can be counted
+-- no object has made as many steps as can be counted
 pub none_spent : (machine : Machine) (target : Target) → StepsWithin (2 ^ 64 - 2) machine → steps_of machine target ≡ Some (2 ^ 64 - 1) → ⊥
 none_spent machine (at.Board board) steps spent =
     board_unspent machine board (slice_get machine.boards board) refl steps (sym (get_map (λ t. t.steps) machine.boards board) ∙ spent)

@@ -8,14 +8,14 @@ use Rattle.vme_stepper.specs.Steppers.{stepper_turned, stepper_turn_at, processo
 use Rattle.vme_stepper.proofs.Processors.{turn_is as processor_turn_is}
 
 module _ (config : Configuration) where
-  -- the processor at a place is that of the script_state there
+  -- the processor at a place is that of the script state there
   pub processors_get : (from b place : ℕ) (script_states : List ScriptState) → place ≡ from + b
       → slice_get (processors_from config from script_states) b ≡ option_map (processor_of config place) (slice_get script_states b)
   processors_get from b place [] at = refl
   processors_get from zero place (c ∷ script_states) at = let same : from ≡ place = omega arith in ap (λ p. Some (processor_of config p c)) same
   processors_get from (suc b) place (c ∷ script_states) at = processors_get (from + 1) b place script_states (omega arith)
 
-  -- a script_state is put in its place
+  -- a script state is put at its place
   pub processors_set : (from b place : ℕ) (script_states : List ScriptState) (new : ScriptState) → place ≡ from + b
       → slice_set (processors_from config from script_states) b (processor_of config place new) ≡ processors_from config from (slice_set script_states b new)
   processors_set from b place [] new at = refl

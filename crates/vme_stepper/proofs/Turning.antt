@@ -1,4 +1,4 @@
--- What a turn of a processor is, by the line at work or the next one.
+-- A turn of a processor, by the line at work or the next one.
 use Rattle.std.proofs.Common.{◌≡◌, ℕ, ◌+◌, ◌<◌, ◌≤◌, List, ◌∷◌, length, drop, Some, None, refl, ap, sym, subst, ◌∙◌, arith, inl, inr}
 use Rattle.std.specs.Prelude.{slice_get, slice_set, slice_index_or}
 use Rattle.std.proofs.lemmas.List.{drop_more, drop_all}
@@ -16,7 +16,7 @@ use Rattle.vme_line_task.specs.Scripts.{lines_at}
 use Rattle.vme_line_task.specs.Machine.{line_started, line_advance, line_to_do}
 use Rattle.vme_stepper.specs.Steppers.{ProcessorView, processor_answered, processor_settled, processor_called, line_begun, processor_turn}
 
--- a processor by its parts
+-- a processor with this task at work
 abbrev pub processor_at : ProcessorView → LineTask → ProcessorView
 processor_at processor task = record { script = processor.script; lines = processor.lines; ended = processor.ended; at = Some task }
 
@@ -26,13 +26,13 @@ next_first lines n line found =
     drop_more lines n line (slice_get_within lines n line found) ∙ ap (λ one. one ∷ drop (n + 1) lines) (get_or_from_slice_get lines n line line found)
 
 module _ (config : Configuration) (board : ℕ) (machine : Machine) where
-  -- the next line is answered without a call
+  -- the next line ends without a call
   pub turn_answered : (processor : ProcessorView) (line : Line) (answer : LineReply) → processor.at ≡ None → slice_get (lines_at config board) processor.ended ≡ Some line
       → line_to_do (line_begun config board line) ≡ Returns answer
       → processor_turn config board machine processor ≡ processor_turn config board machine (processor_answered processor answer)
   turn_answered processor line answer idle found ends = rw (next_first (lines_at config board) processor.ended line found) (rw idle (rw ends refl))
 
-  -- or it is begun
+  -- the next line begins
   pub turn_begun : (processor : ProcessorView) (line : Line) (call : Call) → processor.at ≡ None → slice_get (lines_at config board) processor.ended ≡ Some line
       → line_to_do (line_begun config board line) ≡ Invokes call
       → processor_turn config board machine processor ≡ processor_turn config board machine (processor_at processor (line_begun config board line))
@@ -62,7 +62,7 @@ module _ (config : Configuration) (board : ℕ) (machine : Machine) where
       ap (λ (s : Machine × EventReply). (s.0, processor_settled processor (line_advance task (Some s.1)) (line_to_do (line_advance task (Some s.1))))) step
       ∙ sym (turn_called processor found.0 task call at found.1 makes)
 
-  -- and makes another next
+  -- the line at work makes another call next
   pub turn_goes_on : (after : Machine) (processor : ProcessorView) (script : List ScriptLine) (lines : List (ℕ × LineReply)) (ended : ℕ) (task next : LineTask) (call then : Call) (reply : EventReply)
       → record { script = script; lines = lines; ended = ended; at = Some task } ≡ processor → length processor.lines ≡ length (lines_at config board) → ended < length lines
       → line_to_do task ≡ Invokes call → (after, reply) ≡ machine_step machine board call → next ≡ line_advance task (Some reply) → Invokes then ≡ line_to_do next
@@ -75,7 +75,7 @@ module _ (config : Configuration) (board : ℕ) (machine : Machine) where
       ap (λ (l : ProcessorView). (after, l)) (sym settles) ∙ turn_made after own task call reply refl (omega (arith, all)) makes step
       ∙ ap (λ (l : ProcessorView). processor_turn config board machine l) is
 
-  -- or has come to its end
+  -- the line at work has ended
   pub turn_ends : (after : Machine) (processor : ProcessorView) (script : List ScriptLine) (lines : List (ℕ × LineReply)) (ended : ℕ) (task next : LineTask) (call : Call) (answer : LineReply)
       (reply : EventReply) → record { script = script; lines = lines; ended = ended; at = Some task } ≡ processor → length processor.lines ≡ length (lines_at config board)
       → ended < length lines → line_to_do task ≡ Invokes call → (after, reply) ≡ machine_step machine board call → next ≡ line_advance task (Some reply)
@@ -90,7 +90,7 @@ module _ (config : Configuration) (board : ℕ) (machine : Machine) where
       ap (λ (l : ProcessorView). (after, l)) (sym settles) ∙ turn_made after own task call reply refl (omega (arith, all)) makes step
       ∙ ap (λ (l : ProcessorView). processor_turn config board machine l) is
 
-  -- a line that is begun and makes a call is at work
+  -- a line that begins and makes a call is at work
   pub turn_begins : (script : List ScriptLine) (lines : List (ℕ × LineReply)) (ended : ℕ) (started task : LineTask) (call : Call) → ended < length (lines_at config board)
       → ((one : Line) → slice_get (lines_at config board) ended ≡ Some one → started ≡ line_started config board one)
       → task ≡ line_advance started None → Invokes call ≡ line_to_do task
@@ -103,7 +103,7 @@ module _ (config : Configuration) (board : ℕ) (machine : Machine) where
       ap (λ (t : LineTask). processor_turn config board machine (processor_at idle t)) begun
       ∙ sym (turn_begun idle found.0 call refl found.1 (ap line_to_do (sym begun) ∙ sym todo))
 
-  -- and one that has ended without a call is answered
+  -- the reply of a line that ends without a call is recorded
   pub turn_passes : (script : List ScriptLine) (lines : List (ℕ × LineReply)) (ended : ℕ) (started task : LineTask) (answer : LineReply) → ended < length (lines_at config board)
       → ((one : Line) → slice_get (lines_at config board) ended ≡ Some one → started ≡ line_started config board one)
       → task ≡ line_advance started None → Returns answer ≡ line_to_do task

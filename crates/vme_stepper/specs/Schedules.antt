@@ -1,17 +1,17 @@
--- The turns that a configuration file asks for.
+-- The turns that a configuration file states.
 use Rattle.std.specs.Prelude.{ℕ, zero, suc, List, [], ◌++◌, map, replicate}
 use Rattle.std.specs.List.{flat_map}
 use Rattle.vme_script.specs.Configurations.{Configuration}
 
--- the slots of a schedule's turns: of each pair so many turns of its slot (this project's own)
+-- the slots of a schedule's turns: each pair states so many turns of its slot
 abbrev pub schedule_turns : List (ℕ × ℕ) → List ℕ
 schedule_turns schedule = flat_map (λ turns. replicate turns.1 turns.0) schedule
 
--- rounds over these slots, in order (this project's own)
+-- the slots of so many rounds over these slots, in order
 abbrev pub round_turns : ℕ → List ℕ → List ℕ
 round_turns zero slots = []
 round_turns (suc n) slots = slots ++ round_turns n slots
 
--- the slots of a file's turns: first those of its schedule, and then its rounds over all slots (this project's own)
+-- the slots of a file's turns: those of its schedule, and then its rounds over all slots
 unfoldable pub file_turns : Configuration → List ℕ
 file_turns config = schedule_turns config.schedule ++ round_turns config.rounds (map (λ board. board.slot) config.boards)

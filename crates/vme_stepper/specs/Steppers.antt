@@ -1,4 +1,4 @@
--- The system as the stepper keeps it, with tasks in place of replies: for this crate's own functions.
+-- The system as the stepper keeps it, with tasks in place of replies, for this crate's own functions.
 use Rattle.std.specs.Prelude.{ℕ, ◌≡◌, ◌+◌, ◌<◌, ◌≤◌, List, [], ◌∷◌, length, drop, slice_get, slice_set, slice_index_or, Option, Some, None, IfSome}
 use Rattle.vme_cycle.specs.BlockBuffers.{BufferView}
 use Rattle.vme_memory.specs.Boards.{Board}
@@ -22,31 +22,31 @@ use Rattle.vme_line_task.specs.Traces.{ScriptState}
 use Rattle.vme_stepper.specs.Reports.{reported_lines}
 use Rattle.vme_stepper.specs.Turns.{SystemState, lines_left}
 
--- a script, its lines as they are told, how many have ended, and the task of the one at work, if one is
--- (this project's own)
+-- a processor in the stepper: its script, the report's lines, how many have ended, and the task of the line at work, if
+-- any
 pub record ProcessorView : Type 0 where
   pub script : List ScriptLine
   pub lines : List (ℕ × LineReply)
   pub ended : ℕ
   pub at : Option LineTask
 
--- how many lines have begun (this project's own)
+-- the number of lines that have begun
 abbrev pub begun_lines : ℕ → Option LineTask → ℕ
 begun_lines ended None = ended
 begun_lines ended (Some task) = ended + 1
 
--- a line at work has a call to make, and there are rooms for the lines that have not begun (this project's own)
+-- a line at work has a call to make, and each line that has not begun has its buffer
 pub record IsSoundProcessor (script : List ScriptLine) (lines : List (ℕ × LineReply)) (ended : ℕ) (at : Option LineTask)
     (buffers : List BufferView) : Type 0 where
   pub work : IfSome at (λ task. (ended < length lines) × MakesCall (line_to_do task))
   pub left : buffers ≡ drop (begun_lines ended at) (buffers_of script)
 
--- boards and arbiter, and a processor for each processor (this project's own)
+-- boards and arbiter, and the processor of each board
 pub record StepperView : Type 0 where
   pub machine : Machine
   pub processors : List ProcessorView
 
--- the answer of the next line is recorded (this project's own)
+-- a processor after the reply of its next line was recorded
 abbrev pub processor_answered : ProcessorView → LineReply → ProcessorView
 processor_answered processor answer = record {
   script = processor.script;
@@ -55,75 +55,74 @@ processor_answered processor answer = record {
   at = None;
 }
 
--- a task of the next line: at its end the answer is recorded, and else it is at work (this project's own)
+-- a processor with a task of its next line: if the line has ended its reply is recorded, else the task is at work
 abbrev pub processor_settled : ProcessorView → LineTask → NextStep LineReply → ProcessorView
 processor_settled processor task (Returns answer) = processor_answered processor answer
 processor_settled processor task next = record { script = processor.script; lines = processor.lines; ended = processor.ended; at = Some task }
 
--- a task of the next line makes its call, and goes on by the reply (this project's own)
+-- a task of the next line makes its call and advances by the reply
 abbrev pub processor_called : Machine → ℕ → ProcessorView → LineTask → Call → Machine × ProcessorView
 processor_called machine board processor task call =
     let step = machine_step machine board call in
     let next = line_advance task (Some step.1) in
     (step.0, processor_settled processor next (line_to_do next))
 
--- a task of the next line that has a call to make makes it; one that has ended is answered, and the lines after it go on
--- (this project's own)
+-- a turn by what the next line does: it makes its call, or its reply is recorded and the lines after it have the turn
 abbrev pub processor_turn_by : Machine → ℕ → ProcessorView → LineTask → NextStep LineReply → (ProcessorView → Machine × ProcessorView) → Machine × ProcessorView
 processor_turn_by machine board processor task (Invokes call) after = processor_called machine board processor task call
 processor_turn_by machine board processor task (Returns answer) after = after (processor_answered processor answer)
 processor_turn_by machine board processor task next after = (machine, processor)
 
--- a line after its first call (this project's own)
+-- a line after its first call
 abbrev pub line_begun : Configuration → ℕ → Line → LineTask
 line_begun config board line = line_advance (line_started config board line) None
 
--- the task of a line, which is begun where none is at work (this project's own)
+-- the task of a line, which begins if none is at work
 abbrev pub task_now : Configuration → ℕ → Line → Option LineTask → LineTask
 task_now config board line (Some task) = task
 task_now config board line None = line_begun config board line
 
--- a turn of a processor, with these lines left (this project's own)
+-- a turn of a processor with these lines left
 abbrev pub lines_turn : Configuration → ℕ → List Line → Machine → ProcessorView → Machine × ProcessorView
 lines_turn config board [] machine processor = (machine, processor)
 lines_turn config board (line ∷ lines) machine processor =
     let task = task_now config board line processor.at in
     processor_turn_by machine board processor task (line_to_do task) (λ now. lines_turn config board lines machine now)
 
--- a turn of a processor (this project's own)
+-- a turn of a processor
 abbrev pub processor_turn : Configuration → ℕ → Machine → ProcessorView → Machine × ProcessorView
 processor_turn config board machine processor = lines_turn config board (drop processor.ended (lines_at config board)) machine processor
 
--- a turn of a processor in the stepper (this project's own)
+-- a turn of a processor in the stepper, if there is one
 abbrev pub stepper_turned : Configuration → StepperView → ℕ → Option ProcessorView → StepperView
 stepper_turned config stepper board None = stepper
 stepper_turned config stepper board (Some processor) =
     let next = processor_turn config board stepper.machine processor in
     record { machine = next.0; processors = slice_set stepper.processors board next.1 }
 
--- a turn of a board's processor (this project's own)
+-- a turn of the processor of the board at a place
 abbrev pub stepper_turn : Configuration → StepperView → ℕ → StepperView
 stepper_turn config stepper board = stepper_turned config stepper board (slice_get stepper.processors board)
 
--- a turn at the place of a board, if there is one (this project's own)
+-- a turn at the place of a board, if there is one
 abbrev pub stepper_turn_at : Configuration → StepperView → Option ℕ → StepperView
 stepper_turn_at config stepper None = stepper
 stepper_turn_at config stepper (Some board) = stepper_turn config stepper board
 
--- what is told of boards, by their processors (this project's own)
+-- the report's entries for boards, by their processors
 abbrev pub processors_reported : List BoardConfig → List ProcessorView → List (CountedState Board) → List BoardText
 processors_reported (board ∷ boards) (processor ∷ processors) (counted ∷ counted_states) =
     record { slot = board.slot; lines = processor.lines; bytes = counted.object.bytes; steps = counted.steps; made = counted.made }
     ∷ processors_reported boards processors counted_states
 processors_reported boards processors counted_states = []
 
--- the task of the line at work, which has some reply (this project's own)
+-- the task of the line at work, if its calls have a reply
 abbrev pub task_at : Configuration → ℕ → List EventReply → List Line → Option LineTask
 task_at config board [] lines = None
 task_at config board (reply ∷ replies) [] = None
 task_at config board (reply ∷ replies) (line ∷ lines) = Some (line_after config board line (reply ∷ replies))
 
--- the processor of a script_state (this project's own)
+-- the stepper's processor of a script state
 abbrev pub processor_of : Configuration → ℕ → ScriptState → ProcessorView
 processor_of config board c = record {
   script = script_at config board;
@@ -132,30 +131,31 @@ processor_of config board c = record {
   at = task_at config board c.replies (lines_left config board c);
 }
 
--- the processors of script_states, of boards from a place on (this project's own)
+-- the stepper's processors of script states, of the boards from a place on
 abbrev pub processors_from : Configuration → ℕ → List ScriptState → List ProcessorView
 processors_from config board [] = []
 processors_from config board (c ∷ script_states) = processor_of config board c ∷ processors_from config (board + 1) script_states
 
--- the stepper of a system (this project's own)
+-- the stepper of a system
 abbrev pub stepper_of : Configuration → SystemState → StepperView
 stepper_of config system = record { machine = system.machine; processors = processors_from config 0 system.script_states }
 
--- a processor of a board's processor: it has its script and a line for each of the script's, and calls boards that are there
--- (this project's own)
+-- a processor has the script of its board, an entry for each line of the script, and calls boards of the configuration
+-- alone
 pub record IsProcessorOf (config : Configuration) (board : ℕ) (processor : ProcessorView) : Type 0 where
   pub script : processor.script ≡ script_at config board
   pub lines : length processor.lines ≡ length (lines_at config board)
   pub below : IfSome processor.at (IsLineBelow (length config.boards))
 
--- a stepper of a configuration: a board, a who and a processor for each of its boards (this project's own)
+-- a stepper has as many boards, counts and processors as the configuration has boards, and each processor is its
+-- board's
 pub record IsStepperOf (config : Configuration) (stepper : StepperView) : Type 0 where
   pub boards : length stepper.machine.boards ≡ length config.boards
   pub process_count : process_count stepper.machine ≡ length config.boards
   pub count : length stepper.processors ≡ length config.boards
   pub each : (b : ℕ) (processor : ProcessorView) → slice_get stepper.processors b ≡ Some processor → IsProcessorOf config b processor
 
--- no object has made more than n steps (this project's own)
+-- no object has made more than n steps
 pub record StepsWithin (n : ℕ) (machine : Machine) : Type 0 where
   pub boards : (b : ℕ) (counted : CountedState Board) → slice_get machine.boards b ≡ Some counted → counted.steps ≤ n
   pub bus : machine.bus.steps ≤ n

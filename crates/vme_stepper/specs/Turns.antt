@@ -1,4 +1,4 @@
--- Turns of the processors on one backplane, one after another: the whole of what a run on one thread does.
+-- Turns of the processors on one backplane, one after another: all that a run on one thread does.
 use Rattle.std.specs.Prelude.{ℕ, ◌==◌, List, [], ◌∷◌, ◌++◌, length, map, drop, slice_get, slice_set, Option, Some, None}
 use Rattle.std.specs.List.{position}
 use Rattle.vme_core.specs.declared.event.EventReply.{EventReply}
@@ -14,79 +14,78 @@ use Rattle.vme_line_task.specs.Scripts.{lines_at}
 use Rattle.vme_line_task.specs.Tables.{line_next}
 use Rattle.vme_line_task.specs.Traces.{ScriptState}
 
--- the boards and the arbiter with their counts, and how far each processor has come in its script, by the board's place
--- (this project's own)
+-- the boards and the arbiter with their counts, and how far each processor has come in its script, in the order of the
+-- boards
 pub record SystemState : Type 0 where
   pub machine : Machine
   pub script_states : List ScriptState
 
--- a script_state by its parts (this project's own)
+-- a script state by its parts
 abbrev pub script_state : List LineReply → List EventReply → ScriptState
 script_state ended replies = record { ended = ended; replies = replies }
 
--- a line that was given these replies: where it has ended, its answer is recorded, and the line after it is the next
--- (this project's own)
+-- the script state of a line with these replies: if the line has ended, its reply is recorded and the next line comes
 abbrev pub settled : List LineReply → List EventReply → NextStep LineReply → ScriptState
 settled ended replies (Returns answer) = script_state (ended ++ answer ∷ []) []
 settled ended replies next = script_state ended replies
 
--- the line at work makes its call as this who, and is given the reply (this project's own)
+-- the line at work makes its call as its board's processor, and is given the reply
 abbrev pub call_made : Configuration → ℕ → Line → Machine → ScriptState → Call → Machine × ScriptState
 call_made config board line machine c call =
     let step = machine_step machine board call in
     (step.0, settled c.ended (step.1 ∷ c.replies) (line_next config board line (step.1 ∷ c.replies)))
 
--- a line with a call to make makes it; one that has ended without one is answered, and the lines after it have the turn; no line
--- rests once it is called (this project's own)
+-- a turn by what a line does next: it makes its call, or its reply is recorded and the lines after it have the turn; no
+-- line rests once it is called
 abbrev pub turn_by : Configuration → ℕ → Line → Machine → ScriptState → NextStep LineReply → (ScriptState → Machine × ScriptState) → Machine × ScriptState
 turn_by config board line machine c (Invokes call) after = call_made config board line machine c call
 turn_by config board line machine c (Returns answer) after = after (script_state (c.ended ++ answer ∷ []) [])
 turn_by config board line machine c next after = (machine, c)
 
--- a turn of a board's processor, with these lines left: lines that need no call are answered, and the first that needs one
--- makes it; with no line left there is nothing to do (this project's own)
+-- a turn of a processor with these lines left: the replies of lines without a call are recorded, and the first line
+-- with a call makes it; with no line left nothing happens
 abbrev pub script_state_turn : Configuration → ℕ → List Line → Machine → ScriptState → Machine × ScriptState
 script_state_turn config board [] machine c = (machine, c)
 script_state_turn config board (line ∷ lines) machine c =
     turn_by config board line machine c (line_next config board line c.replies) (script_state_turn config board lines machine)
 
--- the lines of a processor's script that have no answer yet (this project's own)
+-- the lines of a processor's script that have no reply yet
 abbrev pub lines_left : Configuration → ℕ → ScriptState → List Line
 lines_left config board c = drop (length c.ended) (lines_at config board)
 
--- a turn of a board's processor in the system (this project's own)
+-- a turn of a processor in the system, if there is one
 abbrev pub turn_in : Configuration → SystemState → ℕ → Option ScriptState → SystemState
 turn_in config system board None = system
 turn_in config system board (Some c) =
     let next = script_state_turn config board (lines_left config board c) system.machine c in
     record { machine = next.0; script_states = slice_set system.script_states board next.1 }
 
--- a turn at the place of a board, if there is one (this project's own)
+-- a turn at the place of a board, if there is one
 abbrev pub turn_at : Configuration → SystemState → Option ℕ → SystemState
 turn_at config system None = system
 turn_at config system (Some board) = turn_in config system board (slice_get system.script_states board)
 
--- the place of the board in a slot, if there is one (this project's own)
+-- the place of the board in a slot, if there is one
 abbrev pub board_in_slot : Configuration → ℕ → Option ℕ
 board_in_slot config slot = position (λ board. board.slot == slot) config.boards
 
--- a turn of a slot; one without a board does nothing (this project's own)
+-- a turn of a slot; nothing happens if the slot has no board
 unfoldable pub turn : Configuration → SystemState → ℕ → SystemState
 turn config system slot = turn_at config system (board_in_slot config slot)
 
--- turns of slots, one after another (this project's own)
+-- turns of slots, one after another
 abbrev pub run : Configuration → SystemState → List ℕ → SystemState
 run config system [] = system
 run config system (slot ∷ slots) = run config (turn config system slot) slots
 
--- before the first turn: memories of zeros, a free bus with an arbiter of its kind, nothing counted, and no line answered
--- (this project's own)
+-- the state before the first turn: memories of zeros, a free bus with its kind of arbiter, no step counted, and no line
+-- ended
 abbrev pub initial_state : Configuration → SystemState
 initial_state config = record {
   machine = opening (map opening_memory config.boards) (opening_bus config.arbiter) (length config.boards);
   script_states = map (λ script. script_state [] []) config.scripts;
 }
 
--- the system after turns of these slots (this project's own)
+-- the state after turns of these slots
 unfoldable pub state_after : Configuration → List ℕ → SystemState
 state_after config slots = run config (initial_state config) slots

@@ -1,6 +1,7 @@
-//! The stepper of scripts on one thread: an exact multiprocessor. Slots have turns, one after
-//! another; in its turn a processor does one event of its script, a command to a board's memory or
-//! to the arbiter of the data transfer bus (ANSI/IEEE Std 1014-1987, chapters 2 and 3).
+//! The stepper of scripts on one thread: slots have turns, one after another.
+//!
+//! In its turn a processor performs one event of its script: a command to a board's memory, or to
+//! the arbiter of the data transfer bus (ANSI/IEEE Std 1014-1987, chapters 2 and 3).
 #![tactic(auto)]
 
 mod processor;

@@ -1,4 +1,4 @@
-//! The way of one processor through its script.
+//! A processor at work on its script.
 ghost use Rattle.std.specs.Prelude.{◌≡◌, ◌<◌, ◌≤◌, ◌-◌, ◌^◌, length, map, slice_set, slice_index_or, is_some, true, Some, None, IfOk, IfSome, IsTrue};
 ghost use Rattle.vme_shared.specs.declared.reply.LineReply.TheVariants.{Unfinished};
 ghost use Rattle.vme_core.specs.Runs.{Machine};
@@ -15,9 +15,10 @@ use vme_line_task::{LineTask, ReadBuffers};
 use vme_script::{Config, Script};
 use vme_shared::LineReply;
 
-/// The lines of a script with their answers, of which the first have ended, and the line at work
-/// if one is. All room is taken when it is made, that of the bytes of its lines too, and a task stays
-/// in its place.
+/// A script with the replies of the lines that have ended, and the line at work, if there is one.
+///
+/// All memory is allocated when the processor is made, that of the bytes of its lines too. The task
+/// of a line stays in its place.
 #[derive(Drop)]
 pub(crate) struct Processor<'a> {
     script: &'a Script,
@@ -43,7 +44,7 @@ impl<'a> Model for Processor<'a> {
 }
 
 impl<'a> Processor<'a> {
-    /// A script of which no line has ended.
+    /// Returns a processor of which no line has ended.
     pub(crate) fn new(alloc: Global, script: &'a Script) -> Result<Processor<'a>, AllocError>
         ensures { IfOk result (λ processor. processor ≡ record {
           script = script.now;
@@ -66,14 +67,14 @@ impl<'a> Processor<'a> {
         })
     }
 
-    /// The numbers of the lines, with their answers.
+    /// Returns the numbers of the lines, each with its reply.
     pub(crate) fn lines(&self) -> &[(u16, LineReply)]
         ensures { result.now ≡ self.now.lines }
     {
         self.lines.as_slice()
     }
 
-    /// A turn of the processor: it makes one event, if there is a line that needs one.
+    /// Performs one event, if there is a line that needs one.
     #[inline(always)]
     pub(crate) fn turn(&mut self, config: &'a Config, core: &mut Core, board: usize)
         requires board { board < length config.now.boards }
@@ -95,14 +96,14 @@ impl<'a> Processor<'a> {
         self.advance_on(core, board);
     }
 
-    /// Whether each line has ended.
+    /// Returns whether each line has ended.
     fn is_finished(&self) -> bool
         ensures { IsTrue result → length self.now.lines ≤ self.now.ended }
     {
         self.ended == self.lines.len()
     }
 
-    /// Answers lines that need no event, up to one that makes one.
+    /// Records the replies of lines that need no event, up to a line that needs one.
     #[inline(never)]
     fn seek(&mut self, config: &'a Config, board: usize)
         requires board { board < length config.now.boards }
@@ -127,7 +128,7 @@ impl<'a> Processor<'a> {
         }
     }
 
-    /// The line at work makes its event, if one is.
+    /// Performs the next event of the line at work, if there is one.
     #[inline(always)]
     #[tactic(auto, using(crate::proofs::Calls::can_make))]
     fn advance_on(&mut self, core: &mut Core, board: usize)
@@ -155,7 +156,7 @@ impl<'a> Processor<'a> {
     }
 }
 
-/// Lets the task of a line go, in its place.
+/// Drops the task of a line in its place.
 #[inline(never)]
 fn let_go(task: &mut Option<LineTask<'_>>)
     ensures { task.new ≡ None }
@@ -163,7 +164,8 @@ fn let_go(task: &mut Option<LineTask<'_>>)
     *task = None;
 }
 
-/// Puts the answer of a line that is over at its place. Out of line, so that a turn has no room for it.
+/// Records the reply of a line that has ended. Out of line, to keep the stack frame of a turn
+/// small.
 #[inline(never)]
 #[tactic(auto, using(vme_core::proofs::lemmas::NextSteps::its_own))]
 fn put_answer_of(lines: &mut [(u16, LineReply)], place: usize, task: &mut LineTask<'_>)
@@ -176,7 +178,7 @@ fn put_answer_of(lines: &mut [(u16, LineReply)], place: usize, task: &mut LineTa
     put_answer(lines, place, task.take_reply().unwrap());
 }
 
-/// Puts the answer of the line at a place.
+/// Records the reply of the line at a place.
 #[inline(never)]
 fn put_answer(lines: &mut [(u16, LineReply)], place: usize, answer: LineReply)
     requires { place < length lines.old }

@@ -13,10 +13,15 @@ use vme_report::RunFault;
 use vme_script::Config;
 use vme_shared::Status;
 
-/// Runs the scripts by turns of these slots, one after another, and writes the report; or a front
-/// of it before a fault. A turn of a slot without a board, or with no line left, does nothing.
+/// Runs the scripts by turns of these slots, one after another, and appends the report to `sink`.
+/// Returns the status of the replies.
 ///
-/// No turn takes memory. `Memory` comes where a growth is refused.
+/// A turn of a slot without a board, or with no line left, does nothing. No turn allocates.
+///
+/// # Errors
+///
+/// `Memory`: an allocation failed. `Write`: the sink failed. A prefix of the report may have been
+/// appended.
 pub fn run_steps<W: Sink>(
     alloc: Global,
     config: &Config,
@@ -39,9 +44,16 @@ pub fn run_steps<W: Sink>(
     stepper.report(alloc, config, sink)
 }
 
-/// Runs the scripts by the turns of the configuration's file: those of its schedule, and then its
-/// rounds over all slots in order. These are laid out nowhere, so that the memory is the same
-/// however many they are.
+/// Runs the scripts by the turns of the configuration's file, and appends the report to `sink`.
+/// Returns the status of the replies.
+///
+/// The turns are those of the file's schedule, and then its rounds over all slots in order. No list
+/// of them is made, so that the memory does not grow with their number.
+///
+/// # Errors
+///
+/// `Memory`: an allocation failed. `Write`: the sink failed. A prefix of the report may have been
+/// appended.
 pub fn run_configured<W: Sink>(
     alloc: Global,
     config: &Config,

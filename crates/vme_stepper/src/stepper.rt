@@ -20,7 +20,7 @@ use vme_report::{BoardReportRef, RunFault, write_report};
 use vme_script::Config;
 use vme_shared::Status;
 
-/// The boards and the arbiter of a backplane, and the way of each processor through its script.
+/// The boards and the arbiter of a backplane, and the processors at work on their scripts.
 #[derive(Drop)]
 pub(crate) struct Stepper<'a> {
     core: Core,
@@ -36,7 +36,7 @@ impl<'a> Model for Stepper<'a> {
 }
 
 impl<'a> Stepper<'a> {
-    /// The stepper before the first turn. It takes all room that turns need.
+    /// Returns the stepper before the first turn. It allocates everything that turns need.
     pub(crate) fn new(alloc: Global, config: &'a Config) -> Result<Stepper<'a>, OutOfMemory>
         ensures stepper { IfOk result (λ stepper. stepper ≡ stepper_of config.now (initial_state config.now)) }
         ensures sound { IfOk result (IsStepperOf config.now) }
@@ -52,7 +52,7 @@ impl<'a> Stepper<'a> {
         Ok(Stepper { core, processors })
     }
 
-    /// A turn of the processor of a board.
+    /// Performs a turn of the processor of a board.
     #[inline(always)]
     fn turn(&mut self, config: &'a Config, board: usize)
         requires board { board < length config.now.boards }
@@ -64,7 +64,7 @@ impl<'a> Stepper<'a> {
         self.processors[board].turn(config, &mut self.core, board);
     }
 
-    /// Makes turns of slots, one after another.
+    /// Performs turns of slots, one after another.
     pub(crate) fn run(&mut self, config: &'a Config, slots: &[u16])
         requires opening { self.old ≡ stepper_of config.now (initial_state config.now) }
         requires stepper { IsStepperOf config.now self.old }
@@ -78,7 +78,7 @@ impl<'a> Stepper<'a> {
         }
     }
 
-    /// Makes the turns of the file, which are laid out nowhere: those of its schedule, and then its
+    /// Performs the turns of the file, without a list of them: those of its schedule, and then its
     /// rounds.
     pub(crate) fn run_configured(&mut self, config: &'a Config)
         requires lawful { IsLawful config.now }
@@ -91,7 +91,7 @@ impl<'a> Stepper<'a> {
         self.run_rounds(config);
     }
 
-    /// Makes the turns of the schedule.
+    /// Performs the turns of the schedule.
     fn run_schedule(&mut self, config: &'a Config)
         requires lawful { IsLawful config.now }
         requires opening { self.old ≡ stepper_of config.now (initial_state config.now) }
@@ -109,7 +109,7 @@ impl<'a> Stepper<'a> {
         }
     }
 
-    /// Makes the rounds over all slots, after the schedule.
+    /// Performs the rounds over all slots, after the schedule.
     fn run_rounds(&mut self, config: &'a Config)
         requires lawful { IsLawful config.now }
         requires scheduled { self.old
@@ -126,7 +126,7 @@ impl<'a> Stepper<'a> {
         }
     }
 
-    /// Writes the report of what was done.
+    /// Writes the report.
     pub(crate) fn report<W: Sink>(
         &self,
         alloc: Global,
@@ -149,7 +149,7 @@ impl<'a> Stepper<'a> {
         Ok(status)
     }
 
-    /// What is told of the boards.
+    /// Returns the report's entry for each board.
     fn board_reports<'b>(
         &'b self,
         alloc: Global,
@@ -173,7 +173,7 @@ impl<'a> Stepper<'a> {
     }
 }
 
-/// The place of the board in a slot, if there is one.
+/// Returns the place of the board in a slot, if there is one.
 fn board_in_slot(config: &Config, slot: u16) -> Option<usize>
     ensures place { result ≡ board_in_slot config.now slot }
     ensures there { IfSome result (λ board. board < length config.now.boards) }
@@ -186,7 +186,7 @@ fn board_in_slot(config: &Config, slot: u16) -> Option<usize>
     None
 }
 
-/// The memories of the boards, all zero.
+/// Returns the memories of the boards, all zero.
 fn zero_memories(alloc: Global, config: &Config) -> Result<Vec<ByteMemory>, OutOfMemory>
     ensures { IfOk result (λ memories. memories.items ≡ map opening_memory config.now.boards) }
 {
@@ -200,7 +200,7 @@ fn zero_memories(alloc: Global, config: &Config) -> Result<Vec<ByteMemory>, OutO
     Ok(memories)
 }
 
-/// The ways of the processors, of which no line has ended.
+/// Returns the processors, of which no line has ended.
 fn fresh_processors<'a>(alloc: Global, config: &'a Config) -> Result<Vec<Processor<'a>>, AllocError>
     ensures { IfOk result (λ processors. processors.items
         ≡ processors_from config.now 0 (initial_state config.now).script_states) }

@@ -1,4 +1,4 @@
--- The boards that a line calls are there.
+-- The boards that a line calls are boards of the configuration.
 use Rattle.std.proofs.Common.{◌≡◌, ℕ, ◌<◌, List, [], ◌∷◌, ◌++◌, length, Option, Some, None, Result, Ok, Err, refl, ap, sym, subst, ◌∙◌}
 use Rattle.std.proofs.lemmas.List.{length-map}
 use Rattle.vme_cycle.specs.declared.fault.CycleFault.{CycleFault}
@@ -39,7 +39,7 @@ use Rattle.vme_line_task.specs.Machine.{line_started, line_advance, line_to_do, 
 use Rattle.vme_line_task.specs.Events.{next_in, IsCallBelow, IsTodoBelow}
 use Rattle.vme_line_task.proofs.lemmas.Lines.{by_the_given}
 
--- the boards of what is attempted
+-- the boards of an attempt are among the first n
 abbrev IsAttemptBelow : ℕ → Result Attempt CycleFault → Type 0
 IsAttemptBelow n (Ok (Transferring job)) = IsBelow n job
 IsAttemptBelow n (Ok (Awaiting job want)) = IsBelow n job
@@ -79,17 +79,19 @@ attempt_below config board (lines.Unlock am addr) there = shared_below config bo
 attempt_below config board (lines.Put box word) there = shared_below config board (asked_shared.Put (mailbox_at config box) word)
 attempt_below config board (lines.Take box) there = shared_below config board (asked_shared.Take (mailbox_at config box))
 
--- the calls of a line that are those of its task
+-- a call of a transfer or a local command is that of its task
 pub moves_makes : (next : NextStep Outcome) (call : Call) → moves_next next ≡ Invokes call → next ≡ Invokes call
 moves_makes next call made = map_makes answers.Transfer next call made
 
+-- a call of a read that waits for bytes is that of its task
 pub waits_makes : (want : List ℕ) (next : NextStep Outcome) (call : Call) → waits_next want next ≡ Invokes call → next ≡ Invokes call
 waits_makes want next call made = map_makes (await_reply want) next call made
 
+-- a call of a lock, an unlock, a put or a take is that of its task
 pub shares_makes : (next : NextStep SharedOutcome) (call : Call) → shares_next next ≡ Invokes call → next ≡ Invokes call
 shares_makes next call made = map_makes answers.Shared next call made
 
--- each board that is called is one of them
+-- each board that a job calls is among the first n
 job_below : (n : ℕ) (job : Job) (given : Given) (call : Call) → IsBelow n job → next_of job given ≡ Invokes call → IsCallBelow n call
 job_below n job given (OnBoard board command) below made = job_calls_below n job given board command below made
 job_below n job given (OnBus cmd) below made = tt
@@ -108,13 +110,14 @@ lawful_below n tries (Ok (Sharing s)) given (OnBoard board command) below made =
 lawful_below n tries (Ok (Sharing s)) given (OnBus cmd) below made = tt
 lawful_below n tries (Err fault) given call below made = absurd cc
 
+-- each board that a line calls is one of the configuration
 pub next_below : (config : Configuration) (board : ℕ) (line : Line) (given : Given) (call : Call) → board < length config.boards
     → next_given config board line given ≡ Invokes call → IsCallBelow (length config.boards) call
 unfolding next_given
 next_below config board line given call there made =
     lawful_below (length config.boards) config.tries (line_attempt config board line) given call (attempt_below config board line there) made
 
--- so it is of a line before its first call
+-- a line before its first call calls boards of the configuration alone
 pub started_below : (config : Configuration) (board : ℕ) (line : Line) → board < length config.boards
     → IsLineBelow (length config.boards) (line_started config board line)
 unfolding IsLineBelow
@@ -127,6 +130,7 @@ after_all : (task : LineTask) (last : Option EventReply) (given : Given)
 after_all task last [] = refl
 after_all task last (next ∷ given) = ap (λ (t : LineTask). line_advance t next) (after_all task last given)
 
+-- a line that is given one thing more calls boards among the first n alone
 pub advance_below : (n : ℕ) (task : LineTask) (last : Option EventReply) → IsLineBelow n task → IsLineBelow n (line_advance task last)
 unfolding IsLineBelow
 advance_below n task last below = λ given call made.
@@ -143,18 +147,18 @@ made_below n who before after task new it below = by (call_in (line_to_do task))
         subst (IsLineBelow n) (sym (ap (λ (r : Machine × LineTask). r.1) step))
         (advance_below n task (Some (machine_step before who call).1) below)
 
--- a line's call is on a board that is there
+-- a line's next call goes to the arbiter or to one of the first n boards
 pub calls_below : (n : ℕ) (task : LineTask) (call : Call) → IsLineBelow n task → line_to_do task ≡ Invokes call → IsCallBelow n call
 unfolding IsLineBelow
 calls_below n task call below next = below [] call next
 
--- and what it has to do
+-- what a line states as next goes to the arbiter or to one of the first n boards
 pub todo_below : (n : ℕ) (task : LineTask) (todo : LineTodo) → IsLineBelow n task → next_in todo ≡ line_to_do task → IsTodoBelow n todo
 todo_below n task (todos.Call (asked.Board board cmd)) below next = calls_below n task (OnBoard board _) below (sym next)
 todo_below n task (todos.Call (asked.Bus cmd)) below next = tt
 todo_below n task (todos.Ended answer) below next = tt
 
--- a line whose answer was taken calls none
+-- a line whose reply was taken stays finished
 over_given : (given : Given) → line_advanced Finished given ≡ Finished
 over_given [] = refl
 over_given (last ∷ before) = ap (λ (t : LineTask). line_advance t last) (over_given before)
@@ -163,6 +167,7 @@ over_below : (n : ℕ) → IsLineBelow n Finished
 unfolding IsLineBelow
 over_below n = λ given call made. absurd (cc (sym (ap line_to_do (over_given given)) ∙ made))
 
+-- a line whose reply was taken calls boards among the first n alone
 pub taken_below : (n : ℕ) (task : LineTask) → IsLineBelow n task → IsLineBelow n (line_taken task)
 taken_below n (Refused fault) below = below
 taken_below n (Running a) below = by_next (attempt_to_do a.attempt)

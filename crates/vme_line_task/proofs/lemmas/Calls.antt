@@ -1,4 +1,4 @@
--- What a line does next, by its answer, and how it makes its own call.
+-- What a line does next, by its event and its reply.
 use Rattle.std.proofs.Common.{◌≡◌, ℕ, false, true, is_some, Option, refl, sym}
 use Rattle.vme_core.specs.declared.event.EventReply.{EventReply}
 use Rattle.vme_core.specs.Runs.{Machine}
@@ -16,16 +16,17 @@ use Rattle.vme_line_task.specs.declared.attempt.AttemptTask.TheVariants.{Transfe
 use Rattle.vme_line_task.specs.Tables.{moves_next, next_wants_retry}
 use Rattle.vme_line_task.specs.Machine.{line_advance, line_to_do, line_taken, attempt_to_do, attempts_taken, attempts_advance, attempts_to_do}
 
--- attempts that are over have their answer taken
+-- attempts that have ended are finished once their reply is taken
 attempts_end : (a : Attempts) (next : NextStep LineReply) → is_some (result_in next) ≡ true → attempts_taken a next ≡ Finished
 attempts_end a NotStarted is = absurd cc
 attempts_end a (Invokes call) is = absurd cc
 attempts_end a (Returns answer) is = refl
 
+-- a line whose attempts have ended is finished once its reply is taken
 pub is_taken : (a : Attempts) → is_some (result_in (attempt_to_do a.attempt)) ≡ true → Finished ≡ line_taken (Running a)
 is_taken a is = sym (attempts_end a (attempt_to_do a.attempt) is)
 
--- a transfer or a command is attempted once
+-- a transfer or a local command is attempted once
 moves_once : (next : NextStep Outcome) → next_wants_retry (moves_next next) ≡ false
 moves_once NotStarted = refl
 moves_once (Invokes call) = refl

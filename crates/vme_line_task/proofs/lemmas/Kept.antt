@@ -39,7 +39,7 @@ use Rattle.vme_line_task.proofs.lemmas.Below.{moves_makes}
 use Rattle.vme_line_task.proofs.Ends.{just_begun}
 use Rattle.vme_line_task.proofs.Attempted.{attempt_begins, IsOwnAttempt, attempt_turns, IsTransfer, attempt_holds, attempt_turn, attempt_datum, attempt_ends}
 
--- after a reply the attempt at work goes on or has ended, or another begins
+-- the attempts when the current one was given one thing more
 abbrev now_made : Attempts → Option EventReply → Attempts
 now_made made last = record { given = last ∷ made.given; left = made.left }
 
@@ -57,7 +57,7 @@ either made (Returns answer) =
       | inr last ↦ inl (rw last refl)
     ]
 
--- a transfer of a line is of its processor's slot and level
+-- the transfers of a line are of its processor's slot and level
 abbrev IsOwn : ℕ → ℕ → Result Attempt CycleFault → Type 0
 IsOwn slot level (Ok a) = IsOwnAttempt slot level a
 IsOwn slot level (Err fault) = Unit {0}
@@ -91,7 +91,7 @@ line_own config board (lines.Unlock am addr) = shared_own config board (asked_sh
 line_own config board (lines.Put box word) = shared_own config board (asked_shared.Put (mailbox_at config box) word)
 line_own config board (lines.Take box) = shared_own config board (asked_shared.Take (mailbox_at config box))
 
--- before the first reply
+-- at its first call the first attempt was given nothing else
 first_given : (tries : ℕ) (a : Attempt) → (attempts_of a tries (None ∷ [])).given ≡ None ∷ []
 first_given tries a =
     let now : Attempts = record { given = None ∷ []; left = tries } in
@@ -104,11 +104,12 @@ lawful_begins : (tries : ℕ) (attempt : Result Attempt CycleFault) → lawful_r
 lawful_begins tries (Err fault) = refl
 lawful_begins tries (Ok a) = ap (attempt_reported a) (first_given tries a) ∙ attempt_begins a
 
+-- a line begins without a reply of the arbiter
 pub line_begins : (config : Configuration) (board : ℕ) (line : Line) → line_reported config board line [] ≡ None
 unfolding line_reported
 line_begins config board line = lawful_begins config.tries (line_attempt config board line)
 
--- a line that ends with its first call is no denial
+-- an attempt that ends the line at its first call is no denial
 lawful_first : (tries : ℕ) (attempt : Result Attempt CycleFault) (answer : LineReply) → lawful_next tries attempt (None ∷ []) ≡ Returns answer
     → IsGranted answer
 lawful_first tries (Err fault) answer ends = subst IsGranted (is cc) (λ denied. absurd cc, λ denied. absurd cc)
@@ -117,18 +118,20 @@ lawful_first tries (Err fault) answer ends = subst IsGranted (is cc) (λ denied.
     is same = same
 lawful_first tries (Ok a) answer ends = (just_begun a answer (sym (ap (attempt_next a) (first_given tries a)) ∙ ends)).granted
 
+-- the reply of a line without a call is no denial
 pub line_first : (config : Configuration) (board : ℕ) (line : Line) (answer : LineReply) → line_next config board line [] ≡ Returns answer
     → IsGranted answer
 unfolding next_given
 line_first config board line answer ends = lawful_first config.tries (line_attempt config board line) answer ends
 
--- commands to the arbiter
+-- the arbiter's last reply to an attempt allows each command to the arbiter
 lawful_turns : (slot level tries : ℕ) (attempt : Result Attempt CycleFault) (given : Given) (cmd : ArbCmd) → IsOwn slot level attempt
     → is_level level ≡ true → lawful_next tries attempt given ≡ Invokes (OnBus cmd) → may_give slot (lawful_reported tries attempt given) cmd ≡ true
 lawful_turns slot level tries (Ok a) given cmd own lawful made =
     attempt_turns slot level a (attempts_of a tries given).given cmd own lawful made
 lawful_turns slot level tries (Err fault) given cmd own lawful made = absurd cc
 
+-- the arbiter's last reply to a line's slot allows each command to the arbiter
 pub line_turns : (config : Configuration) (board : ℕ) (line : Line) (replies : List EventReply) (cmd : ArbCmd)
     → is_level (level_at config board) ≡ true → line_next config board line replies ≡ Invokes (OnBus cmd)
     → may_give (slot_at config board) (line_reported config board line replies) cmd ≡ true
@@ -137,7 +140,7 @@ line_turns config board line replies cmd lawful made =
     lawful_turns (slot_at config board) (level_at config board) config.tries (line_attempt config board line) (given_of replies) cmd
     (line_own config board line) lawful made
 
--- data of a transfer
+-- data of a transfer go to a board only while the arbiter's last reply is `Granted`
 lawful_holds : (tries : ℕ) (a : Attempt) (given : Given) (b : ℕ) (command : Option Command) → IsTransfer a
     → lawful_next tries (Ok a) given ≡ Invokes (OnBoard b command) → lawful_reported tries (Ok a) given ≡ Some turned.Granted
 lawful_holds tries a given b command transfer made = attempt_holds a (attempts_of a tries given).given b command transfer made
@@ -159,7 +162,7 @@ shared_holds config board request given b command made = by_refusal (shared_refu
     by_refusal None made = lawful_holds config.tries (Sharing (shared_job config board request)) given b command tt made
     by_refusal (Some fault) made = absurd cc
 
--- those of a local port are its own
+-- the commands of a local port are its own
 own_local : (board b : ℕ) (cmd : BoardCmd) (g : Given) (command : Option Command) → IsOwnLine (lines.Local cmd)
     → next_of (local_job board cmd) g ≡ Invokes (OnBoard b command) → IsLocal command
 own_local board b cmd g command own made =
@@ -193,13 +196,14 @@ line_holds_by config board (lines.Put box word) given b command own made =
 line_holds_by config board (lines.Take box) given b command own made =
     inr (shared_holds config board (asked_shared.Take (mailbox_at config box)) given b command made)
 
+-- a line's data are a local port's, or go to a board only while the arbiter's last reply is `Granted`
 pub line_holds : (config : Configuration) (board : ℕ) (line : Line) (replies : List EventReply) (b : ℕ) (command : Option Command)
     → IsOwnLine line → line_next config board line replies ≡ Invokes (OnBoard b command)
     → IsLocal command ⊎ (line_reported config board line replies ≡ Some turned.Granted)
 unfolding next_given line_reported
 line_holds config board line replies b command own made = line_holds_by config board line (given_of replies) b command own made
 
--- a good reply of the arbiter
+-- an attempt after a good reply of the arbiter
 lawful_turn : (tries : ℕ) (attempt : Result Attempt CycleFault) (given : Given) (cmd : ArbCmd) (reply : ArbReply) (bus : Arbitration)
     (slot : ℕ) → lawful_next tries attempt given ≡ Invokes (OnBus cmd) → IsGood (OnBus cmd) (event_replies.Bus reply) → StandsAsReplied bus slot (Some reply)
     → StandsAsReplied bus slot (lawful_reported tries attempt (Some (event_replies.Bus reply) ∷ given))
@@ -216,6 +220,7 @@ lawful_turn tries (Ok a) given cmd reply bus slot made good stands =
           (subst (StandsAsReplied bus slot) (sym (attempt_begins a)) (ends.free bus slot reported_now))
     ]
 
+-- after a good reply of the arbiter the slot stands as the last reply states
 pub line_turn : (config : Configuration) (board : ℕ) (line : Line) (replies : List EventReply) (cmd : ArbCmd) (reply : ArbReply)
     (bus : Arbitration) (slot : ℕ) → line_next config board line replies ≡ Invokes (OnBus cmd) → IsGood (OnBus cmd) (event_replies.Bus reply)
     → StandsAsReplied bus slot (Some reply) → StandsAsReplied bus slot (line_reported config board line (event_replies.Bus reply ∷ replies))
@@ -223,7 +228,7 @@ unfolding next_given line_reported
 line_turn config board line replies cmd reply bus slot made good stands =
     lawful_turn config.tries (line_attempt config board line) (given_of replies) cmd reply bus slot made good stands
 
--- a good reply of a board
+-- an attempt after a good reply of a board
 lawful_datum : (tries : ℕ) (attempt : Result Attempt CycleFault) (given : Given) (call : Call) (reply : Reply)
     → lawful_next tries attempt given ≡ Invokes call → IsGood call (event_replies.Board reply)
     → lawful_reported tries attempt (Some (event_replies.Board reply) ∷ given) ≡ lawful_reported tries attempt given
@@ -238,6 +243,7 @@ lawful_datum tries (Ok a) given call reply made good =
           ap (λ (m : Attempts). attempt_reported a m.given) next.begun ∙ attempt_begins a ∙ sym (ends.quiet reply refl)
     ]
 
+-- a good reply of a board leaves the arbiter's last reply the same
 pub line_datum : (config : Configuration) (board : ℕ) (line : Line) (replies : List EventReply) (call : Call) (reply : Reply)
     → line_next config board line replies ≡ Invokes call → IsGood call (event_replies.Board reply)
     → line_reported config board line (event_replies.Board reply ∷ replies) ≡ line_reported config board line replies
@@ -245,7 +251,7 @@ unfolding next_given line_reported
 line_datum config board line replies call reply made good =
     lawful_datum config.tries (line_attempt config board line) (given_of replies) call reply made good
 
--- an answer after a good reply is no denial, and leaves the slot as one that was told nothing
+-- a line's reply that is no denial, and leaves the slot as one without a reply of the arbiter
 pub record IsWellEnded (answer : LineReply) (last : Option ArbReply) : Type 0 where
   pub granted : IsGranted answer
   pub free : (bus : Arbitration) (slot : ℕ) → StandsAsReplied bus slot last → StandsAsReplied bus slot None
@@ -269,6 +275,7 @@ lawful_ends tries (Ok a) given call reply answer made good ends =
           record { granted = begun.granted; free = λ bus slot stands. subst (StandsAsReplied bus slot) reported_none stands }
     ]
 
+-- a line that ends by a good reply ends without a denial, and its slot stands as one without a reply of the arbiter
 pub line_ends : (config : Configuration) (board : ℕ) (line : Line) (replies : List EventReply) (call : Call) (reply : EventReply)
     (answer : LineReply) → line_next config board line replies ≡ Invokes call → IsGood call reply
     → line_next config board line (reply ∷ replies) ≡ Returns answer → IsWellEnded answer (line_reported config board line (reply ∷ replies))

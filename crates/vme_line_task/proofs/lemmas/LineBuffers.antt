@@ -1,4 +1,4 @@
--- The rooms of the lines of a script, in order.
+-- The buffers of the lines of a script, in order.
 use Rattle.std.proofs.Common.{◌≡◌, ℕ, zero, suc, ◌+◌, ◌<◌, ◌≤◌, Bool, true, false, List, [], ◌∷◌, ◌++◌, length, map, take, drop, get_or, max, Some, Result, Ok, Err, refl, ap, sym, ◌∙◌, arith, add-one}
 use Rattle.std.specs.Prelude.{slice_get}
 use Rattle.std.proofs.lemmas.List.{append_assoc, append-nil, drop_more, length-drop, length-map}
@@ -13,26 +13,26 @@ use Rattle.vme_grammar.specs.declared.line.Line.{Line}
 use Rattle.vme_script.specs.declared.script.ScriptLine.{ScriptLine}
 use Rattle.vme_line_task.specs.ReadBuffers.{request_read_len, line_read_len, buffer_of, buffers_of, buffers_kept}
 
--- the room at the place of a line
+-- the buffer at the place of a line
 buffer_found : (script : List ScriptLine) (n : ℕ) (line : Line) → slice_get (map (λ one. one.line) script) n ≡ Some line
     → slice_get (buffers_of script) n ≡ Some (buffer_of line)
 buffer_found [] n line is = absurd (cc is)
 buffer_found (one ∷ script) zero line is = ap (λ (l : Line). Some (buffer_of l)) (same_Some one.line line is)
 buffer_found (one ∷ script) (suc n) line is = buffer_found script n line is
 
--- the room of one line more
+-- the buffers of one line more
 buffers_on : (script : List ScriptLine) (n : ℕ) (line : Line) → slice_get (map (λ one. one.line) script) n ≡ Some line
     → buffers_of (take (suc n) script) ≡ buffers_of (take n script) ++ buffer_of line ∷ []
 buffers_on [] n line is = absurd (cc is)
 buffers_on (one ∷ script) zero line is = ap (λ (l : Line). buffer_of l ∷ []) (same_Some one.line line is)
 buffers_on (one ∷ script) (suc n) line is = ap (λ buffers. buffer_of one.line ∷ buffers) (buffers_on script n line is)
 
+-- the buffers of the first n + 1 lines are those of the first n and that of the next line
 pub buffers_more : (script : List ScriptLine) (n : ℕ) (line : Line) → slice_get (map (λ one. one.line) script) n ≡ Some line
     → buffers_of (take (n + 1) script) ≡ buffers_of (take n script) ++ buffer_of line ∷ []
 buffers_more script n line is = rw (add-one n) (buffers_on script n line is)
 
--- the next room is that of the line at a place: it is empty and has room for what the line reads; and the others are those of
--- the lines after it
+-- the next buffer is empty and enough for the line at a place, and the others are those of the lines after it
 pub record IsNextBuffer (script : List ScriptLine) (n : ℕ) (buffer : BufferView) (rest : List BufferView) : Type 0 where
   pub none : buffer.items ≡ []
   pub enough : (line : Line) → slice_get (map (λ one. one.line) script) n ≡ Some line → line_read_len line ≤ buffer.capacity
@@ -41,12 +41,12 @@ pub record IsNextBuffer (script : List ScriptLine) (n : ℕ) (buffer : BufferVie
 most : (n m : ℕ) → m ≤ max n m
 most n m = omega arith
 
--- there are rooms for the lines from a place on
+-- a line that is left has a buffer
 pub buffers_left : (script : List ScriptLine) (n : ℕ) (buffers : List BufferView) → n < length script → buffers ≡ drop n (buffers_of script) → 0 < length buffers
 buffers_left script n buffers within are =
     omega (arith, ap length are, length-drop n (buffers_of script), length-map script (λ (one : ScriptLine). buffer_of one.line))
 
--- the first of them
+-- the first buffer that is left is that of the next line
 pub next_buffer : (script : List ScriptLine) (n : ℕ) (buffers rest : List BufferView) (buffer : BufferView) → n < length script
     → buffers ≡ drop n (buffers_of script) → buffers ≡ buffer ∷ rest → IsNextBuffer script n buffer rest
 next_buffer script n buffers rest buffer within are is =
@@ -69,17 +69,17 @@ next_buffer script n buffers rest buffer within are is =
     line_there (one ∷ script) zero n< = (one.line, refl)
     line_there (one ∷ script) (suc n) n< = line_there script n (omega arith)
 
--- rooms so far by what is kept of them, whatever comes after
+-- the buffers so far are those that are kept, whatever comes after
 unfoldable pub AreKept : List Bool → List BufferView → List BufferView → Type 0
 AreKept take_memory long buffers =
     (more : List Bool) (rest : List BufferView) → buffers_kept (take_memory ++ more) (long ++ rest) ≡ buffers ++ buffers_kept more rest
 
--- none
+-- no buffers are kept for no lines
 pub kept_none : (take_memory : List Bool) (long : List BufferView) → take_memory ≡ [] → long ≡ [] → AreKept take_memory long []
 unfolding AreKept
 kept_none take_memory long none empty = λ more rest. rw (none, empty) refl
 
--- one more that is made anew
+-- one buffer more that is not kept
 pub kept_short : (take_memory : List Bool) (long buffers : List BufferView) (buffer : BufferView) → AreKept take_memory long buffers
     → buffer ≡ record { items = []; capacity = inline_capacity } → AreKept (take_memory ++ false ∷ []) long (buffers ++ buffer ∷ [])
 unfolding AreKept
@@ -89,7 +89,7 @@ kept_short take_memory long buffers buffer before empty = λ more rest.
     ∙ ap (λ (r : BufferView). buffers ++ r ∷ buffers_kept more rest) (sym empty)
     ∙ sym (append_assoc buffers (buffer ∷ []) (buffers_kept more rest))
 
--- one more that is kept
+-- one buffer more that is kept
 pub kept_long : (take_memory : List Bool) (long buffers : List BufferView) (buffer : BufferView) → AreKept take_memory long buffers
     → AreKept (take_memory ++ true ∷ []) (long ++ buffer ∷ []) (buffers ++ buffer ∷ [])
 unfolding AreKept
@@ -99,7 +99,7 @@ kept_long take_memory long buffers buffer before = λ more rest.
     ∙ before (true ∷ more) (buffer ∷ rest)
     ∙ sym (append_assoc buffers (buffer ∷ []) (buffers_kept more rest))
 
--- all of them
+-- all buffers are those that are kept
 pub kept_all : (take_memory : List Bool) (long buffers : List BufferView) → AreKept take_memory long buffers → buffers_kept take_memory long ≡ buffers
 unfolding AreKept
 kept_all take_memory long buffers all =
@@ -108,7 +108,7 @@ kept_all take_memory long buffers all =
     ∙ all [] []
     ∙ append-nil buffers
 
--- one line more, whose room is kept
+-- one line more whose buffer is kept
 pub one_long : (script : List ScriptLine) (n count : ℕ) (line : Line) (before after : List Bool) (long longer : List BufferView) (buffer : BufferView)
     → slice_get (map (λ one. one.line) script) n ≡ Some line → AreKept before long (buffers_of (take n script)) → count ≡ line_read_len line
     → after ≡ before ++ true ∷ [] → longer ≡ long ++ buffer ∷ [] → buffer ≡ record { items = []; capacity = max inline_capacity count }
@@ -116,7 +116,7 @@ pub one_long : (script : List ScriptLine) (n count : ℕ) (line : Line) (before 
 one_long script n count line before after long longer buffer found kept reads marked put made =
     rw (marked, put, buffers_more script n line found, ← reads, ← made) (kept_long before long (buffers_of (take n script)) buffer kept)
 
--- one line more, whose room is made anew
+-- one line more whose buffer is not kept
 pub one_short : (script : List ScriptLine) (n count : ℕ) (line : Line) (before after : List Bool) (long : List BufferView)
     → slice_get (map (λ one. one.line) script) n ≡ Some line → AreKept before long (buffers_of (take n script)) → count ≡ line_read_len line
     → after ≡ before ++ false ∷ [] → count ≤ inline_capacity → AreKept after long (buffers_of (take (n + 1) script))
@@ -126,7 +126,7 @@ one_short script n count line before after long found kept reads marked few =
     (kept_short before long (buffers_of (take n script)) (record { items = []; capacity = max inline_capacity count }) kept
     (ap (λ (n : ℕ). let r : BufferView = record { items = []; capacity = n } in r) size))
 
--- a request reads no more than it says
+-- a request reads no more bytes than it states
 pub no_more_than : (request : Request) → request_read_len (transfer_of request) ≤ read_len request
 no_more_than request = by_transfer (transfer_of request) refl
   where

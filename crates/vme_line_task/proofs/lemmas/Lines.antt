@@ -1,4 +1,4 @@
--- A line goes by the table: what its task has to do with what it was given.
+-- A line follows the table: how its task stands to what it was given.
 use Rattle.std.proofs.Common.{◌≡◌, ℕ, ◌-◌, List, [], ◌∷◌, Option, None, Result, Ok, Err, refl, ap, ◌∙◌, inl, inr}
 use Rattle.std.specs.Prelude.{nat_lt, ◌&&◌}
 use Rattle.std.proofs.lemmas.Bool.{cases_Bool}
@@ -25,7 +25,7 @@ use Rattle.vme_line_task.specs.Tables as table
 use Rattle.vme_line_task.specs.Tables.{moves_next, waits_next, shares_next, attempt_next, next_wants_retry, next_attempt, attempts_of, lawful_next, next_given, line_next, given_of}
 use Rattle.vme_line_task.specs.Machine.{attempt_fresh, attempt_anew, attempt_advance, attempt_to_do, attempts_again, attempts_advance, line_fresh, line_started, line_advance, line_to_do, line_advanced, line_given, line_after}
 
--- the task of an attempt after calls with what it was given
+-- the task of an attempt after all that it was given
 abbrev attempt_task : Attempt → Given → AttemptTask
 attempt_task (Transferring job) given = tries.Transfer (task_given job given)
 attempt_task (Awaiting job want) given = tries.Await (record { task = task_given job given; want = record { items = want } })
@@ -58,7 +58,7 @@ task_next (Sharing s) given = ap shares_next (by_the_steps s given)
 abbrev tasks_of : Attempt → table.Attempts → Attempts
 tasks_of a made = record { attempt = attempt_task a made.given; left = made.left }
 
--- another attempt is begun where the table does
+-- the machine begins another attempt exactly if the table does
 same_again : (a : Attempt) (made : table.Attempts) (next : NextStep LineReply) → attempts_again (tasks_of a made) next ≡ tasks_of a (next_attempt made next)
 same_again a made next =
     elim (cases_Bool (next_wants_retry next && nat_lt 1 made.left)) [
@@ -67,7 +67,7 @@ same_again a made next =
       | inr last ↦ rw last refl
     ]
 
--- and so after each call
+-- the attempts of machine and table agree after each reply
 same_attempts : (a : Attempt) (tries : ℕ) (given : Given) (last : Option EventReply)
     → attempts_advance (tasks_of a (attempts_of a tries given)) last ≡ tasks_of a (attempts_of a tries (last ∷ given))
 same_attempts a tries given last =
@@ -77,7 +77,7 @@ same_attempts a tries given last =
     ap (λ (t : AttemptTask). attempts_again (record { attempt = t; left = made.left }) (attempt_to_do t)) step
     ∙ ap (attempts_again (tasks_of a now)) (task_next a now.given) ∙ same_again a now (attempt_next a now.given)
 
--- by what is attempted for the line
+-- the machine's line, by its attempt
 attempts_given : (a : Attempt) (tries : ℕ) (given : Given)
     → line_advanced (line_fresh tries (Ok a)) given ≡ Running (tasks_of a (attempts_of a tries given))
 attempts_given a tries [] = ap (λ (t : AttemptTask). Running (record { attempt = t; left = tries })) (task_fresh a)
@@ -93,18 +93,18 @@ by_attempt : (tries : ℕ) (attempt : Result Attempt CycleFault) (given : Given)
 by_attempt tries (Ok a) given = ap line_to_do (attempts_given a tries given) ∙ task_next a (attempts_of a tries given).given
 by_attempt tries (Err fault) given = ap line_to_do (refused_given tries fault given)
 
--- what a line does next is what the table says
+-- a line does next what the table says, by all that it was given
 pub by_the_given : (config : Configuration) (board : ℕ) (line : Line) (given : Given)
     → line_to_do (line_given config board line given) ≡ next_given config board line given
 unfolding line_started next_given
 by_the_given config board line given = by_attempt config.tries (line_attempt config board line) given
 
--- the same by the replies
+-- a line does next what the table says, by the replies to its calls
 pub by_the_replies : (config : Configuration) (board : ℕ) (line : Line) (replies : List EventReply)
     → line_to_do (line_after config board line replies) ≡ line_next config board line replies
 by_the_replies config board line replies = by_the_given config board line (given_of replies)
 
--- the same of a line that was given one thing more
+-- a line does next what the table says after one reply more
 pub next_by_the_given : (config : Configuration) (board : ℕ) (line : Line) (before : Given) (t : LineTask) (last : Option EventReply)
     → t ≡ line_given config board line before → line_to_do (line_advance t last) ≡ next_given config board line (last ∷ before)
 next_by_the_given config board line before t last same =

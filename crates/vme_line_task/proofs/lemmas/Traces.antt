@@ -1,4 +1,4 @@
--- A processor comes through its script line by line.
+-- A processor goes through its script line by line.
 use Rattle.std.proofs.Common.{◌≡◌, ℕ, suc, List, [], ◌∷◌, ◌++◌, length, Some, refl, ap, sym, subst, ◌∙◌, append_assoc}
 use Rattle.std.specs.Prelude.{slice_get}
 use Rattle.std.proofs.lemmas.List.{append-nil}
@@ -13,7 +13,7 @@ use Rattle.vme_line_task.specs.Scripts.{lines_at}
 use Rattle.vme_line_task.specs.Tables.{line_next}
 use Rattle.vme_line_task.specs.Traces.{Continues, LineTrace, IsTrace, ScriptState, AtWork, IsTracePrefix}
 
--- one move more of a line
+-- one transition more of a line
 pub goes-snoc : (config : Configuration) (board : ℕ) (line : Line) (before : List EventReply) (moves : List Transition) (replies : List EventReply)
     (m : Transition) → Continues config board line before moves replies → line_next config board line replies ≡ Invokes (call_of m.event)
     → Continues config board line before (moves ++ m ∷ []) (m.reply ∷ replies)
@@ -22,7 +22,7 @@ goes-snoc config board line before [] replies m goes next =
 goes-snoc config board line before (first ∷ moves) replies m goes next =
     (goes.0, goes-snoc config board line (first.reply ∷ before) moves replies m goes.1 next)
 
--- one line more
+-- the trace of one line more
 pub trace-snoc : (config : Configuration) (board : ℕ) (lines : List Line) (moves : List Transition) (answers : List LineReply) (line : Line)
     (more : List Transition) (answer : LineReply) → IsTrace config board lines moves answers → LineTrace config board line more answer
     → IsTrace config board (lines ++ line ∷ []) (moves ++ more) (answers ++ answer ∷ [])
@@ -38,7 +38,7 @@ trace-snoc config board (one ∷ lines) moves (first ∷ answers) line more answ
   trace-snoc config board lines script_state.1 answers line more answer script_state.4 last,
 )
 
--- as many lines as answers
+-- a trace has as many lines as replies
 pub trace_length : (config : Configuration) (board : ℕ) (lines : List Line) (moves : List Transition) (answers : List LineReply)
     → IsTrace config board lines moves answers → length lines ≡ length answers
 trace_length config board [] moves [] script_state = refl
@@ -47,17 +47,17 @@ trace_length config board (one ∷ lines) moves [] script_state = absurd script_
 trace_length config board (one ∷ lines) moves (first ∷ answers) script_state =
     ap suc (trace_length config board lines script_state.1 answers script_state.4)
 
--- what comes after the lines that have ended
+-- the line after those that have ended is the first that is left
 next_line : (finished left : List Line) → slice_get (finished ++ left) (length finished) ≡ slice_get left 0
 next_line [] left = refl
 next_line (one ∷ finished) left = next_line finished left
 
--- the next line before its first call
+-- the next line before its first call has no transitions
 rests : (config : Configuration) (board : ℕ) (left : List Line) → AtWork config board left [] []
 rests config board [] = (refl, refl)
 rests config board (line ∷ left) = refl
 
--- before the first line
+-- no transitions lead to the state before the first line
 pub follows_nothing : (config : Configuration) (board : ℕ) → IsTracePrefix config board [] (record { ended = []; replies = [] })
 follows_nothing config board = record {
   finished = [];
@@ -70,7 +70,7 @@ follows_nothing config board = record {
   work = rests config board (lines_at config board);
 }
 
--- the line that a script_state is at comes first of those that are left
+-- the line of a script state is the first of those that are left
 left_first : (config : Configuration) (board : ℕ) (moves : List Transition) (script_state : ScriptState) (f : IsTracePrefix config board moves script_state) (line : Line)
     (left : List Line) → slice_get (lines_at config board) (length script_state.ended) ≡ Some line → lines_at config board ≡ f.finished ++ left
     → slice_get left 0 ≡ Some line
@@ -79,7 +79,7 @@ left_first config board moves script_state f line left there lines =
     ∙ ap (slice_get (f.finished ++ left)) (trace_length config board f.finished f.done script_state.ended f.over)
     ∙ ap (λ (ls : List Line). slice_get ls (length script_state.ended)) (sym lines) ∙ there
 
--- a call of the next line, with its reply
+-- a call of the next line with its reply extends the trace
 pub follows_call : (config : Configuration) (board : ℕ) (moves : List Transition) (script_state : ScriptState) (line : Line) (m : Transition)
     → IsTracePrefix config board moves script_state → slice_get (lines_at config board) (length script_state.ended) ≡ Some line
     → line_next config board line script_state.replies ≡ Invokes (call_of m.event)
@@ -104,7 +104,7 @@ follows_call config board moves script_state line m f there next = by_left f.lef
               (subst (λ (l : Line). line_next config board l script_state.replies ≡ Invokes (call_of m.event)) same next);
         }
 
--- the next line is answered
+-- the reply of the next line leads to the line after it
 pub follows_answer : (config : Configuration) (board : ℕ) (moves : List Transition) (script_state : ScriptState) (line : Line) (answer : LineReply)
     → IsTracePrefix config board moves script_state → slice_get (lines_at config board) (length script_state.ended) ≡ Some line
     → line_next config board line script_state.replies ≡ Returns answer

@@ -1,4 +1,4 @@
--- The one call of a local command, the boards that jobs call, and the replies that boards and the arbiter advance.
+-- The one call of a local command, the boards that jobs call, and the replies of boards and of the arbiter.
 use Rattle.std.proofs.Common.{◌≡◌, ℕ, ◌<◌, true, List, [], ◌∷◌, length, Option, Some, None, refl, sym, subst, inl, inr}
 use Rattle.std.proofs.lemmas.Bool.{cases_Bool}
 use Rattle.vme_cycle.specs.Requests.{addr_of}
@@ -49,6 +49,7 @@ own_calls : (j : LocalJob) (g : Given) → MakesOwn j (next_of (Local j) g)
 own_calls j [] = tt
 own_calls j (last ∷ g) = own_step j (next_of (Local j) g) last g
 
+-- a local command's call is its own
 pub local_calls : (j : LocalJob) (g : Given) (call : Call) → next_of (Local j) g ≡ Invokes call → call ≡ local_call j
 local_calls j g call next = subst (MakesOwn j) next (own_calls j g)
 
@@ -61,11 +62,11 @@ calls_below n (Local j) g board command below next =
     let same : board ≡ j.board = let own = local_calls j g (OnBoard board command) next in cc in
     subst (λ (b : ℕ). b < n) (sym same) below
 
--- and those of a transfer are of the map
+-- the boards of a transfer are those of the map
 pub bus_below : (map : List Entry) (slot level : ℕ) (t : Transfer) → IsBelow (length map) (bus_job map slot level t)
 bus_below map slot level t board offset placed = result_place (Some (board, offset)) map t.am (addr_of t.request) (sym placed)
 
--- a board's reply fits whatever it was told
+-- a board's reply fits its command
 pub board_fits : (m : Board) (board : ℕ) (command : Option Command) → fits (OnBoard board command) (replies.Board (command_step m command).1) ≡ true
 board_fits m board None = refl
 board_fits m board (Some command) = reply_form m command
@@ -75,7 +76,7 @@ ask_fits : (holder : Option ℕ) (bus : Arbitration) (slot level : ℕ)
 ask_fits None bus slot level = refl
 ask_fits (Some h) bus slot level = refl
 
--- and so does the arbiter's
+-- the arbiter's reply fits its command
 pub turn_fits : (bus : Arbitration) (cmd : ArbCmd) → fits (OnBus cmd) (replies.Bus (turn_step bus cmd).1) ≡ true
 turn_fits bus (turns.Ask slot level) =
     elim (cases_Bool (can_ask bus slot level)) [ inl can ↦ rw can (ask_fits bus.holder bus slot level) | inr cannot ↦ rw cannot refl ]

@@ -1,4 +1,4 @@
--- There is room for what is read, and each datum is where its address is.
+-- The buffer's capacity is enough for what is read, and each datum lies where its address is.
 use Rattle.std.proofs.Common.{◌≡◌, ℕ, zero, suc, ◌+◌, ◌*◌, ◌%◌, ◌<◌, ◌≤◌, true, List, ◌++◌, length, Option, Some, None, refl, arith, inl, inr, length-append}
 use Rattle.std.specs.Prelude.{◌==◌, nat_lt, unwrap_or}
 use Rattle.std.proofs.Math.Nat.{mul-le-mul_left}
@@ -16,25 +16,25 @@ use Rattle.vme_master.specs.declared.phase.Phase.TheVariants.{Transferring}
 use Rattle.vme_master.specs.Jobs.{request_expected}
 use Rattle.vme_master.specs.Machine.{job_expected, expected_len, bytes_of, phase_at, datum_phase, phase_broken, phase_replied, IsPlaced, HasRead, IsEnough, IsSound, call_count, most_bytes, job_read_len}
 
--- one datum more of at most r bytes
+-- one datum more of at most r bytes stays within n data
 pub one_more : (r i n : ℕ) → i < n → r * i + r ≤ r * n
 one_more r i n less =
     let upto : r * suc i ≤ r * n = mul-le-mul_left r less in
     let split : r * suc i ≡ r * i + r = grind arith in
     omega arith
 
--- an offset of a datum is an address of the space
+-- the offset of a datum is below the end of the space
 pub offset_below : (offset addr n count i most : ℕ) → offset ≤ addr → i < count → 1 ≤ n → addr + n * count ≤ most → offset + i * n < most
 offset_below offset addr n count i most within less some end =
     let more = one_more n i count less in
     let same : n * i ≡ i * n = grind arith in
     omega arith
 
--- a datum's offset leaves the remainder of its address
+-- a datum's offset leaves the same remainder by four as its address
 pub same_place : (offset addr distance : ℕ) → offset % 4 ≡ addr % 4 → (offset + distance) % 4 ≡ (addr + distance) % 4
 same_place offset addr distance same = omega arith
 
--- all calls together read as many bytes at most as the request does
+-- all calls of a job together read at most as many bytes as the job
 pub all_bytes : (job : Job) → most_bytes job * call_count job ≡ job_read_len job
 all_bytes (Bus job) = bus_bytes job.transfer.request
   where
@@ -47,7 +47,7 @@ all_bytes (Bus job) = bus_bytes job.transfer.request
     bus_bytes (requests.BlockFill am addr n count bytes) = grind arith
 all_bytes (Local job) = refl
 
--- and a request reads no more than all its data have
+-- a request reads no more bytes than all its data have
 pub reads_within : (request : Request) → read_len request ≤ datum_len request * count_of request
 reads_within (requests.Read am addr n) = omega arith
 reads_within (requests.BlockRead am addr n count) = omega arith
@@ -56,7 +56,7 @@ reads_within (requests.Write am addr bytes) = omega arith
 reads_within (requests.BlockWrite am addr n bytes) = omega arith
 reads_within (requests.BlockFill am addr n count bytes) = omega arith
 
--- a reply that is wanted has no more bytes than a datum
+-- a reply of the expected form has no more bytes than a datum
 form_within :
     (request : Request) (reply : Reply) → has_form (expected_len (request_expected request)) reply ≡ true
     → length (bytes_of reply) ≤ unwrap_or (expected_len (request_expected request)) 0
@@ -69,12 +69,13 @@ form_within (requests.BlockFill am addr n count bytes) (Bytes datum) form = absu
 form_within request Done form = omega arith
 form_within request Berr form = omega arith
 
+-- a reply of the expected form has no more bytes than one call of the job reads
 pub replied_within : (job : Job) (reply : Reply) → has_form (expected_len (job_expected job)) reply ≡ true → length (bytes_of reply) ≤ 8
     → length (bytes_of reply) ≤ most_bytes job
 replied_within (Bus job) reply form short = form_within job.transfer.request reply form
 replied_within (Local job) reply form short = short
 
--- a datum more has room
+-- the buffer's capacity is enough for one datum more
 pub buffer_before : (job : Job) (i capacity : ℕ) (read : List ℕ) (reply : Reply) → HasRead job (Transferring i) read
     → has_form (expected_len (job_expected job)) reply ≡ true → length (bytes_of reply) ≤ 8 → job_read_len job ≤ capacity
     → length read + length (bytes_of reply) ≤ capacity
@@ -84,7 +85,7 @@ buffer_before job i capacity read reply had form small all =
     let whole = all_bytes job in
     omega (arith, next, more, had.1, all, whole)
 
--- and so does its phase
+-- a bus error keeps the bound on the bytes that were read
 broken_buffer : (job : Job) (i : ℕ) (read : List ℕ) → length read ≤ job_read_len job → HasRead job (phase_broken job i) read
 broken_buffer (Bus job) i read capacity = capacity
 broken_buffer (Local job) i read capacity = capacity
@@ -104,13 +105,14 @@ next_buffer (Bus job) i read less so_far capacity = datum_buffer job job.place (
 next_buffer (Local job) zero read less so_far capacity = capacity
 next_buffer (Local job) (suc i) read less so_far capacity = absurd (omega arith)
 
--- after a board replied
+-- a board's reply keeps the bound on the bytes that were read
 replied_buffer : (job : Job) (i : ℕ) (read : List ℕ) (reply : Reply) → i < call_count job → length read ≤ most_bytes job * (i + 1)
     → length read ≤ job_read_len job → HasRead job (phase_replied job i reply) read
 replied_buffer job i read (Bytes datum) less so_far capacity = next_buffer job i read less so_far capacity
 replied_buffer job i read Done less so_far capacity = next_buffer job i read less so_far capacity
 replied_buffer job i read Berr less so_far capacity = broken_buffer job i read capacity
 
+-- the bound on the bytes that were read holds in the phase after a board's reply
 pub buffer_after : (job : Job) (i : ℕ) (read : List ℕ) (reply : Reply) → i < call_count job → length read ≤ most_bytes job * i
     → length (bytes_of reply) ≤ most_bytes job → HasRead job (phase_replied job i reply) (read ++ bytes_of reply)
 buffer_after job i read reply less had more =
@@ -120,12 +122,13 @@ buffer_after job i read reply less had more =
     let whole = all_bytes job in
     replied_buffer job i (read ++ bytes_of reply) reply less (omega (arith, all, split)) (omega (arith, all, next, whole))
 
--- the room stays enough
+-- the capacity stays enough at a datum
 datum_enough : (job : BusJob) (place : Option (ℕ × ℕ)) (i capacity : ℕ) → job_read_len (Bus job) ≤ capacity → IsEnough (Bus job) (datum_phase job place i) capacity
 datum_enough job None i capacity enough = enough
 datum_enough job (Some place) i capacity enough =
     elim (cases_Bool (nat_lt i (count_of job.transfer.request))) [ inl less ↦ rw less enough | inr past ↦ rw past enough ]
 
+-- the capacity stays enough at each call
 pub enough_at : (job : Job) (i capacity : ℕ) → job_read_len job ≤ capacity → IsEnough job (phase_at job i) capacity
 enough_at (Bus job) i capacity enough = datum_enough job job.place i capacity enough
 enough_at (Local job) i capacity enough = elim (cases_Bool (i == 0)) [ inl first ↦ rw first enough | inr past ↦ rw past tt ]
@@ -136,7 +139,7 @@ enough_after job i capacity Done enough = enough_at job (i + 1) capacity enough
 enough_after (Bus job) i capacity Berr enough = enough
 enough_after (Local job) i capacity Berr enough = tt
 
--- and a task is as sound after it
+-- a task is sound after a board's reply
 pub sound_after : (job : Job) (i capacity : ℕ) (read : List ℕ) (reply : Reply) → IsPlaced job → HasRead job (Transferring i) read
     → has_form (expected_len (job_expected job)) reply ≡ true → length (bytes_of reply) ≤ 8 → job_read_len job ≤ capacity
     → IsSound (record { job = job; phase = phase_replied job i reply; read = read ++ bytes_of reply }) capacity

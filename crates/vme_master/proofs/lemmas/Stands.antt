@@ -1,4 +1,4 @@
--- The machine goes by the table: what its fields have to do with what it was given.
+-- The machine follows the table: how its fields stand to what it was given.
 use Rattle.std.proofs.Common.{◌≡◌, ℕ, zero, suc, ◌+◌, true, false, List, [], ◌∷◌, ◌++◌, Option, Some, None, refl, ap, sym, ◌∙◌, inl, inr, ◌⊎◌}
 use Rattle.std.specs.Prelude.{nat_lt, is_some}
 use Rattle.std.proofs.lemmas.Bool.{cases_Bool}
@@ -24,13 +24,13 @@ use Rattle.vme_master.specs.Tables.{Given, data_in, bytes_in, datum_or_done, out
 use Rattle.vme_master.specs.Machine.{TaskView, job_expected, expected_len, end_outcome, datum_phase, phase_answered, phase_replied, bytes_of, task_after, task_given, job_next, to_do}
 use Rattle.vme_master.proofs.lemmas.Expected.{datum_len_wanted, local_len_wanted}
 
--- nothing was moved yet
+-- no datum was answered yet
 record Idle (read : List ℕ) (given : Given) : Type 0 where
   none : data_in given ≡ 0
   empty : read ≡ []
   bytes : bytes_in given ≡ []
 
--- a transfer's fields fit what it was given
+-- the fields of a transfer fit what it was given
 abbrev BusFacts : BusJob → Phase → List ℕ → Given → Type 0
 BusFacts j New read g = (g ≡ []) × (read ≡ [])
 BusFacts j Requesting read g = (next_of (Bus j) g ≡ Invokes (ask_call j)) × Idle read g
@@ -42,7 +42,7 @@ BusFacts j (Releasing berr) read g =
 BusFacts j (Finished berr) read g = next_of (Bus j) g ≡ Returns (end_outcome (job_expected (Bus j)) berr read)
 BusFacts j Denied read g = next_of (Bus j) g ≡ Returns outcomes.Denied
 
--- and a local command's
+-- the fields of a local command fit what it was given
 abbrev LocalFacts : LocalJob → Phase → List ℕ → Given → Type 0
 LocalFacts j New read g = (g ≡ []) × (read ≡ [])
 LocalFacts j (Transferring i) read g = (next_of (Local j) g ≡ Invokes (local_call j)) × (i ≡ 0) × (read ≡ [])
@@ -58,14 +58,14 @@ Facts (Local j) phase read g = LocalFacts j phase read g
 abbrev task : Job → Phase → List ℕ → TaskView
 task job phase read = record { job = job; phase = phase; read = read }
 
--- what is given that leads on to datum i
+-- what was given leads to datum i
 record LeadsOn (j : BusJob) (i : ℕ) (read : List ℕ) (g : Given) : Type 0 where
   next : next_of (Bus j) g ≡ Invokes (datum_or_done j i)
   count : i ≡ data_in g
   bytes : read ≡ bytes_in g
   whole : (p : ℕ × ℕ) → outcome_by j (Some p) g ≡ expected_outcome (request_expected j.transfer.request) (bytes_in g)
 
--- on to datum i, where there is a board
+-- the phase at datum i fits if a board is selected
 leads_there : (j : BusJob) (p : ℕ × ℕ) (i : ℕ) (read : List ℕ) (g : Given) → j.place ≡ Some p → LeadsOn j i read g
     → BusFacts j (datum_phase j (Some p) i) read g
 leads_there j p i read g placed leads =
@@ -81,7 +81,7 @@ leads_there j p i read g placed leads =
           rw past (here, end)
     ]
 
--- where there is none the bus is given back
+-- the phase fits if no board is selected
 leads_nowhere : (j : BusJob) (i : ℕ) (read : List ℕ) (g : Given) → j.place ≡ None → read ≡ [] → LeadsOn j i read g
     → BusFacts j (datum_phase j None i) read g
 leads_nowhere j i read g placed empty leads =
@@ -89,14 +89,14 @@ leads_nowhere j i read g placed empty leads =
     leads.next ∙ elim (cases_Bool (nat_lt i (count_of j.transfer.request))) [ inl less ↦ rw (less, placed) refl | inr past ↦ rw past refl ] in
     (here, rw (placed, empty) refl)
 
--- by what there is
+-- the phase at datum i fits, with or without a board
 leads_on : (j : BusJob) (place : Option (ℕ × ℕ)) (i : ℕ) (read : List ℕ) (g : Given) → j.place ≡ place
     → (is_some place ≡ true) ⊎ (read ≡ []) → LeadsOn j i read g → BusFacts j (datum_phase j place i) read g
 leads_on j (Some p) i read g placed why leads = leads_there j p i read g placed leads
 leads_on j None i read g placed (inl some) leads = absurd cc
 leads_on j None i read g placed (inr empty) leads = leads_nowhere j i read g placed empty leads
 
--- the bus is granted
+-- the phase after a grant fits
 granted : (j : BusJob) (read : List ℕ) (g : Given) → Idle read g
     → next_of (Bus j) (Some (replies.Bus turned.Granted) ∷ g) ≡ Invokes (datum_or_done j 0)
     → BusFacts j (datum_phase j j.place 0) read (Some (replies.Bus turned.Granted) ∷ g)
@@ -104,7 +104,7 @@ granted j read g idle next =
     leads_on j j.place 0 read (Some (replies.Bus turned.Granted) ∷ g) refl (inr idle.empty)
     (record { next = next; count = sym idle.none; bytes = idle.empty ∙ sym idle.bytes; whole = λ p. refl })
 
--- a reply of the arbiter to an ask or a look
+-- the phase after the arbiter's reply to a request or a poll fits
 bus_reported : (j : BusJob) (read : List ℕ) (g : Given) (reply : ArbReply) → Idle read g
     → ((next_of (Bus j) g ≡ Invokes (ask_call j)) ⊎ (next_of (Bus j) g ≡ Invokes (look_call j)))
     → BusFacts j (phase_answered (Bus j) reply) read (Some (replies.Bus reply) ∷ g)
@@ -117,25 +117,25 @@ bus_reported j read g turned.Freed idle (inr looks) = rw looks refl
 bus_reported j read g turned.Denied idle (inl asks) = rw asks refl
 bus_reported j read g turned.Denied idle (inr looks) = rw looks refl
 
--- a datum's call is answered by a board, by its form
+-- a board's reply fits a datum's call by its form alone
 datum_fits : (j : BusJob) (place : Option (ℕ × ℕ)) (i : ℕ) (reply : Reply) → is_some place ≡ true
     → fits (datum_call j place i) (replies.Board reply) ≡ has_form (expected_len (job_expected (Bus j))) reply
 datum_fits j None i reply some = absurd cc
 datum_fits j (Some p) i reply some = ap (λ wanted. has_form wanted reply) (datum_len_wanted j.transfer.request i _)
 
--- and not by the arbiter
+-- the arbiter's reply never fits a datum's call
 datum_unreported : (j : BusJob) (place : Option (ℕ × ℕ)) (i : ℕ) (reply : ArbReply) → is_some place ≡ true
     → fits (datum_call j place i) (replies.Bus reply) ≡ false
 datum_unreported j None i reply some = absurd cc
 datum_unreported j (Some p) i reply some = refl
 
--- what comes of a bus error
+-- the phase after a bus error fits
 broken : (j : BusJob) (place : Option (ℕ × ℕ)) (i : ℕ) (read : List ℕ) (g : Given) → is_some place ≡ true → i ≡ data_in g
     → read ≡ bytes_in g → error_outcome i read ≡ outcome_by j place (Some (replies.Board Berr) ∷ g)
 broken j None i read g some count bytes = absurd cc
 broken j (Some p) i read g some count bytes = rw (count, bytes) refl
 
--- a reply that fits a datum
+-- the phase after a board's reply that fits
 bus_replied : (j : BusJob) (i : ℕ) (read : List ℕ) (g : Given) (reply : Reply) → BusFacts j (Transferring i) read g
     → has_form (expected_len (job_expected (Bus j))) reply ≡ true
     → BusFacts j (phase_replied (Bus j) i reply) (read ++ bytes_of reply) (Some (replies.Board reply) ∷ g)
@@ -161,7 +161,7 @@ bus_replied j i read g Berr facts form =
     let fit : fits (datum_call j j.place i) (replies.Board Berr) ≡ true = datum_fits j j.place i Berr facts.1 ∙ form in
     (rw (facts.0, fit) refl, broken j j.place i (read ++ []) g facts.1 facts.2 (append-nil read ∙ facts.3))
 
--- a transfer at a datum that a board replied to
+-- the phase after any reply of a board
 bus_answered : (j : BusJob) (i : ℕ) (read : List ℕ) (g : Given) (reply : Reply) → BusFacts j (Transferring i) read g
     → BusFacts j (task_after (task (Bus j) (Transferring i) read) (Transferring i) (Some (replies.Board reply))).phase
     (task_after (task (Bus j) (Transferring i) read) (Transferring i) (Some (replies.Board reply))).read (Some (replies.Board reply) ∷ g)
@@ -173,7 +173,7 @@ bus_answered j i read g reply facts =
           rw misfit (rw (facts.0, unfit) refl)
     ]
 
--- one call more, of a transfer
+-- the fields of a transfer fit after one reply more
 bus_step : (j : BusJob) (phase : Phase) (read : List ℕ) (g : Given) (last : Option EventReply) → BusFacts j phase read g
     → BusFacts j (task_after (task (Bus j) phase read) phase last).phase (task_after (task (Bus j) phase read) phase last).read (last ∷ g)
 bus_step j New read g None facts = (rw facts.0 refl, record { none = ap data_in facts.0; empty = facts.1; bytes = ap bytes_in facts.0 })
@@ -198,7 +198,7 @@ bus_step j (Releasing berr) read g (Some (replies.Board reply)) facts = rw facts
 bus_step j (Finished berr) read g last facts = rw facts refl
 bus_step j Denied read g last facts = rw facts refl
 
--- a local command that a board replied to, as it fits
+-- the fields of a local command fit after a board's reply of the expected form
 local_replied : (j : LocalJob) (read : List ℕ) (g : Given) (reply : Reply) → LocalFacts j (Transferring 0) read g
     → has_form (expected_len (job_expected (Local j))) reply ≡ true
     → LocalFacts j (phase_replied (Local j) 0 reply) (read ++ bytes_of reply) (Some (replies.Board reply) ∷ g)
@@ -221,7 +221,7 @@ local_answered j read g reply facts =
           rw misfit (rw (facts.0, unfit) refl)
     ]
 
--- one call more, of a local command
+-- the fields of a local command fit after one reply more
 local_step : (j : LocalJob) (phase : Phase) (read : List ℕ) (g : Given) (last : Option EventReply) → LocalFacts j phase read g
     → LocalFacts j (task_after (task (Local j) phase read) phase last).phase (task_after (task (Local j) phase read) phase last).read (last ∷ g)
 local_step j New read g None facts = (rw facts.0 refl, refl, facts.1)
@@ -234,7 +234,7 @@ local_step j (Finished berr) read g last facts = rw facts refl
 local_step j Denied read g last facts = rw facts refl
 local_step j phase read g last facts = absurd facts
 
--- a task keeps its job
+-- a task keeps its job in every step
 pub job_stays : (t : TaskView) (phase : Phase) (last : Option EventReply) → (task_after t phase last).job ≡ t.job
 job_stays t New None = refl
 job_stays t Requesting (Some (replies.Bus reply)) = refl
@@ -245,22 +245,23 @@ job_stays t (Releasing berr) (Some (replies.Bus turned.Freed)) = refl
 job_stays t (Finished berr) last = refl
 job_stays t phase last = refl
 
+-- a task keeps its job after any replies
 pub given_job : (job : Job) (g : Given) → (task_given job g).job ≡ job
 given_job job [] = refl
 given_job job (last ∷ g) = job_stays (task_given job g) (task_given job g).phase last ∙ given_job job g
 
--- one call more
+-- the fields of a job fit after one reply more
 step_facts : (job : Job) (phase : Phase) (read : List ℕ) (g : Given) (last : Option EventReply) → Facts job phase read g
     → Facts job (task_after (task job phase read) phase last).phase (task_after (task job phase read) phase last).read (last ∷ g)
 step_facts (Bus j) phase read g last facts = bus_step j phase read g last facts
 step_facts (Local j) phase read g last facts = local_step j phase read g last facts
 
--- no call yet
+-- the fields fit before the first call
 fresh_facts : (job : Job) → Facts job New [] []
 fresh_facts (Bus j) = (refl, refl)
 fresh_facts (Local j) = (refl, refl)
 
--- the fields fit
+-- the fields fit after any replies
 given_facts : (job : Job) (g : Given) → Facts job (task_given job g).phase (task_given job g).read g
 given_facts job [] = fresh_facts job
 given_facts job (last ∷ g) =
@@ -269,7 +270,7 @@ given_facts job (last ∷ g) =
     let facts = step_facts job t.phase t.read g last (given_facts job g) in
     rw same at facts
 
--- so what it does next is what the table says
+-- fields that fit give what the table says
 facts_next : (job : Job) (phase : Phase) (read : List ℕ) (g : Given) → Facts job phase read g → job_next job phase read ≡ next_of job g
 facts_next (Bus j) New read g facts = rw facts.0 refl
 facts_next (Bus j) Requesting read g facts = sym facts.0
@@ -290,7 +291,7 @@ by_the_table job g =
     let t = task_given job g in
     ap (λ (one : Job). job_next one t.phase t.read) (given_job job g) ∙ facts_next job t.phase t.read g (given_facts job g)
 
--- also after one call more
+-- a task does next what the table says after one reply more
 pub next_by_the_table : (job : Job) (g : Given) (t : TaskView) (last : Option EventReply) → t ≡ task_given job g
     → to_do (task_after t t.phase last) ≡ next_of job (last ∷ g)
 next_by_the_table job g t last same = ap (λ (u : TaskView). to_do (task_after u u.phase last)) same ∙ by_the_table job (last ∷ g)

@@ -1,4 +1,4 @@
--- The calls of a transfer: ask, look, the data in their order while the slot holds the bus, and done.
+-- The calls of a transfer: request, poll, the data in order while the slot holds the bus, and release.
 use Rattle.std.proofs.Common.{◌≡◌, ◌≢◌, ℕ, ◌+◌, ◌<◌, true, [], ◌∷◌, Option, Some, None, refl, ap, sym, subst, inl, inr, ◌⊎◌}
 use Rattle.std.specs.Prelude.{nat_lt}
 use Rattle.std.proofs.lemmas.Bool.{cases_Bool, ltb-true, eq-eqb, and_from}
@@ -23,20 +23,20 @@ use Rattle.vme_master.specs.Jobs.{datum_call, fits, error_outcome}
 use Rattle.vme_master.specs.Tables.{Given, data_in, datum_or_done, outcome_by, bus_row, next_after, next_of}
 use Rattle.vme_master.specs.Laws.{last_turn, IsNextDatum}
 
--- a command to the arbiter is the slot's own, and goes by the last reply
+-- a command to the arbiter is the slot's own and follows from the last reply
 abbrev TurnStands : BusJob → Given → ArbCmd → Type 0
 TurnStands j g (turns.Ask slot level) = (slot ≡ j.slot) × (level ≡ j.level) × (last_turn g ≡ None) × (data_in g ≡ 0)
 TurnStands j g (turns.Look slot) = (slot ≡ j.slot) × (last_turn g ≡ Some turned.Waiting) × (data_in g ≡ 0)
 TurnStands j g (turns.Done slot) = (slot ≡ j.slot) × (last_turn g ≡ Some turned.Granted)
 
--- what a transfer does next stands by what it was given
+-- what a transfer does next follows from what it was given
 abbrev Stands : BusJob → Given → NextStep Outcome → Type 0
 Stands j g NotStarted = g ≡ []
 Stands j g (Invokes (OnBus cmd)) = TurnStands j g cmd
 Stands j g (Invokes (OnBoard board command)) = IsNextDatum j g board command × (last_turn g ≡ Some turned.Granted)
 Stands j g (Returns outcome) = (outcome ≡ outcomes.Denied) ⊎ (j.place ≡ None → outcome ≡ error_outcome 0 [])
 
--- the data that come next
+-- the next datum follows from the data so far
 datum_stands : (j : BusJob) (place : Option (ℕ × ℕ)) (g : Given) → j.place ≡ place → data_in g < count_of j.transfer.request
     → last_turn g ≡ Some turned.Granted → Stands j g (Invokes (datum_call j place (data_in g)))
 datum_stands j None g placed more held = (refl, held)
@@ -51,11 +51,11 @@ on_stands j g i same held =
       | inr past ↦ rw past (refl, held)
     ]
 
--- an outcome where no board is selected is the bus timer's
+-- the outcome with no board selected is the bus timer's
 timer : (j : BusJob) (g : Given) → j.place ≡ None → outcome_by j j.place g ≡ error_outcome 0 []
 timer j g placed = rw placed refl
 
--- a reply of a board leads on
+-- what follows a board's reply
 board_stands : (j : BusJob) (g : Given) (board : ℕ) (command : Option Command) (reply : Reply)
     → IsNextDatum j g board command × (last_turn g ≡ Some turned.Granted)
     → Stands j (Some (replies.Board reply) ∷ g) (bus_row j (replies.Board reply) g)
@@ -63,7 +63,7 @@ board_stands j g board command (Bytes datum) stands = on_stands j (Some (replies
 board_stands j g board command Done stands = on_stands j (Some (replies.Board Done) ∷ g) (data_in g + 1) refl stands.1
 board_stands j g board command Berr stands = (refl, stands.1)
 
--- one call more
+-- what follows one reply more
 step_stands : (j : BusJob) (g : Given) (next : NextStep Outcome) (last : Option EventReply) → Stands j g next
     → Stands j (last ∷ g) (next_after (Bus j) next last g)
 step_stands j g NotStarted None stands = (refl, refl, ap last_turn stands, ap data_in stands)
@@ -92,16 +92,17 @@ step_stands j g (Invokes (OnBoard board command)) (Some (replies.Board reply)) s
     ]
 step_stands j g (Returns outcome) last stands = stands
 
--- through all calls
+-- what a transfer does next follows from any replies
 pub next_stands : (j : BusJob) (g : Given) → Stands j g (next_of (Bus j) g)
 next_stands j [] = refl
 next_stands j (last ∷ g) = step_stands j g (next_of (Bus j) g) last (next_stands j g)
 
--- the parts of it
+-- a board's command is that of the next datum
 pub data_go_on : (j : BusJob) (g : Given) (board : ℕ) (command : Option Command) → next_of (Bus j) g ≡ Invokes (OnBoard board command)
     → IsNextDatum j g board command
 data_go_on j g board command next = (subst (Stands j g) next (next_stands j g)).0
 
+-- data go to a board only while the arbiter's last reply is `Granted`
 pub holds_for_data : (j : BusJob) (g : Given) (board : ℕ) (command : Option Command) → next_of (Bus j) g ≡ Invokes (OnBoard board command)
     → last_turn g ≡ Some turned.Granted
 holds_for_data j g board command next = (subst (Stands j g) next (next_stands j g)).1
@@ -112,6 +113,7 @@ may_turn j g (turns.Ask slot level) lawful stands =
 may_turn j g (turns.Look slot) lawful stands = rw (stands.1, stands.0) (eq-eqb j.slot j.slot refl)
 may_turn j g (turns.Done slot) lawful stands = rw (stands.1, stands.0) (eq-eqb j.slot j.slot refl)
 
+-- each command to the arbiter is one that its last reply allows
 pub turns_go_by : (j : BusJob) (g : Given) (cmd : ArbCmd) → is_level j.level ≡ true → next_of (Bus j) g ≡ Invokes (OnBus cmd)
     → may_give j.slot (last_turn g) cmd ≡ true
 turns_go_by j g cmd lawful next = may_turn j g cmd lawful (subst (Stands j g) next (next_stands j g))
@@ -122,20 +124,22 @@ own_turn j g (turns.Ask slot level) stands = inl (rw (stands.0, stands.1) refl)
 own_turn j g (turns.Look slot) stands = inr (inl (rw stands.0 refl))
 own_turn j g (turns.Done slot) stands = inr (inr (rw stands.0 refl))
 
+-- each command to the arbiter is the slot's own
 pub turns_are_own : (j : BusJob) (g : Given) (cmd : ArbCmd) → next_of (Bus j) g ≡ Invokes (OnBus cmd)
     → (cmd ≡ turns.Ask j.slot j.level) ⊎ ((cmd ≡ turns.Look j.slot) ⊎ (cmd ≡ turns.Done j.slot))
 turns_are_own j g cmd next = own_turn j g cmd (subst (Stands j g) next (next_stands j g))
 
+-- a transfer with no board ends denied or with the bus timer's error
 pub nowhere_ends : (j : BusJob) (g : Given) (outcome : Outcome) → j.place ≡ None → next_of (Bus j) g ≡ Returns outcome
     → (outcome ≡ outcomes.Denied) ⊎ (outcome ≡ error_outcome 0 [])
 nowhere_ends j g outcome placed next =
     elim (subst (Stands j g) next (next_stands j g)) [ inl denied ↦ inl denied | inr berr ↦ inr (berr placed) ]
 
--- two ends that are the same
+-- equal ends have equal outcomes
 same_end : (a b : Outcome) → Returns a ≡ Returns b → a ≡ b
 same_end a b same = cc
 
--- an end that is no denial comes when the arbiter replies that the bus is free again
+-- an end without a denial comes only with the reply `Freed`
 row_ends : (j : BusJob) (g : Given) (reply : EventReply) (outcome : Outcome) → bus_row j reply g ≡ Returns outcome
     → outcome ≢ outcomes.Denied → reply ≡ replies.Bus turned.Freed
 row_ends j g (replies.Bus turned.Freed) outcome row good = refl
@@ -146,6 +150,7 @@ row_ends j g (replies.Board (Bytes datum)) outcome row good = absurd cc
 row_ends j g (replies.Board Done) outcome row good = absurd cc
 row_ends j g (replies.Board Berr) outcome row good = absurd cc
 
+-- a call that ends without a denial was answered by `Freed`
 pub ends_freed : (j : BusJob) (g : Given) (call : Call) (reply : EventReply) (outcome : Outcome) → next_of (Bus j) g ≡ Invokes call
     → next_of (Bus j) (Some reply ∷ g) ≡ Returns outcome → outcome ≢ outcomes.Denied → reply ≡ replies.Bus turned.Freed
 ends_freed j g call reply outcome made next good =

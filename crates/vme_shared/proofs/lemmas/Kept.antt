@@ -1,4 +1,4 @@
--- What the bytes of a mailbox hold of the words that were put and taken, and where a master stands with them.
+-- What the bytes of a mailbox hold of the words put and taken, and where a master stands with them.
 use Rattle.std.proofs.Common.{◌≡◌, ℕ, ◌+◌, ◌-◌, ◌^◌, ◌≤◌, ◌<◌, ◌⊎◌, Bool, true, false, List, [], ◌∷◌, length, take, get_or, slice_range, refl, ◌∙◌, arith, inl, inr, Some}
 use Rattle.vme_cycle.specs.Functions.{number_of, with_top_bit}
 use Rattle.vme_memory.specs.Boards.{bytes_after_write}
@@ -8,7 +8,7 @@ use Rattle.vme_shared.proofs.lemmas.Bytes.{number_in, number_new, number_apart}
 use Rattle.vme_shared.proofs.lemmas.Places.{word_within}
 use Rattle.vme_shared.proofs.lemmas.MailboxSteps.{read_len}
 
--- the counts are those of the words put and taken; what was taken was put first, and what was not yet taken stands at its places
+-- the counts are those of the words, the taken words are a prefix of the put ones, and the others lie in their slots
 pub record Kept (m : BoardMailbox) (bytes put taken : List ℕ) : Type 0 where
   pub put_count : number_in bytes (put_count_at m) 4 ≡ length put
   pub take_count : number_in bytes (take_count_at m) 4 ≡ length taken
@@ -18,11 +18,11 @@ pub record Kept (m : BoardMailbox) (bytes put taken : List ℕ) : Type 0 where
   pub few : length put ≤ length taken + m.slots
   pub words : (n d : ℕ) → length taken ≤ n → n < length put → number_in bytes (word_at m n) 4 ≡ get_or put n d
 
--- the lock is held
+-- the lock is taken
 abbrev pub IsHeld : BoardMailbox → List ℕ → Type 0
 IsHeld m bytes = number_in bytes (lock_at m) 1 ≡ 128
 
--- what the bytes hold where a master stands in a phase
+-- what the bytes hold while a master stands in a phase
 abbrev pub Stands : BoardMailbox → List ℕ → List ℕ → List ℕ → Phase → Type 0
 Stands m bytes put taken Idle = number_in bytes (lock_at m) 1 ≡ 0
 Stands m bytes put taken Locked = IsHeld m bytes
@@ -40,6 +40,7 @@ pub record SameNumbers (m : BoardMailbox) (bytes after : List ℕ) : Type 0 wher
   pub words : (n : ℕ) → number_in after (word_at m n) 4 ≡ number_in bytes (word_at m n) 4
 
 module _ (m : BoardMailbox) (bytes after put taken : List ℕ) where
+  -- equal numbers hold the same words
   pub kept_same : SameNumbers m bytes after → Kept m bytes put taken → Kept m after put taken
   kept_same same kept = record {
     put_count = same.put_count ∙ kept.put_count;
@@ -51,6 +52,7 @@ module _ (m : BoardMailbox) (bytes after put taken : List ℕ) where
     words = λ n d from below. same.words n ∙ kept.words n d from below;
   }
 
+  -- equal numbers and locks keep where a master stands
   pub stands_same : (phase : Phase) → SameNumbers m bytes after → number_in after (lock_at m) 1 ≡ number_in bytes (lock_at m) 1
       → Stands m bytes put taken phase → Stands m after put taken phase
   stands_same Idle same lock stands = lock ∙ stands
@@ -72,7 +74,7 @@ held_by m bytes put taken (Written p x) stands = inr stands.0
 held_by m bytes put taken (Fetched t x) stands = inr stands.0
 held_by m bytes put taken Counted stands = inr stands
 
--- bytes that were written apart from the mailbox, or over its lock alone
+-- bytes that are written beside the mailbox, or over its lock alone, leave its other numbers the same
 pub same_beside : (m : BoardMailbox) (bytes new : List ℕ) (at : ℕ) → 1 ≤ m.slots → at + length new ≤ length bytes
     → (at + length new ≤ put_count_at m) ⊎ (end_of m ≤ at) → SameNumbers m bytes (bytes_after_write bytes at new)
 same_beside m bytes new at some within (inl below) = record {
@@ -97,7 +99,7 @@ set_len : (one : List ℕ) → length one ≡ 1 → length (with_top_bit one) �
 set_len [] long = long
 set_len (byte ∷ bytes) long = long
 
--- the lock is set: it is held then, and all else stays
+-- a lock that is set is taken, and all other numbers stay the same
 pub lock_set : (m : BoardMailbox) (bytes : List ℕ) → 1 ≤ m.slots → lock_at m + 1 ≤ length bytes
     → (number_in bytes (lock_at m) 1 ≡ 0) ⊎ IsHeld m bytes
     → IsHeld m (bytes_after_write bytes (lock_at m) (with_top_bit (slice_range bytes (lock_at m) (lock_at m + 1))))
@@ -110,14 +112,14 @@ lock_set m bytes some within was =
       same_beside m bytes (with_top_bit one) (lock_at m) some (omega arith) (inl (omega arith)),
     )
 
--- the lock is written over, and all else stays
+-- a write over the lock sets the lock's number, and all other numbers stay the same
 pub lock_written : (m : BoardMailbox) (bytes new : List ℕ) → 1 ≤ m.slots → lock_at m + 1 ≤ length bytes → length new ≡ 1
     → (number_in (bytes_after_write bytes (lock_at m) new) (lock_at m) 1 ≡ number_of new)
     × SameNumbers m bytes (bytes_after_write bytes (lock_at m) new)
 lock_written m bytes new some within long =
     (number_new bytes new (lock_at m) 1 within long, same_beside m bytes new (lock_at m) some (omega arith) (inl (omega arith)))
 
--- what is reached, and by what
+-- a phase that is reached is the given one, and its condition holds
 pub reached_is : (is : Bool) (phase next : Phase) → reached is phase ≡ Some next → (is ≡ true) × (phase ≡ next)
 reached_is true phase next reaches = (refl, cc)
 reached_is false phase next reaches = absurd cc

@@ -1,4 +1,4 @@
--- What an answered command does to the bytes of a board.
+-- What an answered command does to a board's bytes.
 use Rattle.std.proofs.Common.{◌≡◌, ℕ, ◌+◌, ◌≤◌, ◌⊎◌, true, List, [], ◌∷◌, length, slice_range, refl, ◌∙◌, arith, inl, inr}
 use Rattle.std.proofs.lemmas.Bool.{cases_Bool, and_parts, leb-true, eqb-true}
 use Rattle.std.proofs.lemmas.Grind.{common_steps}
@@ -15,7 +15,7 @@ use Rattle.vme_shared.specs.MailboxSteps.{offset_of, len_of}
 use Rattle.vme_shared.specs.Phases.{Access, Sets, Reads, Writes, Others, access_of}
 use Rattle.vme_shared.proofs.lemmas.Bytes.{number_in}
 
--- some of the bytes are new ones
+-- a range of bytes is overwritten by as many others
 pub record Overwrites (bytes : List ℕ) (at len : ℕ) (after : List ℕ) : Type 0 where
   pub new : List ℕ
   pub count : length new ≡ len
@@ -33,18 +33,18 @@ Did bytes (Writes at len number) after =
     (new : List ℕ) × (length new ≡ len) × (number_of new ≡ number) × (at + len ≤ length bytes) × (after ≡ bytes_after_write bytes at new)
 Did bytes Others after = Unit {0}
 
--- the bytes read are as many
+-- a range of bytes has its length
 pub read_len : (bytes : List ℕ) (at len : ℕ) → at + len ≤ length bytes → length (slice_range bytes at (at + len)) ≡ len
 read_len bytes at len within = grind (arith, common_steps)
 
--- a fact of both outcomes of a step
+-- a fact of both outcomes of a step holds after the step
 step_by :
     (P : Reply × Board → Type 0) (board : Board) (command : Command) → (can_answer board command ≡ true → P (effect_of board command))
     → P (Berr, board) → P (step board command)
 step_by P board command answered refused =
     elim (cases_Bool (can_answer board command)) [ inl can ↦ rw can (answered can) | inr cannot ↦ rw cannot refused ]
 
--- what a command's access did
+-- a command did to the bytes what its access states
 pub did : (board : Board) (command : Command) → Did board.bytes (access_of command (step board command).0) (step board command).1.bytes
 did board (LocalRead at len) = step_by (λ s. Did board.bytes (access_of (LocalRead at len) s.0) s.1.bytes) board (LocalRead at len) (λ can. tt) tt
 did board (LocalWrite at new) = step_by (λ s. Did board.bytes (access_of (LocalWrite at new) s.0) s.1.bytes) board (LocalWrite at new) (λ can. tt) tt
@@ -66,7 +66,7 @@ did board (Modify at len (Compare expect put)) =
 did board (BlockRead at len) = step_by (λ s. Did board.bytes (access_of (BlockRead at len) s.0) s.1.bytes) board (BlockRead at len) (λ can. tt) tt
 did board (BlockWrite at new) = step_by (λ s. Did board.bytes (access_of (BlockWrite at new) s.0) s.1.bytes) board (BlockWrite at new) (λ can. tt) tt
 
--- what a function writes is as long as what was there
+-- a function writes as many bytes as it found
 value_len : (f : functions.Modify) (old : List ℕ) (len : ℕ) → has_len f len ≡ true → length old ≡ len → length (value f old) ≡ len
 value_len Set [] len fits long = long
 value_len Set (byte ∷ old) len fits long = long
@@ -75,7 +75,7 @@ value_len (Add by) old len fits long = length-sum_of old by.items ∙ long
 value_len (Compare expect put) old len fits long =
     elim (cases_Bool (bytes_eq old expect.items)) [ inl same ↦ rw same (eqb-true _ _ (and_parts _ _ fits).1) | inr other ↦ rw other long ]
 
--- a command changes its own bytes alone, or none
+-- at most the bytes of a range change
 abbrev pub Changes : List ℕ → ℕ → ℕ → List ℕ → Type 0
 Changes bytes at len after = (after ≡ bytes) ⊎ Overwrites bytes at len after
 
@@ -89,6 +89,7 @@ modify_changes board at len f fit has =
     let within = leb-true _ _ fit in
     inr (record { new = value f (bytes_at board at len); count = value_len f _ len has (read_len board.bytes at len within); within = within; is = refl })
 
+-- a command changes at most its own bytes
 pub changes : (board : Board) (command : Command) → Changes board.bytes (offset_of command) (len_of command) (step board command).1.bytes
 changes board (LocalRead at len) = step_by (λ s. Changes board.bytes at len s.1.bytes) board (LocalRead at len) (λ can. inl refl) (inl refl)
 changes board (LocalWrite at new) =

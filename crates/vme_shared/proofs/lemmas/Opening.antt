@@ -1,4 +1,4 @@
--- A new mailbox, in which nothing was put.
+-- A new mailbox, into which no word was put.
 use Rattle.std.proofs.Common.{◌≡◌, ℕ, ◌+◌, ◌-◌, ◌≤◌, ◌<◌, List, [], length, get_or, drop, replicate, slice_range, refl, ap, sym, ◌∙◌, arith}
 use Rattle.std.proofs.lemmas.Grind.{same_number_lists}
 use Rattle.std.proofs.lemmas.List.{get_or-replicate, get_or-take, get_or-drop, length-replicate}
@@ -17,7 +17,7 @@ use Rattle.vme_shared.proofs.lemmas.Bytes.{number_in}
 use Rattle.vme_shared.proofs.lemmas.MailboxSteps.{read_len}
 use Rattle.vme_shared.proofs.lemmas.Ordered.{Holds, IsQueue, ordered}
 
--- a byte of a mailbox of zeros
+-- each byte of a mailbox of zeros is zero
 zero_byte : (bytes : List ℕ) (at len k : ℕ) → slice_range bytes at (at + len) ≡ zeros len → k < len → get_or bytes (at + k) 0 ≡ 0
 unfolding zeros
 zero_byte bytes at len k zero below =
@@ -25,7 +25,7 @@ zero_byte bytes at len k zero below =
     get_or-take (at + len - at) (drop at bytes) k 0 (omega arith) ∙ get_or-drop at bytes k 0 in
     sym there ∙ ap (λ xs. get_or xs k 0) zero ∙ get_or-replicate len k 0 0 below
 
--- and some of its bytes
+-- each range of a mailbox of zeros is zero
 zero_bytes : (bytes : List ℕ) (at len k n : ℕ) → at + len ≤ length bytes → slice_range bytes at (at + len) ≡ zeros len → k + n ≤ len
     → slice_range bytes (at + k) (at + k + n) ≡ replicate n 0
 zero_bytes bytes at len k n within zero inside =

@@ -1,4 +1,4 @@
--- A mailbox is kept from entry to entry of a history that is legal and proper.
+-- A mailbox is kept from entry to entry of a legal and proper history.
 use Rattle.std.proofs.Common.{◌≡◌, ℕ, ◌+◌, ◌≤◌, true, false, List, [], ◌∷◌, ◌++◌, length, drop, refl, ap, sym, subst, ◌∙◌, inl, inr, Option, Some, None}
 use Rattle.std.specs.Prelude.{is_some, IsTrue, ◌==◌, if◌then◌else◌}
 use Rattle.std.proofs.lemmas.Bool.{cases_Bool, cases_eq, eq-eqb, ne_eqb, cond-true, cond-false}
@@ -18,7 +18,7 @@ use Rattle.vme_shared.proofs.lemmas.Kept.{Kept, Stands, held_by, kept_same, stan
 use Rattle.vme_shared.proofs.lemmas.Rows.{Went, went}
 use Rattle.vme_shared.proofs.lemmas.Quiet.{Quiet, quiet, quiet_same, busy, no_put, no_taken, stayed}
 
--- one master at most is not idle, and the bytes are what they are where it stands
+-- at most one master is not idle, and the bytes hold what its phase states
 pub record Holds (m : BoardMailbox) (bytes put taken : List ℕ) (phases : ℕ → Option Phase) : Type 0 where
   pub owner : ℕ
   pub phase : Phase
@@ -27,13 +27,13 @@ pub record Holds (m : BoardMailbox) (bytes put taken : List ℕ) (phases : ℕ �
   pub stands : Stands m bytes put taken phase
   pub others : (who : ℕ) → (owner ≡ who → ⊥) → phases who ≡ Some Idle
 
--- what is there
+-- the value of an option that has one
 some_value : (phase : Option Phase) → is_some phase ≡ true → (p : Phase) × (phase ≡ Some p)
 some_value None is = absurd cc
 some_value (Some p) is = (p, refl)
 
 module _ (m : BoardMailbox) (some : 1 ≤ m.slots) (who : ℕ) (given : Option Command) (reply : Reply) (phases : ℕ → Option Phase) where
-  -- the phases after a command of one
+  -- the phases after a command of one master
   abbrev moved : ℕ → Option Phase
   moved w = if who == w then after_command m (phases w) given reply else phases w
 
@@ -43,14 +43,14 @@ module _ (m : BoardMailbox) (some : 1 ≤ m.slots) (who : ℕ) (given : Option C
   moved_other : (w : ℕ) → (who ≡ w → ⊥) → moved w ≡ phases w
   moved_other w apart = let other : (who == w) ≡ false = ne_eqb who w apart in rw other refl
 
-  -- what is put and taken by it
+  -- the words that the command puts
   abbrev puts_by : List ℕ
   puts_by = put_by (phases who) (after_command m (phases who) given reply)
 
   abbrev takes_by : List ℕ
   takes_by = taken_by (phases who) (after_command m (phases who) given reply)
 
-  -- it goes on alone, all others idle
+  -- the master goes on alone while all others are idle
   goes_on : (after put taken : List ℕ) (phase next : Phase) → phases who ≡ Some phase → after_command m (Some phase) given reply ≡ Some next
       → Went m after put taken phase next → ((w : ℕ) → (who ≡ w → ⊥) → phases w ≡ Some Idle)
       → Holds m after (put ++ puts_by) (taken ++ takes_by) moved
@@ -67,7 +67,7 @@ module _ (m : BoardMailbox) (some : 1 ≤ m.slots) (who : ℕ) (given : Option C
         others = λ w apart. moved_other w apart ∙ idle w apart;
       }
 
-  -- it stays idle, and another holds the mailbox on
+  -- the master stays idle while another holds the mailbox
   looks_on : (bytes after put taken : List ℕ) (holds : Holds m bytes put taken phases) → (holds.owner ≡ who → ⊥)
       → after_command m (Some Idle) given reply ≡ Some Idle → Quiet m bytes after → Holds m after (put ++ puts_by) (taken ++ takes_by) moved
   looks_on bytes after put taken holds apart goes still =
@@ -91,7 +91,7 @@ module _ (m : BoardMailbox) (some : 1 ≤ m.slots) (who : ℕ) (given : Option C
             ];
       }
 
-  -- the numbers of the mailbox stay, and so does its phase
+  -- the numbers of the mailbox and the master's phase stay the same
   rests : (bytes after put taken : List ℕ) → Holds m bytes put taken phases → Quiet m bytes after
       → ((phase : Phase) → after_command m (Some phase) given reply ≡ Some phase) → Holds m after (put ++ puts_by) (taken ++ takes_by) moved
   rests bytes after put taken holds still stays =
@@ -103,7 +103,7 @@ module _ (m : BoardMailbox) (some : 1 ≤ m.slots) (who : ℕ) (given : Option C
         | inr apart ↦ looks_on bytes after put taken holds apart (stays Idle) still
       ]
 
-  -- a command that touches the mailbox goes to a next phase
+  -- a command that touches the mailbox leads to a next phase
   next_of : (board : Board) (command : Command) (phase : Phase) → given ≡ Some command → touches m command ≡ true → reply ≡ (step board command).0
       → is_some (after_command m (phases who) given reply) ≡ true → phases who ≡ Some phase
       → (next : Phase)
@@ -117,7 +117,7 @@ module _ (m : BoardMailbox) (some : 1 ≤ m.slots) (who : ℕ) (given : Option C
       let next = some_value (after_command m (Some phase) given reply) there in
       (next.0, next.1, sym row ∙ next.1)
 
-  -- it is made by the one that holds the mailbox, or finds the mailbox free, or held by another
+  -- a command that touches the mailbox is the holder's, or finds the mailbox free or locked
   touched : (board : Board) (command : Command) (put taken : List ℕ) → given ≡ Some command → touches m command ≡ true
       → reply ≡ (step board command).0 → is_some (after_command m (phases who) given reply) ≡ true → Holds m board.bytes put taken phases
       → Holds m (step board command).1.bytes (put ++ puts_by) (taken ++ takes_by) moved
@@ -150,7 +150,7 @@ module _ (m : BoardMailbox) (some : 1 ≤ m.slots) (who : ℕ) (given : Option C
             ]
       ]
 
--- any command of one
+-- any command of one master keeps the mailbox
 advance : (m : BoardMailbox) (some : 1 ≤ m.slots) (who : ℕ) (given : Option Command) (reply : Reply) (phases : ℕ → Option Phase) (board : Board)
     (put taken : List ℕ) → reply ≡ (answer board given).0 → is_some (after_command m (phases who) given reply) ≡ true
     → Holds m board.bytes put taken phases
@@ -167,7 +167,7 @@ advance m some who (Some command) reply phases board put taken replied goes hold
           (λ phase. cond-false (touches m command) (next_phase m phase (access_of command reply)) (Some phase) beside)
     ]
 
--- the same of an entry
+-- any entry keeps the mailbox
 entry_holds : (m : BoardMailbox) (some : 1 ≤ m.slots) (e : Entry BoardCmd Reply) (phases : ℕ → Option Phase) (board : Board) (put taken : List ℕ)
     → e.reply ≡ (board_step board e.cmd).1 → is_some (after_entry m (phases e.who) e) ≡ true → Holds m board.bytes put taken phases
     → Holds m (board_step board e.cmd).0.bytes (put ++ put_by (phases e.who) (after_entry m (phases e.who) e))
@@ -175,7 +175,7 @@ entry_holds : (m : BoardMailbox) (some : 1 ≤ m.slots) (e : Entry BoardCmd Repl
 unfolding answer_given
 entry_holds m some e phases board put taken replied goes holds = advance m some e.who (command_given e.cmd) e.reply phases board put taken replied goes holds
 
--- once an entry is not by the rows, none is
+-- no entry keeps the protocol after one that breaks it
 none_after : (m : BoardMailbox) (h : List (Entry BoardCmd Reply)) → phase_after m None h ≡ None
 none_after m [] = refl
 none_after m (e ∷ h) = none_after m h
@@ -184,18 +184,18 @@ some_before : (m : BoardMailbox) (phase : Option Phase) (h : List (Entry BoardCm
 some_before m None h goes = let stays = ap (λ p. is_some p) (none_after m h) in sym stays ∙ goes
 some_before m (Some phase) h goes = refl
 
--- all entries go by the rows, from these phases on
+-- all entries keep the protocol, from these phases on
 abbrev pub GoOn : BoardMailbox → (ℕ → Option Phase) → List (Entry BoardCmd Reply) → Type 0
 GoOn m phases h = (who : ℕ) → IsTrue (is_some (phase_after m (phases who) (own who h)))
 
--- the first does
+-- the first entry keeps the protocol
 first_goes : (m : BoardMailbox) (phases : ℕ → Option Phase) (e : Entry BoardCmd Reply) (h : List (Entry BoardCmd Reply)) → GoOn m phases (e ∷ h)
     → is_some (after_entry m (phases e.who) e) ≡ true
 first_goes m phases e h goes =
     let mine : own e.who (e ∷ h) ≡ e ∷ own e.who h = let same : (e.who == e.who) ≡ true = eq-eqb e.who e.who refl in rw same refl in
     some_before m (after_entry m (phases e.who) e) (own e.who h) (subst (λ l. is_some (phase_after m (phases e.who) l) ≡ true) mine (goes e.who))
 
--- and so do the rest
+-- all entries after the first keep the protocol
 rest_goes : (m : BoardMailbox) (phases : ℕ → Option Phase) (e : Entry BoardCmd Reply) (h : List (Entry BoardCmd Reply)) → GoOn m phases (e ∷ h)
     → GoOn m (phases_after m phases e) h
 rest_goes m phases e h goes who =
@@ -204,7 +204,7 @@ rest_goes m phases e h goes who =
       | inr other ↦ rw other (rw other at (goes who))
     ]
 
--- the words are those of a queue
+-- the words put and taken are those of a queue
 pub record IsQueue (m : BoardMailbox) (put taken : List ℕ) : Type 0 where
   pub order : IsPrefix taken put
   pub capacity : length put ≤ length taken + m.slots
@@ -215,13 +215,13 @@ kept_queue m bytes put taken kept = record {
   capacity = kept.few;
 }
 
--- words in three parts
+-- a queue of words in three parts
 joined : (m : BoardMailbox) (put a b taken c d : List ℕ) → IsQueue m ((put ++ a) ++ b) ((taken ++ c) ++ d)
     → IsQueue m (put ++ (a ++ b)) (taken ++ (c ++ d))
 joined m put a b taken c d queue =
     subst (λ ps. IsQueue m ps (taken ++ (c ++ d))) (append_assoc put a b) (subst (λ ts. IsQueue m ((put ++ a) ++ b) ts) (append_assoc taken c d) queue)
 
--- a mailbox that is kept is a queue in what follows
+-- a mailbox that is kept is a queue in every legal history that keeps the protocol
 pub ordered : (m : BoardMailbox) (some : 1 ≤ m.slots) (board : Board) (put taken : List ℕ) (phases : ℕ → Option Phase)
     (h : List (Entry BoardCmd Reply)) → Holds m board.bytes put taken phases → IsLegal board_step board h → GoOn m phases h
     → IsQueue m (put ++ words_from put_by m phases h) (taken ++ words_from taken_by m phases h)

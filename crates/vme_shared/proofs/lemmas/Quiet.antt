@@ -13,16 +13,16 @@ use Rattle.vme_shared.proofs.lemmas.MailboxSteps.{Did, Changes, changes}
 use Rattle.vme_shared.proofs.lemmas.Kept.{Kept, IsHeld, Stands, SameNumbers, kept_same, stands_same, same_beside, lock_set, reached_is}
 use Rattle.vme_shared.proofs.lemmas.Rows.{Went, same_words}
 
--- all numbers, that of the lock too
+-- all numbers of the mailbox stay the same, that of the lock too
 pub record Quiet (m : BoardMailbox) (bytes after : List ℕ) : Type 0 where
   pub lock : number_in after (lock_at m) 1 ≡ number_in bytes (lock_at m) 1
   pub same : SameNumbers m bytes after
 
--- no byte changes
+-- equal bytes have equal numbers
 pub quiet_same : (m : BoardMailbox) (bytes after : List ℕ) → after ≡ bytes → Quiet m bytes after
 quiet_same m bytes after is = rw is (record { lock = refl; same = record { put_count = refl; take_count = refl; words = λ n. refl } })
 
--- bytes beside the mailbox do
+-- bytes that are written beside the mailbox leave its numbers the same
 quiet_beside : (m : BoardMailbox) (bytes new : List ℕ) (at : ℕ) → 1 ≤ m.slots → at + length new ≤ length bytes
     → (at + length new ≤ m.offset) ⊎ (end_of m ≤ at) → Quiet m bytes (bytes_after_write bytes at new)
 quiet_beside m bytes new at some within (inl below) =
@@ -30,7 +30,7 @@ quiet_beside m bytes new at some within (inl below) =
 quiet_beside m bytes new at some within (inr above) =
     record { lock = number_apart bytes new at (lock_at m) 1 within (inl (omega arith)); same = same_beside m bytes new at some within (inr above) }
 
--- a command that touches no byte of the mailbox
+-- the bytes after a command that touches no byte of the mailbox have its numbers
 quiet_by : (m : BoardMailbox) (bytes after : List ℕ) (command : Command) → 1 ≤ m.slots → touches m command ≡ false
     → Changes bytes (offset_of command) (len_of command) after → Quiet m bytes after
 quiet_by m bytes after command some beside (inl is) = quiet_same m bytes after is
@@ -52,11 +52,12 @@ quiet_by m bytes after command some beside (inr over) =
           rw over.is (quiet_beside m bytes over.new (offset_of command) some inside (inl before))
     ]
 
+-- a command that touches no byte of the mailbox leaves its numbers the same
 pub quiet : (m : BoardMailbox) (board : Board) (command : Command) → 1 ≤ m.slots → touches m command ≡ false
     → Quiet m board.bytes (step board command).1.bytes
 quiet m board command some beside = quiet_by m board.bytes _ command some beside (changes board command)
 
--- one that does not hold the mailbox finds it held: it stays idle
+-- a master that finds the mailbox locked stays idle and leaves its numbers the same
 pub busy : (m : BoardMailbox) (bytes after : List ℕ) (access : Access) (next : Phase) → 1 ≤ m.slots → IsHeld m bytes → Did bytes access after
     → next_phase m Idle access ≡ Some next → (next ≡ Idle) × Quiet m bytes after
 busy m bytes after (Sets at len old) next some held did goes =
@@ -77,7 +78,7 @@ busy m bytes after (Reads at len found) next some held did goes = absurd cc
 busy m bytes after (Writes at len number) next some held did goes = absurd cc
 busy m bytes after Others next some held did goes = absurd cc
 
--- nothing is put or taken where a phase stays
+-- a phase that stays the same puts no word
 pub no_put : (phase : Option Phase) → put_by phase phase ≡ []
 no_put None = refl
 no_put (Some Idle) = refl
@@ -88,6 +89,7 @@ no_put (Some (Written p x)) = refl
 no_put (Some (Fetched t x)) = refl
 no_put (Some Counted) = refl
 
+-- a phase that stays the same takes no word
 pub no_taken : (phase : Option Phase) → taken_by phase phase ≡ []
 no_taken None = refl
 no_taken (Some Idle) = refl
@@ -98,7 +100,7 @@ no_taken (Some (Written p x)) = refl
 no_taken (Some (Fetched t x)) = refl
 no_taken (Some Counted) = refl
 
--- a master stays where it is
+-- a master whose phase stays the same keeps what the mailbox holds
 pub stayed : (m : BoardMailbox) (bytes after put taken : List ℕ) (phase : Phase) → Quiet m bytes after → Kept m bytes put taken
     → Stands m bytes put taken phase → Went m after put taken phase phase
 stayed m bytes after put taken phase still kept stands =

@@ -1,4 +1,4 @@
--- The machine goes by the table: what its transfer at work has to do with what was given.
+-- The machine follows the table: how its transfer at work stands to what the task was given.
 use Rattle.std.proofs.Common.{◌≡◌, [], ◌∷◌, Option, None, Result, Ok, Err, refl, ap, ◌∙◌}
 use Rattle.std.specs.Option.{option_map}
 use Rattle.vme_cycle.specs.declared.fault.CycleFault.{CycleFault}
@@ -18,14 +18,14 @@ use Rattle.vme_shared.specs.Steps.{first_stage, step_after}
 use Rattle.vme_shared.specs.Tables.{SharedJob, Progress, At, Over, stage_job, stage_begun, step_begun, progress_by, progress_given, progress_of, task_shown, next_at, shared_next}
 use Rattle.vme_shared.specs.Machine.{SharedView, stage_fresh, stage_called, work_stepped, work_by, work_or, work_after, shared_advance, shared_given, work_to_do, shared_to_do}
 
--- a transfer that is given something goes on, or its outcome leads on
+-- the transfer at work goes on, or what follows its outcome does
 pub by_outcome : (s : SharedJob) (stage : Stage) (task : TaskView) (next : NextStep Outcome)
     → work_by s stage task next ≡ work_or s (works.Running stage task) (option_map (step_after s.request stage) (result_in next))
 by_outcome s stage task NotStarted = refl
 by_outcome s stage task (Invokes call) = refl
 by_outcome s stage task (Returns outcome) = refl
 
--- the transfer at work, by how far it has come
+-- the transfer at work, by how far the task has come
 abbrev work_of : Progress → Work
 work_of (At stage job given) = works.Running stage (task_given job given)
 work_of (Over end) = works.Finished end
@@ -54,7 +54,7 @@ after_is s (At stage job given) last =
     ∙ by_is s stage job (last ∷ given) (next_of job (last ∷ given))
 after_is s (Over end) last = refl
 
--- what is asked stays
+-- a task keeps its job after any replies
 pub given_job : (s : SharedJob) (g : Given) → (shared_given s g).job ≡ s
 given_job s [] = refl
 given_job s (last ∷ g) = given_job s g
@@ -69,11 +69,11 @@ shows : (p : Progress) → work_to_do (work_of p) ≡ next_at p
 shows (At stage job given) = ap task_shown (by_the_table job given)
 shows (Over end) = refl
 
--- it does next what the table says
+-- a task does next what the table says
 pub by_the_given : (s : SharedJob) (g : Given) → shared_to_do (shared_given s g) ≡ shared_next s g
 by_the_given s g = ap work_to_do (given_work s g) ∙ shows (progress_of s g)
 
--- also after one call more
+-- a task does next what the table says after one reply more
 pub next_by_the_given : (s : SharedJob) (g : Given) (v : SharedView) (last : Option EventReply) → v ≡ shared_given s g
     → shared_to_do (shared_advance v last) ≡ shared_next s (last ∷ g)
 next_by_the_given s g v last same =

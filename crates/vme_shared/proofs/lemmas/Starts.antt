@@ -1,4 +1,4 @@
--- What is not refused at the start: its first transfer is called first, and no later transfer is refused.
+-- Requests that are accepted: the first transfer is called first, and no later transfer is refused.
 use Rattle.std.proofs.Common.{◌≡◌, ℕ, suc, ◌+◌, ◌-◌, ◌*◌, ◌%◌, ◌<◌, ◌≤◌, nat_lt, true, false, [], ◌∷◌, Option, Some, None, Result, Ok, Err, refl, ap, sym, subst, arith, inl, inr}
 use Rattle.std.specs.Prelude.{◌&&◌, is_none, is_some}
 use Rattle.std.proofs.Math.Nat.{mod-eq_of_lt}
@@ -29,7 +29,7 @@ use Rattle.vme_shared.specs.Mailboxes.{put_count_at, take_count_at, word_at, rai
 use Rattle.vme_shared.specs.Steps.{first_stage}
 use Rattle.vme_shared.specs.Tables.{SharedJob, transfer_job, stage_job, stage_begun, next_at, progress_given, shared_next}
 
--- a transfer that is not refused
+-- a request is lawful
 abbrev pub IsLawfulRequest : Request → Type 0
 IsLawfulRequest request = (t : Transfer) × (transfer_of request ≡ Ok t)
 
@@ -43,7 +43,7 @@ both_none (Some fault) b none = absurd cc
 both_none None (Some fault) none = absurd cc
 both_none None None none = (refl, refl)
 
--- the transfers that are looked at when a mailbox is asked for
+-- the transfers that the check of a mailbox looks at are lawful
 record Looked (m : Mailbox) : Type 0 where
   lock : IsLawfulRequest (set_lock m.am m.addr)
   last : IsLawfulRequest (read_word m.am (word_at m (m.slots - 1)))
@@ -65,7 +65,7 @@ lawful_by row request code alone kind program counted within found =
 within_by : (limit last : ℕ) → last ≤ limit → nat_lt limit last ≡ false
 within_by limit last less = elim (leb_tells (suc limit) last) [ inl more ↦ absurd (omega (arith, more.1, less)) | inr is ↦ is.0 ]
 
--- what the two tell of a mailbox: its code has a row, which is no block's, and it lies within the space
+-- what the two transfers show: the code has a row that is no block's, and the mailbox lies within the space
 record Placed (m : Mailbox) : Type 0 where
   row : CodeRow
   code : read_code m.am ≡ Ok row
@@ -83,7 +83,7 @@ placed_by m t is lawful =
 placed : (m : Mailbox) → IsMailbox m → Looked m → Placed m
 placed m is look = placed_by m look.last.0 is look.last.1
 
--- four bytes of a mailbox at a multiple of four
+-- a read of four bytes of a mailbox at a multiple of four is lawful
 quad_read : (m : Mailbox) (addr : ℕ) → Placed m → addr % 4 ≡ 0 → addr + 4 ≤ m.addr + 16 + 4 * m.slots → IsLawfulRequest (read_word m.am addr)
 quad_read m addr at aligned less =
     lawful_by at.row (read_word m.am addr) at.code refl at.kind refl refl
@@ -97,14 +97,14 @@ quad_write m addr n at aligned less =
     (within_by (addresses_of at.row.space) (addr + 4) (omega (arith, at.within, less)))
     (rw (own_found Bytes03 addr (sym aligned)) refl)
 
--- the lock's byte
+-- a write of the lock's byte is lawful
 clear_lawful : (m : Mailbox) → Placed m → m.addr % 4 ≡ 0 → IsLawfulRequest (clear_lock m.am m.addr)
 clear_lawful m at aligned =
     lawful_by at.row (clear_lock m.am m.addr) at.code refl at.kind refl refl
     (within_by (addresses_of at.row.space) (m.addr + 1) (omega (arith, at.within)))
     (rw (own_found Byte0 m.addr (sym aligned)) refl)
 
--- the words lie at multiples of four, within the mailbox
+-- each word lies at a multiple of four, within the mailbox
 word_place : (m : Mailbox) (n : ℕ) → IsMailbox m → (word_at m n % 4 ≡ 0) × (word_at m n + 4 ≤ m.addr + 16 + 4 * m.slots)
 word_place m n is = by_rest (n % m.slots) (mod_below n m.slots (omega (arith, is.some_slot)))
   where
@@ -122,7 +122,7 @@ mailbox_lawful m (stages.RaisesTakeCount t word) is looked at =
     quad_write m (take_count_at m) (raised t) at (omega (arith, is.aligned)) (omega arith)
 mailbox_lawful m (stages.Unlocks end) is looked at = clear_lawful m at is.aligned
 
--- no transfer is refused
+-- no transfer of an accepted request is refused
 pub stage_lawful : (request : SharedRequest) (stage : Stage) → IsAsked request → shared_refusal request ≡ None
     → IsLawfulRequest (stage_request request stage)
 stage_lawful (Lock am addr) stage is none = no_refusal (set_lock am addr) _ refl none
@@ -132,23 +132,25 @@ stage_lawful (Put mailbox word) stage is none =
 stage_lawful (Take mailbox) stage is none =
     let look = looked mailbox none in mailbox_lawful mailbox stage is look (placed mailbox is look)
 
+-- each stage of an accepted request has its bus job
 pub all_lawful : (s : SharedJob) (stage : Stage) → IsAsked s.request → shared_refusal s.request ≡ None
     → (job : Job) × (stage_job s stage ≡ Ok job)
 all_lawful s stage is none = let one = stage_lawful s.request stage is none in (_, ap (transfer_job s) one.1)
 
--- the first transfer is lawful, wherever a mailbox lies
+-- the first transfer of an accepted request is lawful, wherever its mailbox lies
 pub first_lawful : (request : SharedRequest) → shared_refusal request ≡ None → IsLawfulRequest (stage_request request (first_stage request))
 first_lawful (Lock am addr) none = no_refusal (set_lock am addr) _ refl none
 first_lawful (Unlock am addr) none = no_refusal (clear_lock am addr) _ refl none
 first_lawful (Put mailbox word) none = (looked mailbox none).lock
 first_lawful (Take mailbox) none = (looked mailbox none).lock
 
--- so it rests, and then asks for the bus
+-- an accepted request rests before its first call
 pub rests : (s : SharedJob) → shared_refusal s.request ≡ None → shared_next s [] ≡ NotStarted
 rests s none =
     let one = first_lawful s.request none in
     ap (λ job. next_at (stage_begun (first_stage s.request) [] job)) (ap (transfer_job s) one.1)
 
+-- the first call of an accepted request requests the bus
 pub asks : (s : SharedJob) → shared_refusal s.request ≡ None → shared_next s (None ∷ []) ≡ Invokes (OnBus (Ask s.slot s.level))
 asks s none =
     let one = first_lawful s.request none in

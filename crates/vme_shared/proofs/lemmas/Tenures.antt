@@ -1,4 +1,4 @@
--- What is asked of a lock or a mailbox keeps its tenure of the bus, transfer by transfer.
+-- A lock, an unlock, a put and a take keep their tenure of the bus, transfer by transfer.
 use Rattle.std.proofs.Common.{◌≡◌, ◌≢◌, ℕ, ◌<◌, true, [], ◌∷◌, length, Option, Some, None, Result, Ok, Err, refl, ap, sym, subst, ◌∙◌}
 use Rattle.vme_cycle.specs.declared.fault.CycleFault.{CycleFault}
 use Rattle.vme_cycle.specs.declared.request.Request.{Request}
@@ -44,7 +44,7 @@ use Rattle.vme_shared.specs.Tables.{SharedJob, Progress, At, Over, transfer_job,
 use Rattle.vme_shared.proofs.Transfers.{IsFormed, good_end, ends_formed}
 use Rattle.vme_shared.proofs.Steps.{IsSound, IsGood, GoesSound, first_sound, step_goes, step_good}
 
--- a stage at work has its own bus task, which has not ended
+-- a stage at work has its own bus job, which has not ended
 record AtWork (s : SharedJob) (stage : Stage) (job : Job) (given : Given) : Type 0 where
   own : stage_job s stage ≡ Ok job
   sound : IsSound stage
@@ -89,7 +89,7 @@ standing : (s : SharedJob) (g : Given) → Standing s (progress_of s g)
 standing s [] = fresh_standing s (first_stage s.request) (stage_job s (first_stage s.request)) refl (first_sound s.request)
 standing s (last ∷ g) = given_standing s (progress_of s g) last (standing s g)
 
--- the bus task of a stage is one of the slot, on its level, for the stage's transfer
+-- the bus job of a stage is one of the slot, on its level, for the stage's transfer
 record OwnTask (s : SharedJob) (stage : Stage) (job : Job) : Type 0 where
   bus : BusJob
   is : job ≡ Bus bus
@@ -116,7 +116,7 @@ own_by s stage (Ok t) job from own = record {
 own_task : (s : SharedJob) (stage : Stage) (job : Job) → stage_job s stage ≡ Ok job → OwnTask s stage job
 own_task s stage job own = own_by s stage (transfer_of (stage_request s.request stage)) job refl own
 
--- each transfer has one datum
+-- each transfer of a mailbox has one datum
 mailbox_single : (m : Mailbox) (stage : Stage) → count_of (mailbox_request m stage) ≡ 1
 mailbox_single m stages.Locks = refl
 mailbox_single m stages.ReadsPutCount = refl
@@ -133,11 +133,11 @@ single (Unlock am addr) stage = refl
 single (Put mailbox word) stage = mailbox_single mailbox stage
 single (Take mailbox) stage = mailbox_single mailbox stage
 
--- a call is that of the bus task at work
+-- a call is that of the bus job at work
 pub shown_makes : (next : NextStep Outcome) (call : Call) → task_shown next ≡ Invokes call → next ≡ Invokes call
 shown_makes next call made = map_makes (λ outcome. shared.Denied) next call made
 
--- the commands to the arbiter go by what the slot was told
+-- at each progress the arbiter's last reply allows the command to the arbiter
 turns_at : (s : SharedJob) (p : Progress) (cmd : ArbCmd) → Standing s p → is_level s.level ≡ true → next_at p ≡ Invokes (OnBus cmd)
     → may_give s.slot (reported_at p) cmd ≡ true
 turns_at s (At stage job given) cmd at lawful made =
@@ -148,11 +148,12 @@ turns_at s (At stage job given) cmd at lawful made =
     (transfers.turns_go_by own.bus given cmd (ap is_level own.level ∙ lawful) task)
 turns_at s (Over end) cmd at lawful made = absurd cc
 
+-- the arbiter's last reply allows each command to the arbiter
 pub turns_go_by : (s : SharedJob) (g : Given) (cmd : ArbCmd) → is_level s.level ≡ true → shared_next s g ≡ Invokes (OnBus cmd)
     → may_give s.slot (shared_reported s g) cmd ≡ true
 turns_go_by s g cmd lawful made = turns_at s (progress_of s g) cmd (standing s g) lawful made
 
--- data go to a board while the slot is told that it holds the bus
+-- at each progress data go to a board only while the arbiter's last reply is `Granted`
 holds_at : (s : SharedJob) (p : Progress) (board : ℕ) (command : Option Command) → Standing s p
     → next_at p ≡ Invokes (OnBoard board command) → reported_at p ≡ Some turned.Granted
 holds_at s (At stage job given) board command at made =
@@ -162,11 +163,12 @@ holds_at s (At stage job given) board command at made =
     (shown_makes (next_of job given) (OnBoard board command) made))
 holds_at s (Over end) board command at made = absurd cc
 
+-- data go to a board only while the arbiter's last reply is `Granted`
 pub holds_for_data : (s : SharedJob) (g : Given) (board : ℕ) (command : Option Command)
     → shared_next s g ≡ Invokes (OnBoard board command) → shared_reported s g ≡ Some turned.Granted
 holds_for_data s g board command made = holds_at s (progress_of s g) board command (standing s g) made
 
--- and to a board of the map
+-- at each progress the board that is called is one of the map
 below_at : (s : SharedJob) (p : Progress) (board : ℕ) (command : Option Command) → Standing s p
     → next_at p ≡ Invokes (OnBoard board command) → board < length s.map
 below_at s (At stage job given) board command at made =
@@ -176,20 +178,22 @@ below_at s (At stage job given) board command at made =
     (shown_makes (next_of job given) (OnBoard board command) made))
 below_at s (Over end) board command at made = absurd cc
 
+-- each board that is called is one of the map
 pub calls_below : (s : SharedJob) (g : Given) (board : ℕ) (command : Option Command)
     → shared_next s g ≡ Invokes (OnBoard board command) → board < length s.map
 calls_below s g board command made = below_at s (progress_of s g) board command (standing s g) made
 
--- before the first reply nothing was told
+-- a first stage has no reply of the arbiter at its first call
 begun_reported : (s : SharedJob) (stage : Stage) (job : Result Job CycleFault)
     → reported_at (progress_given s None (stage_begun stage [] job)) ≡ None
 begun_reported s stage (Ok job) = refl
 begun_reported s stage (Err fault) = refl
 
+-- there is no reply of the arbiter at the first call
 pub begin_reported : (s : SharedJob) → shared_reported s (None ∷ []) ≡ None
 begin_reported s = begun_reported s (first_stage s.request) (stage_job s (first_stage s.request))
 
--- a transfer that begins was told nothing
+-- a transfer that begins has no reply of the arbiter
 called_reported : (stage : Stage) (job : Result Job CycleFault) → reported_at (stage_begun stage (None ∷ []) job) ≡ None
 called_reported stage (Ok job) = refl
 called_reported stage (Err fault) = refl
@@ -198,7 +202,7 @@ step_reported : (s : SharedJob) (step : Step) → reported_at (step_begun s step
 step_reported s (Continue stage) = called_reported stage (stage_job s stage)
 step_reported s (Finish end) = refl
 
--- what comes of a good reply to a transfer that has ended by it: the bus is free, and the step is good
+-- a transfer that ends with a good reply: the bus is free, and what follows is good
 record EndsWell (s : SharedJob) (stage : Stage) (reply : EventReply) (outcome : Outcome) : Type 0 where
   freed : reply ≡ replies.Bus turned.Freed
   good : IsGood (step_after s.request stage outcome)
@@ -221,7 +225,7 @@ task_ends s stage job given call reply outcome at made fit good ends =
           granted;
     }
 
--- a good reply of the arbiter is what was told last, or it has freed the slot
+-- after a good reply of the arbiter the slot stands as it states, or the transfer has ended and the slot is free
 turn_by : (s : SharedJob) (stage : Stage) (job : Job) (given : Given) (reply : ArbReply) (bus : Arbitration) (slot : ℕ) (next : NextStep Outcome)
     → ((outcome : Outcome) → next ≡ Returns outcome → replies.Bus reply ≡ replies.Bus turned.Freed) → StandsAsReplied bus slot (Some reply)
     → StandsAsReplied bus slot (reported_at (progress_by s stage job (Some (replies.Bus reply) ∷ given) next))
@@ -243,12 +247,13 @@ turn_at s (At stage job given) cmd reply bus slot at made fit good stands =
     stands
 turn_at s (Over end) cmd reply bus slot at made fit good stands = absurd cc
 
+-- after a good reply of the arbiter the slot stands as the last reply states
 pub turn_reported : (s : SharedJob) (g : Given) (cmd : ArbCmd) (reply : ArbReply) (bus : Arbitration) (slot : ℕ)
     → shared_next s g ≡ Invokes (OnBus cmd) → fits (OnBus cmd) (replies.Bus reply) ≡ true → replies.Bus reply ≢ replies.Bus turned.Denied
     → StandsAsReplied bus slot (Some reply) → StandsAsReplied bus slot (shared_reported s (Some (replies.Bus reply) ∷ g))
 turn_reported s g cmd reply bus slot made fit good stands = turn_at s (progress_of s g) cmd reply bus slot (standing s g) made fit good stands
 
--- a good reply of a board changes nothing of it
+-- a good reply of a board leaves the arbiter's last reply the same, at each stage
 datum_by : (s : SharedJob) (stage : Stage) (job : Job) (given : Given) (reply : Reply) (next : NextStep Outcome)
     → ((outcome : Outcome) → next ≡ Returns outcome → replies.Board reply ≡ replies.Bus turned.Freed)
     → reported_at (progress_by s stage job (Some (replies.Board reply) ∷ given) next) ≡ last_turn given
@@ -265,11 +270,12 @@ datum_at s (At stage job given) call reply at made fit =
     well.freed)
 datum_at s (Over end) call reply at made fit = absurd cc
 
+-- a board's reply that fits leaves the arbiter's last reply the same
 pub datum_reported : (s : SharedJob) (g : Given) (call : Call) (reply : Reply) → shared_next s g ≡ Invokes call
     → fits call (replies.Board reply) ≡ true → shared_reported s (Some (replies.Board reply) ∷ g) ≡ shared_reported s g
 datum_reported s g call reply made fit = datum_at s (progress_of s g) call reply (standing s g) made fit
 
--- an end after a good reply: the bus is free, and it is no denial
+-- an end after a good reply: it is no denial, the bus is free, and no reply of the arbiter is left
 pub record GoodEnd (reply : EventReply) (end : SharedOutcome) (last : Option ArbReply) : Type 0 where
   pub granted : end ≢ shared.Denied
   pub freed : reply ≡ replies.Bus turned.Freed
@@ -309,12 +315,13 @@ ends_at s (At stage job given) call reply end at made fit good ends =
     (λ outcome over. task_ends s stage job given call reply outcome at (shown_makes (next_of job given) call made) fit good over) ends
 ends_at s (Over stop) call reply end at made fit good ends = absurd cc
 
+-- an end after a good reply is no denial, and the bus is free
 pub ends_well : (s : SharedJob) (g : Given) (call : Call) (reply : EventReply) (end : SharedOutcome) → shared_next s g ≡ Invokes call
     → fits call reply ≡ true → reply ≢ replies.Bus turned.Denied → shared_next s (Some reply ∷ g) ≡ Returns end
     → GoodEnd reply end (shared_reported s (Some reply ∷ g))
 ends_well s g call reply end made fit good ends = ends_at s (progress_of s g) call reply end (standing s g) made fit good ends
 
--- an end is for good
+-- at each progress an end is final
 stays_at : (s : SharedJob) (p : Progress) (end : SharedOutcome) (last : Option EventReply) → Standing s p → next_at p ≡ Returns end
     → next_at (progress_given s last p) ≡ Returns end
 stays_at s (At stage job given) end last at ends = absurd (never (next_of job given) refl)
@@ -325,6 +332,7 @@ stays_at s (At stage job given) end last at ends = absurd (never (next_of job gi
     never (Returns outcome) is = at.going outcome is
 stays_at s (Over stop) end last at ends = ends
 
+-- an end is final
 pub end_stays : (s : SharedJob) (g : Given) (end : SharedOutcome) (last : Option EventReply) → shared_next s g ≡ Returns end
     → shared_next s (last ∷ g) ≡ Returns end
 end_stays s g end last ends = stays_at s (progress_of s g) end last (standing s g) ends

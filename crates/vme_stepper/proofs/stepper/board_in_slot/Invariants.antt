@@ -3,6 +3,6 @@ use Rattle.vme_stepper.specs.Turns.{board_in_slot}
 use Rattle.vme_stepper.proofs.Places.{place_from}
 use Rattle.vme_stepper.proofs.stepper.board_in_slot.Given as goal
 
--- it is at none of the boards so far
+-- none of the boards so far is in the slot
 abbrev pub invariant-loop-board : goal.invariant-loop-board
 invariant-loop-board l = place_from l.slot l.board (drop l.board l.config.boards) ≡ board_in_slot l.config l.slot

@@ -3,7 +3,7 @@ use Rattle.vme_line_task.specs.ReadBuffers.{buffers_of}
 use Rattle.vme_line_task.proofs.lemmas.LineBuffers.{AreKept}
 use Rattle.vme_line_task.proofs.read_buffers.ReadBuffers.new.Given as goal
 
--- the rooms of the lines so far, and place for the others
+-- the buffers of the lines so far, and capacity for the others
 abbrev pub invariant-loop-line : goal.invariant-loop-line
 invariant-loop-line l = record {
   buffers : AreKept l.take_memory.items l.long.items (buffers_of (take l.line l.script));

@@ -7,16 +7,16 @@ use Rattle.vme_master.proofs.lemmas.ReadLengths.{buffer_before, sound_after}
 use Rattle.vme_master.proofs.task.Task.answer.Goals as goal
 use Rattle.vme_master.proofs.task.Task.answer.Goals.{After-accepts}
 
--- the reply is as wanted
+-- an accepted reply has the expected form
 form : (c : After-accepts) → c.accepts.result ≡ true → has_form (expected_len (job_expected c.self.inside.job)) c.args.reply.now ≡ true
 form c accepted =
     ap (λ (expected : ExpectedReply). has_form (expected_len expected) c.args.reply.now) (sym c.self.invariant.of_expected) ∙ sym c.accepts.ensures.value ∙ accepted
 
--- it is at a board
+-- the task transfers datum i
 moves : (c : After-accepts) → c.self.inside.phase ≡ Transferring c.in-Transferring.i
 moves c = ap (λ (t : TaskView). t.phase) c.self.view_is ∙ c.requires ∙ c.in-Transferring.is
 
--- there is room for its bytes
+-- the buffer has the capacity for the reply's bytes
 pub append-requires : goal.append-requires
 append-requires c =
     let at = (goal.at.append-requires c).After-accepts in
@@ -25,7 +25,7 @@ append-requires c =
     buffer_before c.self.inside.job c.in-Transferring.i c.self.inside.read.capacity c.self.inside.read.items c.args.reply.now had (form at c.if-accepts.true)
     c.accepts.ensures.small enough
 
--- and the task is sound after it
+-- the task keeps its invariant
 pub invariant_of-self : goal.invariant_of-self
 invariant_of-self c =
     let at = (goal.at.invariant_of-self c).After-accepts in

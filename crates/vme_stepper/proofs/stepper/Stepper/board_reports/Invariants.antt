@@ -2,7 +2,7 @@ use Rattle.std.proofs.Common.{◌≡◌, ◌++◌, drop}
 use Rattle.vme_stepper.specs.Steppers.{processors_reported}
 use Rattle.vme_stepper.proofs.stepper.Stepper.board_reports.Given as goal
 
--- the boards so far, with those that are left, are all
+-- the entries so far and those of the boards that are left are all entries
 abbrev pub invariant-loop-board : goal.invariant-loop-board
 invariant-loop-board l = record {
   reported : l.reports.items ++ processors_reported (drop l.board l.config.boards) (drop l.board l.self-inside.processors.items) (drop l.board l.self-inside.core.boards)

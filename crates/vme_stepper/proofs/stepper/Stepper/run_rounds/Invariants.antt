@@ -12,7 +12,7 @@ invariant-loop-round l = record {
   sound : IsStepperOf l.config l.self;
 }
 
--- and turns of the first slots in the next round
+-- the rounds so far and the turns of the first slots in the next were made
 abbrev pub invariant-loop-board : goal.invariant-loop-board
 invariant-loop-board l = record {
   run : l.self ≡ stepper_of l.config (state_after l.config
