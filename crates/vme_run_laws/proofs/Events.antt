@@ -1,9 +1,11 @@
 -- Each call of a line is the call of an event.
-use Rattle.std.proofs.Common.{◌≡◌, ℕ, ◌+◌, ◌*◌, [], ◌∷◌, length, Option, Some, None, Result, Ok, Err, refl, ap, sym, subst, ◌∙◌}
+use Rattle.std.proofs.Common.{◌≡◌, ℕ, ◌+◌, ◌*◌, ◌%◌, ◌<◌, [], ◌∷◌, length, Option, Some, None, Result, Ok, Err, refl, ap, sym, subst, ◌∙◌}
 use Rattle.vme_cycle.specs.declared.fault.CycleFault.{CycleFault}
 use Rattle.vme_cycle.specs.declared.request.Request.{Request}
 use Rattle.vme_cycle.specs.declared.request.Request.TheVariants as requests
-use Rattle.vme_cycle.specs.Requests.{addr_of, datum_len, function_of}
+use Rattle.vme_cycle.specs.declared.modify.Modify.{Modify}
+use Rattle.vme_cycle.specs.Requests.{addr_of, address_of, count_of, datum_len, function_of}
+use Rattle.vme_cycle.specs.SignalLines.{SignalLines}
 use Rattle.vme_cycle.specs.Lawful.{Transfer, transfer_of, IsLawfulTransfer}
 use Rattle.vme_cycle.specs.Plans.{signals_of}
 use Rattle.vme_cycle.proofs.lemmas.Transfers.{transfer_is_lawful}
@@ -13,6 +15,7 @@ use Rattle.vme_memory.specs.declared.command.BoardCmd.{BoardCmd}
 use Rattle.vme_memory.specs.declared.command.BoardCmd.TheVariants as given_cmd
 use Rattle.vme_memory.specs.Steps.{Command}
 use Rattle.vme_memory.specs.Locals.{command_given}
+use Rattle.vme_memory.specs.Data.{datum_command}
 use Rattle.vme_core.specs.declared.event.EventReply.{EventReply}
 use Rattle.vme_core.specs.declared.event.Event.{Event}
 use Rattle.vme_core.specs.declared.event.Event.TheVariants as asked
@@ -26,7 +29,8 @@ use Rattle.vme_master.specs.declared.job.Job.{Job}
 use Rattle.vme_master.specs.Jobs.{bus_job, local_job, datum_call}
 use Rattle.vme_master.specs.Tables.{Given, data_in, next_of}
 use Rattle.vme_master.specs.Laws.{IsNextDatum}
-use Rattle.vme_master.proofs.lemmas.ReadLengths.{datum_is}
+use Rattle.vme_memory.proofs.lemmas.Data.{own_command}
+use Rattle.vme_master.proofs.lemmas.ReadLengths.{same_place}
 use Rattle.vme_master.proofs.lemmas.Tenures.{data_go_on}
 use Rattle.vme_master.proofs.lemmas.Locals.{local_calls}
 use Rattle.vme_grammar.specs.declared.line.Line.{Line}
@@ -52,6 +56,18 @@ use Rattle.vme_line_task.specs.Events.{IsCallBelow}
 pub record HasEvent (call : Call) : Type 0 where
   pub event : Event
   pub is : call_of event ≡ call
+
+-- the cycle of a datum at its place is the request's own command
+datum_is : (job : BusJob) (place : ℕ × ℕ) (i at : ℕ) (signals : SignalLines) (f : Option Modify) → job.place ≡ Some place
+    → at ≡ place.1 + i * datum_len job.transfer.request → signals ≡ signals_of job.transfer i
+    → f ≡ function_of job.transfer.request → IsLawfulTransfer job.transfer → i < count_of job.transfer.request
+    → place.1 % 4 ≡ addr_of job.transfer.request % 4
+    → OnBoard place.0 (command_given (given_cmd.Cycle signals at f)) ≡ datum_call job job.place i
+datum_is job place i at signals f placed here shown function lawful less same =
+    let aligned : at % 4 ≡ address_of job.transfer.request i % 4 =
+    rw here (same_place place.1 (addr_of job.transfer.request) (i * datum_len job.transfer.request) same) in
+    let own = own_command job.transfer i at lawful less aligned in
+    rw (placed, shown, function) (ap (OnBoard place.0) own ∙ ap (λ n. OnBoard place.0 (Some (datum_command job.transfer.request i n))) here)
 
 -- a datum of a lawful transfer, on a board whose range begins at a multiple of four
 data_event : (config : Configuration) → IsLawful config → (slot level : ℕ) (t : Transfer) → IsLawfulTransfer t → (g : Given) (x : ℕ)

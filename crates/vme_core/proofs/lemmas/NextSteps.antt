@@ -16,16 +16,19 @@ map_makes f NotStarted call made = absurd cc
 map_makes f (Invokes other) call made = cc
 map_makes f (Returns result) call made = absurd cc
 
+-- another result leaves the call as it is
 pub map_call : {R S : Type 0} (f : R → S) (next : NextStep R) → call_in (next_map f next) ≡ call_in next
 map_call f NotStarted = refl
 map_call f (Invokes call) = refl
 map_call f (Returns result) = refl
 
+-- with another result it has not started either
 pub map_rests : {R S : Type 0} (f : R → S) (next : NextStep R) → next_map f next ≡ NotStarted → next ≡ NotStarted
 map_rests f NotStarted rests = refl
 map_rests f (Invokes call) rests = absurd cc
 map_rests f (Returns result) rests = absurd cc
 
+-- the same result gives the same step
 pub map_same : {R : Type 0} (next : NextStep R) → next ≡ next_map (λ result. result) next
 map_same NotStarted = refl
 map_same (Invokes call) = refl
@@ -37,26 +40,30 @@ at_work NotStarted begun is = absurd (begun refl)
 at_work (Invokes call) begun is = tt
 at_work (Returns result) begun is = absurd cc
 
+-- a step that makes a call makes one
 pub its_call : {R : Type 0} (next : NextStep R) → MakesCall next → (call : Call) × (Invokes call ≡ next)
 its_call NotStarted makes = absurd makes
 its_call (Invokes call) makes = (call, refl)
 its_call (Returns result) makes = absurd makes
 
+-- a step that makes a call has started
 pub is_begun : {R : Type 0} (next : NextStep R) → MakesCall next → next ≢ NotStarted
 is_begun (Invokes call) makes = λ rests. absurd cc
 is_begun NotStarted makes = absurd makes
 is_begun (Returns result) makes = absurd makes
 
--- and one that has a result returns it, and no other
+-- a step with a result returns it
 pub ends_so : {R : Type 0} (next : NextStep R) (result : R) → Some result ≡ result_in next → Returns result ≡ next
 ends_so NotStarted result is = absurd cc
 ends_so (Invokes call) result is = absurd cc
 ends_so (Returns other) result is = cc
 
+-- a step with a result returns one
 pub its_result : {R : Type 0} (next : NextStep R) → is_some (result_in next) ≡ true → (result : R) × (Returns result ≡ next)
 its_result NotStarted over = absurd cc
 its_result (Invokes call) over = absurd cc
 its_result (Returns result) over = (result, refl)
 
+-- the result that is found is the one that is returned
 pub its_own : {R : Type 0} (next : NextStep R) (result other : R) → Some result ≡ result_in next → next ≡ Returns other → result ≡ other
 its_own next result other has ends = same_Some _ _ (has ∙ ap result_in ends)
