@@ -79,8 +79,8 @@ sole_slot a b (x ∷ pending) by_slot in_a in_b same =
 
 -- if a request is pending, a slot holds the bus
 held_while_pending : (bus : Arbitration) (r : BusRequest) → IsOrderly bus → Contains bus.pending r → bus.holder ≡ None → ⊥
-held_while_pending bus r orderly pends nobody =
-    let in_none : Contains [] r = subst (λ (l : List BusRequest). Contains l r) (orderly.free nobody) pends in
+held_while_pending bus r orderly pends idle =
+    let in_none : Contains [] r = subst (λ (l : List BusRequest). Contains l r) (orderly.free idle) pends in
     omega (arith, in_none.1)
 
 -- a request that waits: the lowest on its level, in an orderly state of a rotating arbiter
@@ -99,7 +99,7 @@ taken_goes : (holder : Option ℕ) (bus : Arbitration) (r new : BusRequest) (lat
     → IsLowest bus r → (new.level ≡ r.level → r.slot ≤ new.slot)
     → IsLowest (lawful_ask holder bus new).0 r
     × (Goes (lawful_ask holder bus new).0 r later → Goes bus r (cons_option (option_map_or (λ (h : ℕ). None) holder (Some new)) later))
-taken_goes None bus r new later nobody orderly lowest leaves = absurd (held_while_pending bus r orderly lowest.pends nobody)
+taken_goes None bus r new later idle orderly lowest leaves = absurd (held_while_pending bus r orderly lowest.pends idle)
 taken_goes (Some h) bus r new later is orderly lowest leaves = (
   record {
     pends = with-contains new r bus.pending (inr lowest.pends);

@@ -22,7 +22,7 @@ pub fn first_level_then_lowest_slot()
     ensures next { (first : ℕ) (pending : List BusRequest) (next : BusRequest) →
         IsTrue (is_level first) → All (λ r. IsTrue (is_level r.level)) pending →
         (next_request (level_order first) pending ≡ Some next) ↔ IsNext (level_order first) pending next }
-    ensures nobody { (first : ℕ) (pending : List BusRequest) →
+    ensures none { (first : ℕ) (pending : List BusRequest) →
         IsTrue (is_level first) → All (λ r. IsTrue (is_level r.level)) pending →
         (next_request (level_order first) pending ≡ None) ↔ (pending ≡ []) }
     ensures alone { (first : ℕ) (pending : List BusRequest) (a b : BusRequest) →

@@ -45,7 +45,7 @@ fn number_of(end: &Result<Config, ConfigFault>) -> usize
 }
 
 /// The number of prefixes of the file that have each result. Another TOML parser produced these.
-static FRONTS: [u32; 16] = [4, 0, 0, 0, 0, 2, 151, 16, 0, 0, 0, 3, 4, 0, 0, 0];
+static PREFIXES: [u32; 16] = [4, 0, 0, 0, 0, 2, 151, 16, 0, 0, 0, 3, 4, 0, 0, 0];
 
 #[test]
 fn reads_or_refuses_each_prefix(rt: HostRuntime) {
@@ -54,7 +54,7 @@ fn reads_or_refuses_each_prefix(rt: HostRuntime) {
         let number = number_of(&Config::read(rt.alloc(), &TWO_BOARDS.as_bytes()[..end]));
         reported[number] = reported[number].wrapping_add(1);
     }
-    assert_eq!(rt; reported, FRONTS);
+    assert_eq!(rt; reported, PREFIXES);
 }
 
 /// A byte, and the number of files with each result among those in which it replaces one byte.

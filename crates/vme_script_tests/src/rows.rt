@@ -5,7 +5,7 @@ use std::test::Fail;
 use vme_script::Config;
 
 /// A file, and its expected result.
-static TOLD: [(&str, &str); 48] = [
+static REFUSED: [(&str, &str); 48] = [
     ("", "C11"),
     ("board = []", "C11"),
     ("board = [{ slot = 1, base = 0, size = 16 }]", "lawful"),
@@ -175,7 +175,7 @@ pub(crate) fn check(
 
 #[test]
 fn reports_the_first_refusal(rt: HostRuntime) -> Result<(), Fail> {
-    for (file, reported) in &TOLD {
+    for (file, reported) in &REFUSED {
         check(&rt, rt.alloc(), file.as_bytes(), reported)?;
     }
     check(&rt, rt.alloc(), b"# \xff\n", "C6")?;

@@ -59,7 +59,7 @@ taken-orderly None bus slot level is orderly can =
       holder = (can.slot_ok, can.not_pends);
       requests = orderly.requests;
       by_slot = orderly.by_slot;
-      free = λ nobody. cc;
+      free = λ idle. cc;
     }
 taken-orderly (Some h) bus slot level is orderly can =
     let not_held = rw is at can.not_holds in
@@ -71,7 +71,7 @@ taken-orderly (Some h) bus slot level is orderly can =
       holder = rw is (lawful.0, has_slot-with h (bus_request level slot) bus.pending ∙ or_from _ _ other lawful.1);
       requests = All-with IsLawfulRequest (bus_request level slot) bus.pending (can.slot_ok, can.level_ok) orderly.requests;
       by_slot = by_slot-with (bus_request level slot) bus.pending can.not_pends orderly.by_slot;
-      free = λ nobody. cc;
+      free = λ idle. cc;
     }
 
 -- a bus that is given back leaves an orderly state
@@ -84,7 +84,7 @@ handed-orderly bus None is_next orderly =
       holder = tt;
       requests = orderly.requests;
       by_slot = orderly.by_slot;
-      free = λ nobody. none-granted bus.first bus.pending orderly.first (levels_ok bus.pending orderly.requests) is_next;
+      free = λ idle. none-granted bus.first bus.pending orderly.first (levels_ok bus.pending orderly.requests) is_next;
     }
 handed-orderly bus (Some next) is_next orderly =
     let at = granted-pends (level_order bus.first) bus.pending next is_next in
@@ -95,7 +95,7 @@ handed-orderly bus (Some next) is_next orderly =
       holder = (lawful.0, has_slot-without_same next.slot bus.pending);
       requests = All-filter _ IsLawfulRequest bus.pending orderly.requests;
       by_slot = by_slot-without next.slot bus.pending orderly.by_slot;
-      free = λ nobody. cc;
+      free = λ idle. cc;
     }
 
 -- a new request and a bus that is given back keep the kind
@@ -134,7 +134,7 @@ orderly-opening kind = record {
   holder = tt;
   requests = All-nil IsLawfulRequest;
   by_slot = tt;
-  free = λ nobody. refl;
+  free = λ idle. refl;
 }
 
 -- no command changes the kind

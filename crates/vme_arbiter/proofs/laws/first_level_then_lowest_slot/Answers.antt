@@ -8,8 +8,8 @@ pub returns-clause-next : goal.returns-clause-next
 returns-clause-next c = λ first pending next first_ok levels_ok.
     (granted-next first pending next first_ok levels_ok, next-granted (level_order first) pending next)
 
-pub returns-clause-nobody : goal.returns-clause-nobody
-returns-clause-nobody c = λ first pending first_ok levels_ok.
+pub returns-clause-none : goal.returns-clause-none
+returns-clause-none c = λ first pending first_ok levels_ok.
     (none-granted first pending first_ok levels_ok, λ empty. ap (next_request (level_order first)) empty)
 
 pub returns-clause-alone : goal.returns-clause-alone
