@@ -35,7 +35,7 @@ use Rattle.vme_threads.specs.declared.report.BoardReport.{BoardReport}
 use Rattle.vme_threads.specs.declared.report.Report.{Report}
 use Rattle.vme_threads.specs.Rans.{answers_in}
 use Rattle.vme_threads.specs.Reports.{IsReportOf}
-use Rattle.vme_run_laws.proofs.Granted.{report_turns}
+use Rattle.vme_run_laws.proofs.Granted.{report_turns, all_own}
 
 -- a reply of the arbiter that fits and is no denial
 abbrev Fine : Entry ArbCmd ArbReply → Type 0
@@ -51,14 +51,6 @@ all_fine bus (e ∷ h) legal granted =
     subst (λ (r : ArbReply). fits (OnBus e.cmd) (replies.Bus r) ≡ true) (sym legal.0) (turn_fits bus e.cmd) in
     let no_denial : replies.Bus e.reply ≢ replies.Bus turned.Denied = λ same. All-head Granted e h granted cc in
     All-cons Fine e h (fit, no_denial) (all_fine (turn_step bus e.cmd).0 h legal.1 (All-tail Granted e h granted))
-
-all_own : {C R : Type 0} (P : Entry C R → Type 0) (who : ℕ) (h : List (Entry C R)) → All P h → All P (own who h)
-all_own P who [] all = all
-all_own P who (e ∷ h) all =
-    elim (cases_Bool (eqb e.who who)) [
-      | inl same ↦ rw same (All-cons P e (own who h) (All-head P e h all) (all_own P who h (All-tail P e h all)))
-      | inr other ↦ rw other (all_own P who h (All-tail P e h all))
-    ]
 
 -- so each move is turned well
 one_turned : (who : ℕ) (event : Event) (reply : EventReply) (tail : List Transition) → IsReplyTo event reply
