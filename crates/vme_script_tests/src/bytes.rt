@@ -1,5 +1,5 @@
 //! Lines that name bytes of a mailbox. The values are this project's own.
-use crate::rows::check;
+use crate::support::check;
 use std::alloc::{AllocError, Global};
 use std::process::Abort;
 use std::test::Fail;

@@ -1,12 +1,10 @@
-//! Files with what each is told: the first of its refusals, or that it is lawful. The values are
-//! this project's own.
+//! Files, each with its first refusal, or lawful.
+use crate::support::{check, check_files};
 use std::alloc::{AllocError, Global};
-use std::process::Abort;
 use std::test::Fail;
-use vme_script::Config;
 
-/// A file, and what it is told.
-static TOLD: [(&str, &str); 48] = [
+/// A file, and its first refusal.
+static ROWS: [(&str, &str); 48] = [
     ("", "C11"),
     ("board = []", "C11"),
     ("board = [{ slot = 1, base = 0, size = 16 }]", "lawful"),
@@ -160,30 +158,14 @@ static TOLD: [(&str, &str); 48] = [
     ),
 ];
 
-/// Reads a file, and compares what it is told.
-pub(crate) fn check(
-    rt: &impl Abort,
-    alloc: Global,
-    file: &[u8],
-    reported: &str,
-) -> Result<(), AllocError> {
-    match Config::read(alloc, file) {
-        Ok(_) => assert_eq!(rt; "lawful", reported),
-        Err(fault) => assert_eq!(rt; fault.to_string(alloc)?.as_str(), reported),
-    }
-    Ok(())
-}
-
 #[test]
 fn reports_the_first_refusal(rt: HostRuntime) -> Result<(), Fail> {
-    for (file, reported) in &TOLD {
-        check(&rt, rt.alloc(), file.as_bytes(), reported)?;
-    }
+    check_files(&rt, rt.alloc(), &ROWS)?;
     check(&rt, rt.alloc(), b"# \xff\n", "C6")?;
     Ok(())
 }
 
-/// So many of a part between a front and an end.
+/// So many of a part between a prefix and an end.
 fn repeated(
     alloc: Global,
     prefix: &str,
@@ -199,11 +181,11 @@ fn repeated(
     Ok(file)
 }
 
-/// The front of a file up to the script of its one board.
+/// The prefix of a file up to the script of its one board.
 const SCRIPT: &str = "board = [{ slot = 1, base = 0, size = 16, script = \"\"\"
 ";
 
-/// Files at the limits: front, part, how often the part stands, and what the file is told.
+/// Files at the limits: prefix, part, how often the part stands, end, and the first refusal.
 static LIMITS: [(&str, &str, usize, &str, &str); 6] = [
     (
         "",
