@@ -1,5 +1,5 @@
-//! The replies of the arbiter to commands in order.
-use crate::counters::reply;
+//! The arbiter's calls in a worked order.
+use crate::support::reply;
 use std::process::Abort;
 use vme_arbiter::{ArbCmd, ArbReply, Arbiter, ArbiterKind};
 
@@ -22,16 +22,7 @@ static CALLS: [(ArbCmd, ArbReply); 15] = [
     (ArbCmd::Ask { slot: 22, level: 0 }, ArbReply::Denied),
 ];
 
-#[test]
-fn grants_by_level_and_then_by_slot(rt: HostRuntime) {
-    let mut arbiter = Arbiter::new();
-    for (cmd, wanted) in &CALLS {
-        assert_eq!(&rt; reply(&mut arbiter, cmd), *wanted, "{cmd:?}");
-    }
-}
-
-/// Four slots request the bus, and the first has it at once. Then each holder gives the bus back,
-/// and each slot that waits checks.
+/// Four slots ask, one of them at once; then each holder is done, and each that waits looks.
 static ROTATING_CALLS: [(ArbCmd, ArbReply); 16] = [
     (ArbCmd::Ask { slot: 9, level: 3 }, ArbReply::Granted),
     (ArbCmd::Ask { slot: 1, level: 3 }, ArbReply::Waiting),
@@ -51,16 +42,8 @@ static ROTATING_CALLS: [(ArbCmd, ArbReply); 16] = [
     (ArbCmd::Done { slot: 4 }, ArbReply::Freed),
 ];
 
-#[test]
-fn grants_in_rotation(rt: HostRuntime) {
-    let mut arbiter = Arbiter::rotating();
-    for (cmd, wanted) in &ROTATING_CALLS {
-        assert_eq!(&rt; reply(&mut arbiter, cmd), *wanted, "{cmd:?}");
-    }
-}
-
-/// The replies to checks by the three waiting slots, after the holder on level 3 gave the bus back.
-/// They wait on the levels 3, 1 and 2.
+/// The holder that the bus goes to when the first of four, on level 3, is done: the others ask on
+/// the levels 3, 1 and 2.
 fn second_holder(kind: ArbiterKind) -> [ArbReply; 3] {
     let mut arbiter = Arbiter::of(kind);
     for (cmd, _) in &ROTATING_CALLS[..5] {
@@ -105,9 +88,14 @@ static ENDS: [(ArbCmd, ArbReply); 11] = [
 ];
 
 #[test]
-fn slots_and_levels_end_where_they_end(rt: HostRuntime) {
-    for mut arbiter in [Arbiter::new(), Arbiter::rotating()] {
-        for (cmd, wanted) in &ENDS {
+fn answers_commands_in_order(rt: HostRuntime) {
+    for (mut arbiter, calls) in [
+        (Arbiter::new(), &CALLS[..]),
+        (Arbiter::rotating(), &ROTATING_CALLS[..]),
+        (Arbiter::new(), &ENDS[..]),
+        (Arbiter::rotating(), &ENDS[..]),
+    ] {
+        for (cmd, wanted) in calls {
             assert_eq!(&rt; reply(&mut arbiter, cmd), *wanted, "{cmd:?}");
         }
     }

@@ -3,25 +3,18 @@ ghost use Rattle.std.specs.Prelude.{◌≡◌, ◌<◌, length, All, IfOk};
 ghost use Rattle.vme_core.specs.Runs.{Machine, target_of};
 ghost use Rattle.vme_core.specs.Machines.{process_count, IsThere};
 
+use crate::support::{WHOLE, datum};
 use std::process::Abort;
 use std::test::Fail;
 use vme_arbiter::{ArbCmd, ArbReply, Arbiter};
 use vme_core::{Core, Event, EventReply, OutOfMemory, RunStop, Target};
-use vme_lanes::Datum;
-use vme_memory::{BoardCmd, ByteMemory, Class, Reply, Width8To32};
-
-const CLASS: Class = Class {
-    width: Width8To32::D32,
-    uat: true,
-    blt: true,
-    rmw: true,
-};
+use vme_memory::{BoardCmd, ByteMemory, Reply};
 
 /// The memory of one board of 16 bytes.
 fn memories(rt: &HostRuntime) -> Result<Vec<ByteMemory>, OutOfMemory>
     ensures { IfOk result (λ memories. length memories.items ≡ 1) }
 {
-    let Ok(memory) = ByteMemory::new(rt.alloc(), 16, CLASS) else {
+    let Ok(memory) = ByteMemory::new(rt.alloc(), 16, WHOLE) else {
         return Err(OutOfMemory);
     };
     let Ok(memories) = Vec::from_array(rt.alloc(), [memory]) else {
@@ -30,7 +23,7 @@ fn memories(rt: &HostRuntime) -> Result<Vec<ByteMemory>, OutOfMemory>
     Ok(memories)
 }
 
-/// A core of one board, for two processors.
+/// A core of one board, for two processes.
 fn one_board(rt: &HostRuntime) -> Result<Core, OutOfMemory>
     ensures boards { IfOk result (λ core. length core.boards ≡ 1) }
     ensures process_count { IfOk result (λ core. process_count core ≡ 2) }
@@ -52,7 +45,7 @@ fn events() -> [(usize, Event); 3]
     ensures process_count { All (λ e. e.0 < 2) result }
     ensures there { (m : Machine) → length m.boards ≡ 1 → All (λ e. IsThere m (target_of e.1)) result }
 {
-    let bytes = Datum::try_from(&[0x7f][..]).unwrap_or_default();
+    let bytes = datum(&[0x7f]);
     let write = BoardCmd::LocalWrite { offset: 0, bytes };
     let read = BoardCmd::LocalRead { offset: 0, n: 1 };
     [

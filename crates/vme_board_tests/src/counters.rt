@@ -1,14 +1,10 @@
-//! The replies of counters, and the end of counting.
+//! What the counters answer, and where counting ends.
+use crate::support::reply;
 use std::process::Abort;
 use std::sync::Arc;
 use std::sync::atomic::{AtomicBool, Ordering};
 use std::test::Fail;
-use vme_object::{Counter, CounterCmd, Held, Object, next_count};
-
-/// Returns the reply to a command, by the trait only.
-pub fn reply<O: Object>(object: &mut O, cmd: &O::Cmd) -> O::Reply {
-    object.apply(cmd)
-}
+use vme_object::{Counter, CounterCmd, Held, next_count};
 
 static COUNTS: [(u64, Option<u64>); 3] = [
     (0, Some(1)),

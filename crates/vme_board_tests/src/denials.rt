@@ -1,8 +1,8 @@
-//! Replies that do not match, are missing or come early, and denials of the arbiter.
-use crate::shared_course::{BOARDS, Given, MAILBOX, expect_end, replied, reported};
+//! Replies that do not fit, are absent or come early, and denials of the arbiter.
+use crate::shared_course::{BOARDS, MAILBOX, expect_end};
+use crate::support::{DENIED, FREED, GRANTED, Given, replied};
 use std::process::Abort;
 use std::test::Fail;
-use vme_arbiter::ArbReply;
 use vme_core::EventReply;
 use vme_decode::AddressMap;
 use vme_shared::{PutTask, SharedOutcome};
@@ -10,21 +10,21 @@ use vme_shared::{PutTask, SharedOutcome};
 /// Leads a task through its request for the bus to the cycle of the lock.
 fn at_the_lock(task: &mut PutTask<'_>) {
     let _ = task.next(None);
-    let _ = task.next(reported(ArbReply::Granted));
+    let _ = task.next(replied(GRANTED));
 }
 
 /// Leads a task past the free lock to the read of the put count.
 fn at_the_put_count(task: &mut PutTask<'_>) {
     at_the_lock(task);
     let _ = task.next(replied(Given::Bytes(&[0])));
-    let _ = task.next(reported(ArbReply::Freed));
-    let _ = task.next(reported(ArbReply::Granted));
+    let _ = task.next(replied(FREED));
+    let _ = task.next(replied(GRANTED));
 }
 
 fn expect_denied(rt: &impl Abort, task: &mut PutTask<'_>, given: Option<EventReply>) {
     let end = task.next(given);
     assert_eq!(rt; expect_end(rt, &end), SharedOutcome::Denied);
-    let end = task.next(reported(ArbReply::Freed));
+    let end = task.next(replied(FREED));
     assert_eq!(rt; expect_end(rt, &end), SharedOutcome::Denied);
 }
 
@@ -47,28 +47,30 @@ fn what_does_not_fit_is_denied(rt: HostRuntime) -> Result<(), Fail> {
         at_the_put_count(&mut task);
         expect_denied(&rt, &mut task, given);
     }
+    at_the_put_count(&mut task);
+    expect_denied(&rt, &mut task, replied(GRANTED));
+    at_the_put_count(&mut task);
+    expect_denied(&rt, &mut task, None);
     Ok(())
 }
 
 #[test]
 fn what_comes_early_is_denied(rt: HostRuntime) -> Result<(), Fail> {
     let map = AddressMap::new(rt.alloc(), &BOARDS)?;
-    for given in [reported(ArbReply::Granted), replied(Given::Done)] {
-        let mut task = PutTask::start(&map, 2, 3, MAILBOX, 1)?;
-        expect_denied(&rt, &mut task, given);
-    }
+    let mut task = PutTask::start(&map, 2, 3, MAILBOX, 1)?;
+    expect_denied(&rt, &mut task, replied(GRANTED));
+    expect_denied(&rt, &mut task, replied(Given::Done));
     Ok(())
 }
 
 #[test]
 fn a_denial_of_the_arbiter_ends_all(rt: HostRuntime) -> Result<(), Fail> {
     let map = AddressMap::new(rt.alloc(), &BOARDS)?;
-    let mut first = PutTask::start(&map, 2, 3, MAILBOX, 1)?;
-    let _ = first.next(None);
-    expect_denied(&rt, &mut first, reported(ArbReply::Denied));
-    let mut later = PutTask::start(&map, 2, 3, MAILBOX, 1)?;
-    at_the_lock(&mut later);
-    let _ = later.next(replied(Given::Bytes(&[0])));
-    expect_denied(&rt, &mut later, reported(ArbReply::Denied));
+    let mut task = PutTask::start(&map, 2, 3, MAILBOX, 1)?;
+    let _ = task.next(None);
+    expect_denied(&rt, &mut task, replied(DENIED));
+    at_the_lock(&mut task);
+    let _ = task.next(replied(Given::Bytes(&[0])));
+    expect_denied(&rt, &mut task, replied(DENIED));
     Ok(())
 }

@@ -21,6 +21,8 @@ mod shared_course;
 #[cfg(test)]
 mod shared_tasks;
 #[cfg(test)]
+mod support;
+#[cfg(test)]
 mod transfers;
 #[cfg(test)]
 mod wide;

@@ -1,9 +1,10 @@
-//! Address maps: the entries that cycles select, and the refusals of maps.
+//! Worked examples of maps: what cycles select in them, and how entries are refused.
+use crate::support::signals_of;
 use std::alloc::Global;
 use std::process::Abort;
 use std::test::Fail;
 use vme_am::Space;
-use vme_cycle::{CycleFault, Plan, Request};
+use vme_cycle::Request;
 use vme_decode::{AddressMap, Entry, MapFault};
 
 /// An entry that admits all codes.
@@ -16,21 +17,7 @@ fn entry(space: Space, base: u32, size: u32) -> Entry {
     }
 }
 
-/// The selection of a read of `n` bytes.
-fn selected(
-    rt: &impl Abort,
-    map: &AddressMap,
-    am: u8,
-    addr: u32,
-    n: u8,
-) -> Result<Option<(usize, u32)>, CycleFault> {
-    let request = Request::Read { am, addr, n };
-    let plan = Plan::of(&request)?;
-    assert_eq!(rt; plan.len(), 1);
-    Ok(map.select(&plan.signals(0)))
-}
-
-/// The fault of some entries, if there is no map of them.
+/// Why there is no map of some entries, if there is none.
 fn fault(alloc: Global, entries: &[Entry]) -> Option<MapFault> {
     AddressMap::new(alloc, entries).err()
 }
@@ -56,29 +43,16 @@ static MIXED: [Entry; 3] = [
     },
 ];
 
-/// Reads of one byte on that map, by code and address.
-static BYTES: [(u8, u32, Option<(usize, u32)>); 5] = [
-    (0x39, 0x20_0004, None),
-    (0x3d, 0x20_0004, Some((1, 4))),
-    (0x29, 0xc00f, Some((2, 15))),
-    (0x2d, 0xc010, None),
-    (0x0e, 0x0000_0fff, Some((0, 4095))),
+/// Reads on that map, by code, address and length, and what they select.
+static BYTES: [(u8, u32, u8, Option<(usize, u32)>); 5] = [
+    (0x39, 0x20_0004, 1, None),
+    (0x3d, 0x20_0004, 1, Some((1, 4))),
+    (0x29, 0xc00f, 1, Some((2, 15))),
+    (0x2d, 0xc010, 1, None),
+    (0x0e, 0x0000_0fff, 1, Some((0, 4095))),
 ];
 
-#[test]
-fn selects_by_space_range_and_privilege(rt: HostRuntime) -> Result<(), Fail> {
-    let map = AddressMap::new(rt.alloc(), &MIXED)?;
-    for (am, addr, place) in &BYTES {
-        assert_eq!(rt;
-            selected(&rt, &map, *am, *addr, 1)?,
-            *place,
-            "{am:02x} {addr:x}"
-        );
-    }
-    Ok(())
-}
-
-/// Entries that are sorted neither by space nor by base. The last one covers nothing.
+/// Neither by space nor by base, and the last covers nothing.
 static UNSORTED: [Entry; 4] = [
     Entry {
         space: Space::A32,
@@ -106,27 +80,14 @@ static UNSORTED: [Entry; 4] = [
     },
 ];
 
-/// Reads of one byte on that map, by code and address.
-static PLACES: [(u8, u32, Option<(usize, u32)>); 5] = [
-    (0x09, 0x1008, Some((1, 8))),
-    (0x39, 0x1008, Some((2, 8))),
-    (0x09, 0x200f, Some((0, 15))),
-    (0x09, 0x1010, None),
-    (0x09, 0x0fff, None),
+/// Reads on that map.
+static PLACES: [(u8, u32, u8, Option<(usize, u32)>); 5] = [
+    (0x09, 0x1008, 1, Some((1, 8))),
+    (0x39, 0x1008, 1, Some((2, 8))),
+    (0x09, 0x200f, 1, Some((0, 15))),
+    (0x09, 0x1010, 1, None),
+    (0x09, 0x0fff, 1, None),
 ];
-
-#[test]
-fn reports_places_in_the_order_given(rt: HostRuntime) -> Result<(), Fail> {
-    let map = AddressMap::new(rt.alloc(), &UNSORTED)?;
-    for (am, addr, place) in &PLACES {
-        assert_eq!(rt;
-            selected(&rt, &map, *am, *addr, 1)?,
-            *place,
-            "{am:02x} {addr:x}"
-        );
-    }
-    Ok(())
-}
 
 static SMALL: [Entry; 4] = [
     Entry {
@@ -155,28 +116,39 @@ static SMALL: [Entry; 4] = [
     },
 ];
 
-/// Reads on that map, by address and length.
-static READS: [(u32, u8, Option<(usize, u32)>); 9] = [
-    (3, 1, None),
-    (4, 4, Some((0, 0))),
-    (5, 1, Some((0, 1))),
-    (5, 3, Some((0, 1))),
-    (6, 2, None),
-    (8, 4, Some((2, 0))),
-    (11, 1, Some((2, 3))),
-    (12, 4, None),
-    (0xffff_ffff, 1, Some((3, 3))),
+/// Reads on that map, which the first byte selects.
+static READS: [(u8, u32, u8, Option<(usize, u32)>); 9] = [
+    (0x09, 3, 1, None),
+    (0x09, 4, 4, Some((0, 0))),
+    (0x09, 5, 1, Some((0, 1))),
+    (0x09, 5, 3, Some((0, 1))),
+    (0x09, 6, 2, None),
+    (0x09, 8, 4, Some((2, 0))),
+    (0x09, 11, 1, Some((2, 3))),
+    (0x09, 12, 4, None),
+    (0x09, 0xffff_ffff, 1, Some((3, 3))),
 ];
 
 #[test]
-fn the_first_byte_selects(rt: HostRuntime) -> Result<(), Fail> {
-    let map = AddressMap::new(rt.alloc(), &SMALL)?;
-    for (addr, n, place) in &READS {
-        assert_eq!(rt;
-            selected(&rt, &map, 0x09, *addr, *n)?,
-            *place,
-            "{addr:x} {n}"
-        );
+fn the_first_byte_selects_by_space_range_and_privilege(rt: HostRuntime) -> Result<(), Fail> {
+    for (entries, reads) in [
+        (&MIXED[..], &BYTES[..]),
+        (&UNSORTED[..], &PLACES[..]),
+        (&SMALL[..], &READS[..]),
+    ] {
+        let map = AddressMap::new(rt.alloc(), entries)?;
+        for (am, addr, n, place) in reads {
+            let request = Request::Read {
+                am: *am,
+                addr: *addr,
+                n: *n,
+            };
+            assert_eq!(&rt;
+                map.select(&signals_of(&rt, &request)),
+                *place,
+                "{am:02x} {addr:x} {n}"
+            );
+        }
     }
     Ok(())
 }

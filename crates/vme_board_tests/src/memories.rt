@@ -1,35 +1,20 @@
-//! The replies of boards of several classes.
+//! What boards of several classes answer.
+use crate::support::{NARROW, WHOLE, datum, memory_of, signals_of};
 use std::process::Abort;
 use std::test::Fail;
 use vme_cycle::{Block, Modify, Plan, Request};
 use vme_lanes::Datum;
-use vme_memory::{BoardCmd, ByteMemory, Class, MemoryFault, Reply, Width8To32};
-
-/// A D32 class with unaligned cycles, block transfers and read-modify-writes.
-pub const WHOLE: Class = Class {
-    width: Width8To32::D32,
-    uat: true,
-    blt: true,
-    rmw: true,
-};
-
-const NARROW: Class = Class {
-    width: Width8To32::D16,
-    uat: false,
-    blt: false,
-    rmw: false,
-};
+use vme_memory::{BoardCmd, ByteMemory, MemoryFault, Reply};
 
 fn read(addr: u32, n: u8) -> Request {
     Request::Read { am: 0x0d, addr, n }
 }
 
 fn write(addr: u32, bytes: &[u8]) -> Request {
-    let bytes = Datum::try_from(bytes).unwrap_or_default();
     Request::Write {
         am: 0x0d,
         addr,
-        bytes,
+        bytes: datum(bytes),
     }
 }
 
@@ -68,9 +53,7 @@ fn answers(rt: &impl Abort, memory: &mut ByteMemory, request: &Request) -> Datum
 
 #[test]
 fn a_narrow_board_lacks_cycles(rt: HostRuntime) -> Result<(), Fail> {
-    let Ok(mut memory) = ByteMemory::new(rt.alloc(), 16, NARROW) else {
-        panic!(&rt; "no memory")
-    };
+    let mut memory = memory_of(&rt, rt.alloc(), 16, NARROW);
     let cases = [
         (read(0, 4), b"b".as_slice()),
         (read(1, 2), b"b"),
@@ -91,9 +74,7 @@ fn a_narrow_board_lacks_cycles(rt: HostRuntime) -> Result<(), Fail> {
 
 #[test]
 fn a_block_ends_at_the_end_of_a_board(rt: HostRuntime) -> Result<(), Fail> {
-    let Ok(mut memory) = ByteMemory::new(rt.alloc(), 20, WHOLE) else {
-        panic!(&rt; "no memory")
-    };
+    let mut memory = memory_of(&rt, rt.alloc(), 20, WHOLE);
     assert_eq!(&rt;
         answers(&rt, &mut memory, &block_read(16, 4, 2)).as_slice(),
         b"rb".as_slice()
@@ -146,11 +127,6 @@ fn answer(memory: &mut ByteMemory, command: &BoardCmd) -> Option<Datum> {
     }
 }
 
-/// The datum of at most eight bytes, and an empty one for more.
-pub fn datum(bytes: &[u8]) -> Datum {
-    Datum::try_from(bytes).unwrap_or_default()
-}
-
 /// A command to the local port, with its bytes as a slice.
 enum Local {
     Read(u8),
@@ -191,9 +167,7 @@ static LOCALS: [(u32, Local, Option<&[u8]>, u8); 5] = [
 
 #[test]
 fn the_local_port_takes_any_offset(rt: HostRuntime) -> Result<(), Fail> {
-    let Ok(mut memory) = ByteMemory::new(rt.alloc(), 16, NARROW) else {
-        panic!(&rt; "no memory")
-    };
+    let mut memory = memory_of(&rt, rt.alloc(), 16, NARROW);
     for (offset, local, wanted, byte) in &LOCALS {
         let answered = answer(&mut memory, &command(*offset, local));
         assert_eq!(&rt; answered.is_some(), wanted.is_some());
@@ -207,13 +181,8 @@ fn the_local_port_takes_any_offset(rt: HostRuntime) -> Result<(), Fail> {
 
 /// A read of four bytes by the bus.
 fn read_quad(rt: &impl Abort, addr: u32) -> BoardCmd {
-    let request = read(addr, 4);
-    let Ok(plan) = Plan::of(&request) else {
-        panic!(rt; "refused")
-    };
-    assert_eq!(rt; plan.len(), 1);
     BoardCmd::Cycle {
-        signals: plan.signals(0),
+        signals: signals_of(rt, &read(addr, 4)),
         at: addr,
         f: None,
     }
@@ -236,9 +205,7 @@ static ACROSS: [(u32, Option<Local>, &[u8]); 5] = [
 
 #[test]
 fn bytes_lie_across_words(rt: HostRuntime) -> Result<(), Fail> {
-    let Ok(mut memory) = ByteMemory::new(rt.alloc(), 16, WHOLE) else {
-        panic!(&rt; "no memory")
-    };
+    let mut memory = memory_of(&rt, rt.alloc(), 16, WHOLE);
     for (offset, local, wanted) in &ACROSS {
         let command = match local {
             Some(local) => command(*offset, local),
@@ -261,9 +228,7 @@ fn functions_want_their_switch(rt: HostRuntime) -> Result<(), Fail> {
         f: Modify::Set,
     };
     for (class, letters) in [(NARROW, b"b".as_slice()), (WHOLE, b"r")] {
-        let Ok(mut memory) = ByteMemory::new(rt.alloc(), 16, class) else {
-            panic!(&rt; "no memory")
-        };
+        let mut memory = memory_of(&rt, rt.alloc(), 16, class);
         assert_eq!(&rt; answers(&rt, &mut memory, &request).as_slice(), letters);
     }
     Ok(())
@@ -271,16 +236,10 @@ fn functions_want_their_switch(rt: HostRuntime) -> Result<(), Fail> {
 
 #[test]
 fn a_function_comes_with_a_read_half_alone(rt: HostRuntime) -> Result<(), Fail> {
-    let Ok(mut memory) = ByteMemory::new(rt.alloc(), 16, WHOLE) else {
-        panic!(&rt; "no memory")
-    };
+    let mut memory = memory_of(&rt, rt.alloc(), 16, WHOLE);
     for request in [write(4, &[1]), block_read(4, 1, 1)] {
-        let Ok(plan) = Plan::of(&request) else {
-            panic!(&rt; "refused")
-        };
-        assert_eq!(&rt; plan.len(), 1);
         let cycle = BoardCmd::Cycle {
-            signals: plan.signals(0),
+            signals: signals_of(&rt, &request),
             at: 4,
             f: Some(Modify::Set),
         };

@@ -1,12 +1,12 @@
-//! The boards of the tests, and the driver that leads a task through a list of cycles and replies.
+//! The boards of the tests, and how a task is led through a course of replies.
+use crate::support::{ASK, DONE, FREED, GRANTED, Given, LOOK, WAITING, datum, replied, signals_of};
 use std::process::Abort;
 use vme_am::Space;
-use vme_arbiter::{ArbCmd, ArbReply};
+use vme_arbiter::ArbCmd;
 use vme_core::{Event, EventReply};
-use vme_cycle::{Modify, Plan, Request};
+use vme_cycle::{Modify, Request};
 use vme_decode::Entry;
-use vme_lanes::Datum;
-use vme_memory::{BoardCmd, Reply};
+use vme_memory::BoardCmd;
 use vme_shared::{LockTask, Mailbox, PutTask, SharedOutcome, SharedTodo, TakeTask};
 
 /// Two boards. The second has 64 bytes from address 1000 hex up.
@@ -51,17 +51,6 @@ pub enum Cycle {
     Write(u32, [u8; 4]),
 }
 
-/// The reply of a board.
-#[derive(Clone, Copy, Debug)]
-pub enum Given {
-    /// These bytes.
-    Bytes(&'static [u8]),
-    /// A write was done.
-    Done,
-    /// A bus error.
-    Berr,
-}
-
 /// The cycles of a task, each with the reply to it.
 pub type Course = &'static [(Cycle, Given)];
 
@@ -91,37 +80,21 @@ impl Cycle {
 
     /// The command of the cycle.
     fn command(self, rt: &impl Abort) -> BoardCmd {
-        let request = self.request();
-        let Ok(plan) = Plan::of(&request) else {
-            panic!(rt; "refused")
+        let f = match self {
+            Cycle::Set => Some(Modify::Set),
+            _ => None,
         };
-        assert_eq!(rt; plan.len(), 1);
         BoardCmd::Cycle {
-            signals: plan.signals(0),
+            signals: signals_of(rt, &self.request()),
             at: self.offset(),
-            f: plan.modify().map(Modify::copy),
+            f,
         }
     }
 }
 
 fn write(am: u8, addr: u32, bytes: &[u8]) -> Request {
-    let bytes = Datum::try_from(bytes).unwrap_or_default();
+    let bytes = datum(bytes);
     Request::Write { am, addr, bytes }
-}
-
-/// The reply of the second board, as the reply to an event.
-pub fn replied(given: Given) -> Option<EventReply> {
-    let reply = match given {
-        Given::Bytes(bytes) => Reply::Bytes(Datum::try_from(bytes).unwrap_or_default()),
-        Given::Done => Reply::Done,
-        Given::Berr => Reply::Berr,
-    };
-    Some(EventReply::Board(reply))
-}
-
-/// The reply of the arbiter, as the reply to an event.
-pub fn reported(reply: ArbReply) -> Option<EventReply> {
-    Some(EventReply::Bus(reply))
 }
 
 /// A task of a lock or a mailbox.
@@ -178,17 +151,17 @@ pub fn expect_end(rt: &impl Abort, todo: &SharedTodo) -> SharedOutcome {
 pub fn outcome(rt: &impl Abort, task: &mut impl SharedMachine, course: Course) -> SharedOutcome {
     let mut todo = task.call(None);
     for (cycle, given) in course {
-        expect_turn(rt, &todo, ArbCmd::Ask { slot: 2, level: 3 });
-        todo = task.call(reported(ArbReply::Waiting));
-        expect_turn(rt, &todo, ArbCmd::Look { slot: 2 });
-        todo = task.call(reported(ArbReply::Granted));
+        expect_turn(rt, &todo, ASK);
+        todo = task.call(replied(WAITING));
+        expect_turn(rt, &todo, LOOK);
+        todo = task.call(replied(GRANTED));
         expect_cycle(rt, &todo, *cycle);
         todo = task.call(replied(*given));
-        expect_turn(rt, &todo, ArbCmd::Done { slot: 2 });
-        todo = task.call(reported(ArbReply::Freed));
+        expect_turn(rt, &todo, DONE);
+        todo = task.call(replied(FREED));
     }
     let first = expect_end(rt, &todo);
-    let again = expect_end(rt, &task.call(reported(ArbReply::Granted)));
+    let again = expect_end(rt, &task.call(replied(GRANTED)));
     assert_eq!(rt; first, again);
     first
 }

@@ -1,16 +1,16 @@
-//! The next step of a task after each reply.
-use arrayvec::ArrayVec;
+//! What tasks do next, call by call, in worked orders of replies.
+use crate::support;
+use crate::support::{FREED, GRANTED, Given, WAITING, block, datum, replied};
 use std::alloc::Global;
 use std::process::Abort;
 use std::test::Fail;
 use vme_am::Space;
-use vme_arbiter::{ArbCmd, ArbReply};
-use vme_core::{Event, EventReply};
+use vme_arbiter::ArbCmd;
+use vme_core::Event;
 use vme_cycle::{Block, BlockBuffer, CycleFault, Modify, Plan, Request};
 use vme_decode::{AddressMap, Entry};
-use vme_lanes::Datum;
 use vme_master::{Outcome, Task, Todo};
-use vme_memory::{BoardCmd, Reply};
+use vme_memory::BoardCmd;
 
 /// One board of 64 bytes from address 1000 hex up.
 static BOARDS: [Entry; 1] = [Entry {
@@ -20,13 +20,7 @@ static BOARDS: [Entry; 1] = [Entry {
     supervisory: false,
 }];
 
-const ASK: Step = Step::Bus(ArbCmd::Ask { slot: 2, level: 3 });
-
-const LOOK: Step = Step::Bus(ArbCmd::Look { slot: 2 });
-
-const DONE: Step = Step::Bus(ArbCmd::Done { slot: 2 });
-
-/// A step of a task, without the lines of a cycle.
+/// What a task does, without the lines of a cycle.
 #[derive(Clone, Copy, Debug, PartialEq, Eq)]
 enum Step {
     Bus(ArbCmd),
@@ -48,33 +42,11 @@ fn step_of(todo: &Todo) -> Step {
     }
 }
 
-/// The reply that a task receives.
-#[derive(Clone, Copy, Debug, PartialEq, Eq)]
-enum Given {
-    Nothing,
-    Turn(ArbReply),
-    /// These bytes of a board.
-    Bytes(&'static [u8]),
-    Done,
-    Berr,
-}
+const ASK: Step = Step::Bus(support::ASK);
 
-const GRANTED: Given = Given::Turn(ArbReply::Granted);
+const LOOK: Step = Step::Bus(support::LOOK);
 
-const FREED: Given = Given::Turn(ArbReply::Freed);
-
-fn reply(given: Given) -> Option<EventReply> {
-    match given {
-        Given::Nothing => None,
-        Given::Turn(turn) => Some(EventReply::Bus(turn)),
-        Given::Bytes(bytes) => {
-            let datum = Datum::try_from(bytes).unwrap_or_default();
-            Some(EventReply::Board(Reply::Bytes(datum)))
-        }
-        Given::Done => Some(EventReply::Board(Reply::Done)),
-        Given::Berr => Some(EventReply::Board(Reply::Berr)),
-    }
-}
+const DONE: Step = Step::Bus(support::DONE);
 
 /// The replies that a task receives, each with the step to which it leads.
 type Course = &'static [(Given, Step)];
@@ -84,7 +56,7 @@ type Course = &'static [(Given, Step)];
 fn outcome(rt: &impl Abort, task: &mut Task<'_>, course: Course) -> Outcome {
     let mut end = None;
     for (given, wanted) in course {
-        let todo = task.next(reply(*given));
+        let todo = task.next(replied(*given));
         assert_eq!(rt; step_of(&todo), *wanted, "{given:?}");
         if let Todo::Finished(outcome) = todo {
             end = Some(outcome);
@@ -93,7 +65,7 @@ fn outcome(rt: &impl Abort, task: &mut Task<'_>, course: Course) -> Outcome {
     let Some(outcome) = end else {
         panic!(rt; "not ended")
     };
-    let Todo::Finished(again) = task.next(reply(GRANTED)) else {
+    let Todo::Finished(again) = task.next(replied(GRANTED)) else {
         panic!(rt; "not ended")
     };
     assert_eq!(rt; again, emptied(&outcome));
@@ -114,15 +86,7 @@ fn emptied(outcome: &Outcome) -> Outcome {
     }
 }
 
-fn block(bytes: &[u8]) -> Block {
-    Block::from_short_slice(ArrayVec::try_from(bytes).unwrap_or_default())
-}
-
-fn datum(bytes: &[u8]) -> Datum {
-    Datum::try_from(bytes).unwrap_or_default()
-}
-
-/// The task of a request of slot 2 on level 3, with a buffer for the bytes that it reads.
+/// The task of a request of slot 2 on level 3, with a room for what it reads.
 fn start<'a>(alloc: Global, map: &AddressMap, request: &'a Request) -> Result<Task<'a>, Fail> {
     let plan = Plan::of(request)?;
     let buffer = BlockBuffer::with_capacity(alloc, plan.read_len())?;
@@ -143,7 +107,7 @@ fn run(
 
 static TWO_READ: [(Given, Step); 6] = [
     (Given::Nothing, ASK),
-    (Given::Turn(ArbReply::Waiting), LOOK),
+    (WAITING, LOOK),
     (GRANTED, Step::Cycle(0, 8)),
     (Given::Bytes(&[1, 2, 3, 4]), Step::Cycle(0, 12)),
     (Given::Bytes(&[5, 6, 7, 8]), DONE),
@@ -176,10 +140,7 @@ static OTHER_OBJECT: [(Given, Step); 3] = [
     (GRANTED, Step::End),
 ];
 
-static DENIED: [(Given, Step); 2] = [
-    (Given::Nothing, ASK),
-    (Given::Turn(ArbReply::Denied), Step::End),
-];
+static DENIED: [(Given, Step); 2] = [(Given::Nothing, ASK), (support::DENIED, Step::End)];
 
 static NO_REPLY: [(Given, Step); 2] = [(Given::Nothing, ASK), (Given::Nothing, Step::End)];
 
@@ -290,13 +251,13 @@ fn a_fill_of_256_data_calls_the_board_256_times(rt: HostRuntime) -> Result<(), F
     let mut given = GRANTED;
     let mut calls = 0u32;
     for at in 0..256u32 {
-        assert_eq!(&rt; step_of(&task.next(reply(given))), Step::Cycle(0, at));
+        assert_eq!(&rt; step_of(&task.next(replied(given))), Step::Cycle(0, at));
         given = Given::Done;
         calls = at + 1;
     }
     assert_eq!(&rt; calls, 256);
-    assert_eq!(&rt; step_of(&task.next(reply(Given::Done))), DONE);
-    let Todo::Finished(outcome) = task.next(reply(FREED)) else {
+    assert_eq!(&rt; step_of(&task.next(replied(Given::Done))), DONE);
+    let Todo::Finished(outcome) = task.next(replied(FREED)) else {
         panic!(&rt; "not ended")
     };
     assert_eq!(&rt; outcome, Outcome::Done);
@@ -332,7 +293,7 @@ fn a_local_command_is_one_call(rt: HostRuntime) {
 fn a_task_is_done_once_more_after_its_bytes_were_given_out(rt: HostRuntime) {
     let mut task = Task::local(3, BoardCmd::LocalRead { offset: 1, n: 2 });
     task.advance(None);
-    task.advance(reply(Given::Bytes(&[1, 2])).as_ref());
+    task.advance(replied(Given::Bytes(&[1, 2])).as_ref());
     assert!(&rt; task.is_finished());
     assert_eq!(&rt; task.read(), Some(&[1, 2][..]));
     assert_eq!(&rt; task.take_outcome(), Some(Outcome::Read(block(&[1, 2]))));

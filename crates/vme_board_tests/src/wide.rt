@@ -1,11 +1,11 @@
-//! The replies of boards to data of eight bytes.
-use crate::memories::{WHOLE, datum};
+//! What boards answer to data of eight bytes.
+use crate::support::{WHOLE, datum, memory_of, signals_of};
 use std::alloc::Global;
 use std::process::Abort;
 use std::test::Fail;
 use vme_cycle::{Block, Modify, Plan, Request, Signals};
 use vme_lanes::{Location, Strobes};
-use vme_memory::{ByteMemory, Class, Reply, Width8To32};
+use vme_memory::{Class, Reply, Width8To32};
 
 static EIGHT: [u8; 8] = [1, 2, 3, 4, 5, 6, 7, 8];
 
@@ -29,27 +29,16 @@ fn request(write: bool) -> Request {
     }
 }
 
-/// The signals of the one datum of a request.
-fn signals(rt: &impl Abort, request: &Request) -> Signals {
-    let Ok(plan) = Plan::of(request) else {
-        panic!(rt; "refused")
-    };
-    assert_eq!(rt; plan.len(), 1);
-    plan.signals(0)
-}
-
 #[test]
 fn eight_bytes_lie_in_two_words(rt: HostRuntime) -> Result<(), Fail> {
-    let Ok(mut memory) = ByteMemory::new(rt.alloc(), 16, WHOLE) else {
-        panic!(&rt; "no memory")
-    };
-    let written = memory.cycle(&signals(&rt, &request(true)), 4, None);
+    let mut memory = memory_of(&rt, rt.alloc(), 16, WHOLE);
+    let written = memory.cycle(&signals_of(&rt, &request(true)), 4, None);
     assert_eq!(&rt; written, Reply::Done);
     assert_eq!(&rt;
         memory.row(0).as_slice(),
         &[0, 0, 0, 0, 1, 2, 3, 4, 5, 6, 7, 8, 0, 0, 0, 0][..]
     );
-    let read = memory.cycle(&signals(&rt, &request(false)), 4, None);
+    let read = memory.cycle(&signals_of(&rt, &request(false)), 4, None);
     assert_eq!(&rt; read, Reply::Bytes(datum(&EIGHT)));
     Ok(())
 }
@@ -80,11 +69,9 @@ static LACKS: [(Class, u32); 3] = [
 #[test]
 fn a_board_lacks_eight_bytes(rt: HostRuntime) -> Result<(), Fail> {
     for (class, at) in &LACKS {
-        let Ok(mut memory) = ByteMemory::new(rt.alloc(), 12, *class) else {
-            panic!(&rt; "no memory")
-        };
+        let mut memory = memory_of(&rt, rt.alloc(), 12, *class);
         for write in [true, false] {
-            let reply = memory.cycle(&signals(&rt, &request(write)), *at, None);
+            let reply = memory.cycle(&signals_of(&rt, &request(write)), *at, None);
             assert_eq!(&rt; reply, Reply::Berr);
         }
         assert_eq!(&rt; memory.row(0).as_slice(), &[0; 12][..]);
@@ -95,11 +82,9 @@ fn a_board_lacks_eight_bytes(rt: HostRuntime) -> Result<(), Fail> {
 /// Eight bytes with other strobes than those of BYTE(0-3), or with a function.
 #[test]
 fn other_cycles_with_the_code_are_bus_errors(rt: HostRuntime) -> Result<(), Fail> {
-    let Ok(mut memory) = ByteMemory::new(rt.alloc(), 16, WHOLE) else {
-        panic!(&rt; "no memory")
-    };
+    let mut memory = memory_of(&rt, rt.alloc(), 16, WHOLE);
     for write in [true, false] {
-        let quad = signals(&rt, &request(write));
+        let quad = signals_of(&rt, &request(write));
         for location in [Location::Byte0, Location::Bytes01, Location::Bytes02] {
             let strobes = Strobes::of(location);
             let shown = Signals::from_lines(
@@ -131,9 +116,7 @@ fn many(rt: &impl Abort, alloc: Global) -> Vec<u8> {
 
 #[test]
 fn a_whole_block_is_read_again(rt: HostRuntime) -> Result<(), Fail> {
-    let Ok(mut memory) = ByteMemory::new(rt.alloc(), 4096, WHOLE) else {
-        panic!(&rt; "no memory")
-    };
+    let mut memory = memory_of(&rt, rt.alloc(), 4096, WHOLE);
     let wanted = many(&rt, rt.alloc());
     let Ok(bytes) = Block::from_slice(rt.alloc(), wanted.as_slice()) else {
         panic!(&rt; "no memory")

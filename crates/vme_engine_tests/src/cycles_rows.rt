@@ -1,29 +1,8 @@
-//! Worked rows of `vme cycles`: inputs with their outputs and statuses, with values from the tables
-//! of the standard and of this project's profile.
-use crate::cycles::check;
+//! Worked rows of `vme cycles`: inputs with what they write and how they end, with values from the
+//! tables of the standard and of this project's profile.
+use crate::support::{Engine, check, check_rows};
 use std::test::Fail;
 use vme_engines::Status;
-
-/// A write of four bytes, and a read of each of them.
-static QUAD: &str = "w 0d 00000004 01020304
-r 0d 00000004 1
-r 0d 00000005 1
-r 0d 00000006 1
-r 0d 00000007 1
-";
-
-/// The output of these lines.
-static QUAD_TEXT: &str = "am=0d a=00000004 ds1=0 ds0=0 a01=0 lword=0 write=0 data=01020304
-done
-am=0d a=00000004 ds1=0 ds0=1 a01=0 lword=1 write=1 data=----01--
-read 01
-am=0d a=00000004 ds1=1 ds0=0 a01=0 lword=1 write=1 data=------02
-read 02
-am=0d a=00000004 ds1=0 ds0=1 a01=1 lword=1 write=1 data=----03--
-read 03
-am=0d a=00000004 ds1=1 ds0=0 a01=1 lword=1 write=1 data=------04
-read 04
-";
 
 static ANSWERED: [(&str, &str, Status); 18] = [
     ("", "", Status::Clean),
@@ -292,17 +271,14 @@ static REFUSED: [(&str, &str); 71] = [
 
 #[test]
 fn answers_worked_rows(rt: HostRuntime) -> Result<(), Fail> {
-    check(&rt, rt.alloc(), QUAD, QUAD_TEXT, Status::Clean)?;
-    for (input, text, status) in &ANSWERED {
-        check(&rt, rt.alloc(), input, text, *status)?;
-    }
+    check_rows(&rt, rt.alloc(), Engine::Cycles, &ANSWERED)?;
     Ok(())
 }
 
 #[test]
 fn refuses_requests_and_lines(rt: HostRuntime) -> Result<(), Fail> {
     for (input, text) in &REFUSED {
-        check(&rt, rt.alloc(), input, text, Status::Marked)?;
+        check(&rt, rt.alloc(), Engine::Cycles, input, text, Status::Marked)?;
     }
     Ok(())
 }
@@ -320,7 +296,14 @@ fn fills_a_whole_unit(rt: HostRuntime) -> Result<(), Fail> {
     }
     text.push_str("done\n")?;
     let input = "bf 0b 00000000 1 256 5a\n";
-    check(&rt, rt.alloc(), input, text.as_str(), Status::Clean)?;
+    check(
+        &rt,
+        rt.alloc(),
+        Engine::Cycles,
+        input,
+        text.as_str(),
+        Status::Clean,
+    )?;
     Ok(())
 }
 
@@ -364,7 +347,14 @@ fn knows_eighteen_codes(rt: HostRuntime) -> Result<(), Fail> {
                 _ => (String::new(rt.alloc()), Status::Marked),
             };
             let text = format!(in rt.alloc(); "{signals}{end}\n")?;
-            check(&rt, rt.alloc(), input.as_str(), text.as_str(), status)?;
+            check(
+                &rt,
+                rt.alloc(),
+                Engine::Cycles,
+                input.as_str(),
+                text.as_str(),
+                status,
+            )?;
         }
     }
     Ok(())

@@ -1,6 +1,6 @@
-//! Worked rows of `vme cycles` for the 64-bit multiplexed block transfer (MBLT) of VME64 (ANSI/VITA
-//! 1-1994), in this project's profile.
-use crate::cycles::check;
+//! Worked rows of `vme cycles` with blocks whose data have eight bytes, which are of this project's
+//! profile.
+use crate::support::{Engine, check, check_rows};
 use std::test::Fail;
 use vme_engines::Status;
 
@@ -76,16 +76,14 @@ static REFUSED: [(&str, &str); 13] = [
 
 #[test]
 fn answers_blocks_of_eight_bytes(rt: HostRuntime) -> Result<(), Fail> {
-    for (input, text, status) in &ANSWERED {
-        check(&rt, rt.alloc(), input, text, *status)?;
-    }
+    check_rows(&rt, rt.alloc(), Engine::Cycles, &ANSWERED)?;
     Ok(())
 }
 
 #[test]
 fn refuses_blocks_of_eight_bytes(rt: HostRuntime) -> Result<(), Fail> {
     for (input, text) in &REFUSED {
-        check(&rt, rt.alloc(), input, text, Status::Marked)?;
+        check(&rt, rt.alloc(), Engine::Cycles, input, text, Status::Marked)?;
     }
     Ok(())
 }
@@ -111,6 +109,13 @@ fn reads_a_whole_unit(rt: HostRuntime) -> Result<(), Fail> {
     }
     text.push_str("\n")?;
     let input = "bf 08 00000800 8 256 a1a2a3a4a5a6a7a8\nbr 08 00000800 8 256\n";
-    check(&rt, rt.alloc(), input, text.as_str(), Status::Clean)?;
+    check(
+        &rt,
+        rt.alloc(),
+        Engine::Cycles,
+        input,
+        text.as_str(),
+        Status::Clean,
+    )?;
     Ok(())
 }

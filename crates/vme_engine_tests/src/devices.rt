@@ -1,5 +1,5 @@
 //! Devices that fail after any number of bytes, or that move one byte a call.
-use crate::rows::{ROWS, Row, run};
+use crate::support::{ROWS, Row, run};
 use std::alloc::{AllocError, Global};
 use std::io;
 use std::process::Abort;
@@ -27,7 +27,7 @@ fn expect_read_fault<R: Threads + Wait + Abort + Sync>(
 
 #[test]
 fn a_reader_fails_after_any_byte(rt: HostRuntime) -> Result<(), Fail> {
-    for row in ROWS {
+    for row in &ROWS {
         for bytes in 0..=row.input.len() {
             expect_read_fault(&rt, rt.alloc(), row, bytes)?;
         }
@@ -62,7 +62,7 @@ fn expect_prefix<R: Threads + Wait + Abort + Sync>(
 
 #[test]
 fn a_writer_fails_after_any_byte(rt: HostRuntime) -> Result<(), Fail> {
-    for row in ROWS {
+    for row in &ROWS {
         for capacity in 0..=row.text.len() {
             expect_prefix(&rt, rt.alloc(), row, capacity)?;
         }
@@ -114,7 +114,7 @@ fn expect_narrow<R: Threads + Wait + Abort + Sync>(
 
 #[test]
 fn a_writer_takes_no_byte_after_any(rt: HostRuntime) -> Result<(), Fail> {
-    for row in ROWS {
+    for row in &ROWS {
         for capacity in 0..=row.text.len() {
             expect_narrow(&rt, rt.alloc(), row, capacity)?;
         }

@@ -1,17 +1,20 @@
 //! Files with each byte replaced, and files that are not a configuration, with the engine of `vme
 //! step`.
-use crate::rows::TORN_BLOCK;
+use crate::support::{Engine, check, run_on, torn_block};
 use std::alloc::{AllocError, Global};
 use std::process::Abort;
+use std::sync::Wait;
 use std::test::Fail;
-use vme_engines::{ProgramFault, Status, exit_status, step_engine};
-use vme_io::{RoomSink, SliceSource};
+use std::thread::Threads;
+use vme_engines::{ProgramFault, Status, exit_status};
 
-/// Runs a damaged file. The result is a report, or a refusal with nothing written.
-fn expect_report_or_refusal(rt: &impl Abort, alloc: Global, file: &[u8]) -> Result<(), AllocError> {
-    let mut source = SliceSource::new(file, usize::MAX, usize::MAX);
-    let mut sink = RoomSink::new(alloc, usize::MAX, 4096)?;
-    let end = step_engine(alloc, &mut source, &mut sink);
+/// Runs a damaged file: there is a report, or else it is no configuration and nothing is written.
+fn expect_report_or_refusal<T: Threads + Wait + Abort + Sync>(
+    rt: &T,
+    alloc: Global,
+    file: &[u8],
+) -> Result<(), AllocError> {
+    let (end, sink) = run_on(rt, alloc, Engine::Step, file)?;
     assert!(rt; matches!(end, Ok(_) | Err(ProgramFault::Config(_))));
     assert_eq!(rt; sink.bytes().is_empty(), end.is_err());
     Ok(())
@@ -19,7 +22,7 @@ fn expect_report_or_refusal(rt: &impl Abort, alloc: Global, file: &[u8]) -> Resu
 
 #[test]
 fn each_prefix_is_run_or_refused(rt: HostRuntime) -> Result<(), Fail> {
-    let file = TORN_BLOCK.input.as_bytes();
+    let file = torn_block().input.as_bytes();
     for end in 0..=file.len() {
         expect_report_or_refusal(&rt, rt.alloc(), &file[..end])?;
     }
@@ -28,7 +31,7 @@ fn each_prefix_is_run_or_refused(rt: HostRuntime) -> Result<(), Fail> {
 
 #[test]
 fn with_each_byte_changed_is_run_or_refused(rt: HostRuntime) -> Result<(), Fail> {
-    let mut file = Vec::from_slice(rt.alloc(), TORN_BLOCK.input.as_bytes())?;
+    let mut file = Vec::from_slice(rt.alloc(), torn_block().input.as_bytes())?;
     for byte in [0x00, 0x0a, 0x22, 0xff] {
         for at in 0..file.len() {
             let kept = file[at];
@@ -40,16 +43,14 @@ fn with_each_byte_changed_is_run_or_refused(rt: HostRuntime) -> Result<(), Fail>
     Ok(())
 }
 
-/// Runs a file that is refused, and compares the refusal. Nothing is written.
-fn expect_refusal(
-    rt: &impl Abort,
+/// Runs a file that is refused: what is reported of it, with nothing written.
+fn expect_refusal<T: Threads + Wait + Abort + Sync>(
+    rt: &T,
     alloc: Global,
     file: &[u8],
     reported: &str,
 ) -> Result<(), AllocError> {
-    let mut source = SliceSource::new(file, usize::MAX, usize::MAX);
-    let mut sink = RoomSink::new(alloc, usize::MAX, 16)?;
-    let end = step_engine(alloc, &mut source, &mut sink);
+    let (end, sink) = run_on(rt, alloc, Engine::Step, file)?;
     assert_eq!(rt; exit_status(&end), 2, "{reported}");
     assert!(rt; sink.bytes().is_empty());
     let Err(fault) = end else {
@@ -59,7 +60,7 @@ fn expect_refusal(
     Ok(())
 }
 
-/// Files of one board or none, and their refusals.
+/// Files of one board or none, and what is reported of them.
 static REFUSED: [(&str, &str); 18] = [
     ("", "C11"),
     (
@@ -137,12 +138,8 @@ fn script_of(alloc: Global, line: &str, times: usize) -> Result<String, AllocErr
 #[test]
 fn limits_scripts(rt: HostRuntime) -> Result<(), Fail> {
     let whole = script_of(rt.alloc(), "\n", 1000)?;
-    let mut source = SliceSource::new(whole.as_bytes(), usize::MAX, usize::MAX);
-    let mut sink = RoomSink::new(rt.alloc(), usize::MAX, 4096)?;
-    assert_eq!(rt;
-        step_engine(rt.alloc(), &mut source, &mut sink),
-        Ok(Status::Clean)
-    );
+    let (end, _) = run_on(&rt, rt.alloc(), Engine::Step, whole.as_bytes())?;
+    assert_eq!(rt; end, Ok(Status::Clean));
     let long = script_of(rt.alloc(), "\n", 1001)?;
     expect_refusal(&rt, rt.alloc(), long.as_bytes(), "C14 slot 1 line 1001 S8")?;
     let mut wide = String::new(rt.alloc());
@@ -160,12 +157,14 @@ static AT_THE_END: &str = "[[board]]\nslot = 1\nbase = 0xfffffffc\nsize = 4\n";
 
 #[test]
 fn runs_a_board_at_the_end_of_its_space(rt: HostRuntime) -> Result<(), Fail> {
-    let mut source = SliceSource::new(AT_THE_END.as_bytes(), usize::MAX, usize::MAX);
-    let mut sink = RoomSink::new(rt.alloc(), usize::MAX, 4096)?;
-    assert_eq!(rt;
-        step_engine(rt.alloc(), &mut source, &mut sink),
-        Ok(Status::Clean)
-    );
-    assert_eq!(rt; sink.bytes(), b"board 1 steps 0 made 0\n".as_slice());
+    let text = "board 1 steps 0 made 0\n";
+    check(
+        &rt,
+        rt.alloc(),
+        Engine::Step,
+        AT_THE_END,
+        text,
+        Status::Clean,
+    )?;
     Ok(())
 }

@@ -3,30 +3,30 @@
 #![tactic(auto)]
 
 #[cfg(test)]
-mod cycles;
-#[cfg(test)]
-mod cycles_lines;
-#[cfg(test)]
 mod cycles_rows;
 #[cfg(test)]
 mod cycles_wide;
 #[cfg(test)]
 mod devices;
 #[cfg(test)]
+mod faults;
+#[cfg(test)]
 mod files;
 #[cfg(test)]
-mod memory;
+mod lines;
 #[cfg(test)]
-mod rows;
+mod memory;
 #[cfg(test)]
 mod runs;
 #[cfg(test)]
 mod step_arbiters;
-#[cfg(test)]
-mod step_devices;
 #[cfg(test)]
 mod step_rows;
 #[cfg(test)]
 mod step_shared;
 #[cfg(test)]
 mod step_wide;
+#[cfg(test)]
+mod support;
+#[cfg(test)]
+mod surface;

@@ -1,40 +1,35 @@
-//! A run on threads in which an allocation fails.
-use crate::rows::TWO_WRITERS;
-use std::test::Fail;
-use vme_engines::{ProgramFault, Status, exit_status, run_engine};
-use vme_io::{RoomSink, SliceSource};
+//! Runs where memory is refused.
+use crate::support::{Row, run_on, torn_block, two_writers};
+use std::alloc::Global;
+use std::process::Abort;
+use std::sync::Wait;
+use std::thread::Threads;
+use vme_engines::{ProgramFault, Status};
 
-/// If an allocation fails, the result is that fault, or that a thread could not be started, and
-/// nothing or a prefix of the report was written; otherwise the whole report was written.
-#[test]
-fn runs_or_lacks_memory(rt: HostRuntime) {
-    let mut source = SliceSource::new(TWO_WRITERS.input.as_bytes(), usize::MAX, usize::MAX);
-    let Ok(mut sink) = RoomSink::new(rt.alloc(), usize::MAX, 4096) else {
+/// Runs a row: all of its text is written, or it is reported that there is no memory, or that a
+/// thread has none, and a prefix of the text is written.
+fn expect_text_or_refusal<T: Threads + Wait + Abort + Sync>(rt: &T, alloc: Global, row: &Row) {
+    let Ok((end, sink)) = run_on(rt, alloc, row.engine, row.input.as_bytes()) else {
         return;
     };
-    match run_engine(&rt, rt.alloc(), &mut source, &mut sink) {
+    match end {
         Ok(status) => {
-            assert_eq!(&rt; status, Status::Clean);
-            assert_eq!(&rt; sink.bytes(), TWO_WRITERS.text.as_bytes());
+            assert_eq!(rt; status, Status::Clean);
+            assert_eq!(rt; sink.bytes(), row.text.as_bytes());
         }
         Err(fault) => {
-            assert!(&rt; fault == ProgramFault::Memory || fault == ProgramFault::Thread);
-            assert!(&rt; TWO_WRITERS.text.as_bytes().starts_with(sink.bytes()));
+            assert!(rt; matches!(fault, ProgramFault::Memory | ProgramFault::Thread));
+            assert!(rt; row.text.as_bytes().starts_with(sink.bytes()));
         }
     }
 }
 
-/// The two faults that only a run on threads has.
-static FAULTS: [(ProgramFault, &str); 2] = [
-    (ProgramFault::Thread, "thread"),
-    (ProgramFault::Spent, "spent"),
-];
+#[test]
+fn steps_or_lacks_memory(rt: HostRuntime) {
+    expect_text_or_refusal(&rt, rt.alloc(), torn_block());
+}
 
 #[test]
-fn reports_the_faults_of_threads(rt: HostRuntime) -> Result<(), Fail> {
-    for (fault, text) in &FAULTS {
-        assert_eq!(rt; fault.to_string(rt.alloc())?.as_str(), *text);
-        assert_eq!(rt; exit_status(&Err(*fault)), 3);
-    }
-    Ok(())
+fn runs_or_lacks_memory(rt: HostRuntime) {
+    expect_text_or_refusal(&rt, rt.alloc(), two_writers());
 }

@@ -1,8 +1,8 @@
-//! Runs on threads whose reports vary in some lines: the beginning and the end of each report.
+//! Runs on threads, of whose reports some lines vary: what they begin with, and what they end with.
+use crate::support::{Engine, run_on};
 use std::alloc::{AllocError, Global};
 use std::test::Fail;
-use vme_engines::{Status, run_engine};
-use vme_io::{RoomSink, SliceSource};
+use vme_engines::Status;
 
 /// Two processors that wait for each other's byte.
 static WAITING: &str = "tries = 1000000
@@ -31,9 +31,7 @@ static MET: &str = "1:1 done
 
 #[test]
 fn two_wait_for_each_other(rt: HostRuntime) -> Result<(), Fail> {
-    let mut source = SliceSource::new(WAITING.as_bytes(), usize::MAX, usize::MAX);
-    let mut sink = RoomSink::new(rt.alloc(), usize::MAX, 4096)?;
-    let end = run_engine(&rt, rt.alloc(), &mut source, &mut sink);
+    let (end, sink) = run_on(&rt, rt.alloc(), Engine::Run, WAITING.as_bytes())?;
     assert_eq!(&rt; end, Ok(Status::Clean));
     assert!(&rt; sink.bytes().starts_with(MET.as_bytes()));
     Ok(())
@@ -77,9 +75,7 @@ fn adding(alloc: Global) -> Result<String, AllocError> {
 #[test]
 fn four_add_to_one_word(rt: HostRuntime) -> Result<(), Fail> {
     let text = adding(rt.alloc())?;
-    let mut source = SliceSource::new(text.as_bytes(), usize::MAX, usize::MAX);
-    let mut sink = RoomSink::new(rt.alloc(), usize::MAX, 131_072)?;
-    let end = run_engine(&rt, rt.alloc(), &mut source, &mut sink);
+    let (end, sink) = run_on(&rt, rt.alloc(), Engine::Run, text.as_bytes())?;
     assert_eq!(&rt; end, Ok(Status::Clean));
     assert!(&rt; sink.bytes().ends_with(SUM.as_bytes()));
     Ok(())

@@ -1,12 +1,12 @@
-//! Files whose processors share a lock or a mailbox, and their reports.
-use crate::step_rows::{Row, check};
+//! Files whose processors share a lock or a mailbox, with what `vme step` reports of their runs.
+use crate::support::{Engine, check_rows};
 use std::test::Fail;
 use vme_engines::Status;
 
-/// One processor takes the lock; the other finds it busy, and may try once; then the first frees
-/// it.
-const LOCKS: Row = Row {
-    file: "tries = 1
+static ROWS: [(&str, &str, Status); 5] = [
+    // One takes the lock; the other finds it busy, and may try once; then the first gives it back.
+    (
+        "tries = 1
 schedule = [[1, 3], [2, 3], [1, 3]]
 [[board]]
 slot = 1
@@ -22,18 +22,17 @@ base = 0x1000
 size = 16
 script = 'lock 09 00000003'
 ",
-    report: "1:1 taken
+        "1:1 taken
 1:2 done
 2:1 busy
 board 1 steps 3 made 2 1
 board 2 steps 0 made 0 0
 ",
-    status: Status::Marked,
-};
-
-/// Three words for a mailbox of two slots, and three takes from it.
-const THREE_WORDS: Row = Row {
-    file: "tries = 1
+        Status::Marked,
+    ),
+    // Three words for a mailbox that has room for two, and three takes from it.
+    (
+        "tries = 1
 schedule = [[1, 48], [2, 48]]
 [[board]]
 slot = 1
@@ -58,7 +57,7 @@ am = 9
 addr = 0
 slots = 2
 ",
-    report: "1:1 put
+        "1:1 put
 1:2 put
 1:3 full
 2:1 took 0000000a
@@ -69,13 +68,12 @@ board 2 steps 0 made 0 0
 mem 1 00000000 00000000000000020000000200000000
 mem 1 00000010 0000000a0000000b0000000000000000
 ",
-    status: Status::Marked,
-};
-
-/// Three words for a mailbox of two slots, and a line that names bytes of the mailbox but is
-/// refused as a request because of its number of bytes.
-const REFUSED_AT_ITS_BYTES: Row = Row {
-    file: "tries = 1
+        Status::Marked,
+    ),
+    // The same, and a line that names bytes of the mailbox, but is refused as a request: no bus has data
+    // of eight bytes.
+    (
+        "tries = 1
 schedule = [[1, 48], [2, 48]]
 rounds = 1
 [[board]]
@@ -102,7 +100,7 @@ am = 9
 addr = 0
 slots = 2
 ",
-    report: "1:1 put
+        "1:1 put
 1:2 put
 1:3 full
 2:1 took 0000000a
@@ -114,12 +112,11 @@ board 2 steps 0 made 0 0
 mem 1 00000000 00000000000000020000000200000000
 mem 1 00000010 0000000a0000000b0000000000000000
 ",
-    status: Status::Marked,
-};
-
-/// The mailbox is full for the second word, which is put when the first was taken.
-const ROOM_LATER: Row = Row {
-    file: "tries = 2
+        Status::Marked,
+    ),
+    // The second word finds no room, and is tried again after the first was taken.
+    (
+        "tries = 2
 schedule = [[1, 30], [2, 18], [1, 18], [2, 18]]
 [[board]]
 slot = 1
@@ -142,7 +139,7 @@ am = 9
 addr = 0
 slots = 1
 ",
-    report: "1:1 put
+        "1:1 put
 1:2 put
 2:1 took 00000001
 2:2 took 00000002
@@ -151,12 +148,11 @@ board 2 steps 0 made 0 0
 mem 1 00000000 00000000000000020000000200000000
 mem 1 00000010 00000002000000000000000000000000
 ",
-    status: Status::Clean,
-};
-
-/// A lock with a user-defined code, and a lock at an address of no board.
-const NO_LOCK: Row = Row {
-    file: "rounds = 4
+        Status::Clean,
+    ),
+    // A request of a lock that no code allows, and a lock where no board is.
+    (
+        "rounds = 4
 [[board]]
 slot = 1
 base = 0
@@ -167,24 +163,17 @@ unlock 0a 00000000
 lock 09 00001000
 '''
 ",
-    report: "1:1 refused K2
+        "1:1 refused K2
 1:2 done
 1:3 unfinished
 board 1 steps 1 made 1
 ",
-    status: Status::Marked,
-};
+        Status::Marked,
+    ),
+];
 
 #[test]
 fn processors_share_locks_and_mailboxes(rt: HostRuntime) -> Result<(), Fail> {
-    for row in [
-        &LOCKS,
-        &THREE_WORDS,
-        &REFUSED_AT_ITS_BYTES,
-        &ROOM_LATER,
-        &NO_LOCK,
-    ] {
-        check(&rt, rt.alloc(), row)?;
-    }
+    check_rows(&rt, rt.alloc(), Engine::Step, &ROWS)?;
     Ok(())
 }

@@ -24,22 +24,8 @@ use Rattle.vme_master.specs.Tables as tasks
 use Rattle.vme_master.specs.Tables.{Given, next_of, outcome_by, row_of_reply}
 use Rattle.vme_master.proofs.lemmas.Tenures.{ends_freed}
 use Rattle.vme_master.proofs.lemmas.Locals.{local_calls}
+use Rattle.vme_shared.proofs.lemmas.Granted.{expected_granted, outcome_granted}
 use Rattle.vme_line_task.specs.Tenures.{job_reported, IsGood}
-
--- an outcome without a bus error is no denial
-expected_granted : (expected : ExpectedReply) (bytes : List ℕ) → expected_outcome expected bytes ≢ outcomes.Denied
-expected_granted (expected_replies.Read n) bytes = λ same. absurd cc
-expected_granted (expected_replies.Modify n) bytes = λ same. absurd cc
-expected_granted expected_replies.Write bytes = λ same. absurd cc
-
-outcome_granted : (j : BusJob) (place : Option (ℕ × ℕ)) (g : Given) → outcome_by j place g ≢ outcomes.Denied
-outcome_granted j None g = λ same. absurd cc
-outcome_granted j (Some place) [] = expected_granted _ _
-outcome_granted j (Some place) (None ∷ before) = expected_granted _ _
-outcome_granted j (Some place) (Some (replies.Bus reply) ∷ before) = expected_granted _ _
-outcome_granted j (Some place) (Some (replies.Board (Bytes datum)) ∷ before) = expected_granted _ _
-outcome_granted j (Some place) (Some (replies.Board Done) ∷ before) = expected_granted _ _
-outcome_granted j (Some place) (Some (replies.Board Berr) ∷ before) = λ same. absurd cc
 
 -- an end that is a denial
 abbrev IsDenial : NextStep Outcome → Type 0

@@ -38,32 +38,7 @@ use Rattle.vme_mailbox_laws.specs.Along.{mailbox_in, LiesAt, UsesMailbox, IsGood
 use Rattle.vme_mailbox_laws.proofs.Stages.{shape, own_request, distance, distance_within, stage_command, stage_touches}
 use Rattle.vme_mailbox_laws.proofs.Courses.{some_slot}
 use Rattle.vme_mailbox_laws.proofs.Answers.{stage_answered}
-
--- a stage at work has its own bus job
-abbrev OwnJob : SharedJob → Progress → Type 0
-OwnJob s (At stage job g) = stage_job s stage ≡ Ok job
-OwnJob s (Over end) = Unit {0}
-
-own_begun : (s : SharedJob) (stage : Stage) (g : Given) (job : Result Job CycleFault) → stage_job s stage ≡ job → OwnJob s (stage_begun stage g job)
-own_begun s stage g (Ok job) own = own
-own_begun s stage g (Err fault) own = tt
-
-own_stepped : (s : SharedJob) (step : Step) → OwnJob s (step_begun s step)
-own_stepped s (Continue stage) = own_begun s stage (None ∷ []) (stage_job s stage) refl
-own_stepped s (Finish end) = tt
-
-own_by : (s : SharedJob) (stage : Stage) (job : Job) (g : Given) (next : NextStep Outcome) → stage_job s stage ≡ Ok job → OwnJob s (progress_by s stage job g next)
-own_by s stage job g NotStarted own = own
-own_by s stage job g (Invokes call) own = own
-own_by s stage job g (Returns outcome) own = own_stepped s (step_after s.request stage outcome)
-
-own_given : (s : SharedJob) (last : Option EventReply) (progress : Progress) → OwnJob s progress → OwnJob s (progress_given s last progress)
-own_given s last (At stage job g) own = own_by s stage job (last ∷ g) (next_of job (last ∷ g)) own
-own_given s last (Over end) own = tt
-
-own_job : (s : SharedJob) (given : Given) → OwnJob s (progress_of s given)
-own_job s [] = own_begun s (first_stage s.request) [] (stage_job s (first_stage s.request)) refl
-own_job s (last ∷ before) = own_given s last (progress_of s before) (own_job s before)
+use Rattle.vme_mailbox_laws.proofs.lemmas.OwnJobs.{OwnJob, own_job}
 
 -- the one datum of a request goes to the board that its address selects
 record Sent (s : SharedJob) (request : Request) (x : ℕ) (command : Option Command) : Type 0 where

@@ -16,9 +16,8 @@ use Rattle.vme_shared.specs.Phases.{Phase, Idle, Locked, First, Both, Written, F
 use Rattle.vme_shared.specs.Words.{put_by, taken_by, phases_after, words_along}
 use Rattle.vme_shared.proofs.lemmas.MailboxSteps.{Changes, changes}
 use Rattle.vme_shared.proofs.lemmas.Kept.{Kept, Stands}
-use Rattle.vme_shared.proofs.lemmas.Ordered.{Holds}
+use Rattle.vme_shared.proofs.lemmas.Ordered.{Holds, entry_holds}
 use Rattle.vme_mailbox_laws.specs.Along.{IsCount}
-use Rattle.vme_mailbox_laws.proofs.Held.{entry_holds}
 use Rattle.vme_mailbox_laws.proofs.Through.{IsAnswered, Wanted, behind, Through}
 
 -- a put count that was read is the number of words put

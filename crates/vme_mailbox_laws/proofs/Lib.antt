@@ -4,8 +4,6 @@ pub mod DataApart
 pub mod CallsApart
 pub mod SendsApart
 pub mod MailboxesApart
-pub mod Held
-pub mod Opening
 pub mod Through
 pub mod Histories
 pub mod Tasks

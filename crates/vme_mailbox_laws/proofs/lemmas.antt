@@ -1,4 +1,5 @@
 pub mod Groups
 pub mod Lawful
 pub mod LinesApart
+pub mod OwnJobs
 pub mod Shared

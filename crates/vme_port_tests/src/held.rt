@@ -1,8 +1,9 @@
 //! Ports that are busy, because a command on their object waits for a release.
 ghost use Rattle.vme_port.specs.Ports.{IsPassOf};
 
-use crate::ports::{next_pass, open};
+use crate::support::{next_pass, open};
 use crossbeam_utils::Backoff;
+use std::alloc::{AllocError, Global};
 use std::process::Abort;
 use std::sync::atomic::{AtomicBool, Ordering};
 use std::sync::{Arc, Wait};
@@ -14,7 +15,14 @@ use vme_port::{Pass, Port, TryFault};
 /// The number of times that a thread polls a flag.
 const LOOKS: u32 = 10_000_000;
 
-/// Polls a flag until it is set, at most `LOOKS` times, and returns whether it was set.
+/// The sign that a call is inside, and the one that releases it.
+fn signs(alloc: Global) -> Result<(Arc<AtomicBool>, Arc<AtomicBool>), AllocError> {
+    let entered = Arc::new(alloc, AtomicBool::new(false))?;
+    let release = Arc::new(alloc, AtomicBool::new(false))?;
+    Ok((entered, release))
+}
+
+/// Looks for a sign, for a while.
 fn seen(sign: &AtomicBool) -> bool {
     let backoff = Backoff::new();
     for _ in 0..LOOKS {
@@ -63,8 +71,7 @@ fn try_meanwhile<R: Threads + Wait + Abort + Sync>(
 
 #[test]
 fn a_port_is_busy_while_a_call_is_inside(rt: HostRuntime) -> Result<(), Fail> {
-    let entered = Arc::new(rt.alloc(), AtomicBool::new(false))?;
-    let release = Arc::new(rt.alloc(), AtomicBool::new(false))?;
+    let (entered, release) = signs(rt.alloc())?;
     let held = Held::new(entered.clone()?, release.clone()?);
     let (port, mut passes) = open(&rt, rt.alloc(), held, 2);
     let second = next_pass(&rt, &port, &mut passes);
@@ -155,8 +162,7 @@ fn call_twice<R: Threads + Wait + Abort + Sync>(
 
 #[test]
 fn a_call_that_parks_is_woken(rt: HostRuntime) -> Result<(), Fail> {
-    let entered = Arc::new(rt.alloc(), AtomicBool::new(false))?;
-    let release = Arc::new(rt.alloc(), AtomicBool::new(false))?;
+    let (entered, release) = signs(rt.alloc())?;
     let held = Held::new(entered.clone()?, release.clone()?);
     let (port, mut passes) = open(&rt, rt.alloc(), held, 2);
     let second = next_pass(&rt, &port, &mut passes);

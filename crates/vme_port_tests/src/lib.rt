@@ -9,4 +9,4 @@ mod counters;
 #[cfg(test)]
 mod held;
 #[cfg(test)]
-mod ports;
+mod support;

@@ -6,4 +6,6 @@ mod replies;
 #[cfg(test)]
 mod reports;
 #[cfg(test)]
+mod support;
+#[cfg(test)]
 mod turns;

@@ -2,8 +2,8 @@
 ghost use Rattle.std.specs.Prelude.{◌≡◌, false};
 ghost use Rattle.vme_io.specs.Devices.{is_marked_sink};
 
+use crate::support::{expect_prefix, expect_text, expect_text_or_refusal};
 use std::alloc::{AllocError, Global};
-use std::process::Abort;
 use std::test::Fail;
 use vme_io::RoomSink;
 use vme_lanes::Datum;
@@ -77,23 +77,30 @@ fn report(
     let mut boards = Vec::new(alloc);
     boards.push(board(1, &lines, &first, u64::MAX, &[3, 0]))?;
     boards.push(board(2, &more, &second, 0, &[0, 0]))?;
-    Ok(write_report(alloc, boards.as_slice(), sink))
+    Ok(write_report(alloc, boards.as_slice(), sink).map_err(RunFault::from))
 }
 
-#[test]
-fn reports_rows_that_are_not_all_zero(rt: HostRuntime) -> Result<(), Fail> {
-    let mut sink = RoomSink::new(rt.alloc(), usize::MAX, 4096)?;
-    let end = report(rt.alloc(), LineReply::Transfer(Outcome::Done), &mut sink)?;
-    assert_eq!(rt; end, Ok(Status::Clean));
-    assert_eq!(rt; sink.bytes(), TEXT.as_bytes());
-    Ok(())
-}
+/// The same with a last line that has not ended.
+static UNFINISHED: &str = "1:1 done
+1:3 met
+2:2 unfinished
+board 1 steps 18446744073709551615 made 3 0
+board 2 steps 0 made 0 0
+mem 1 00000000 00000000000000000000000000000001
+mem 1 00000020 aa000000
+mem 2 00000000 aa000000000000000000000000000000
+";
 
 #[test]
-fn is_marked_by_a_line_without_an_end(rt: HostRuntime) -> Result<(), Fail> {
-    let mut sink = RoomSink::new(rt.alloc(), usize::MAX, 4096)?;
-    let end = report(rt.alloc(), LineReply::Unfinished, &mut sink)?;
-    assert_eq!(rt; end, Ok(Status::Marked));
+fn reports_two_boards(rt: HostRuntime) -> Result<(), Fail> {
+    for (last, status, text) in [
+        (LineReply::Transfer(Outcome::Done), Status::Clean, TEXT),
+        (LineReply::Unfinished, Status::Marked, UNFINISHED),
+    ] {
+        let mut sink = RoomSink::new(rt.alloc(), usize::MAX, 4096)?;
+        let end = report(rt.alloc(), last, &mut sink)?;
+        expect_text(&rt, end, status, &sink, text);
+    }
     Ok(())
 }
 
@@ -102,29 +109,18 @@ fn stops_where_the_sink_fails(rt: HostRuntime) -> Result<(), Fail> {
     for capacity in 0..TEXT.len() {
         let mut sink = RoomSink::new(rt.alloc(), 1, capacity)?;
         let end = report(rt.alloc(), LineReply::Transfer(Outcome::Done), &mut sink)?;
-        assert_eq!(rt; end, Err(RunFault::Write));
-        assert_eq!(rt; sink.bytes(), &TEXT.as_bytes()[..capacity]);
+        expect_prefix(&rt, end, &sink, TEXT, capacity);
     }
     Ok(())
 }
 
-/// If an allocation fails, the result is that fault and a prefix was written; otherwise the whole
-/// report was written.
 #[test]
 fn is_written_or_lacks_memory(rt: HostRuntime) {
     let Ok(mut sink) = RoomSink::new(rt.alloc(), usize::MAX, 4096) else {
         return;
     };
     let done = LineReply::Transfer(Outcome::Done);
-    match report(rt.alloc(), done, &mut sink) {
-        Ok(Ok(status)) => {
-            assert_eq!(rt; status, Status::Clean);
-            assert_eq!(rt; sink.bytes(), TEXT.as_bytes());
-        }
-        Ok(Err(fault)) => {
-            assert_eq!(rt; fault, RunFault::Memory);
-            assert!(rt; TEXT.as_bytes().starts_with(sink.bytes()));
-        }
-        Err(AllocError) => {}
+    if let Ok(end) = report(rt.alloc(), done, &mut sink) {
+        expect_text_or_refusal(&rt, end, Status::Clean, &sink, TEXT);
     }
 }

@@ -1,9 +1,7 @@
-//! Runs by listed turns, and their reports.
-use std::alloc::Global;
-use std::process::Abort;
+//! Runs by listed turns, with their reports.
+use crate::support::{expect_prefix, expect_text, expect_text_or_refusal};
 use std::test::Fail;
 use vme_io::RoomSink;
-use vme_report::RunFault;
 use vme_script::Config;
 use vme_shared::Status;
 use vme_stepper::{run_configured, run_steps};
@@ -81,25 +79,20 @@ static ALL_SLOTS: [u16; 11] = [5, 9, 5, 5, 9, 7, 5, 9, 9, 9, 5];
 
 static OWN_SLOTS: [u16; 7] = [5, 9, 9, 5, 9, 5, 9];
 
-fn check(rt: &impl Abort, alloc: Global, slots: &[u16], report: &str) -> Result<(), Fail> {
-    let config = Config::read(alloc, FILE.as_bytes())?;
-    let mut sink = RoomSink::new(alloc, usize::MAX, 1024)?;
-    let end = run_steps(alloc, &config, slots, &mut sink);
-    assert_eq!(rt; end, Ok(Status::Marked));
-    assert_eq!(rt; sink.bytes(), report.as_bytes());
-    Ok(())
-}
-
-#[test]
-fn reports_lines_that_have_not_ended(rt: HostRuntime) -> Result<(), Fail> {
-    check(&rt, rt.alloc(), &[], NONE)?;
-    check(&rt, rt.alloc(), &[5], FIRST)
-}
-
 #[test]
 fn runs_slots_in_the_order_given(rt: HostRuntime) -> Result<(), Fail> {
-    check(&rt, rt.alloc(), &ALL_SLOTS, ALL)?;
-    check(&rt, rt.alloc(), &OWN_SLOTS, OWN)
+    let config = Config::read(rt.alloc(), FILE.as_bytes())?;
+    for (slots, text) in [
+        (&[][..], NONE),
+        (&[5][..], FIRST),
+        (&ALL_SLOTS[..], ALL),
+        (&OWN_SLOTS[..], OWN),
+    ] {
+        let mut sink = RoomSink::new(rt.alloc(), usize::MAX, 1024)?;
+        let end = run_steps(rt.alloc(), &config, slots, &mut sink);
+        expect_text(&rt, end, Status::Marked, &sink, text);
+    }
+    Ok(())
 }
 
 #[test]
@@ -107,8 +100,7 @@ fn runs_the_turns_of_the_file(rt: HostRuntime) -> Result<(), Fail> {
     let config = Config::read(rt.alloc(), FILE.as_bytes())?;
     let mut sink = RoomSink::new(rt.alloc(), usize::MAX, 1024)?;
     let end = run_configured(rt.alloc(), &config, &mut sink);
-    assert_eq!(rt; end, Ok(Status::Marked));
-    assert_eq!(rt; sink.bytes(), OWN.as_bytes());
+    expect_text(&rt, end, Status::Marked, &sink, OWN);
     Ok(())
 }
 
@@ -118,14 +110,11 @@ fn writes_a_prefix_where_the_sink_fails(rt: HostRuntime) -> Result<(), Fail> {
     for capacity in 0..ALL.len() {
         let mut sink = RoomSink::new(rt.alloc(), 7, capacity)?;
         let end = run_steps(rt.alloc(), &config, &ALL_SLOTS, &mut sink);
-        assert_eq!(rt; end, Err(RunFault::Write));
-        assert_eq!(rt; sink.bytes(), &ALL.as_bytes()[..capacity]);
+        expect_prefix(&rt, end, &sink, ALL, capacity);
     }
     Ok(())
 }
 
-/// If an allocation fails, the result is that fault and nothing or a prefix was written; otherwise
-/// the whole report was written.
 #[test]
 fn reports_or_lacks_memory(rt: HostRuntime) {
     let Ok(config) = Config::read(rt.alloc(), FILE.as_bytes()) else {
@@ -134,14 +123,6 @@ fn reports_or_lacks_memory(rt: HostRuntime) {
     let Ok(mut sink) = RoomSink::new(rt.alloc(), usize::MAX, 1024) else {
         return;
     };
-    match run_steps(rt.alloc(), &config, &ALL_SLOTS, &mut sink) {
-        Ok(status) => {
-            assert_eq!(rt; status, Status::Marked);
-            assert_eq!(rt; sink.bytes(), ALL.as_bytes());
-        }
-        Err(fault) => {
-            assert_eq!(rt; fault, RunFault::Memory);
-            assert!(rt; ALL.as_bytes().starts_with(sink.bytes()));
-        }
-    }
+    let end = run_steps(rt.alloc(), &config, &ALL_SLOTS, &mut sink);
+    expect_text_or_refusal(&rt, end, Status::Marked, &sink, ALL);
 }

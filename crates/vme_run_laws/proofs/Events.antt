@@ -50,7 +50,9 @@ use Rattle.vme_shared.proofs.lemmas.Tenures.{shown_makes}
 use Rattle.vme_line_task.specs.Scripts.{Attempt, Transferring, Awaiting, Sharing, slot_at, level_at, mailbox_at, transfer_job, request_attempt, unless_refused, shared_job, line_attempt}
 use Rattle.vme_line_task.specs.Tables.{attempt_next, attempts_of, lawful_next, next_given}
 use Rattle.vme_line_task.proofs.lemmas.Below.{moves_makes, waits_makes, shares_makes}
+use Rattle.vme_shared.proofs.lemmas.Tenures.{shown_makes}
 use Rattle.vme_line_task.specs.Events.{IsCallBelow}
+use Rattle.vme_mailbox_laws.proofs.lemmas.OwnJobs.{OwnJob, own_job}
 
 -- a call has an event
 pub record HasEvent (call : Call) : Type 0 where
@@ -112,34 +114,7 @@ record IsOfStage (s : SharedJob) (call : Call) : Type 0 where
   own : stage_job s stage ≡ Ok job
   makes : next_of job given ≡ Invokes call
 
-abbrev OwnAt : SharedJob → Progress → Type 0
-OwnAt s (At stage job given) = stage_job s stage ≡ Ok job
-OwnAt s (Over end) = Unit {0}
-
-stage_own : (s : SharedJob) (stage : Stage) (given : Given) (job : Result Job CycleFault) → stage_job s stage ≡ job
-    → OwnAt s (stage_begun stage given job)
-stage_own s stage given (Ok job) own = own
-stage_own s stage given (Err fault) own = tt
-
-step_own : (s : SharedJob) (step : Step) → OwnAt s (step_begun s step)
-step_own s (Continue stage) = stage_own s stage (None ∷ []) (stage_job s stage) refl
-step_own s (Finish end) = tt
-
-next_own : (s : SharedJob) (stage : Stage) (job : Job) (given : Given) (next : NextStep Outcome) → stage_job s stage ≡ Ok job
-    → OwnAt s (progress_by s stage job given next)
-next_own s stage job given NotStarted own = own
-next_own s stage job given (Invokes call) own = own
-next_own s stage job given (Returns outcome) own = step_own s (step_after s.request stage outcome)
-
-given_own : (s : SharedJob) (last : Option EventReply) (p : Progress) → OwnAt s p → OwnAt s (progress_given s last p)
-given_own s last (At stage job given) own = next_own s stage job (last ∷ given) (next_of job (last ∷ given)) own
-given_own s last (Over end) own = tt
-
-progress_own : (s : SharedJob) (given : Given) → OwnAt s (progress_of s given)
-progress_own s [] = stage_own s (first_stage s.request) [] (stage_job s (first_stage s.request)) refl
-progress_own s (last ∷ before) = given_own s last (progress_of s before) (progress_own s before)
-
-stage_calls : (s : SharedJob) (p : Progress) (call : Call) → OwnAt s p → next_at p ≡ Invokes call → IsOfStage s call
+stage_calls : (s : SharedJob) (p : Progress) (call : Call) → OwnJob s p → next_at p ≡ shares.Invokes call → IsOfStage s call
 stage_calls s (At stage job given) call own made =
     record { stage = stage; job = job; given = given; own = own; makes = shown_makes (next_of job given) call made }
 stage_calls s (Over end) call own made = absurd cc
@@ -162,7 +137,7 @@ shared_event config lawful board request (Some fault) given x command made = abs
 shared_event config lawful board request None given x command made =
     let s = shared_job config board request in
     let g = (attempts_of (Sharing s) config.tries given).given in
-    let at = stage_calls s (progress_of s g) (OnBoard x command) (progress_own s g) (shares_makes (shared_next s g) (OnBoard x command) made) in
+    let at = stage_calls s (progress_of s g) (OnBoard x command) (own_job s g) (shares_makes (shared_next s g) (OnBoard x command) made) in
     stage_event config lawful board request (stage_request request at.stage) (transfer_of (stage_request request at.stage)) at.job at.given x command
     refl at.own at.makes
 

@@ -182,7 +182,8 @@ history_fits x memory (e ∷ h) legal =
     All-cons (Fit x) e h (subst (λ (r : Reply). IsGood (OnBoard x (command_given e.cmd)) (event_replies.Board r)) (sym legal.0) (step_fits x memory e.cmd))
     (history_fits x (board_step memory e.cmd).0 h legal.1)
 
-all_own : {C R : Type 0} (P : Entry C R → Type 0) (who : ℕ) (h : List (Entry C R)) → All P h → All P (own who h)
+-- what holds of all entries holds of one's own
+pub all_own : {C R : Type 0} (P : Entry C R → Type 0) (who : ℕ) (h : List (Entry C R)) → All P h → All P (own who h)
 all_own P who [] all = all
 all_own P who (e ∷ h) all =
     elim (cases_Bool (eqb e.who who)) [

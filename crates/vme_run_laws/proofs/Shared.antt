@@ -35,7 +35,7 @@ use Rattle.vme_threads.specs.declared.report.BoardReport.{BoardReport}
 use Rattle.vme_threads.specs.declared.report.Report.{Report}
 use Rattle.vme_threads.specs.Rans.{answers_in}
 use Rattle.vme_threads.specs.Reports.{IsReportOf}
-use Rattle.vme_run_laws.proofs.Granted.{report_turns}
+use Rattle.vme_run_laws.proofs.Granted.{report_turns, all_own}
 
 -- a reply of the arbiter fits and is not a denial
 abbrev Fine : Entry ArbCmd ArbReply → Type 0
@@ -52,15 +52,7 @@ all_fine bus (e ∷ h) legal granted =
     let no_denial : replies.Bus e.reply ≢ replies.Bus turned.Denied = λ same. All-head Granted e h granted cc in
     All-cons Fine e h (fit, no_denial) (all_fine (turn_step bus e.cmd).0 h legal.1 (All-tail Granted e h granted))
 
-all_own : {C R : Type 0} (P : Entry C R → Type 0) (who : ℕ) (h : List (Entry C R)) → All P h → All P (own who h)
-all_own P who [] all = all
-all_own P who (e ∷ h) all =
-    elim (cases_Bool (eqb e.who who)) [
-      | inl same ↦ rw same (All-cons P e (own who h) (All-head P e h all) (all_own P who h (All-tail P e h all)))
-      | inr other ↦ rw other (all_own P who h (All-tail P e h all))
-    ]
-
--- the reply of each transition satisfies `IsTurned`
+-- so each move is turned well
 one_turned : (who : ℕ) (event : Event) (reply : EventReply) (tail : List Transition) → IsReplyTo event reply
     → All Fine (bus_part (move who event reply ∷ tail)) → IsTurned event reply × All Fine (bus_part tail)
 one_turned who (asked.Board x cmd) (replies.Board reply) tail kind all = (tt, all)

@@ -12,7 +12,7 @@ use Rattle.vme_arbiter.specs.declared.kind.ArbiterKind.{ArbiterKind}
 use Rattle.vme_arbiter.specs.Arbitration.{Arbitration, turn_step, opening_bus}
 use Rattle.vme_arbiter.specs.Orderly.{IsOrderly}
 use Rattle.vme_arbiter.specs.Turns.{may_give, StandsAsReplied}
-use Rattle.vme_arbiter.proofs.lemmas.Turns.{other-turn}
+use Rattle.vme_arbiter.proofs.lemmas.Turns.{AreMasters, reported_last, all_stand}
 use Rattle.vme_arbiter.proofs.lemmas.Orderly.{orderly-opening}
 use Rattle.vme_core.specs.declared.event.EventReply.TheVariants as replies
 use Rattle.vme_core.specs.Calls.{OnBus}
@@ -31,13 +31,6 @@ abbrev pub GoesWhile : ℕ → Option ArbReply → List (Entry ArbCmd ArbReply) 
 GoesWhile slot last [] = Unit {0}
 GoesWhile slot last (e ∷ h) = ((now : Option ArbReply) × Leads slot last now × (may_give slot now e.cmd ≡ true))
     × (GoodTurn e → GoesWhile slot (Some e.reply) h)
-
-reported_last : (ℕ → Option ArbReply) → Entry ArbCmd ArbReply → ℕ → Option ArbReply
-reported_last last e who = cond (eqb e.who who) (Some e.reply) (last who)
-
-pub record AreMasters (k : ℕ) (slots : ℕ → ℕ) : Type 0 where
-  pub in_range : (who : ℕ) → who < k → is_slot (slots who) ≡ true
-  pub apart : (v w : ℕ) → v < k → w < k → slots v ≡ slots w → v ≡ w
 
 record AreFit (k : ℕ) (slots : ℕ → ℕ) (bus : Arbitration) (last : ℕ → Option ArbReply) (h : List (Entry ArbCmd ArbReply)) : Type 0 where
   fits : (who : ℕ) → who < k → StandsAsReplied bus (slots who) (last who)
@@ -63,14 +56,7 @@ fit_after k slots bus last e h masters orderly within reply fit =
       called.orderly,
       good,
       record {
-        fits = λ who below. elim (cases_Bool (eqb e.who who)) [
-          | inl same ↦
-              let at : e.who ≡ who = eqb-true e.who who same in
-              rw same (subst (λ (w : ℕ). StandsAsReplied (turn_step bus e.cmd).0 (slots w) (Some e.reply)) at own_fits)
-          | inr other ↦
-              rw other (other-turn bus (slots who) (last who) e.cmd
-              (λ one. eqb-false e.who who other (masters.apart e.who who within below (sym called.own ∙ one))) (fit.fits who below))
-        ];
+        fits = all_stand k slots bus last e masters within called.own own_fits fit.fits;
         goes = λ who below. elim (cases_Bool (eqb e.who who)) [
           | inl same ↦
               let at : e.who ≡ who = eqb-true e.who who same in

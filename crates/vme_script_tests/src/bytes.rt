@@ -1,5 +1,5 @@
-//! Lines that access bytes of a mailbox.
-use crate::rows::check;
+//! Lines that name bytes of a mailbox. The values are this project's own.
+use crate::support::check;
 use std::alloc::{AllocError, Global};
 use std::process::Abort;
 use std::test::Fail;

@@ -2,28 +2,30 @@
 use std::process::Abort;
 use vme_grammar::{Line, LineFault, parse_canonical, parse_line};
 
-/// Each form of the bus and of the local port, in canonical form.
-#[test]
-fn takes_usual_lines(rt: HostRuntime) {
-    assert!(rt; parse_canonical(b"r 09 000011dc 4").is_some());
-    assert!(rt; parse_canonical(b"w 0d 0000d580 965666A6").is_some());
-    assert!(rt; parse_canonical(b"br 0b 00011e20 4 16").is_some());
-    assert!(rt; parse_canonical(b"bw 0f 00007474 4 7526765975267659").is_some());
-    assert!(rt; parse_canonical(b"bf 0f 000107f4 4 256 0175a816").is_some());
-    assert!(rt; parse_canonical(b"await 09 000011dc 6c").is_some());
-    assert!(rt; parse_canonical(b"lr 00013c4c 4").is_some());
-    assert!(rt; parse_canonical(b"lw 000145cc 7d33d906").is_some());
-}
+/// Each form of the bus and of the local port, and each function of a read-modify-write, as scripts
+/// are commonly written.
+static CANONICAL: [&str; 14] = [
+    "r 09 000011dc 4",
+    "w 0d 0000d580 965666A6",
+    "br 0b 00011e20 4 16",
+    "bw 0f 00007474 4 7526765975267659",
+    "bf 0f 000107f4 4 256 0175a816",
+    "await 09 000011dc 6c",
+    "lr 00013c4c 4",
+    "lw 000145cc 7d33d906",
+    "m 09 00000000 1 set",
+    "m 09 00000000 2 xchg 0102",
+    "m 09 00000000 4 add 3f8f4239",
+    "m 09 00000000 4 cas f91f875e 00000001",
+    "lm 00000000 1 set",
+    "lm 00000000 4 cas f91f875e 00000001",
+];
 
-/// Each function of a read-modify-write, through both ports.
 #[test]
-fn takes_usual_functions(rt: HostRuntime) {
-    assert!(rt; parse_canonical(b"m 09 00000000 1 set").is_some());
-    assert!(rt; parse_canonical(b"m 09 00000000 2 xchg 0102").is_some());
-    assert!(rt; parse_canonical(b"m 09 00000000 4 add 3f8f4239").is_some());
-    assert!(rt; parse_canonical(b"m 09 00000000 4 cas f91f875e 00000001").is_some());
-    assert!(rt; parse_canonical(b"lm 00000000 1 set").is_some());
-    assert!(rt; parse_canonical(b"lm 00000000 4 cas f91f875e 00000001").is_some());
+fn takes_canonical_lines(rt: HostRuntime) {
+    for line in &CANONICAL {
+        assert!(rt; parse_canonical(line.as_bytes()).is_some(), "{line}");
+    }
 }
 
 /// Lines with more spaces are parsed word by word.

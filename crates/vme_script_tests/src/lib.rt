@@ -11,8 +11,6 @@ mod files;
 #[cfg(test)]
 mod line_buffers;
 #[cfg(test)]
-mod line_calls;
-#[cfg(test)]
 mod lines;
 #[cfg(test)]
 mod mailboxes;
@@ -24,3 +22,5 @@ mod rows;
 mod scripts;
 #[cfg(test)]
 mod shared_lines;
+#[cfg(test)]
+mod support;

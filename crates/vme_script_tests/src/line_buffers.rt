@@ -3,9 +3,7 @@ use std::test::Fail;
 use vme_line_task::{ReadBuffers, line_read_len};
 use vme_script::Script;
 
-#[test]
-fn lines_read_so_many_bytes(rt: HostRuntime) -> Result<(), Fail> {
-    let text = "r 09 00001000 4
+static LINES: &str = "r 09 00001000 4
 w 09 00001000 aabb
 br 0b 00001000 4 64
 br 0b 00001000 4 65
@@ -14,13 +12,18 @@ m 09 00001000 2 add 0001
 await 09 00001000 01
 lr 00000000 4
 ";
-    let script = Script::read(rt.alloc(), text.as_bytes())?;
-    let wanted = [4, 0, 256, 0, 0, 2, 0, 0];
-    assert_eq!(&rt; script.len(), wanted.len());
+
+/// How many bytes each of these lines reads.
+static LENGTHS: [usize; 8] = [4, 0, 256, 0, 0, 2, 0, 0];
+
+#[test]
+fn lines_read_so_many_bytes(rt: HostRuntime) -> Result<(), Fail> {
+    let script = Script::read(rt.alloc(), LINES.as_bytes())?;
+    assert_eq!(&rt; script.len(), LENGTHS.len());
     for line in 0..script.len() {
         assert_eq!(&rt;
             Some(&line_read_len(script.line(line))),
-            wanted.get(line),
+            LENGTHS.get(line),
             "{line}"
         );
     }

@@ -1,5 +1,5 @@
-//! The steps of script lines, call by call, with listed replies.
-use crate::line_calls::{ASK, DONE, FREED, GRANTED, Given, LOOK, Step, answer};
+//! What lines of a script do next, call by call, in worked orders of replies.
+use crate::support::{ASK, DONE, FREED, GRANTED, Given, LOOK, Step, answer, course_of};
 use std::test::Fail;
 use vme_am::AmFault;
 use vme_arbiter::ArbReply;
@@ -25,14 +25,36 @@ lw 00000004 aa
 '''
 ";
 
-static FOUND_AT_ONCE: [(Given, Step); 4] = [
-    (Given::Nothing, ASK),
-    (GRANTED, Step::Cycle(0, 3)),
-    (Given::Byte(1), DONE),
-    (FREED, Step::End),
+/// Cycles of the line that waits, and whether it meets its bytes.
+static WAITS: [(&[(u32, Given)], bool); 3] = [
+    (&[(3, Given::Byte(1))], true),
+    (&[(3, Given::Byte(0)), (3, Given::Byte(1))], true),
+    (&[(3, Given::Byte(0)), (3, Given::Byte(2))], false),
 ];
 
-static FOUND_BY_THE_SECOND: [(Given, Step); 8] = [
+#[test]
+fn a_line_waits_for_its_bytes(rt: HostRuntime) -> Result<(), Fail> {
+    let config = Config::read(rt.alloc(), FILE.as_bytes())?;
+    for (cycles, met) in &WAITS {
+        let course = course_of(rt.alloc(), cycles)?;
+        let wanted = if *met {
+            LineReply::Met
+        } else {
+            LineReply::Timeout
+        };
+        assert_eq!(&rt; answer(&rt, &config, 0, &course), wanted, "{cycles:?}");
+    }
+    let berr = Outcome::Berr {
+        count: 0,
+        bytes: Block::new(),
+    };
+    let course = course_of(rt.alloc(), &[(3, Given::Byte(0)), (3, Given::Berr)])?;
+    assert_eq!(&rt; answer(&rt, &config, 0, &course), LineReply::Transfer(berr));
+    Ok(())
+}
+
+/// The bus is granted late.
+static LATE: [(Given, Step); 8] = [
     (Given::Nothing, ASK),
     (GRANTED, Step::Cycle(0, 3)),
     (Given::Byte(0), DONE),
@@ -43,85 +65,27 @@ static FOUND_BY_THE_SECOND: [(Given, Step); 8] = [
     (FREED, Step::End),
 ];
 
-#[test]
-fn bytes_that_are_waited_for_are_met(rt: HostRuntime) -> Result<(), Fail> {
-    let config = Config::read(rt.alloc(), FILE.as_bytes())?;
-    for course in [&FOUND_AT_ONCE[..], &FOUND_BY_THE_SECOND[..]] {
-        assert_eq!(&rt; answer(&rt, &config, 0, course), LineReply::Met);
-    }
-    Ok(())
-}
-
-static NOT_FOUND: [(Given, Step); 7] = [
-    (Given::Nothing, ASK),
-    (GRANTED, Step::Cycle(0, 3)),
-    (Given::Byte(0), DONE),
-    (FREED, ASK),
-    (GRANTED, Step::Cycle(0, 3)),
-    (Given::Byte(2), DONE),
-    (FREED, Step::End),
-];
-
-#[test]
-fn the_last_read_of_other_bytes_times_out(rt: HostRuntime) -> Result<(), Fail> {
-    let config = Config::read(rt.alloc(), FILE.as_bytes())?;
-    assert_eq!(&rt; answer(&rt, &config, 0, &NOT_FOUND), LineReply::Timeout);
-    Ok(())
-}
-
-static SECOND_BERR: [(Given, Step); 7] = [
-    (Given::Nothing, ASK),
-    (GRANTED, Step::Cycle(0, 3)),
-    (Given::Byte(0), DONE),
-    (FREED, ASK),
-    (GRANTED, Step::Cycle(0, 3)),
-    (Given::Berr, DONE),
-    (FREED, Step::End),
-];
-
 static DENIED: [(Given, Step); 2] = [
     (Given::Nothing, ASK),
     (Given::Turn(ArbReply::Denied), Step::End),
 ];
 
-#[test]
-fn what_is_no_read_ends_a_line_that_waits(rt: HostRuntime) -> Result<(), Fail> {
-    let config = Config::read(rt.alloc(), FILE.as_bytes())?;
-    let berr = Outcome::Berr {
-        count: 0,
-        bytes: Block::new(),
-    };
-    assert_eq!(&rt;
-        answer(&rt, &config, 0, &SECOND_BERR),
-        LineReply::Transfer(berr)
-    );
-    assert_eq!(&rt;
-        answer(&rt, &config, 0, &DENIED),
-        LineReply::Transfer(Outcome::Denied)
-    );
-    Ok(())
-}
-
 static REFUSED: [(Given, Step); 1] = [(Given::Nothing, Step::End)];
-
-#[test]
-fn a_refused_line_makes_no_call(rt: HostRuntime) -> Result<(), Fail> {
-    let config = Config::read(rt.alloc(), FILE.as_bytes())?;
-    let code = CycleFault::Code(AmFault::UserDefined);
-    assert_eq!(&rt; answer(&rt, &config, 1, &REFUSED), LineReply::Refused(code));
-    let count = LineReply::Refused(CycleFault::BadCount);
-    assert_eq!(&rt; answer(&rt, &config, 2, &REFUSED), count);
-    Ok(())
-}
 
 static WRITTEN: [(Given, Step); 2] = [(Given::Nothing, Step::Local(0)), (Given::Done, Step::End)];
 
 #[test]
-fn the_local_port_is_that_of_the_own_board(rt: HostRuntime) -> Result<(), Fail> {
+fn lines_go_call_by_call(rt: HostRuntime) -> Result<(), Fail> {
     let config = Config::read(rt.alloc(), FILE.as_bytes())?;
-    assert_eq!(&rt;
-        answer(&rt, &config, 3, &WRITTEN),
-        LineReply::Transfer(Outcome::Done)
-    );
+    let code = CycleFault::Code(AmFault::UserDefined);
+    for (line, course, wanted) in [
+        (0, &LATE[..], LineReply::Met),
+        (0, &DENIED[..], LineReply::Transfer(Outcome::Denied)),
+        (1, &REFUSED[..], LineReply::Refused(code)),
+        (2, &REFUSED[..], LineReply::Refused(CycleFault::BadCount)),
+        (3, &WRITTEN[..], LineReply::Transfer(Outcome::Done)),
+    ] {
+        assert_eq!(&rt; answer(&rt, &config, line, course), wanted, "{course:?}");
+    }
     Ok(())
 }

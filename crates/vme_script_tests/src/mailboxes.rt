@@ -1,7 +1,6 @@
-//! Files that declare mailboxes, and the expected result of each.
-use crate::rows::check;
+//! Files that declare mailboxes, each with its first refusal, or lawful.
+use crate::support::{check, check_files};
 use std::alloc::{AllocError, Global};
-use std::process::Abort;
 use std::test::Fail;
 
 /// Boards of 32 bytes: one that responds to all transfers, one with 16 data lines, one without
@@ -39,7 +38,7 @@ size = 32
 supervisory = true
 ";
 
-/// Mailboxes on these boards, and the expected result of the file.
+/// Mailboxes on these boards, and the file's first refusal.
 static MAILBOXES: [(&str, &str); 32] = [
     ("", "lawful"),
     ("{ am = 9, addr = 0, slots = 1 }", "lawful"),
@@ -105,15 +104,7 @@ fn reports_of_mailboxes(rt: HostRuntime) -> Result<(), Fail> {
     Ok(())
 }
 
-#[test]
-fn reports_of_a_board_that_can_hold_none(rt: HostRuntime) -> Result<(), Fail> {
-    let file = "board = [{ slot = 1, base = 0, size = 32, rmw = false }]
-mailbox = [{ am = 9, addr = 0, slots = 1 }]";
-    check(&rt, rt.alloc(), file.as_bytes(), "C13")?;
-    Ok(())
-}
-
-/// The number of mailboxes on one board of 512 bytes, and the expected result of the file.
+/// The numbers of mailboxes on one board of 512 bytes, and the file's first refusal.
 static COUNTS: [(u16, &str); 3] = [(1, "lawful"), (16, "lawful"), (17, "C13")];
 
 #[test]
@@ -132,7 +123,7 @@ fn has_sixteen_mailboxes_at_most(rt: HostRuntime) -> Result<(), Fail> {
     Ok(())
 }
 
-/// Scripts of a board with two declared mailboxes, and the expected result of the file.
+/// Scripts of a board on which two mailboxes are declared, and the file's first refusal.
 static SCRIPTS: [(&str, &str); 9] = [
     ("put 1 00000001\\ntake 2\\ntake 02", "lawful"),
     ("take 3", "C14 slot 1 line 1 S6"),
@@ -158,8 +149,14 @@ fn reports_of_a_mailbox_that_is_not_declared(rt: HostRuntime) -> Result<(), Fail
     Ok(())
 }
 
-/// The order of refusals: a schedule before a mailbox, and a mailbox before a script.
-static ORDERS: [(&str, &str); 2] = [
+/// Files with a mailbox: a board that can hold none, and the order of refusals, a schedule's before a
+/// mailbox's and that before a script's.
+static FILES: [(&str, &str); 3] = [
+    (
+        "board = [{ slot = 1, base = 0, size = 32, rmw = false }]
+mailbox = [{ am = 9, addr = 0, slots = 1 }]",
+        "C13",
+    ),
     (
         "tries = 0\nmailbox = [{ am = 1, addr = 0, slots = 1 }]
 board = [{ slot = 1, base = 0, size = 32, script = \"x\" }]",
@@ -174,8 +171,6 @@ board = [{ slot = 1, base = 0, size = 32, script = \"x\" }]",
 
 #[test]
 fn reports_mailboxes_between_schedule_and_scripts(rt: HostRuntime) -> Result<(), Fail> {
-    for (file, reported) in &ORDERS {
-        check(&rt, rt.alloc(), file.as_bytes(), reported)?;
-    }
+    check_files(&rt, rt.alloc(), &FILES)?;
     Ok(())
 }

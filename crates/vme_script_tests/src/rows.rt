@@ -1,11 +1,10 @@
-//! Files and the expected result of each: its first refusal, or that it is lawful.
+//! Files, each with its first refusal, or lawful.
+use crate::support::{check, check_files};
 use std::alloc::{AllocError, Global};
-use std::process::Abort;
 use std::test::Fail;
-use vme_script::Config;
 
-/// A file, and its expected result.
-static REFUSED: [(&str, &str); 48] = [
+/// A file, and its first refusal.
+static ROWS: [(&str, &str); 48] = [
     ("", "C11"),
     ("board = []", "C11"),
     ("board = [{ slot = 1, base = 0, size = 16 }]", "lawful"),
@@ -159,30 +158,14 @@ static REFUSED: [(&str, &str); 48] = [
     ),
 ];
 
-/// Reads a file, and compares its result with the expected one.
-pub(crate) fn check(
-    rt: &impl Abort,
-    alloc: Global,
-    file: &[u8],
-    reported: &str,
-) -> Result<(), AllocError> {
-    match Config::read(alloc, file) {
-        Ok(_) => assert_eq!(rt; "lawful", reported),
-        Err(fault) => assert_eq!(rt; fault.to_string(alloc)?.as_str(), reported),
-    }
-    Ok(())
-}
-
 #[test]
 fn reports_the_first_refusal(rt: HostRuntime) -> Result<(), Fail> {
-    for (file, reported) in &REFUSED {
-        check(&rt, rt.alloc(), file.as_bytes(), reported)?;
-    }
+    check_files(&rt, rt.alloc(), &ROWS)?;
     check(&rt, rt.alloc(), b"# \xff\n", "C6")?;
     Ok(())
 }
 
-/// A prefix, `count` copies of a part, and an end.
+/// So many of a part between a prefix and an end.
 fn repeated(
     alloc: Global,
     prefix: &str,
@@ -198,11 +181,11 @@ fn repeated(
     Ok(file)
 }
 
-/// The text of a file up to the script of its one board.
+/// The prefix of a file up to the script of its one board.
 const SCRIPT: &str = "board = [{ slot = 1, base = 0, size = 16, script = \"\"\"
 ";
 
-/// Files at the limits: prefix, part, number of repetitions, end, and the expected result.
+/// Files at the limits: prefix, part, how often the part stands, end, and the first refusal.
 static LIMITS: [(&str, &str, usize, &str, &str); 6] = [
     (
         "",

@@ -26,21 +26,7 @@ use Rattle.vme_master.specs.Jobs.{datum_call, fits, request_expected, expected_o
 use Rattle.vme_master.specs.Tables.{Given, data_in, bytes_in, datum_or_done, outcome_by, bus_row, next_after, next_of}
 use Rattle.vme_master.specs.Machine.{expected_len}
 use Rattle.vme_master.proofs.lemmas.Expected.{datum_len_wanted}
-
--- an outcome without a bus error is no denial
-expected_granted : (expected : ExpectedReply) (bytes : List ℕ) → expected_outcome expected bytes ≢ outcomes.Denied
-expected_granted (expected_replies.Read n) bytes = λ same. absurd cc
-expected_granted (expected_replies.Modify n) bytes = λ same. absurd cc
-expected_granted expected_replies.Write bytes = λ same. absurd cc
-
-outcome_granted : (j : BusJob) (place : Option (ℕ × ℕ)) (g : Given) → outcome_by j place g ≢ outcomes.Denied
-outcome_granted j None g = λ same. absurd cc
-outcome_granted j (Some place) [] = expected_granted _ _
-outcome_granted j (Some place) (None ∷ before) = expected_granted _ _
-outcome_granted j (Some place) (Some (replies.Bus reply) ∷ before) = expected_granted _ _
-outcome_granted j (Some place) (Some (replies.Board (Bytes datum)) ∷ before) = expected_granted _ _
-outcome_granted j (Some place) (Some (replies.Board Done) ∷ before) = expected_granted _ _
-outcome_granted j (Some place) (Some (replies.Board Berr) ∷ before) = λ same. absurd cc
+use Rattle.vme_shared.proofs.lemmas.Granted.{outcome_granted}
 
 same_end : (a b : Outcome) → Returns a ≡ Returns b → a ≡ b
 same_end a b same = cc

@@ -1,4 +1,5 @@
 pub mod Bytes
+pub mod Granted
 pub mod Kept
 pub mod MailboxSteps
 pub mod Opening

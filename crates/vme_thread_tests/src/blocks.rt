@@ -1,13 +1,11 @@
-//! Two processors that write and read blocks of each other's boards. Each block is longer than the
-//! inline capacity of a `BlockBuffer`.
-use crate::meetings::Meeting;
+//! Two processors that fill and read blocks of each other's boards: each block is longer than what
+//! lies in a room itself.
+use crate::support::{Meeting, configured, report_of};
 use std::process::Abort;
 use std::sync::atomic::Ordering;
 use std::test::Fail;
 use vme_master::Outcome;
-use vme_script::Config;
 use vme_shared::LineReply;
-use vme_threads::run_threads;
 
 /// Each processor writes 64 words of four bytes to the other's board, and reads them back.
 static TWO_BOARDS: &str = "arbiter = \"rotating\"
@@ -48,13 +46,9 @@ fn expect_block(rt: &impl Abort, lines: &[(u16, LineReply)], word: [u8; 4]) {
 
 #[test]
 fn blocks_are_read_on_threads(rt: HostRuntime) -> Result<(), Fail> {
-    let Ok(config) = Config::read(rt.alloc(), TWO_BOARDS.as_bytes()) else {
-        panic!(&rt; "refused")
-    };
+    let config = configured(&rt, rt.alloc(), TWO_BOARDS);
     let gate = Meeting::new();
-    let Ok(report) = run_threads(&rt, rt.alloc(), &config, &gate) else {
-        panic!(&rt; "no report")
-    };
+    let report = report_of(&rt, rt.alloc(), &config, &gate);
     assert!(&rt; !gate.missed.load(Ordering::SeqCst));
     let words = [[1, 2, 3, 4], [5, 6, 7, 8]];
     assert_eq!(&rt; report.lines.len(), words.len());

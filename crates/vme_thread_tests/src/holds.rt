@@ -1,11 +1,9 @@
-//! One processor is held before or after a line until the other has finished its script.
-use crate::meetings::replies_of;
-use crossbeam_utils::Backoff;
+//! One processor is held before or after a line until the other is through.
+use crate::support::{configured, replies_of, report_of, seen};
 use std::process::Abort;
 use std::sync::atomic::{AtomicBool, Ordering};
 use std::test::Fail;
-use vme_script::Config;
-use vme_threads::{Gate, Report, run_threads};
+use vme_threads::{Gate, Report};
 
 /// Both processors write to the first board.
 static TWO_BOARDS: &str = "[[board]]
@@ -35,10 +33,7 @@ static REPLIES: &str = "1:1 done
 /// The first bytes of the first board's memory after a run.
 static BYTES: [u8; 6] = [1, 2, 0, 0, 3, 4];
 
-/// The number of times that the held processor polls for the other.
-const LOOKS: u32 = 10_000_000;
-
-/// The number of the last line of both scripts.
+/// The last line of both scripts.
 const LAST_LINE: u16 = 2;
 
 /// A gate that holds the processor of one slot at one point, until the other has finished its
@@ -67,14 +62,9 @@ impl Hold {
         if slot != self.slot || line != self.line || after != self.after {
             return;
         }
-        let backoff = Backoff::new();
-        for _ in 0..LOOKS {
-            if self.through.load(Ordering::SeqCst) {
-                return;
-            }
-            backoff.snooze();
+        if !seen(&self.through) {
+            self.missed.store(true, Ordering::SeqCst);
         }
-        self.missed.store(true, Ordering::SeqCst);
     }
 }
 
@@ -106,16 +96,12 @@ fn expect_steps(rt: &impl Abort, report: &Report) {
 
 #[test]
 fn each_hold_comes_to_the_same(rt: HostRuntime) -> Result<(), Fail> {
-    let Ok(config) = Config::read(rt.alloc(), TWO_BOARDS.as_bytes()) else {
-        panic!(&rt; "refused")
-    };
+    let config = configured(&rt, rt.alloc(), TWO_BOARDS);
     for slot in [1, 2] {
         for line in [1, LAST_LINE] {
             for after in [false, true] {
                 let gate = Hold::at(slot, line, after);
-                let Ok(report) = run_threads(&rt, rt.alloc(), &config, &gate) else {
-                    panic!(&rt; "no report")
-                };
+                let report = report_of(&rt, rt.alloc(), &config, &gate);
                 assert!(&rt; !gate.missed.load(Ordering::SeqCst));
                 let text = replies_of(rt.alloc(), &report)?;
                 assert_eq!(&rt; text.as_slice(), REPLIES.as_bytes());

@@ -14,10 +14,8 @@ mod mailboxes;
 #[cfg(test)]
 mod meetings;
 #[cfg(test)]
-mod sharing_gates;
-#[cfg(test)]
-mod sum_gates;
-#[cfg(test)]
 mod sums;
+#[cfg(test)]
+mod support;
 #[cfg(test)]
 mod workers;

@@ -1,12 +1,10 @@
-//! Processors that take one lock in alternation. While one has the lock, no other writes.
-use crate::sharing_gates::Open;
+//! Processors that hold a lock each in turn: while one has it, no other writes.
+use crate::support::{Open, configured, report_of};
 use std::alloc::{AllocError, Global};
 use std::process::Abort;
 use std::test::Fail;
 use vme_master::Outcome;
-use vme_script::Config;
 use vme_shared::{LineReply, SharedOutcome};
-use vme_threads::run_threads;
 
 /// The head of the file. A rotating arbiter starves no level.
 static HEAD: &str = "arbiter = \"rotating\"\ntries = 1000000\n";
@@ -63,12 +61,8 @@ fn expect_marks(rt: &impl Abort, lines: &[(u16, LineReply)], mark: u8) {
 #[test]
 fn a_lock_keeps_the_others_out(rt: HostRuntime) -> Result<(), Fail> {
     let text = file(rt.alloc())?;
-    let Ok(config) = Config::read(rt.alloc(), text.as_bytes()) else {
-        panic!(&rt; "refused")
-    };
-    let Ok(report) = run_threads(&rt, rt.alloc(), &config, &Open) else {
-        panic!(&rt; "no report")
-    };
+    let config = configured(&rt, rt.alloc(), text.as_str());
+    let report = report_of(&rt, rt.alloc(), &config, &Open);
     for (lines, (_, mark)) in report.lines.iter().zip(BOARDS.iter()) {
         expect_marks(&rt, lines.as_slice(), *mark);
     }

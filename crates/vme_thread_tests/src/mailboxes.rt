@@ -1,5 +1,5 @@
 //! Two processors put words into one mailbox, and a third takes them.
-use crate::sharing_gates::Open;
+use crate::support::{Open, configured, report_of};
 use std::alloc::{AllocError, Global};
 use std::process::Abort;
 use std::sync::Wait;
@@ -7,7 +7,7 @@ use std::test::Fail;
 use std::thread::{Threads, map_indices};
 use vme_script::Config;
 use vme_shared::{LineReply, SharedOutcome};
-use vme_threads::{Report, run_threads};
+use vme_threads::Report;
 
 /// A mailbox of four words, on a board that all processors can address. A rotating arbiter serves
 /// every level.
@@ -131,10 +131,7 @@ fn expect_queue(rt: &impl Abort, report: &Report, words: u32, counts: &[u8]) {
 /// Returns the configuration in which each putting processor puts `words` words.
 fn passing(rt: &impl Abort, alloc: Global, words: u32) -> Result<Config, AllocError> {
     let text = file(alloc, words)?;
-    let Ok(config) = Config::read(alloc, text.as_bytes()) else {
-        panic!(rt; "refused")
-    };
-    Ok(config)
+    Ok(configured(rt, alloc, text.as_str()))
 }
 
 /// Runs the configuration and checks its report.
@@ -145,9 +142,7 @@ fn pass_on<R: Threads + Wait + Abort + Sync>(
     words: u32,
     counts: &[u8],
 ) {
-    let Ok(report) = run_threads(rt, alloc, config, &Open) else {
-        panic!(rt; "no report")
-    };
+    let report = report_of(rt, alloc, config, &Open);
     expect_queue(rt, &report, words, counts);
 }
 

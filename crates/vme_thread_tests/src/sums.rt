@@ -1,14 +1,13 @@
-//! Processors that add to one word: four of them, and one in each of the 21 slots.
-use crate::sum_gates::Open;
+//! Processors that add to one word: four of them, and as many as there are slots.
+use crate::support::{Open, configured, report_of};
 use std::alloc::{AllocError, Global};
 use std::process::Abort;
 use std::sync::Wait;
 use std::test::Fail;
 use std::thread::Threads;
 use vme_master::Outcome;
-use vme_script::Config;
 use vme_shared::LineReply;
-use vme_threads::{Report, run_threads};
+use vme_threads::Report;
 
 /// The number of times that each processor adds one, with a short script.
 const FEW: u16 = 100;
@@ -51,14 +50,14 @@ struct Bus {
     levels: [&'static str; 4],
 }
 
-/// A priority arbiter, with all slots on the highest level.
-const BY_PRIORITY: Bus = Bus {
+/// By priority, with all slots on the greatest level.
+static BY_PRIORITY: Bus = Bus {
     arbiter: "arbiter = 'priority'\n",
     levels: ["", "", "", ""],
 };
 
-/// A rotating arbiter, with the slots spread over all levels.
-const ROTATING: Bus = Bus {
+/// In rotation, with the slots spread over the levels.
+static ROTATING: Bus = Bus {
     arbiter: "arbiter = 'rotating'\n",
     levels: ["level = 3\n", "level = 2\n", "level = 1\n", "level = 0\n"],
 };
@@ -137,23 +136,7 @@ fn expect_word(rt: &impl Abort, report: &Report, word: [u8; 4]) {
     }
 }
 
-/// Returns the configuration of `count` boards that each add `lines` times.
-fn adding(
-    rt: &impl Abort,
-    alloc: Global,
-    bus: &Bus,
-    count: usize,
-    lines: u16,
-) -> Result<Config, AllocError> {
-    let text = boards(alloc, bus, count, lines)?;
-    let Ok(config) = Config::read(alloc, text.as_bytes()) else {
-        panic!(rt; "refused")
-    };
-    Ok(config)
-}
-
-/// Checks that the lines read each number below the final value once, and that the word has the
-/// final value.
+/// Each number below that of the word is found once, and the word is what the board has in the end.
 fn expect_sum(
     rt: &impl Abort,
     alloc: Global,
@@ -181,39 +164,28 @@ fn add_up<R: Threads + Wait + Abort + Sync>(
     lines: u16,
     word: [u8; 4],
 ) -> Result<(), AllocError> {
-    let config = adding(rt, alloc, bus, count, lines)?;
-    let Ok(report) = run_threads(rt, alloc, &config, &Open) else {
-        panic!(rt; "no report")
-    };
+    let file = boards(alloc, bus, count, lines)?;
+    let config = configured(rt, alloc, file.as_str());
+    let report = report_of(rt, alloc, &config, &Open);
     expect_sum(rt, alloc, &report, word, lines)
 }
 
 #[test]
 fn four_boards_add(rt: HostRuntime) -> Result<(), Fail> {
-    add_up(&rt, rt.alloc(), &BY_PRIORITY, 4, FEW, [0, 0, 0x01, 0x90])?;
-    Ok(())
-}
-
-#[test]
-fn four_boards_add_with_the_longest_scripts(rt: HostRuntime) -> Result<(), Fail> {
-    add_up(&rt, rt.alloc(), &BY_PRIORITY, 4, MOST, [0, 0, 0x0f, 0xa0])?;
-    Ok(())
-}
-
-#[test]
-fn four_boards_add_in_rotation(rt: HostRuntime) -> Result<(), Fail> {
-    add_up(&rt, rt.alloc(), &ROTATING, 4, MOST, [0, 0, 0x0f, 0xa0])?;
-    Ok(())
-}
-
-#[test]
-fn a_board_in_each_slot_adds_in_rotation(rt: HostRuntime) -> Result<(), Fail> {
-    add_up(&rt, rt.alloc(), &ROTATING, 21, FEW, [0, 0, 0x08, 0x34])?;
+    for (bus, lines, word) in [
+        (&BY_PRIORITY, FEW, [0, 0, 0x01, 0x90]),
+        (&BY_PRIORITY, MOST, [0, 0, 0x0f, 0xa0]),
+        (&ROTATING, MOST, [0, 0, 0x0f, 0xa0]),
+    ] {
+        add_up(&rt, rt.alloc(), bus, 4, lines, word)?;
+    }
     Ok(())
 }
 
 #[test]
 fn a_board_in_each_slot_adds(rt: HostRuntime) -> Result<(), Fail> {
-    add_up(&rt, rt.alloc(), &BY_PRIORITY, 21, FEW, [0, 0, 0x08, 0x34])?;
+    for bus in [&BY_PRIORITY, &ROTATING] {
+        add_up(&rt, rt.alloc(), bus, 21, FEW, [0, 0, 0x08, 0x34])?;
+    }
     Ok(())
 }

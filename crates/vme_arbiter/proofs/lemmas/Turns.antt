@@ -160,14 +160,30 @@ other-turn bus slot last (Done done) other fits =
       | inr not_held ↦ rw not_held fits
     ]
 
--- the last reply to each caller, after an entry
-reported_last : (ℕ → Option ArbReply) → Entry ArbCmd ArbReply → ℕ → Option ArbReply
+-- the last reply to each who, after an entry
+pub reported_last : (ℕ → Option ArbReply) → Entry ArbCmd ArbReply → ℕ → Option ArbReply
 reported_last last e who = cond (eqb e.who who) (Some e.reply) (last who)
 
--- the callers 0 to k - 1 are masters of slots of their own
-record AreMasters (k : ℕ) (slots : ℕ → ℕ) : Type 0 where
-  in_range : (who : ℕ) → who < k → IsTrue (is_slot (slots who))
-  apart : (v w : ℕ) → v < k → w < k → slots v ≡ slots w → v ≡ w
+-- the first k who are masters of slots of their own
+pub record AreMasters (k : ℕ) (slots : ℕ → ℕ) : Type 0 where
+  pub in_range : (who : ℕ) → who < k → IsTrue (is_slot (slots who))
+  pub apart : (v w : ℕ) → v < k → w < k → slots v ≡ slots w → v ≡ w
+
+-- after a command of one of them, each stands where its last reply says
+pub all_stand : (k : ℕ) (slots : ℕ → ℕ) (bus : Arbitration) (last : ℕ → Option ArbReply) (e : Entry ArbCmd ArbReply) → AreMasters k slots
+    → e.who < k → slot_of e.cmd ≡ slots e.who → StandsAsReplied (turn_step bus e.cmd).0 (slots e.who) (Some e.reply)
+    → ((who : ℕ) → who < k → StandsAsReplied bus (slots who) (last who))
+    → (who : ℕ) → who < k → StandsAsReplied (turn_step bus e.cmd).0 (slots who) (reported_last last e who)
+unfolding reported_last
+all_stand k slots bus last e masters within names stands each who below =
+    elim (cases_Bool (eqb e.who who)) [
+      | inl same ↦
+          let at : e.who ≡ who = eqb-true e.who who same in
+          rw same (subst (λ (w : ℕ). StandsAsReplied (turn_step bus e.cmd).0 (slots w) (Some e.reply)) at stands)
+      | inr other ↦
+          rw other (other-turn bus (slots who) (last who) e.cmd
+          (λ one. eqb-false e.who who other (masters.apart e.who who within below (sym names ∙ one))) (each who below))
+    ]
 
 -- each master matches its last reply and follows the replies from there
 record AreFit (k : ℕ) (slots : ℕ → ℕ) (bus : Arbitration) (last : ℕ → Option ArbReply) (h : List (Entry ArbCmd ArbReply)) : Type 0 where
@@ -193,14 +209,7 @@ fit_after k slots bus last e h masters orderly within reply fit =
     rw reply (own-turn bus (slots e.who) (last e.who) e.cmd orderly (masters.in_range e.who within) (fit.fits e.who within) goes.0) in (
       own_fits,
       record {
-        fits = λ who below. elim (cases_Bool (eqb e.who who)) [
-          | inl same ↦
-              let at : e.who ≡ who = eqb-true e.who who same in
-              rw same (subst (λ (w : ℕ). StandsAsReplied (turn_step bus e.cmd).0 (slots w) (Some e.reply)) at own_fits)
-          | inr other ↦
-              rw other (other-turn bus (slots who) (last who) e.cmd
-              (λ one. eqb-false e.who who other (masters.apart e.who who within below (sym names ∙ one))) (fit.fits who below))
-        ];
+        fits = all_stand k slots bus last e masters within names own_fits fit.fits;
         goes = λ who below. elim (cases_Bool (eqb e.who who)) [
           | inl same ↦
               let at : e.who ≡ who = eqb-true e.who who same in

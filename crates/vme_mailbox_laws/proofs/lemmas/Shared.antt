@@ -23,7 +23,7 @@ use Rattle.vme_mailbox_laws.specs.Names.{lines_put, lines_taken, IsMailboxOf}
 use Rattle.vme_mailbox_laws.specs.Runs.{ShareHistory}
 use Rattle.vme_mailbox_laws.proofs.Through.{Wanted, Through}
 use Rattle.vme_mailbox_laws.proofs.Histories.{Led, led}
-use Rattle.vme_mailbox_laws.proofs.Opening.{opening}
+use Rattle.vme_shared.proofs.lemmas.Opening.{opening}
 use Rattle.vme_mailbox_laws.proofs.Scripts.{script}
 
 -- a number that is none of the callers' has no entry

@@ -167,8 +167,8 @@ advance m some who (Some command) reply phases board put taken replied goes hold
           (λ phase. cond-false (touches m command) (next_phase m phase (access_of command reply)) (Some phase) beside)
     ]
 
--- any entry keeps the mailbox
-entry_holds : (m : BoardMailbox) (some : 1 ≤ m.slots) (e : Entry BoardCmd Reply) (phases : ℕ → Option Phase) (board : Board) (put taken : List ℕ)
+-- an entry of the history moves its own master to the next row and keeps the mailbox
+pub entry_holds : (m : BoardMailbox) (some : 1 ≤ m.slots) (e : Entry BoardCmd Reply) (phases : ℕ → Option Phase) (board : Board) (put taken : List ℕ)
     → e.reply ≡ (board_step board e.cmd).1 → is_some (after_entry m (phases e.who) e) ≡ true → Holds m board.bytes put taken phases
     → Holds m (board_step board e.cmd).0.bytes (put ++ put_by (phases e.who) (after_entry m (phases e.who) e))
     (taken ++ taken_by (phases e.who) (after_entry m (phases e.who) e)) (phases_after m phases e)

@@ -1,4 +1,4 @@
-//! Functions that the tests of ports share.
+//! What the tests of ports share: opening a port, and taking and adding its passes.
 ghost use Rattle.std.specs.Prelude.{◌≡◌, All};
 ghost use Rattle.vme_port.specs.Ports.{IsPassOf, passes_of};
 
@@ -33,5 +33,21 @@ pub fn next_pass<O: Object>(rt: &impl Abort, port: &Port<O>, passes: &mut Vec<Pa
     match passes.pop() {
         Some(pass) => pass,
         None => panic!(rt; "no pass"),
+    }
+}
+
+/// One pass more, behind the others.
+pub fn add_pass<O: Object>(
+    rt: &impl Abort,
+    port: &Port<O>,
+    passes: &mut Vec<Pass<O>>,
+    pass: Pass<O>,
+)
+    requires passes { All (IsPassOf port.now) passes.old.items }
+    requires pass { IsPassOf port.now pass }
+    ensures { All (IsPassOf port.now) passes.new.items }
+{
+    if passes.push(pass).is_err() {
+        panic!(rt; "no memory")
     }
 }

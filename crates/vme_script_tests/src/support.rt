@@ -1,5 +1,6 @@
-//! Script lines driven call by call: each listed reply is given to a line, and its step is
-//! compared.
+//! What the tests of scripts share: what a file is refused for, and lines led by replies that are
+//! given by hand.
+use std::alloc::{AllocError, Global};
 use std::process::Abort;
 use vme_arbiter::{ArbCmd, ArbReply};
 use vme_core::{Event, EventReply};
@@ -11,7 +12,32 @@ use vme_memory::{BoardCmd, Reply};
 use vme_script::Config;
 use vme_shared::LineReply;
 
-/// A request of the bus.
+/// Reads a file: it is lawful, or this is its first refusal.
+pub fn check(
+    rt: &impl Abort,
+    alloc: Global,
+    file: &[u8],
+    reported: &str,
+) -> Result<(), AllocError> {
+    match Config::read(alloc, file) {
+        Ok(_) => assert_eq!(rt; "lawful", reported),
+        Err(fault) => assert_eq!(rt; fault.to_string(alloc)?.as_str(), reported),
+    }
+    Ok(())
+}
+
+/// Reads each of these files.
+pub fn check_files(
+    rt: &impl Abort,
+    alloc: Global,
+    files: &[(&str, &str)],
+) -> Result<(), AllocError> {
+    for (file, reported) in files {
+        check(rt, alloc, file.as_bytes(), reported)?;
+    }
+    Ok(())
+}
+
 pub const ASK: Step = Step::Bus(ArbCmd::Ask { slot: 2, level: 3 });
 
 /// A poll for the bus.
@@ -78,12 +104,29 @@ fn reply(given: Given) -> Option<EventReply> {
     }
 }
 
-/// The replies to a line, each with the step that follows it.
-pub type Course = &'static [(Given, Step)];
+/// The calls of a line that is granted the bus at once for each of these cycles, at an offset of the
+/// first board, with the reply to it.
+pub fn course_of(alloc: Global, cycles: &[(u32, Given)]) -> Result<Vec<(Given, Step)>, AllocError> {
+    let mut course = Vec::new(alloc);
+    let mut given = Given::Nothing;
+    for (at, reply) in cycles {
+        course.push((given, ASK))?;
+        course.push((GRANTED, Step::Cycle(0, *at)))?;
+        course.push((*reply, DONE))?;
+        given = FREED;
+    }
+    course.push((given, Step::End))?;
+    Ok(course)
+}
 
-/// Gives a line of the first board the listed replies, and calls it twice more after its end.
-/// Returns the line's reply, which it gives once unless it is a refusal.
-pub fn answer(rt: &impl Abort, config: &Config, line: usize, course: Course) -> LineReply {
+/// Calls a line of the first board as in a course, and twice more after its end: its answer, which
+/// comes once unless it is a refusal.
+pub fn answer(
+    rt: &impl Abort,
+    config: &Config,
+    line: usize,
+    course: &[(Given, Step)],
+) -> LineReply {
     if config.boards() == 0 || line_count(config, 0) <= line {
         panic!(rt; "no such line");
     }

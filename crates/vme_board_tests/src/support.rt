@@ -1,0 +1,94 @@
+//! What the tests of boards share: memories, data, replies given by hand, and the trait of objects.
+use arrayvec::ArrayVec;
+use std::alloc::Global;
+use std::process::Abort;
+use vme_arbiter::{ArbCmd, ArbReply};
+use vme_core::EventReply;
+use vme_cycle::{Block, Plan, Request, Signals};
+use vme_lanes::Datum;
+use vme_memory::{ByteMemory, Class, Reply, Width8To32};
+use vme_object::Object;
+
+/// A board that answers every cycle.
+pub const WHOLE: Class = Class {
+    width: Width8To32::D32,
+    uat: true,
+    blt: true,
+    rmw: true,
+};
+
+/// A board with 16 data lines and no switch on.
+pub const NARROW: Class = Class {
+    width: Width8To32::D16,
+    uat: false,
+    blt: false,
+    rmw: false,
+};
+
+/// A memory of a board, all zero.
+pub fn memory_of(rt: &impl Abort, alloc: Global, size: u32, class: Class) -> ByteMemory {
+    match ByteMemory::new(alloc, size, class) {
+        Ok(memory) => memory,
+        Err(_) => panic!(rt; "no memory"),
+    }
+}
+
+pub fn datum(bytes: &[u8]) -> Datum {
+    Datum::try_from(bytes).unwrap_or_default()
+}
+
+pub fn block(bytes: &[u8]) -> Block {
+    Block::from_short_slice(ArrayVec::try_from(bytes).unwrap_or_default())
+}
+
+/// The signals of the one datum of a request.
+pub fn signals_of(rt: &impl Abort, request: &Request) -> Signals {
+    let Ok(plan) = Plan::of(request) else {
+        panic!(rt; "refused")
+    };
+    assert_eq!(rt; plan.len(), 1);
+    plan.signals(0)
+}
+
+/// The reply to a command, by the trait alone.
+pub fn reply<O: Object>(object: &mut O, cmd: &O::Cmd) -> O::Reply {
+    object.apply(cmd)
+}
+
+/// The commands of slot 2, which asks on level 3.
+pub const ASK: ArbCmd = ArbCmd::Ask { slot: 2, level: 3 };
+
+pub const LOOK: ArbCmd = ArbCmd::Look { slot: 2 };
+
+pub const DONE: ArbCmd = ArbCmd::Done { slot: 2 };
+
+/// What a task is given.
+#[derive(Clone, Copy, Debug, PartialEq, Eq)]
+pub enum Given {
+    Nothing,
+    Turn(ArbReply),
+    /// These bytes, of a board.
+    Bytes(&'static [u8]),
+    /// That a board has written its bytes.
+    Done,
+    Berr,
+}
+
+pub const WAITING: Given = Given::Turn(ArbReply::Waiting);
+
+pub const GRANTED: Given = Given::Turn(ArbReply::Granted);
+
+pub const FREED: Given = Given::Turn(ArbReply::Freed);
+
+pub const DENIED: Given = Given::Turn(ArbReply::Denied);
+
+/// The reply that is given.
+pub fn replied(given: Given) -> Option<EventReply> {
+    match given {
+        Given::Nothing => None,
+        Given::Turn(turn) => Some(EventReply::Bus(turn)),
+        Given::Bytes(bytes) => Some(EventReply::Board(Reply::Bytes(datum(bytes)))),
+        Given::Done => Some(EventReply::Board(Reply::Done)),
+        Given::Berr => Some(EventReply::Board(Reply::Berr)),
+    }
+}

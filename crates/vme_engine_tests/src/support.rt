@@ -1,0 +1,172 @@
+//! What the tests of the engines share: a run of an engine over bytes in memory, and tables of
+//! inputs with what is written of them.
+ghost use Rattle.std.specs.Prelude.{◌≡◌, false};
+
+use std::alloc::{AllocError, Global};
+use std::process::Abort;
+use std::sync::Wait;
+use std::thread::Threads;
+use vme_engines::{ProgramFault, Status, cycles_engine, run_engine, step_engine};
+use vme_io::{RoomSink, Sink, SliceSource, Source};
+
+/// An engine of the program.
+#[derive(Clone, Copy, Debug)]
+pub enum Engine {
+    Cycles,
+    Step,
+    Run,
+}
+
+/// Runs an engine.
+pub fn run<T: Threads + Wait + Sync, R: Source, W: Sink>(
+    rt: &T,
+    alloc: Global,
+    engine: Engine,
+    reader: &mut R,
+    writer: &mut W,
+) -> Result<Status, ProgramFault>
+    requires reader { R.is_marked reader.old ≡ false }
+    requires writer { W.is_marked writer.old ≡ false }
+{
+    match engine {
+        Engine::Cycles => cycles_engine(alloc, reader, writer),
+        Engine::Step => step_engine(alloc, reader, writer),
+        Engine::Run => run_engine(rt, alloc, reader, writer),
+    }
+}
+
+/// The end of a run over this input, and what it has written.
+pub fn run_on<T: Threads + Wait + Sync>(
+    rt: &T,
+    alloc: Global,
+    engine: Engine,
+    input: &[u8],
+) -> Result<(Result<Status, ProgramFault>, RoomSink), AllocError> {
+    let mut source = SliceSource::new(input, usize::MAX, usize::MAX);
+    let mut sink = RoomSink::new(alloc, usize::MAX, 131_072)?;
+    let end = run(rt, alloc, engine, &mut source, &mut sink);
+    Ok((end, sink))
+}
+
+/// Runs an engine over an input: it ends so, and has written this text.
+pub fn check<T: Threads + Wait + Abort + Sync>(
+    rt: &T,
+    alloc: Global,
+    engine: Engine,
+    input: &str,
+    text: &str,
+    status: Status,
+) -> Result<(), AllocError> {
+    let (end, sink) = run_on(rt, alloc, engine, input.as_bytes())?;
+    assert_eq!(rt; end, Ok(status), "{input}");
+    assert_eq!(rt; sink.bytes(), text.as_bytes(), "{input}");
+    Ok(())
+}
+
+/// Inputs of an engine, each with what is written of it and how the run ends.
+pub type Rows<'a> = &'a [(&'static str, &'static str, Status)];
+
+/// Runs an engine over each of them.
+pub fn check_rows<T: Threads + Wait + Abort + Sync>(
+    rt: &T,
+    alloc: Global,
+    engine: Engine,
+    rows: Rows<'_>,
+) -> Result<(), AllocError> {
+    for (input, text, status) in rows {
+        check(rt, alloc, engine, input, text, *status)?;
+    }
+    Ok(())
+}
+
+/// An input of an engine, and what it writes of it, always the same.
+#[derive(Clone, Copy)]
+pub struct Row {
+    pub engine: Engine,
+    pub input: &'static str,
+    pub text: &'static str,
+}
+
+/// One of each engine.
+pub static ROWS: [Row; 3] = [
+    // Four bytes written at once, and read one by one.
+    Row {
+        engine: Engine::Cycles,
+        input: "w 0d 00000004 01020304
+r 0d 00000004 1
+r 0d 00000005 1
+r 0d 00000006 1
+r 0d 00000007 1
+",
+        text: "am=0d a=00000004 ds1=0 ds0=0 a01=0 lword=0 write=0 data=01020304
+done
+am=0d a=00000004 ds1=0 ds0=1 a01=0 lword=1 write=1 data=----01--
+read 01
+am=0d a=00000004 ds1=1 ds0=0 a01=0 lword=1 write=1 data=------02
+read 02
+am=0d a=00000004 ds1=0 ds0=1 a01=1 lword=1 write=1 data=----03--
+read 03
+am=0d a=00000004 ds1=1 ds0=0 a01=1 lword=1 write=1 data=------04
+read 04
+",
+    },
+    // A write by the local port between two data of a block.
+    Row {
+        engine: Engine::Step,
+        input: "schedule = [[2, 2], [1, 1], [2, 2]]
+[[board]]
+slot = 1
+base = 0
+size = 16
+script = \"lw 00000004 aabbccdd\"
+[[board]]
+slot = 2
+base = 0x1000
+size = 16
+script = \"br 0b 00000000 4 2\"
+",
+        text: "1:1 done
+2:1 read 00000000aabbccdd
+board 1 steps 3 made 1 2
+board 2 steps 0 made 0 0
+mem 1 00000000 00000000aabbccdd0000000000000000
+",
+    },
+    // Two processors that write to other bytes of one board, so that no order shows.
+    Row {
+        engine: Engine::Run,
+        input: "[[board]]
+slot = 1
+base = 0
+size = 16
+script = '''
+w 09 00000000 01
+w 09 00000001 02'''
+[[board]]
+slot = 2
+base = 0x1000
+size = 16
+script = '''
+w 09 00000004 03
+w 09 00000005 04'''
+",
+        text: "1:1 done
+1:2 done
+2:1 done
+2:2 done
+board 1 steps 4 made 2 2
+board 2 steps 0 made 0 0
+mem 1 00000000 01020000030400000000000000000000
+",
+    },
+];
+
+/// The row of `vme step`.
+pub fn torn_block() -> &'static Row {
+    &ROWS[1]
+}
+
+/// That of `vme run`.
+pub fn two_writers() -> &'static Row {
+    &ROWS[2]
+}

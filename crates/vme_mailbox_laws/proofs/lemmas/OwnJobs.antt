@@ -1,0 +1,43 @@
+-- Whichever stage a lock, a put or a take is in, its bus task is that stage's.
+use Rattle.std.proofs.Common.{◌≡◌, [], ◌∷◌, Option, None, Result, Ok, Err, refl}
+use Rattle.vme_cycle.specs.declared.fault.CycleFault.{CycleFault}
+use Rattle.vme_core.specs.declared.event.EventReply.{EventReply}
+use Rattle.vme_master.specs.declared.job.Job.{Job}
+use Rattle.vme_master.specs.Tables as tasks
+use Rattle.vme_master.specs.Tables.{Next, Given, next_of}
+use Rattle.vme_shared.specs.declared.stage.Stage.{Stage}
+use Rattle.vme_shared.specs.declared.stage.Step.{Step}
+use Rattle.vme_shared.specs.declared.stage.Step.TheVariants.{Continue, Finish}
+use Rattle.vme_shared.specs.Steps.{first_stage, step_after}
+use Rattle.vme_shared.specs.Tables.{SharedJob, Progress, At, Over, stage_job, stage_begun, step_begun, progress_by, progress_given, progress_of}
+
+-- a stage at work has its own bus task
+abbrev pub OwnJob : SharedJob → Progress → Type 0
+OwnJob s (At stage job g) = stage_job s stage ≡ Ok job
+OwnJob s (Over end) = Unit {0}
+
+-- from its first step
+own_begun : (s : SharedJob) (stage : Stage) (g : Given) (job : Result Job CycleFault) → stage_job s stage ≡ job → OwnJob s (stage_begun stage g job)
+own_begun s stage g (Ok job) own = own
+own_begun s stage g (Err fault) own = tt
+
+-- to the next stage
+own_stepped : (s : SharedJob) (step : Step) → OwnJob s (step_begun s step)
+own_stepped s (Continue stage) = own_begun s stage (None ∷ []) (stage_job s stage) refl
+own_stepped s (Finish end) = tt
+
+-- within a stage
+own_by : (s : SharedJob) (stage : Stage) (job : Job) (g : Given) (next : Next) → stage_job s stage ≡ Ok job → OwnJob s (progress_by s stage job g next)
+own_by s stage job g tasks.NotStarted own = own
+own_by s stage job g (tasks.Invokes call) own = own
+own_by s stage job g (tasks.Returns outcome) own = own_stepped s (step_after s.request stage outcome)
+
+-- reply by reply
+own_given : (s : SharedJob) (last : Option EventReply) (progress : Progress) → OwnJob s progress → OwnJob s (progress_given s last progress)
+own_given s last (At stage job g) own = own_by s stage job (last ∷ g) (next_of job (last ∷ g)) own
+own_given s last (Over end) own = tt
+
+-- whatever was replied
+pub own_job : (s : SharedJob) (given : Given) → OwnJob s (progress_of s given)
+own_job s [] = own_begun s (first_stage s.request) [] (stage_job s (first_stage s.request)) refl
+own_job s (last ∷ before) = own_given s last (progress_of s before) (own_job s before)

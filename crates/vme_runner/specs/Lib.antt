@@ -1,0 +1,30 @@
+-- The definitions that the contracts cite.
+-- What a line of a script asks for next, by the replies to it so far.
+pub use Rattle.vme_line_task.specs.Scripts
+pub use Rattle.vme_line_task.specs.ReadBuffers
+pub use Rattle.vme_line_task.specs.Tables
+pub use Rattle.vme_line_task.specs.Machine
+pub use Rattle.vme_line_task.specs.Events
+pub use Rattle.vme_line_task.specs.Traces
+pub use Rattle.vme_line_task.specs.Tenures
+-- Runs by listed turns.
+pub use Rattle.vme_stepper.specs.Turns
+pub use Rattle.vme_stepper.specs.Schedules
+pub use Rattle.vme_stepper.specs.Reports as StepReports
+-- Runs on threads.
+pub use Rattle.vme_threads.specs.Ports
+pub use Rattle.vme_threads.specs.Rans
+pub use Rattle.vme_threads.specs.Reports
+pub use Rattle.vme_threads.specs.Threads
+-- The text of a report.
+pub use Rattle.vme_report.specs.Ends
+pub use Rattle.vme_report.specs.Reports as ReportTexts
+pub use Rattle.vme_engines.specs.RunTexts
+-- Laws.
+pub use Rattle.vme_mailbox_laws.specs.Names
+pub use Rattle.vme_mailbox_laws.specs.Groups
+pub use Rattle.vme_run_laws.specs.Declared
+pub use Rattle.vme_run_laws.specs.Finished
+pub use Rattle.vme_run_laws.specs.Granted
+pub use Rattle.vme_run_laws.specs.TurnCalls
+pub use Rattle.vme_run_laws.specs.Transitions

@@ -1,0 +1,16 @@
+//! The processors of a backplane (ANSI/IEEE Std 1014-1987, chapters 2 and 3) at work on their
+//! scripts: on one thread by listed turns, or as one thread a processor; their report and its text;
+//! and the laws of both. This crate only names what other crates define.
+#![tactic(auto)]
+
+pub use vme_engines::report_text;
+pub use vme_line_task::{LineTask, LineTodo};
+pub use vme_report::RunFault;
+pub use vme_run_laws::{
+    a_turn_makes_its_call_alone, commands_are_the_holders, declared_mailboxes_are_queues,
+    each_line_comes_to_its_end, no_line_is_denied, texts_show_queues, the_arbiter_denies_nobody,
+    turns_are_a_run_of_moves,
+};
+pub use vme_shared::Status;
+pub use vme_stepper::run_steps;
+pub use vme_threads::{BoardReport, Gate, Ports, Ran, Report, Worker, gather, run_threads};
