@@ -86,7 +86,7 @@ fn emptied(outcome: &Outcome) -> Outcome {
     }
 }
 
-/// The task of a request of slot 2 on level 3, with a room for what it reads.
+/// The task of a request of slot 2 on level 3, with a buffer for what it reads.
 fn start<'a>(alloc: Global, map: &AddressMap, request: &'a Request) -> Result<Task<'a>, Fail> {
     let plan = Plan::of(request)?;
     let buffer = BlockBuffer::with_capacity(alloc, plan.read_len())?;

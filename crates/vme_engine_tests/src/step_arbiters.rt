@@ -42,8 +42,8 @@ board 9 steps 0 made 0 0 0 0
 mem 1 00000010 00000004000000000000000000000000
 ";
 
-/// The line that names a kind of arbiter, or none, and the lines of the slots 1, 2 and 3, which tell
-/// who came when: the levels in rotation, or from the greatest.
+/// The line that names a kind of arbiter, or none, and the lines of the slots 1, 2 and 3, which show
+/// the order of grants: the levels in rotation, or from the greatest.
 static KINDS: [(&str, &str); 3] = [
     (
         "arbiter = 'rotating'\n",

@@ -67,7 +67,7 @@ mem 1 00000000 00000000000000008000000000000000
 ",
         Status::Clean,
     ),
-    // A board that admits supervisory codes alone, and an address of nobody.
+    // A board that admits supervisory codes alone, and an address of no board.
     (
         "rounds = 7
 [[board]]
@@ -111,7 +111,7 @@ board 1 steps 1 made 1
 ",
         Status::Marked,
     ),
-    // The same with a turn more.
+    // The file before, with one more turn.
     (
         "rounds = 2
 [[board]]
@@ -152,7 +152,7 @@ mem 1 00000000 01000000000000000000000000000000
 ",
         Status::Clean,
     ),
-    // The same with one read.
+    // The file before, with one read.
     (
         "tries = 1
 schedule = [[2, 3], [1, 1], [2, 3]]

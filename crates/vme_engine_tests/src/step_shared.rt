@@ -30,7 +30,7 @@ board 2 steps 0 made 0 0
 ",
         Status::Marked,
     ),
-    // Three words for a mailbox that has room for two, and three takes from it.
+    // Three words for a mailbox with two slots, and three takes from it.
     (
         "tries = 1
 schedule = [[1, 48], [2, 48]]
@@ -114,7 +114,7 @@ mem 1 00000010 0000000a0000000b0000000000000000
 ",
         Status::Marked,
     ),
-    // The second word finds no room, and is tried again after the first was taken.
+    // The second word finds no free slot, and is tried again after the first was taken.
     (
         "tries = 2
 schedule = [[1, 30], [2, 18], [1, 18], [2, 18]]

@@ -271,8 +271,8 @@ fn worked<R: Wait, G: Gate>(
     gate: &G,
 ) -> Result<Ran, RunFault>
     requires built { IsBuilt config.now ports.now }
-    requires worker { IsWorkerOf config.now ports.now worker.pass_set.who worker }
-    requires board { worker.pass_set.who < length config.now.boards }
+    requires worker { IsWorkerOf config.now ports.now 0 worker }
+    requires board { 0 < length config.now.boards }
 {
     worker.run(rt, config, ports, gate)
 }
@@ -287,7 +287,7 @@ fn next_of_line(task: &mut LineTask<'_>, reply: Option<EventReply>) -> LineTodo 
     task.next(reply)
 }
 
-/// A gate that holds nobody.
+/// A gate that holds no processor.
 struct Open;
 
 impl Gate for Open {

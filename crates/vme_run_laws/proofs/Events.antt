@@ -41,8 +41,6 @@ use Rattle.vme_script.specs.Lawful.{IsLawful}
 use Rattle.vme_shared.specs.declared.request.SharedRequest.{SharedRequest}
 use Rattle.vme_shared.specs.declared.request.SharedRequest.TheVariants as asked_shared
 use Rattle.vme_shared.specs.declared.stage.Stage.{Stage}
-use Rattle.vme_shared.specs.declared.stage.Step.{Step}
-use Rattle.vme_shared.specs.declared.stage.Step.TheVariants.{Continue, Finish}
 use Rattle.vme_shared.specs.Mailboxes.{stage_request, shared_refusal}
 use Rattle.vme_shared.specs.Steps.{first_stage, step_after}
 use Rattle.vme_shared.specs.Tables.{SharedJob, Progress, At, Over, transfer_job as shared_transfer, stage_job, stage_begun, step_begun, progress_by, progress_given, progress_of, next_at, shared_next}
@@ -114,7 +112,7 @@ record IsOfStage (s : SharedJob) (call : Call) : Type 0 where
   own : stage_job s stage ≡ Ok job
   makes : next_of job given ≡ Invokes call
 
-stage_calls : (s : SharedJob) (p : Progress) (call : Call) → OwnJob s p → next_at p ≡ shares.Invokes call → IsOfStage s call
+stage_calls : (s : SharedJob) (p : Progress) (call : Call) → OwnJob s p → next_at p ≡ Invokes call → IsOfStage s call
 stage_calls s (At stage job given) call own made =
     record { stage = stage; job = job; given = given; own = own; makes = shown_makes (next_of job given) call made }
 stage_calls s (Over end) call own made = absurd cc

@@ -27,7 +27,6 @@ use Rattle.vme_core.specs.NextSteps.{Invokes, Returns}
 use Rattle.vme_master.proofs.lemmas.Locals.{board_fits}
 use Rattle.vme_master.specs.declared.outcome.Outcome.TheVariants.{Denied}
 use Rattle.vme_shared.specs.declared.reply.LineReply.{LineReply}
-use Rattle.vme_shared.specs.declared.reply.LineReply.TheVariants.{Transfer}
 use Rattle.vme_grammar.specs.declared.line.Line.{Line}
 use Rattle.vme_script.specs.Configurations.{Configuration, opening_memory}
 use Rattle.vme_script.specs.Lawful.{IsLawful}

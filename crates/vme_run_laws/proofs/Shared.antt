@@ -1,11 +1,10 @@
 -- The runs of a report share the history of each board.
 use Rattle.std.proofs.Common.{◌≡◌, ◌≢◌, ℕ, ◌+◌, ◌-◌, ◌≤◌, ◌<◌, true, eqb, List, [], ◌∷◌, length, map, take, drop, replicate, slice_index_or, ap, sym, subst, ◌∙◌, arith, inl, inr}
 use Rattle.std.specs.Prelude.{All, IsTrue, slice_range}
-use Rattle.std.proofs.lemmas.Bool.{cases_Bool}
 use Rattle.std.proofs.lemmas.List.{get_or-map, length-map, take-replicate, drop-replicate, length-replicate}
 use Rattle.std.proofs.lemmas.List.Elements.{All-nil, All-cons, All-head, All-tail}
 use Rattle.vme_object.specs.declared.history.Entry.{Entry}
-use Rattle.vme_object.specs.History.{IsLegal, own}
+use Rattle.vme_object.specs.History.{IsLegal}
 use Rattle.vme_object.specs.Each.{Each}
 use Rattle.vme_memory.specs.declared.command.BoardCmd.{BoardCmd}
 use Rattle.vme_memory.specs.declared.reply.Reply.{Reply}
@@ -52,7 +51,7 @@ all_fine bus (e ∷ h) legal granted =
     let no_denial : replies.Bus e.reply ≢ replies.Bus turned.Denied = λ same. All-head Granted e h granted cc in
     All-cons Fine e h (fit, no_denial) (all_fine (turn_step bus e.cmd).0 h legal.1 (All-tail Granted e h granted))
 
--- so each move is turned well
+-- the reply of each transition satisfies `IsTurned`
 one_turned : (who : ℕ) (event : Event) (reply : EventReply) (tail : List Transition) → IsReplyTo event reply
     → All Fine (bus_part (move who event reply ∷ tail)) → IsTurned event reply × All Fine (bus_part tail)
 one_turned who (asked.Board x cmd) (replies.Board reply) tail kind all = (tt, all)
@@ -101,7 +100,7 @@ module _ (config : Configuration) (report : Report) (lawful : IsLawful config) (
         owns = λ who d less.
             has.owns who (board_part board d) (subst (λ (n : ℕ). who < n) (sym (length-map is.runs (board_part board))) less)
             ∙ get_or-map (board_part board) is.runs who d (board_part board d) less;
-        script_state = record {
+        trace = record {
           count = length-map report.lines.items _ ∙ is.trace.count;
           each = λ who a b less.
               let there : who < length report.lines.items = omega (arith, less, is.trace.count) in

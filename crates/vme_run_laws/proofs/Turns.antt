@@ -7,12 +7,11 @@ use Rattle.vme_object.specs.declared.history.Entry.{Entry}
 use Rattle.vme_object.specs.History.{IsLegal, own}
 use Rattle.vme_arbiter.specs.declared.command.ArbCmd.{ArbCmd}
 use Rattle.vme_arbiter.specs.declared.command.ArbReply.{ArbReply}
-use Rattle.vme_arbiter.specs.Requests.{is_slot}
 use Rattle.vme_arbiter.specs.declared.kind.ArbiterKind.{ArbiterKind}
 use Rattle.vme_arbiter.specs.Arbitration.{Arbitration, turn_step, opening_bus}
 use Rattle.vme_arbiter.specs.Orderly.{IsOrderly}
 use Rattle.vme_arbiter.specs.Turns.{may_give, StandsAsReplied}
-use Rattle.vme_arbiter.proofs.lemmas.Turns.{AreMasters, reported_last, all_stand}
+use Rattle.vme_arbiter.proofs.lemmas.Turns.{AreMasters, other-turn}
 use Rattle.vme_arbiter.proofs.lemmas.Orderly.{orderly-opening}
 use Rattle.vme_core.specs.declared.event.EventReply.TheVariants as replies
 use Rattle.vme_core.specs.Calls.{OnBus}
@@ -31,6 +30,9 @@ abbrev pub GoesWhile : ℕ → Option ArbReply → List (Entry ArbCmd ArbReply) 
 GoesWhile slot last [] = Unit {0}
 GoesWhile slot last (e ∷ h) = ((now : Option ArbReply) × Leads slot last now × (may_give slot now e.cmd ≡ true))
     × (GoodTurn e → GoesWhile slot (Some e.reply) h)
+
+reported_last : (ℕ → Option ArbReply) → Entry ArbCmd ArbReply → ℕ → Option ArbReply
+reported_last last e who = cond (eqb e.who who) (Some e.reply) (last who)
 
 record AreFit (k : ℕ) (slots : ℕ → ℕ) (bus : Arbitration) (last : ℕ → Option ArbReply) (h : List (Entry ArbCmd ArbReply)) : Type 0 where
   fits : (who : ℕ) → who < k → StandsAsReplied bus (slots who) (last who)
@@ -56,7 +58,14 @@ fit_after k slots bus last e h masters orderly within reply fit =
       called.orderly,
       good,
       record {
-        fits = all_stand k slots bus last e masters within called.own own_fits fit.fits;
+        fits = λ who below. elim (cases_Bool (eqb e.who who)) [
+          | inl same ↦
+              let at : e.who ≡ who = eqb-true e.who who same in
+              rw same (subst (λ (w : ℕ). StandsAsReplied (turn_step bus e.cmd).0 (slots w) (Some e.reply)) at own_fits)
+          | inr other ↦
+              rw other (other-turn bus (slots who) (last who) e.cmd
+              (λ one. eqb-false e.who who other (masters.apart e.who who within below (sym called.own ∙ one))) (fit.fits who below))
+        ];
         goes = λ who below. elim (cases_Bool (eqb e.who who)) [
           | inl same ↦
               let at : e.who ≡ who = eqb-true e.who who same in

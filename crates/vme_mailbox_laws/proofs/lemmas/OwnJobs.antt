@@ -3,8 +3,9 @@ use Rattle.std.proofs.Common.{◌≡◌, [], ◌∷◌, Option, None, Result, Ok
 use Rattle.vme_cycle.specs.declared.fault.CycleFault.{CycleFault}
 use Rattle.vme_core.specs.declared.event.EventReply.{EventReply}
 use Rattle.vme_master.specs.declared.job.Job.{Job}
-use Rattle.vme_master.specs.Tables as tasks
-use Rattle.vme_master.specs.Tables.{Next, Given, next_of}
+use Rattle.vme_core.specs.NextSteps.{NextStep, NotStarted, Invokes, Returns}
+use Rattle.vme_master.specs.declared.outcome.Outcome.{Outcome}
+use Rattle.vme_master.specs.Tables.{Given, next_of}
 use Rattle.vme_shared.specs.declared.stage.Stage.{Stage}
 use Rattle.vme_shared.specs.declared.stage.Step.{Step}
 use Rattle.vme_shared.specs.declared.stage.Step.TheVariants.{Continue, Finish}
@@ -16,28 +17,28 @@ abbrev pub OwnJob : SharedJob → Progress → Type 0
 OwnJob s (At stage job g) = stage_job s stage ≡ Ok job
 OwnJob s (Over end) = Unit {0}
 
--- from its first step
+-- a stage that begins has its own bus task
 own_begun : (s : SharedJob) (stage : Stage) (g : Given) (job : Result Job CycleFault) → stage_job s stage ≡ job → OwnJob s (stage_begun stage g job)
 own_begun s stage g (Ok job) own = own
 own_begun s stage g (Err fault) own = tt
 
--- to the next stage
+-- the next stage has its own bus task
 own_stepped : (s : SharedJob) (step : Step) → OwnJob s (step_begun s step)
 own_stepped s (Continue stage) = own_begun s stage (None ∷ []) (stage_job s stage) refl
 own_stepped s (Finish end) = tt
 
--- within a stage
-own_by : (s : SharedJob) (stage : Stage) (job : Job) (g : Given) (next : Next) → stage_job s stage ≡ Ok job → OwnJob s (progress_by s stage job g next)
-own_by s stage job g tasks.NotStarted own = own
-own_by s stage job g (tasks.Invokes call) own = own
-own_by s stage job g (tasks.Returns outcome) own = own_stepped s (step_after s.request stage outcome)
+-- a stage keeps its own bus task until its end
+own_by : (s : SharedJob) (stage : Stage) (job : Job) (g : Given) (next : NextStep Outcome) → stage_job s stage ≡ Ok job → OwnJob s (progress_by s stage job g next)
+own_by s stage job g NotStarted own = own
+own_by s stage job g (Invokes call) own = own
+own_by s stage job g (Returns outcome) own = own_stepped s (step_after s.request stage outcome)
 
--- reply by reply
+-- each reply keeps this
 own_given : (s : SharedJob) (last : Option EventReply) (progress : Progress) → OwnJob s progress → OwnJob s (progress_given s last progress)
 own_given s last (At stage job g) own = own_by s stage job (last ∷ g) (next_of job (last ∷ g)) own
 own_given s last (Over end) own = tt
 
--- whatever was replied
+-- after any replies a stage at work has its own bus task
 pub own_job : (s : SharedJob) (given : Given) → OwnJob s (progress_of s given)
 own_job s [] = own_begun s (first_stage s.request) [] (stage_job s (first_stage s.request)) refl
 own_job s (last ∷ before) = own_given s last (progress_of s before) (own_job s before)

@@ -37,6 +37,7 @@ zero_bytes bytes at len k n within zero inside =
     let add : at + k + i ≡ at + (k + i) = omega arith in
     here ∙ ap (λ a. get_or bytes a 0) add ∙ zero_byte bytes at len (k + i) zero (omega arith) ∙ sym (get_or-replicate n i 0 0 (omega arith)))
 
+-- a new mailbox holds no word and its lock is free
 pub opening : (board : Board) (m : BoardMailbox) → IsNewMailbox board m → Holds m board.bytes [] [] all_idle
 opening board m new =
     let within = new.lies.within in
