@@ -39,7 +39,6 @@ impl<'a> Model for DatumCycle<'a> {
 impl<'a> DatumCycle<'a> {
     /// Returns the cycle of datum `i` of a plan. `at` is the offset of its first byte, and has the
     /// place of the datum's address in the group of four.
-    #[inline(always)]
     pub fn new(plan: Plan<'a>, i: u16, at: u32) -> DatumCycle<'a>
         requires lawful { IsLawfulTransfer plan }
         requires in_count { i < count_of plan.request }
@@ -68,7 +67,6 @@ impl<'a> DatumCycle<'a> {
     }
 
     /// The datum as an access to the memory.
-    #[inline(always)]
     pub(crate) fn access(&self) -> Access<'a>
         ensures { command_given self.now ≡ Some (accessed result) }
     {
@@ -82,14 +80,12 @@ impl Operation<ByteMemory> for DatumCycle<'_> {
 
     ghost command = { λ (d : BoardCmd). d };
 
-    #[inline(always)]
     fn perform(&self, memory: &mut ByteMemory) -> Reply {
         memory.access(&self.access())
     }
 }
 
 /// Datum `i` of a request as an access, at the offset of its first byte.
-#[inline(always)]
 fn access_of(request: &Request, i: u16, at: u32) -> Access<'_>
     requires counted { IsTrue (is_counted request.now) }
     requires in_count { i < count_of request.now }

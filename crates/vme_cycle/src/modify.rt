@@ -93,7 +93,6 @@ fn sum_of(old: &Datum, by: &Datum) -> Datum
 }
 
 /// The sum of two words, modulo 2^32, as four bytes.
-#[inline(always)]
 fn sum_of_words(word: u32, by: u32) -> Datum
     ensures value { result.items ≡ number_bytes 4 (word + by) }
     ensures len { length result.items ≡ 4 }

@@ -232,7 +232,6 @@ impl Request {
     }
 
     /// Returns the bytes that a write drives as datum `i`, and `None` for every other request.
-    #[inline(always)]
     pub fn datum(&self, i: u16) -> Option<&[u8]>
         requires counted { IsTrue (is_counted self.now) }
         requires in_count { i < count_of self.now }

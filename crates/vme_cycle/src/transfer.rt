@@ -39,7 +39,6 @@ impl<'a> Transfer<'a> {
     /// # Errors
     ///
     /// The first refusal of the request.
-    #[inline(always)]
     pub fn of(request: &'a Request) -> Result<Transfer<'a>, CycleFault>
         ensures { result ≡ transfer_of request.now }
     {
@@ -66,7 +65,6 @@ impl<'a> Transfer<'a> {
     }
 
     /// Returns the plan of the request.
-    #[inline(always)]
     pub fn plan(&self) -> Plan<'_>
         ensures value { result ≡ self.now }
         ensures lawful { IsLawfulTransfer self.now }

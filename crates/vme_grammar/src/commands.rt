@@ -14,7 +14,6 @@ use vme_lexer::{Words, hex_number, local_bytes, local_number};
 use vme_memory::BoardCmd;
 
 /// `lr OFF N`: a read by the local port.
-#[inline(always)]
 #[tactic(auto, unfolding(crate::specs::Naming::line_by, crate::specs::Grammar::operands_of, crate::specs::Fields::with_field))]
 pub(crate) fn local_read(operands: Words<'_>) -> Result<Line, LineFault>
     ensures { result ≡ line_by form.LocalRead (words operands.entry.rest.now) }
@@ -26,7 +25,6 @@ pub(crate) fn local_read(operands: Words<'_>) -> Result<Line, LineFault>
 }
 
 /// `lw OFF HEX`: a write by the local port.
-#[inline(always)]
 #[tactic(auto, unfolding(crate::specs::Naming::line_by, crate::specs::Grammar::operands_of, crate::specs::Fields::with_field))]
 pub(crate) fn local_write(operands: Words<'_>) -> Result<Line, LineFault>
     ensures { result ≡ line_by form.LocalWrite (words operands.entry.rest.now) }
@@ -38,7 +36,6 @@ pub(crate) fn local_write(operands: Words<'_>) -> Result<Line, LineFault>
 }
 
 /// `lm OFF N FUNC`: a read-modify-write by the local port.
-#[inline(always)]
 #[tactic(auto, unfolding(crate::specs::Modifies::local_modify_line))]
 pub(crate) fn local_modify(operands: Words<'_>) -> Result<Line, LineFault>
     ensures { result ≡ local_modify_line (words operands.entry.rest.now) }

@@ -6,7 +6,6 @@ ghost use Rattle.vme_grammar.specs.Modifies.{three_and_more, four_and_more};
 
 use vme_lexer::Words;
 
-#[inline(always)]
 pub(crate) fn one_word(mut operands: Words<'_>) -> Option<&[u8]>
     ensures { MatchOption result ((length (words operands.entry.rest.now) == 1) ≡ false) (λ word.
         words operands.entry.rest.now ≡ word.now ∷ []) }
@@ -18,7 +17,6 @@ pub(crate) fn one_word(mut operands: Words<'_>) -> Option<&[u8]>
     Some(word)
 }
 
-#[inline(always)]
 pub(crate) fn two_words(mut operands: Words<'_>) -> Option<(&[u8], &[u8])>
     ensures { MatchOption result ((length (words operands.entry.rest.now) == 2) ≡ false) (λ w.
         words operands.entry.rest.now ≡ w.0.now ∷ w.1.now ∷ []) }
@@ -31,7 +29,6 @@ pub(crate) fn two_words(mut operands: Words<'_>) -> Option<(&[u8], &[u8])>
     Some((a, b))
 }
 
-#[inline(always)]
 pub(crate) fn three_words(mut operands: Words<'_>) -> Option<(&[u8], &[u8], &[u8])>
     ensures { MatchOption result ((length (words operands.entry.rest.now) == 3) ≡ false) (λ w.
         words operands.entry.rest.now ≡ w.0.now ∷ w.1.now ∷ w.2.now ∷ []) }
@@ -45,7 +42,6 @@ pub(crate) fn three_words(mut operands: Words<'_>) -> Option<(&[u8], &[u8], &[u8
     Some((a, b, c))
 }
 
-#[inline(always)]
 pub(crate) fn four_words(mut operands: Words<'_>) -> Option<(&[u8], &[u8], &[u8], &[u8])>
     ensures { MatchOption result ((length (words operands.entry.rest.now) == 4) ≡ false) (λ w.
         words operands.entry.rest.now ≡ w.0.now ∷ w.1.now ∷ w.2.now ∷ w.3.now ∷ []) }
@@ -60,7 +56,6 @@ pub(crate) fn four_words(mut operands: Words<'_>) -> Option<(&[u8], &[u8], &[u8]
     Some((a, b, c, d))
 }
 
-#[inline(always)]
 pub(crate) fn five_words(mut operands: Words<'_>) -> Option<(&[u8], &[u8], &[u8], &[u8], &[u8])>
     ensures { MatchOption result ((length (words operands.entry.rest.now) == 5) ≡ false) (λ w.
         words operands.entry.rest.now ≡ w.0.now ∷ w.1.now ∷ w.2.now ∷ w.3.now ∷ w.4.now ∷ []) }
@@ -77,7 +72,6 @@ pub(crate) fn five_words(mut operands: Words<'_>) -> Option<(&[u8], &[u8], &[u8]
 }
 
 /// The first three words, and an iterator over the rest.
-#[inline(always)]
 pub(crate) fn three_and_more(mut operands: Words<'_>) -> Option<(&[u8], &[u8], &[u8], Words<'_>)>
     ensures { option_map (λ w. (w.0.now, w.1.now, w.2.now, words w.3.rest.now)) result
         ≡ three_and_more (words operands.entry.rest.now) }
@@ -89,7 +83,6 @@ pub(crate) fn three_and_more(mut operands: Words<'_>) -> Option<(&[u8], &[u8], &
 }
 
 /// The first four words, and an iterator over the rest.
-#[inline(always)]
 pub(crate) fn four_and_more(
     mut operands: Words<'_>,
 ) -> Option<(&[u8], &[u8], &[u8], &[u8], Words<'_>)>

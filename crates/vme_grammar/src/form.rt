@@ -36,7 +36,6 @@ pub(crate) enum LineForm {
 impl LineForm {
     /// The first form that begins with `word`. For a read-modify-write, the function is not yet
     /// known.
-    #[inline(always)]
     #[tactic(auto, unfolding(crate::specs::Naming::form_named), using(crate::proofs::Naming::unlock_named))]
     fn named(word: &[u8]) -> Option<LineForm>
         ensures { result ≡ form_named word.now }
@@ -62,7 +61,6 @@ impl LineForm {
 
     /// The line of this form, by the words after the first. For a read-modify-write, these words
     /// name the function; the function of `self` is ignored.
-    #[inline(always)]
     #[tactic(auto, unfolding(crate::specs::Naming::line_named))]
     fn line(self, operands: Words<'_>) -> Result<Line, LineFault>
         ensures { result ≡ line_named self (words operands.entry.rest.now) }
@@ -87,7 +85,6 @@ impl LineForm {
 }
 
 /// The line that the first word and the words after it spell.
-#[inline(always)]
 #[tactic(auto, using(crate::proofs::Naming::line_is_named, crate::proofs::Naming::line_is_unnamed))]
 pub(crate) fn line_of_words(word: &[u8], operands: Words<'_>) -> Result<Line, LineFault>
     ensures { result ≡ line_of_words (word.now ∷ words operands.entry.rest.now) }

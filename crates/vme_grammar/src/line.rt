@@ -39,7 +39,6 @@ pub enum Line {
 ///
 /// The first refusal of the grammar: `LineTooLong`; then `UnknownWord`; then `WordCount`; then the
 /// fault of the first malformed field from the left.
-#[inline(always)]
 #[tactic(auto, unfolding(crate::specs::Grammar::line_of))]
 pub fn parse_words(line: &[u8]) -> Result<Option<Line>, LineFault>
     ensures line { result ≡ line_of line.now }

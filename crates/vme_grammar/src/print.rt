@@ -157,7 +157,6 @@ fn last_lanes(lines: DataLines) -> [u8; 8]
 
 /// The digits of all eight data lanes.
 #[rattlefmt::skip]
-#[inline(never)]
 fn all_lanes(lines: DataLines) -> [u8; 16]
     ensures { result ≡ lanes_text (reported_lanes true lines.lanes) }
 {

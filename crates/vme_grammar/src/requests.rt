@@ -13,7 +13,6 @@ use vme_cycle::{Block, Request};
 use vme_lexer::{Words, decimal_number, exact_bytes, hex_bytes, hex_number, small_number};
 
 /// The code and the address that two words spell.
-#[inline(always)]
 #[tactic(auto, unfolding(crate::specs::Modifies::field_place))]
 pub(crate) fn field_place(am: &[u8], addr: &[u8]) -> Result<(u8, u32), LineFault>
     ensures { result ≡ field_place am.now addr.now }
@@ -24,7 +23,6 @@ pub(crate) fn field_place(am: &[u8], addr: &[u8]) -> Result<(u8, u32), LineFault
 }
 
 /// `r AM ADDR N`: a read.
-#[inline(always)]
 #[tactic(auto, unfolding(crate::specs::Naming::line_by, crate::specs::Grammar::operands_of, crate::specs::Fields::with_field, crate::specs::Modifies::field_place))]
 pub(crate) fn read(operands: Words<'_>) -> Result<Line, LineFault>
     ensures { result ≡ line_by form.Read (words operands.entry.rest.now) }
@@ -36,7 +34,6 @@ pub(crate) fn read(operands: Words<'_>) -> Result<Line, LineFault>
 }
 
 /// `w AM ADDR HEX`: a write.
-#[inline(always)]
 #[tactic(auto, unfolding(crate::specs::Naming::line_by, crate::specs::Grammar::operands_of, crate::specs::Fields::with_field, crate::specs::Modifies::field_place))]
 pub(crate) fn write(operands: Words<'_>) -> Result<Line, LineFault>
     ensures { result ≡ line_by form.Write (words operands.entry.rest.now) }
@@ -48,7 +45,6 @@ pub(crate) fn write(operands: Words<'_>) -> Result<Line, LineFault>
 }
 
 /// `br AM ADDR N COUNT`: a block read.
-#[inline(always)]
 #[tactic(auto, unfolding(crate::specs::Naming::line_by, crate::specs::Grammar::operands_of, crate::specs::Fields::with_field, crate::specs::Modifies::field_place))]
 pub(crate) fn block_read(operands: Words<'_>) -> Result<Line, LineFault>
     ensures { result ≡ line_by form.BlockRead (words operands.entry.rest.now) }
@@ -61,7 +57,6 @@ pub(crate) fn block_read(operands: Words<'_>) -> Result<Line, LineFault>
 }
 
 /// `bw AM ADDR N HEX`: a block write.
-#[inline(always)]
 #[tactic(auto, unfolding(crate::specs::Naming::line_by, crate::specs::Grammar::operands_of, crate::specs::Fields::with_field, crate::specs::Modifies::field_place))]
 pub(crate) fn block_write(operands: Words<'_>) -> Result<Line, LineFault>
     ensures { result ≡ line_by form.BlockWrite (words operands.entry.rest.now) }
@@ -74,7 +69,6 @@ pub(crate) fn block_write(operands: Words<'_>) -> Result<Line, LineFault>
 }
 
 /// `bf AM ADDR N COUNT HEX`: a block write of one datum, `COUNT` times.
-#[inline(always)]
 #[tactic(auto, unfolding(crate::specs::Naming::line_by, crate::specs::Grammar::operands_of, crate::specs::Fields::with_field, crate::specs::Modifies::field_place))]
 pub(crate) fn block_fill(operands: Words<'_>) -> Result<Line, LineFault>
     ensures { result ≡ line_by form.BlockFill (words operands.entry.rest.now) }
@@ -94,7 +88,6 @@ pub(crate) fn block_fill(operands: Words<'_>) -> Result<Line, LineFault>
 }
 
 /// `m AM ADDR N FUNC`: a read-modify-write.
-#[inline(always)]
 #[tactic(auto, unfolding(crate::specs::Modifies::modify_line))]
 pub(crate) fn modify(operands: Words<'_>) -> Result<Line, LineFault>
     ensures { result ≡ modify_line (words operands.entry.rest.now) }
@@ -111,7 +104,6 @@ pub(crate) fn modify(operands: Words<'_>) -> Result<Line, LineFault>
 }
 
 /// `await AM ADDR HEX`: reads until the bytes are found.
-#[inline(always)]
 #[tactic(auto, unfolding(crate::specs::Naming::line_by, crate::specs::Grammar::operands_of, crate::specs::Fields::with_field, crate::specs::Modifies::field_place))]
 pub(crate) fn await_bytes(operands: Words<'_>) -> Result<Line, LineFault>
     ensures { result ≡ line_by form.Await (words operands.entry.rest.now) }

@@ -13,7 +13,6 @@ use crate::requests::field_place;
 use vme_lexer::{Words, decimal_number, hex_number};
 
 /// The number of a mailbox, of one or two decimal digits.
-#[inline(always)]
 fn mailbox_of(number: &[u8]) -> Result<u8, LineFault>
     ensures { result ≡ ok_or (decimal_number 2 number.now) LineFault.BadNumber }
 {
@@ -22,7 +21,6 @@ fn mailbox_of(number: &[u8]) -> Result<u8, LineFault>
 }
 
 /// `lock AM ADDR`: take a lock.
-#[inline(always)]
 #[tactic(auto, unfolding(crate::specs::Naming::line_by, crate::specs::Grammar::operands_of, crate::specs::Fields::with_field, crate::specs::Modifies::field_place))]
 pub(crate) fn lock(operands: Words<'_>) -> Result<Line, LineFault>
     ensures { result ≡ line_by form.Lock (words operands.entry.rest.now) }
@@ -33,7 +31,6 @@ pub(crate) fn lock(operands: Words<'_>) -> Result<Line, LineFault>
 }
 
 /// `unlock AM ADDR`: free a lock.
-#[inline(always)]
 #[tactic(auto, unfolding(crate::specs::Naming::line_by, crate::specs::Grammar::operands_of, crate::specs::Fields::with_field, crate::specs::Modifies::field_place))]
 pub(crate) fn unlock(operands: Words<'_>) -> Result<Line, LineFault>
     ensures { result ≡ line_by form.Unlock (words operands.entry.rest.now) }
@@ -44,7 +41,6 @@ pub(crate) fn unlock(operands: Words<'_>) -> Result<Line, LineFault>
 }
 
 /// `put BOX HEX`: put a word into a mailbox.
-#[inline(always)]
 #[tactic(auto, unfolding(crate::specs::Naming::line_by, crate::specs::Grammar::operands_of, crate::specs::Fields::with_field))]
 pub(crate) fn put(operands: Words<'_>) -> Result<Line, LineFault>
     ensures { result ≡ line_by form.Put (words operands.entry.rest.now) }
@@ -56,7 +52,6 @@ pub(crate) fn put(operands: Words<'_>) -> Result<Line, LineFault>
 }
 
 /// `take BOX`: take a word from a mailbox.
-#[inline(always)]
 #[tactic(auto, unfolding(crate::specs::Naming::line_by, crate::specs::Grammar::operands_of, crate::specs::Fields::with_field))]
 pub(crate) fn take(operands: Words<'_>) -> Result<Line, LineFault>
     ensures { result ≡ line_by form.Take (words operands.entry.rest.now) }

@@ -81,7 +81,6 @@ fn narrow(first: Option<u8>, second: Option<u8>, third: Option<u8>, last: Option
 /// Returns the lanes with a datum of eight bytes on all of them: the lowest address is on the most
 /// significant lane.
 // Not inlined: `place`, which has at most four bytes, would carry this code too.
-#[inline(never)]
 pub fn place_wide(bytes: &[u8]) -> DataLines
     requires { length bytes.now ≡ 8 }
     ensures { result.lanes ≡ wide_lanes bytes.now }

@@ -73,7 +73,6 @@ pub(crate) fn attempt_of<'a>(
 }
 
 /// Returns the task of a request of a board's processor, or the refusal of the request.
-#[inline(always)]
 pub(crate) fn transfer<'a>(
     config: &Config,
     board: usize,
@@ -92,7 +91,6 @@ pub(crate) fn transfer<'a>(
 }
 
 /// Returns a read over the bus that waits for these bytes, or the refusal of the read.
-#[inline(never)]
 fn waits<'a>(
     config: &Config,
     board: usize,
@@ -132,7 +130,6 @@ fn short_transfer<'a>(
 }
 
 /// Returns a request to a lock or a mailbox, or its refusal.
-#[inline(never)]
 fn shares<'a>(
     config: &'a Config,
     board: usize,

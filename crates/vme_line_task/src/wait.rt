@@ -45,7 +45,6 @@ impl<'a> AwaitTask<'a> {
     }
 
     /// Gives the read the reply to its event, or `None` at the first call.
-    #[inline(never)]
     #[tactic(auto, using(vme_master::proofs::lemmas::Stands::job_stays))]
     pub(crate) fn advance(&mut self, given: Option<&EventReply>)
         ensures task { self.new ≡ record self.old { task = advance self.old.task (option_copied given.entry) } }
@@ -56,7 +55,6 @@ impl<'a> AwaitTask<'a> {
 
     /// Returns the event that comes next as a reference, if there is one, without the signals of a
     /// cycle.
-    #[inline(never)]
     pub(crate) fn event_ref(&self) -> Option<EventRef<'_>>
         ensures { option_map call_asked result ≡ call_in (waits_next self.now.want.items (to_do self.now.task)) }
     {
@@ -71,7 +69,6 @@ impl<'a> AwaitTask<'a> {
     }
 
     /// Returns whether the read has ended with other bytes than it waits for.
-    #[inline(never)]
     pub(crate) fn wants_retry(&self) -> bool
         ensures { result ≡ next_wants_retry (waits_next self.now.want.items (to_do self.now.task)) }
     {

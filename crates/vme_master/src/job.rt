@@ -31,7 +31,6 @@ pub struct BusJob<'a> {
 impl BusJob<'_> {
     /// The event of datum `i`: a cycle of the selected board, or the release of the bus if no board
     /// is selected.
-    #[inline(always)]
     fn datum(&self, i: u16) -> EventRef<'_>
         requires in_count { i < count_of self.now.transfer.request }
         requires placed { IsPlaced (Job.Bus self.now) }
@@ -47,7 +46,6 @@ impl BusJob<'_> {
     }
 
     /// The cycle of datum `i`, by the board and the offset of the first datum.
-    #[inline(always)]
     pub(crate) fn datum_at(&self, board: usize, offset: u32, i: u16) -> DatumCycle<'_>
         requires in_count { i < count_of self.now.transfer.request }
         requires placed { IsPlaced (Job.Bus self.now) }
@@ -61,7 +59,6 @@ impl BusJob<'_> {
     }
 
     /// The event in a phase, if there is one, without the signals of a cycle.
-    #[inline(always)]
     fn event_ref(&self, phase: Phase) -> Option<EventRef<'_>>
         requires in_count { (i : ℕ) → phase ≡ Transferring i → i < count_of self.now.transfer.request }
         requires placed { IsPlaced (Job.Bus self.now) }
@@ -103,7 +100,6 @@ pub struct LocalJob {
 
 impl LocalJob {
     /// The event in a phase, if there is one, as a reference.
-    #[inline(always)]
     fn event_ref(&self, phase: Phase) -> Option<EventRef<'_>>
         ensures { (read : List ℕ) → option_map call_asked result ≡ call_in (local_next self.now phase read) }
     {
@@ -138,7 +134,6 @@ impl Job<'_> {
     }
 
     /// The event in a phase, if there is one, without the signals of a cycle.
-    #[inline(always)]
     pub(crate) fn event_ref(&self, phase: Phase) -> Option<EventRef<'_>>
         requires in_count { (i : ℕ) → phase ≡ Transferring i → i < call_count self.now }
         requires placed { IsPlaced self.now }

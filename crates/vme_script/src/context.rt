@@ -79,7 +79,6 @@ impl<'a> MailboxDeclarations<'a> {
     }
 
     /// Whether a line accesses a byte of a declared mailbox.
-    #[inline(always)]
     #[tactic(auto, using(crate::proofs::Untouched::none_touched))]
     fn touches(&self, line: &Line) -> bool
         ensures { result ≡ option_map_or (are_of_mailboxes self.now)
@@ -97,7 +96,6 @@ impl<'a> MailboxDeclarations<'a> {
 
 impl<'a> ScriptContext<'a> {
     /// The mailboxes that a script may name.
-    #[inline(always)]
     fn boxes(&self) -> MailboxNumbers
         ensures { result ≡ boxes_of self.now }
     {
@@ -108,7 +106,6 @@ impl<'a> ScriptContext<'a> {
     }
 
     /// Whether a line accesses a byte of a declared mailbox, other than by a put or a take.
-    #[inline(always)]
     fn touches(&self, line: &Line) -> bool
         ensures { result ≡ touches self.now line.now }
     {
@@ -123,7 +120,6 @@ impl<'a> ScriptContext<'a> {
     /// In a file, a line that names an undeclared mailbox is refused with `BadNumber` (S6). After
     /// that, a line other than a put or a take that accesses a byte of a declared mailbox is
     /// refused with `MailboxBytes` (S9).
-    #[inline(always)]
     pub fn refusal(&self, line: &Line) -> Option<LineFault>
         ensures refusal { result ≡ refusal_of self.now line.now }
     {

@@ -25,7 +25,6 @@ impl MailboxNumbers {
     }
 
     /// Whether a line names only mailboxes that it may name.
-    #[inline(always)]
     pub(crate) fn may_ask(self, line: &Line) -> bool
         ensures { result ≡ may_ask self line.now }
     {
