@@ -3,7 +3,6 @@ ghost use Rattle.std.specs.Prelude.{◌≡◌, ◌∷◌, MatchOption, codes};
 ghost use Rattle.std.specs.Str.{bytes_eq};
 
 /// The text after a space.
-#[inline(always)]
 #[tactic(auto, using(crate::proofs::Heads::one_byte))]
 pub(crate) fn after_space(text: &[u8]) -> Option<&[u8]>
     ensures { MatchOption result (Unit {0}) (λ rest. text.now ≡ 32 ∷ rest.now) }
@@ -15,7 +14,6 @@ pub(crate) fn after_space(text: &[u8]) -> Option<&[u8]>
 }
 
 /// The text after `ait` and a space.
-#[inline(always)]
 #[tactic(auto, using(crate::proofs::Heads::four_bytes))]
 pub(crate) fn after_ait(text: &[u8]) -> Option<&[u8]>
     ensures { MatchOption result (Unit {0}) (λ rest. text.now ≡ 97 ∷ 105 ∷ 116 ∷ 32 ∷ rest.now) }
@@ -27,7 +25,6 @@ pub(crate) fn after_ait(text: &[u8]) -> Option<&[u8]>
 }
 
 /// The first two bytes, and the text after them.
-#[inline(always)]
 #[tactic(auto, using(crate::proofs::Heads::two_bytes))]
 pub(crate) fn two_bytes(line: &[u8]) -> Option<(u8, u8, &[u8])>
     ensures { MatchOption result (Unit {0}) (λ head. line.now ≡ head.0 ∷ head.1 ∷ head.2.now) }
@@ -39,7 +36,6 @@ pub(crate) fn two_bytes(line: &[u8]) -> Option<(u8, u8, &[u8])>
 }
 
 /// The first four bytes, and the text after them.
-#[inline(always)]
 #[tactic(auto, using(crate::proofs::Heads::four))]
 pub(crate) fn four_bytes(text: &[u8]) -> Option<(u8, u8, u8, u8, &[u8])>
     ensures { MatchOption result (Unit {0}) (λ head. text.now ≡ head.0 ∷ head.1 ∷ head.2 ∷ head.3 ∷ head.4.now) }
@@ -51,7 +47,6 @@ pub(crate) fn four_bytes(text: &[u8]) -> Option<(u8, u8, u8, u8, &[u8])>
 }
 
 /// Whether a text is `set`.
-#[inline(always)]
 pub(crate) fn is_set(text: &[u8]) -> bool
     ensures { result ≡ bytes_eq text.now (codes "set") }
 {

@@ -10,7 +10,6 @@ use vme_lexer::{local_bytes, local_number};
 use vme_memory::BoardCmd;
 
 /// `lr OFF N`: a read by the local port.
-#[inline(always)]
 #[tactic(auto, using(crate::proofs::Forms::local_read_asked))]
 pub(crate) fn local_read(text: &[u8]) -> Option<Line>
     ensures { Asks (codes "lr") text.now result }
@@ -21,7 +20,6 @@ pub(crate) fn local_read(text: &[u8]) -> Option<Line>
 }
 
 /// `lw OFF HEX`: a write by the local port.
-#[inline(always)]
 #[tactic(auto, using(crate::proofs::Forms::local_write_asked))]
 pub(crate) fn local_write(text: &[u8]) -> Option<Line>
     ensures { Asks (codes "lw") text.now result }
@@ -32,7 +30,6 @@ pub(crate) fn local_write(text: &[u8]) -> Option<Line>
 }
 
 /// `lm OFF N FUNC`: a read-modify-write by the local port.
-#[inline(always)]
 #[tactic(auto, using(crate::proofs::Forms::local_modify_asked))]
 pub(crate) fn local_modify(text: &[u8]) -> Option<Line>
     ensures { Asks (codes "lm") text.now result }

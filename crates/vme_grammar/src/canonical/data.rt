@@ -9,7 +9,6 @@ use vme_lanes::Datum;
 use vme_lexer::{decimal_number, exact_bytes};
 
 /// A number of data and a datum of `n` bytes, with one space between.
-#[inline(always)]
 #[tactic(auto, using(crate::proofs::Known::fill_is))]
 pub(crate) fn count_and_datum(n: u8, text: &[u8]) -> Option<(u16, Datum)>
     ensures { MatchOption result (Unit {0}) (λ r. IsFill n (words text.now) r.0 r.1) }
@@ -23,7 +22,6 @@ pub(crate) fn count_and_datum(n: u8, text: &[u8]) -> Option<(u16, Datum)>
 }
 
 /// Two data of `n` bytes, with one space between.
-#[inline(always)]
 #[tactic(auto, using(crate::proofs::Known::data_are))]
 fn two_data(n: u8, text: &[u8]) -> Option<(Datum, Datum)>
     ensures { MatchOption result (Unit {0}) (λ r. AreData n (words text.now) r.0 r.1) }
@@ -36,7 +34,6 @@ fn two_data(n: u8, text: &[u8]) -> Option<(Datum, Datum)>
 }
 
 /// A function of a read-modify-write, with its data of `n` bytes each.
-#[inline(always)]
 pub(crate) fn function(n: u8, text: &[u8]) -> Option<Modify>
     ensures { MatchOption result (Unit {0}) (λ f. IsFunction n (words text.now) f) }
 {

@@ -7,7 +7,6 @@ use crate::canonical::bytes::after_space;
 use vme_lexer::{hex_number, local_number, small_number};
 
 /// The number that `N` hexadecimal digits before a space spell, and the text after the space.
-#[inline(always)]
 #[tactic(auto, using(crate::proofs::Spelled::hex_spelled))]
 pub(crate) fn number<const N: usize>(text: &[u8]) -> Option<(u32, &[u8])>
     requires some { 0 < N }
@@ -22,7 +21,6 @@ pub(crate) fn number<const N: usize>(text: &[u8]) -> Option<(u32, &[u8])>
 }
 
 /// The code and the address, each before a space, and the text after them.
-#[inline(always)]
 pub(crate) fn place(text: &[u8]) -> Option<(u8, u32, &[u8])>
     ensures { MatchOption result (Unit {0}) (λ r. IsPlace text.now r.0 r.1 r.2.now) }
 {
@@ -32,7 +30,6 @@ pub(crate) fn place(text: &[u8]) -> Option<(u8, u32, &[u8])>
 }
 
 /// The number from 1 to 8 that a digit before a space spells, and the text after the space.
-#[inline(always)]
 #[tactic(auto, using(crate::proofs::Spelled::small_spelled))]
 pub(crate) fn length(text: &[u8]) -> Option<(u8, &[u8])>
     ensures { MatchOption result (Unit {0}) (λ r. Spelled small_number text.now r.0 r.1.now) }
@@ -44,7 +41,6 @@ pub(crate) fn length(text: &[u8]) -> Option<(u8, &[u8])>
 }
 
 /// The number 1, 2 or 4 that a digit before a space spells, and the text after the space.
-#[inline(always)]
 #[tactic(auto, using(crate::proofs::Spelled::local_spelled))]
 pub(crate) fn local_length(text: &[u8]) -> Option<(u8, &[u8])>
     ensures { MatchOption result (Unit {0}) (λ r. Spelled local_number text.now r.0 r.1.now) }

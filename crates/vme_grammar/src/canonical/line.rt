@@ -14,7 +14,6 @@ use crate::line::{LINE_LIMIT, Line, parse_words};
 ///
 /// Returns what `parse_line` returns for the line, or `None`. Its contract does not state for which
 /// lines it returns `None`; in every case `parse_line` gives the answer.
-#[inline(always)]
 pub fn parse_canonical(line: &[u8]) -> Option<Line>
     ensures { MatchOption result (Unit {0}) (λ asked. line_of line.now ≡ Ok (Some asked)) }
 {
@@ -38,8 +37,6 @@ pub fn parse_canonical(line: &[u8]) -> Option<Line>
 }
 
 /// Parses any line, word by word.
-#[cold]
-#[inline(never)]
 fn any_line(line: &[u8]) -> Result<Option<Line>, LineFault>
     ensures { result ≡ line_of line.now }
 {
@@ -54,7 +51,6 @@ fn any_line(line: &[u8]) -> Result<Option<Line>, LineFault>
 ///
 /// The first refusal of the grammar: `LineTooLong`; then `UnknownWord`; then `WordCount`; then the
 /// fault of the first malformed field from the left.
-#[inline(always)]
 pub fn parse_line(line: &[u8]) -> Result<Option<Line>, LineFault>
     ensures line { result ≡ line_of line.now }
 {

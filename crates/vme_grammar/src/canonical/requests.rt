@@ -9,7 +9,6 @@ use vme_cycle::{Block, Request};
 use vme_lexer::{decimal_number, hex_bytes, small_number};
 
 /// `r AM ADDR N`: a read.
-#[inline(always)]
 #[tactic(auto, using(crate::proofs::Forms::read_asked))]
 pub(crate) fn read(text: &[u8]) -> Option<Line>
     ensures { Asks (codes "r") text.now result }
@@ -20,7 +19,6 @@ pub(crate) fn read(text: &[u8]) -> Option<Line>
 }
 
 /// `w AM ADDR HEX`: a write.
-#[inline(always)]
 #[tactic(auto, using(crate::proofs::Forms::write_asked))]
 pub(crate) fn write(text: &[u8]) -> Option<Line>
     ensures { Asks (codes "w") text.now result }
@@ -31,7 +29,6 @@ pub(crate) fn write(text: &[u8]) -> Option<Line>
 }
 
 /// `br AM ADDR N COUNT`: a block read.
-#[inline(always)]
 #[tactic(auto, using(crate::proofs::Forms::block_read_asked))]
 pub(crate) fn block_read(text: &[u8]) -> Option<Line>
     ensures { Asks (codes "br") text.now result }
@@ -43,7 +40,6 @@ pub(crate) fn block_read(text: &[u8]) -> Option<Line>
 }
 
 /// `bw AM ADDR N HEX`: a block write.
-#[inline(always)]
 #[tactic(auto, using(crate::proofs::Forms::block_write_asked))]
 pub(crate) fn block_write(text: &[u8]) -> Option<Line>
     ensures { Asks (codes "bw") text.now result }
@@ -55,7 +51,6 @@ pub(crate) fn block_write(text: &[u8]) -> Option<Line>
 }
 
 /// `bf AM ADDR N COUNT HEX`: a block write of one datum, `COUNT` times.
-#[inline(always)]
 #[tactic(auto, using(crate::proofs::Forms::block_fill_asked))]
 pub(crate) fn block_fill(text: &[u8]) -> Option<Line>
     ensures { Asks (codes "bf") text.now result }
@@ -73,7 +68,6 @@ pub(crate) fn block_fill(text: &[u8]) -> Option<Line>
 }
 
 /// `m AM ADDR N FUNC`: a read-modify-write.
-#[inline(always)]
 #[tactic(auto, using(crate::proofs::Forms::modify_asked))]
 pub(crate) fn modify(text: &[u8]) -> Option<Line>
     ensures { Asks (codes "m") text.now result }
@@ -85,7 +79,6 @@ pub(crate) fn modify(text: &[u8]) -> Option<Line>
 }
 
 /// `await AM ADDR HEX`: reads until the bytes are found.
-#[inline(always)]
 #[tactic(auto, using(crate::proofs::Forms::await_asked))]
 pub(crate) fn await_bytes(text: &[u8]) -> Option<Line>
     ensures { Asks (codes "await") text.now result }
