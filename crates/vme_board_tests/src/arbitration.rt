@@ -1,4 +1,4 @@
-//! The arbiter's calls in a worked order.
+//! The replies of the arbiter to commands in order.
 use crate::support::reply;
 use std::process::Abort;
 use vme_arbiter::{ArbCmd, ArbReply, Arbiter, ArbiterKind};
@@ -22,7 +22,8 @@ static CALLS: [(ArbCmd, ArbReply); 15] = [
     (ArbCmd::Ask { slot: 22, level: 0 }, ArbReply::Denied),
 ];
 
-/// Four slots ask, one of them at once; then each holder is done, and each that waits looks.
+/// Four slots request the bus, and the first has it at once. Then each holder gives the bus back,
+/// and each slot that waits checks.
 static ROTATING_CALLS: [(ArbCmd, ArbReply); 16] = [
     (ArbCmd::Ask { slot: 9, level: 3 }, ArbReply::Granted),
     (ArbCmd::Ask { slot: 1, level: 3 }, ArbReply::Waiting),
@@ -42,8 +43,8 @@ static ROTATING_CALLS: [(ArbCmd, ArbReply); 16] = [
     (ArbCmd::Done { slot: 4 }, ArbReply::Freed),
 ];
 
-/// The holder that the bus goes to when the first of four, on level 3, is done: the others ask on
-/// the levels 3, 1 and 2.
+/// The replies to checks by the three waiting slots, after the holder on level 3 gave the bus back.
+/// They wait on the levels 3, 1 and 2.
 fn second_holder(kind: ArbiterKind) -> [ArbReply; 3] {
     let mut arbiter = Arbiter::of(kind);
     for (cmd, _) in &ROTATING_CALLS[..5] {

@@ -1,4 +1,4 @@
-//! What the counters answer, and where counting ends.
+//! The replies of counters, and the end of counting.
 use crate::support::reply;
 use std::process::Abort;
 use std::sync::Arc;

@@ -1,4 +1,4 @@
-//! Worked examples of maps: what cycles select in them, and how entries are refused.
+//! Address maps: the entries that cycles select, and the refusals of maps.
 use crate::support::signals_of;
 use std::alloc::Global;
 use std::process::Abort;
@@ -17,7 +17,7 @@ fn entry(space: Space, base: u32, size: u32) -> Entry {
     }
 }
 
-/// Why there is no map of some entries, if there is none.
+/// The fault of some entries, if there is no map of them.
 fn fault(alloc: Global, entries: &[Entry]) -> Option<MapFault> {
     AddressMap::new(alloc, entries).err()
 }
@@ -52,7 +52,7 @@ static BYTES: [(u8, u32, u8, Option<(usize, u32)>); 5] = [
     (0x0e, 0x0000_0fff, 1, Some((0, 4095))),
 ];
 
-/// Neither by space nor by base, and the last covers nothing.
+/// Entries that are sorted neither by space nor by base. The last one covers nothing.
 static UNSORTED: [Entry; 4] = [
     Entry {
         space: Space::A32,

@@ -1,4 +1,4 @@
-//! What boards of several classes answer.
+//! The replies of boards of several classes.
 use crate::support::{NARROW, WHOLE, datum, memory_of, signals_of};
 use std::process::Abort;
 use std::test::Fail;

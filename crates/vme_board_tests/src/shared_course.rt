@@ -1,4 +1,4 @@
-//! The boards of the tests, and how a task is led through a course of replies.
+//! The boards of the tests, and the driver that leads a task through a list of cycles and replies.
 use crate::support::{ASK, DONE, FREED, GRANTED, Given, LOOK, WAITING, datum, replied, signals_of};
 use std::process::Abort;
 use vme_am::Space;
@@ -31,7 +31,6 @@ const BASE: u32 = 0x1000;
 /// 28.
 const LOCK_AT: u32 = 8;
 
-/// The mailbox of the tests, in the second board.
 pub const MAILBOX: Mailbox = Mailbox {
     am: 0x0d,
     addr: 0x1008,
@@ -120,7 +119,6 @@ impl<'a> SharedMachine for TakeTask<'a> {
     }
 }
 
-/// Checks that the next step of a task is this command to the arbiter.
 pub fn expect_turn(rt: &impl Abort, todo: &SharedTodo, wanted: ArbCmd) {
     match todo {
         SharedTodo::Call(Event::Bus(cmd)) => assert_eq!(rt; *cmd, wanted),
@@ -138,7 +136,6 @@ fn expect_cycle(rt: &impl Abort, todo: &SharedTodo, wanted: Cycle) {
     }
 }
 
-/// Checks that a task has ended, and returns its outcome.
 pub fn expect_end(rt: &impl Abort, todo: &SharedTodo) -> SharedOutcome {
     match todo {
         SharedTodo::Finished(outcome) => *outcome,

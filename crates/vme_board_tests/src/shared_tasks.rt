@@ -1,4 +1,4 @@
-//! What locks, puts and takes come to, cycle by cycle.
+//! The outcomes of locks, puts and takes, cycle by cycle.
 use crate::shared_course::{BOARDS, Course, Cycle, MAILBOX, outcome};
 use crate::support::Given;
 use std::process::Abort;
@@ -44,7 +44,7 @@ static COURSES: [(Job, SharedOutcome, Course); 24] = [
             UNLOCKED,
         ],
     ),
-    // Two words apart, over the end of the numbers.
+    // A mailbox of two words that is full, with counts that wrap around.
     (
         Job::Put(0xdead_beef),
         SharedOutcome::Full,
@@ -65,7 +65,7 @@ static COURSES: [(Job, SharedOutcome, Course); 24] = [
             UNLOCKED,
         ],
     ),
-    // The last word that there is a count for.
+    // The last word that the counts allow.
     (
         Job::Put(0xdead_beef),
         SharedOutcome::Put,
@@ -95,7 +95,7 @@ static COURSES: [(Job, SharedOutcome, Course); 24] = [
             UNLOCKED,
         ],
     ),
-    // The take count goes round over the end of the numbers.
+    // A take count that wraps around.
     (
         Job::Take,
         SharedOutcome::Took(0xcafe_0001),

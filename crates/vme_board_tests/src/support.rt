@@ -50,7 +50,7 @@ pub fn signals_of(rt: &impl Abort, request: &Request) -> Signals {
     plan.signals(0)
 }
 
-/// The reply to a command, by the trait alone.
+/// Returns the reply to a command, by the trait only.
 pub fn reply<O: Object>(object: &mut O, cmd: &O::Cmd) -> O::Reply {
     object.apply(cmd)
 }
@@ -62,12 +62,12 @@ pub const LOOK: ArbCmd = ArbCmd::Look { slot: 2 };
 
 pub const DONE: ArbCmd = ArbCmd::Done { slot: 2 };
 
-/// What a task is given.
+/// The reply that a task receives.
 #[derive(Clone, Copy, Debug, PartialEq, Eq)]
 pub enum Given {
     Nothing,
     Turn(ArbReply),
-    /// These bytes, of a board.
+    /// These bytes of a board.
     Bytes(&'static [u8]),
     /// That a board has written its bytes.
     Done,

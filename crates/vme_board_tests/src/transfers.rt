@@ -1,4 +1,4 @@
-//! What tasks do next, call by call, in worked orders of replies.
+//! The next step of a task after each reply.
 use crate::support;
 use crate::support::{FREED, GRANTED, Given, WAITING, block, datum, replied};
 use std::alloc::Global;
@@ -20,7 +20,7 @@ static BOARDS: [Entry; 1] = [Entry {
     supervisory: false,
 }];
 
-/// What a task does, without the lines of a cycle.
+/// A step of a task, without the lines of a cycle.
 #[derive(Clone, Copy, Debug, PartialEq, Eq)]
 enum Step {
     Bus(ArbCmd),
@@ -86,7 +86,7 @@ fn emptied(outcome: &Outcome) -> Outcome {
     }
 }
 
-/// The task of a request of slot 2 on level 3, with a buffer for what it reads.
+/// The task of a request of slot 2 on level 3, with a buffer for the bytes that it reads.
 fn start<'a>(alloc: Global, map: &AddressMap, request: &'a Request) -> Result<Task<'a>, Fail> {
     let plan = Plan::of(request)?;
     let buffer = BlockBuffer::with_capacity(alloc, plan.read_len())?;

@@ -1,4 +1,4 @@
-//! What boards answer to data of eight bytes.
+//! The replies of boards to data of eight bytes.
 use crate::support::{WHOLE, datum, memory_of, signals_of};
 use std::alloc::Global;
 use std::process::Abort;

@@ -1,5 +1,5 @@
-//! Worked rows of `vme cycles`: inputs with what they write and how they end, with values from the
-//! tables of the standard and of this project's profile.
+//! Worked rows of `vme cycles`: inputs with their outputs and statuses, with values from the tables
+//! of the standard and of this project's profile.
 use crate::support::{Engine, check, check_rows};
 use std::test::Fail;
 use vme_engines::Status;

@@ -1,5 +1,5 @@
-//! Worked rows of `vme cycles` with blocks whose data have eight bytes, which are of this project's
-//! profile.
+//! Worked rows of `vme cycles` for the 64-bit multiplexed block transfer (MBLT) of VME64 (ANSI/VITA
+//! 1-1994), in this project's profile.
 use crate::support::{Engine, check, check_rows};
 use std::test::Fail;
 use vme_engines::Status;

@@ -8,7 +8,7 @@ use std::test::Fail;
 use std::thread::Threads;
 use vme_engines::{ProgramFault, Status, exit_status};
 
-/// Runs a damaged file: there is a report, or else it is no configuration and nothing is written.
+/// Runs a damaged file. The result is a report, or a refusal with nothing written.
 fn expect_report_or_refusal<T: Threads + Wait + Abort + Sync>(
     rt: &T,
     alloc: Global,

@@ -1,4 +1,4 @@
-//! Runs on threads, of whose reports some lines vary: what they begin with, and what they end with.
+//! Runs on threads whose reports vary in some lines: the beginning and the end of each report.
 use crate::support::{Engine, run_on};
 use std::alloc::{AllocError, Global};
 use std::test::Fail;

@@ -1,10 +1,10 @@
-//! Four boards ask for the bus at once, and each kind of arbiter serves them in its own order.
+//! Four processors request the bus at once, and each kind of arbiter grants it in its own order.
 use crate::support::{Engine, check};
 use std::test::Fail;
 use vme_engines::Status;
 
-/// Slot 9 has the bus while the slots 1, 2 and 3 ask for it, on the levels 3, 1 and 2. Each adds one
-/// to the same word.
+/// The processor in slot 9 has the bus while those in slots 1, 2 and 3 request it, on levels 3, 1
+/// and 2. Each adds one to the same word.
 static FOUR_BOARDS: &str = "schedule = [[9, 1], [1, 1], [2, 1], [3, 1], [9, 2]]
 rounds = 9
 [[board]]
@@ -33,7 +33,7 @@ size = 16
 script = 'm 09 00000010 4 add 00000001'
 ";
 
-/// What is reported after the lines of the slots 1, 2 and 3, whatever their order was.
+/// The report after the lines of slots 1, 2 and 3, for every order of grants.
 static REST: &str = "9:1 old 00000000
 board 1 steps 4 made 1 1 1 1
 board 2 steps 0 made 0 0 0 0
@@ -42,8 +42,8 @@ board 9 steps 0 made 0 0 0 0
 mem 1 00000010 00000004000000000000000000000000
 ";
 
-/// The line that names a kind of arbiter, or none, and the lines of the slots 1, 2 and 3, which show
-/// the order of grants: the levels in rotation, or from the greatest.
+/// The line that names a kind of arbiter, or none, and the lines of the slots 1, 2 and 3, whose
+/// values show the order: the levels in rotation, or from the greatest.
 static KINDS: [(&str, &str); 3] = [
     (
         "arbiter = 'rotating'\n",

@@ -23,7 +23,7 @@ board 2 steps 0 made 0 0
 ",
         Status::Marked,
     ),
-    // A read-modify-write over the bus and one by the local port, on one byte.
+    // A read-modify-write over the bus before one by the local port, on one byte.
     (
         "schedule = [[2, 3], [1, 1]]
 [[board]]
@@ -45,7 +45,7 @@ mem 1 00000000 00000000000000008000000000000000
 ",
         Status::Clean,
     ),
-    // The same in the other order.
+    // A read-modify-write by the local port before one over the bus, on one byte.
     (
         "schedule = [[1, 1], [2, 3]]
 [[board]]
@@ -67,7 +67,7 @@ mem 1 00000000 00000000000000008000000000000000
 ",
         Status::Clean,
     ),
-    // A board that admits supervisory codes alone, and an address of no board.
+    // A board that only supervisory codes select, and an address of no board.
     (
         "rounds = 7
 [[board]]
@@ -111,7 +111,7 @@ board 1 steps 1 made 1
 ",
         Status::Marked,
     ),
-    // The file before, with one more turn.
+    // A local write past the end, and a line that has its turn.
     (
         "rounds = 2
 [[board]]
@@ -152,7 +152,7 @@ mem 1 00000000 01000000000000000000000000000000
 ",
         Status::Clean,
     ),
-    // The file before, with one read.
+    // A byte that is awaited with one read, and written after it.
     (
         "tries = 1
 schedule = [[2, 3], [1, 1], [2, 3]]
@@ -175,7 +175,7 @@ mem 1 00000000 01000000000000000000000000000000
 ",
         Status::Marked,
     ),
-    // Refused requests take no turn of their own, but wait for one; line numbers count every line.
+    // Refused requests take no turn of their own, but wait for one. Line numbers count every line.
     (
         "schedule = [[1, 1], [7, 1]]
 [[board]]

@@ -4,7 +4,8 @@ use std::test::Fail;
 use vme_engines::Status;
 
 static ROWS: [(&str, &str, Status); 5] = [
-    // One takes the lock; the other finds it busy, and may try once; then the first gives it back.
+    // One processor takes the lock; the other finds it busy, and may try once; then the first frees
+    // it.
     (
         "tries = 1
 schedule = [[1, 3], [2, 3], [1, 3]]
@@ -30,7 +31,7 @@ board 2 steps 0 made 0 0
 ",
         Status::Marked,
     ),
-    // Three words for a mailbox with two slots, and three takes from it.
+    // Three words for a mailbox of two slots, and three takes from it.
     (
         "tries = 1
 schedule = [[1, 48], [2, 48]]
@@ -70,8 +71,8 @@ mem 1 00000010 0000000a0000000b0000000000000000
 ",
         Status::Marked,
     ),
-    // The same, and a line that names bytes of the mailbox, but is refused as a request: no bus has data
-    // of eight bytes.
+    // Three words for a mailbox of two slots, and a line that names bytes of the mailbox but is
+    // refused as a request because of its number of bytes.
     (
         "tries = 1
 schedule = [[1, 48], [2, 48]]
@@ -114,7 +115,7 @@ mem 1 00000010 0000000a0000000b0000000000000000
 ",
         Status::Marked,
     ),
-    // The second word finds no free slot, and is tried again after the first was taken.
+    // The mailbox is full for the second word, which is put when the first was taken.
     (
         "tries = 2
 schedule = [[1, 30], [2, 18], [1, 18], [2, 18]]
@@ -150,7 +151,7 @@ mem 1 00000010 00000002000000000000000000000000
 ",
         Status::Clean,
     ),
-    // A request of a lock that no code allows, and a lock where no board is.
+    // A lock with a user-defined code, and a lock at an address of no board.
     (
         "rounds = 4
 [[board]]

@@ -4,7 +4,7 @@ use std::test::Fail;
 use vme_engines::Status;
 
 static ROWS: [(&str, &str, Status); 3] = [
-    // A datum of which the board has four bytes alone: the bus error is a step of it.
+    // A datum of which the board has only four bytes: the bus error is a step of the board.
     (
         "rounds = 3
 [[board]]
@@ -23,7 +23,7 @@ board 2 steps 0 made 0 0
 ",
         Status::Marked,
     ),
-    // A base that is 4 modulo 8: the datum lies at the offset 4.
+    // A base that is 4 modulo 8: the datum is at offset 4.
     (
         "rounds = 3
 [[board]]
@@ -42,7 +42,8 @@ board 2 steps 0 made 0 0
 ",
         Status::Clean,
     ),
-    // Two local writes after a datum that has both words: one event, so the read is not torn.
+    // Two local writes after a datum that contains both words. The datum is one event, so the read
+    // is not torn.
     (
         "schedule = [[2, 2], [1, 2], [2, 2]]
 [[board]]

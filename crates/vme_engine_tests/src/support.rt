@@ -79,7 +79,7 @@ pub fn check_rows<T: Threads + Wait + Abort + Sync>(
     Ok(())
 }
 
-/// An input of an engine, and what it writes of it, always the same.
+/// An input of an engine, and its output, which is the same in every run.
 #[derive(Clone, Copy)]
 pub struct Row {
     pub engine: Engine,
@@ -87,7 +87,7 @@ pub struct Row {
     pub text: &'static str,
 }
 
-/// One of each engine.
+/// One row for each engine.
 pub static ROWS: [Row; 3] = [
     // Four bytes written at once, and read one by one.
     Row {
@@ -132,7 +132,8 @@ board 2 steps 0 made 0 0
 mem 1 00000000 00000000aabbccdd0000000000000000
 ",
     },
-    // Two processors that write to other bytes of one board, so that no order shows.
+    // Two processors that write to different bytes of one board, so that the order of their writes
+    // is not visible.
     Row {
         engine: Engine::Run,
         input: "[[board]]

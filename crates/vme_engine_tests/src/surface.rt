@@ -287,7 +287,7 @@ fn next_of_line(task: &mut LineTask<'_>, reply: Option<EventReply>) -> LineTodo 
     task.next(reply)
 }
 
-/// A gate that holds no processor.
+/// A gate that is always open.
 struct Open;
 
 impl Gate for Open {

@@ -1,4 +1,4 @@
-//! A port of a board's memory, on one thread.
+//! A port of a board's memory, called from one thread.
 use crate::support::{add_pass, next_pass, open};
 use std::process::Abort;
 use vme_lanes::Datum;

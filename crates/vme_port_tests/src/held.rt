@@ -22,7 +22,7 @@ fn signs(alloc: Global) -> Result<(Arc<AtomicBool>, Arc<AtomicBool>), AllocError
     Ok((entered, release))
 }
 
-/// Looks for a sign, for a while.
+/// Polls a flag until it is set, at most `LOOKS` times, and returns whether it was set.
 fn seen(sign: &AtomicBool) -> bool {
     let backoff = Backoff::new();
     for _ in 0..LOOKS {

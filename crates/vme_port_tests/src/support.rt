@@ -36,7 +36,7 @@ pub fn next_pass<O: Object>(rt: &impl Abort, port: &Port<O>, passes: &mut Vec<Pa
     }
 }
 
-/// One pass more, behind the others.
+/// Appends one pass to the others.
 pub fn add_pass<O: Object>(
     rt: &impl Abort,
     port: &Port<O>,

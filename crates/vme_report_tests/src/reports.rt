@@ -80,7 +80,7 @@ fn report(
     Ok(write_report(alloc, boards.as_slice(), sink).map_err(RunFault::from))
 }
 
-/// The report if the last line has not ended.
+/// The report where the last line has not ended.
 static UNFINISHED: &str = "1:1 done
 1:3 met
 2:2 unfinished

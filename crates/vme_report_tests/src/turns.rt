@@ -1,4 +1,4 @@
-//! Runs by listed turns, with their reports.
+//! Runs by listed turns, and their reports.
 use crate::support::{expect_prefix, expect_text, expect_text_or_refusal};
 use std::test::Fail;
 use vme_io::RoomSink;
@@ -6,8 +6,7 @@ use vme_script::Config;
 use vme_shared::Status;
 use vme_stepper::{run_configured, run_steps};
 
-/// A refused line, a transfer and a local write, on a board of 16 bytes; a block on the other
-/// board.
+/// A refused line, a transfer and a local write, on a board of 16 bytes; a block on the other board.
 static FILE: &str = "schedule = [[5, 1], [9, 2]]
 rounds = 2
 [[board]]

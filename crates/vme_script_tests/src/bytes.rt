@@ -1,4 +1,4 @@
-//! Lines that name bytes of a mailbox. The values are this project's own.
+//! Lines that access bytes of a mailbox.
 use crate::support::check;
 use std::alloc::{AllocError, Global};
 use std::process::Abort;

@@ -1,4 +1,4 @@
-//! What lines of a script do next, call by call, in worked orders of replies.
+//! The steps of script lines, call by call, with listed replies.
 use crate::support::{ASK, DONE, FREED, GRANTED, Given, LOOK, Step, answer, course_of};
 use std::test::Fail;
 use vme_am::AmFault;

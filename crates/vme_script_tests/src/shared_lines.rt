@@ -1,4 +1,4 @@
-//! Locks and mailboxes in a script: which outcomes are tried again, and which end the line.
+//! Locks and mailboxes in a script: which outcomes are retried, and which end the line.
 use crate::support::{ASK, DONE, FREED, GRANTED, Given, Step, answer, course_of};
 use std::process::Abort;
 use std::test::Fail;
@@ -75,7 +75,7 @@ static CYCLES: [(usize, SharedOutcome, &[(u32, Given)]); 10] = [
             (0, Given::Done),
         ],
     ),
-    // No word, twice.
+    // The mailbox is empty, twice.
     (
         TAKE,
         SharedOutcome::Empty,
@@ -90,7 +90,7 @@ static CYCLES: [(usize, SharedOutcome, &[(u32, Given)]); 10] = [
             (0, Given::Done),
         ],
     ),
-    // The count of words put is as great as can be: the lock is given back, and the line ends.
+    // The count of words put has its greatest value: the lock is freed, and the line ends.
     (
         PUT,
         SharedOutcome::Spent,
@@ -101,7 +101,7 @@ static CYCLES: [(usize, SharedOutcome, &[(u32, Given)]); 10] = [
             (0, Given::Done),
         ],
     ),
-    // Another has the mailbox's lock, twice.
+    // Another processor holds the mailbox's lock, twice.
     (
         TAKE,
         SharedOutcome::Busy,
@@ -136,7 +136,7 @@ fn locks_and_mailboxes_are_tried_again(rt: HostRuntime) -> Result<(), Fail> {
     Ok(())
 }
 
-/// The bus timer answers, and no board.
+/// No board is selected: the bus timer ends the cycle.
 static UNSELECTED: [(Given, Step); 3] = [
     (Given::Nothing, ASK),
     (GRANTED, DONE),

@@ -40,10 +40,8 @@ pub fn check_files(
 
 pub const ASK: Step = Step::Bus(ArbCmd::Ask { slot: 2, level: 3 });
 
-/// A poll for the bus.
 pub const LOOK: Step = Step::Bus(ArbCmd::Look { slot: 2 });
 
-/// The release of the bus.
 pub const DONE: Step = Step::Bus(ArbCmd::Done { slot: 2 });
 
 /// The step of a line, without the signals of a cycle.
@@ -81,10 +79,8 @@ pub enum Given {
     Berr,
 }
 
-/// The bus was granted.
 pub const GRANTED: Given = Given::Turn(ArbReply::Granted);
 
-/// The bus was released.
 pub const FREED: Given = Given::Turn(ArbReply::Freed);
 
 fn reply(given: Given) -> Option<EventReply> {
@@ -119,8 +115,8 @@ pub fn course_of(alloc: Global, cycles: &[(u32, Given)]) -> Result<Vec<(Given, S
     Ok(course)
 }
 
-/// Calls a line of the first board as in a course, and twice more after its end: its answer, which
-/// comes once unless it is a refusal.
+/// Gives a line of the first board the listed replies, and calls it twice more after its end.
+/// Returns the line's reply, which it gives once unless it is a refusal.
 pub fn answer(
     rt: &impl Abort,
     config: &Config,

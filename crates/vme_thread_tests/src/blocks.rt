@@ -1,5 +1,5 @@
-//! Two processors that fill and read blocks of each other's boards: each block is longer than
-//! what lies in a buffer itself.
+//! Two processors that write and read blocks of each other's boards. Each block is longer than the
+//! inline capacity of a `BlockBuffer`.
 use crate::support::{Meeting, configured, report_of};
 use std::process::Abort;
 use std::sync::atomic::Ordering;

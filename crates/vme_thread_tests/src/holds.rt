@@ -1,4 +1,4 @@
-//! One processor is held before or after a line until the other is through.
+//! One processor is held before or after a line until the other has finished its script.
 use crate::support::{configured, replies_of, report_of, seen};
 use std::process::Abort;
 use std::sync::atomic::{AtomicBool, Ordering};
@@ -33,7 +33,7 @@ static REPLIES: &str = "1:1 done
 /// The first bytes of the first board's memory after a run.
 static BYTES: [u8; 6] = [1, 2, 0, 0, 3, 4];
 
-/// The last line of both scripts.
+/// The number of the last line of both scripts.
 const LAST_LINE: u16 = 2;
 
 /// A gate that holds the processor of one slot at one point, until the other has finished its

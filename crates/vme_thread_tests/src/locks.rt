@@ -1,4 +1,4 @@
-//! Processors that hold a lock each in turn: while one has it, no other writes.
+//! Processors that take one lock in alternation. While one has the lock, no other writes.
 use crate::support::{Open, configured, report_of};
 use std::alloc::{AllocError, Global};
 use std::process::Abort;

@@ -48,7 +48,6 @@ const TIMES: usize = 50;
 /// The put count and the take count of the mailbox after a long run.
 const MANY_COUNTED: [u8; 8] = [0, 0, 0, 0xc8, 0, 0, 0, 0xc8];
 
-/// The put count and the take count of the mailbox after a short run.
 const FEW_COUNTED: [u8; 8] = [0, 0, 0, 0x0a, 0, 0, 0, 0x0a];
 
 /// The offset of the counts in the mailbox's board.

@@ -1,4 +1,4 @@
-//! Processors that add to one word: four of them, and as many as there are slots.
+//! Processors that add to one word: four of them, and one in each of the 21 slots.
 use crate::support::{Open, configured, report_of};
 use std::alloc::{AllocError, Global};
 use std::process::Abort;
@@ -50,13 +50,13 @@ struct Bus {
     levels: [&'static str; 4],
 }
 
-/// By priority, with all slots on the greatest level.
+/// A priority arbiter, with all slots on the highest level.
 static BY_PRIORITY: Bus = Bus {
     arbiter: "arbiter = 'priority'\n",
     levels: ["", "", "", ""],
 };
 
-/// In rotation, with the slots spread over the levels.
+/// A rotating arbiter, with the slots spread over all levels.
 static ROTATING: Bus = Bus {
     arbiter: "arbiter = 'rotating'\n",
     levels: ["level = 3\n", "level = 2\n", "level = 1\n", "level = 0\n"],
@@ -136,7 +136,8 @@ fn expect_word(rt: &impl Abort, report: &Report, word: [u8; 4]) {
     }
 }
 
-/// Each number below that of the word is found once, and the word is what the board has in the end.
+/// Checks that the lines read each number below the final value once, and that the word has the
+/// final value.
 fn expect_sum(
     rt: &impl Abort,
     alloc: Global,

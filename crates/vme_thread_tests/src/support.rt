@@ -24,7 +24,7 @@ pub(crate) fn seen(sign: &AtomicBool) -> bool {
     false
 }
 
-/// A gate that is always open.
+/// A gate that never waits.
 pub(crate) struct Open;
 
 impl Gate for Open {
@@ -33,7 +33,7 @@ impl Gate for Open {
     fn after(&self, _slot: u16, _line: u16) {}
 }
 
-/// A gate at which each processor waits before its first line until the other is there too.
+/// A gate at which each processor waits before its first line until the other has reached it too.
 #[derive(Drop)]
 pub(crate) struct Meeting {
     first: AtomicBool,
@@ -91,7 +91,7 @@ pub(crate) fn report_of<R: Threads + Wait + Abort + Sync, G: Gate + Sync>(
     }
 }
 
-/// The replies of a report, line by line.
+/// Returns the replies of a report, one line of text for each.
 pub(crate) fn replies_of(alloc: Global, report: &Report) -> Result<Vec<u8>, AllocError> {
     let mut text = Vec::new(alloc);
     for (board, lines) in report.boards.iter().zip(report.lines.iter()) {
