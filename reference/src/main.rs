@@ -1,0 +1,95 @@
+//! The independent reference of `vme`: its three commands again, from the tables of the specification, and what
+//! compares the two. The page beside the sources says how to use it.
+
+mod arbiter;
+mod boards;
+mod codes;
+mod configuration;
+mod cycles;
+mod engines;
+mod generate;
+mod keys;
+mod lines;
+mod locations;
+mod machine;
+mod mailboxes;
+mod random;
+mod reading;
+mod replies;
+mod report;
+mod requests;
+mod tasks;
+mod toml;
+mod words;
+
+use std::io::{Read, Write};
+use std::process::ExitCode;
+use words::Ended;
+
+fn main() -> ExitCode {
+    let words: Vec<String> = std::env::args().skip(1).collect();
+    let words: Vec<&str> = words.iter().map(String::as_str).collect();
+    let mut ended = command(&words);
+    let mut output = std::io::stdout().lock();
+    if output.write_all(&ended.written).and_then(|()| output.flush()).is_err() {
+        ended = Ended::fault("write");
+    }
+    eprint!("{}", ended.said);
+    ExitCode::from(ended.status)
+}
+
+fn command(words: &[&str]) -> Ended {
+    match words {
+        ["cycles"] => with_bytes(&mut std::io::stdin().lock(), cycles::answer),
+        ["step", file] => with_file(file, engines::step),
+        ["run", file] => with_file(file, |it| engines::run(it, 0)),
+        ["run", "--seed", seed, file] => match seed.parse() {
+            Ok(seed) => with_file(file, |it| engines::run(it, seed)),
+            Err(_) => Ended::usage(),
+        },
+        ["generate", "lines", count, seed] => generated_lines(count, seed),
+        ["generate", kind, count, seed, folder, sources @ ..] => generated_files(kind, count, seed, folder, sources),
+        _ => Ended::usage(),
+    }
+}
+
+fn generated_lines(count: &str, seed: &str) -> Ended {
+    let (Ok(count), Ok(seed)) = (count.parse(), seed.parse()) else {
+        return Ended::usage();
+    };
+    Ended::report(generate::request_lines(count, seed), true)
+}
+
+/// Writes files `0.toml` and so on into a folder.
+fn generated_files(kind: &str, count: &str, seed: &str, folder: &str, sources: &[&str]) -> Ended {
+    let (Ok(count), Ok(seed)) = (count.parse::<usize>(), seed.parse()) else {
+        return Ended::usage();
+    };
+    let Ok(sources) = sources.iter().map(std::fs::read).collect::<Result<Vec<_>, _>>() else {
+        return Ended::fault("read");
+    };
+    for number in 0..count {
+        let Some(file) = generate::file(kind, number, seed, &sources) else {
+            return Ended::usage();
+        };
+        if std::fs::write(format!("{folder}/{number}.toml"), file).is_err() {
+            return Ended::fault("write");
+        }
+    }
+    Ended::report(Vec::new(), true)
+}
+
+fn with_file(path: &str, work: impl FnOnce(&[u8]) -> Ended) -> Ended {
+    match std::fs::File::open(path) {
+        Ok(mut file) => with_bytes(&mut file, work),
+        Err(_) => Ended::fault("read"),
+    }
+}
+
+fn with_bytes(source: &mut dyn Read, work: impl FnOnce(&[u8]) -> Ended) -> Ended {
+    let mut bytes = Vec::new();
+    match source.read_to_end(&mut bytes) {
+        Ok(_) => work(&bytes),
+        Err(_) => Ended::fault("read"),
+    }
+}
