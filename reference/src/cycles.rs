@@ -26,10 +26,11 @@ pub fn answer(input: &[u8]) -> Ended {
     for line in lines::split(input) {
         let reply = match parse(line) {
             Ok(None) => continue,
-            Ok(Some(Line::Bus(request))) => match request.plan() {
-                Ok(plan) => LineReply::Transfer(plan.outcome(&transfer(&mut board, &plan, &mut output))).text(),
-                Err(refusal) => LineReply::Refused(refusal).text(),
-            },
+            Ok(Some(Line::Bus(Ok(plan)))) => {
+                let replies = transfer(&mut board, &plan, &mut output);
+                LineReply::Transfer(plan.outcome(&replies.iter().collect::<Vec<_>>())).text()
+            }
+            Ok(Some(Line::Bus(Err(refusal)))) => LineReply::Refused(refusal).text(),
             Ok(Some(_)) => unreachable!("the first words of these lines are unknown"),
             Err(fault) => format!("line refused S{}", fault as u8),
         };

@@ -1,7 +1,7 @@
 //! The lines of scripts and of `vme cycles`.
 
 use crate::boards::{Command, Port};
-use crate::requests::{Action, Form, Function, Request};
+use crate::requests::{Action, Form, Function, Plan, Refusal, Request};
 
 /// Why a line is refused; the number is that of its text.
 #[derive(Clone, Copy, PartialEq, Eq, Debug)]
@@ -17,13 +17,16 @@ pub enum LineFault {
     MailboxBytes = 9,
 }
 
+/// A lawful request, or why the request is refused.
+pub type Asked = Result<Plan, Refusal>;
+
 #[derive(Clone, Debug)]
 pub enum Line {
-    Bus(Request),
+    Bus(Asked),
     Local(Command),
-    Await(Request, Vec<u8>),
-    Lock(Request),
-    Unlock(Request),
+    Await(Asked, Vec<u8>),
+    Lock(Asked),
+    Unlock(Asked),
     /// A mailbox by its number in the file, from 1, and a word.
     Put(usize, Vec<u8>),
     Take(usize),
@@ -175,14 +178,14 @@ impl Fields {
     fn line(mut self) -> Line {
         let bytes = self.bytes.first().cloned().unwrap_or_default();
         match self.command {
-            "r" => Line::Bus(self.request(self.length, Form::Read)),
-            "w" => Line::Bus(self.request(bytes.len(), Form::Write(bytes))),
-            "br" => Line::Bus(self.request(self.length, Form::BlockRead { count: self.count })),
-            "bw" => Line::Bus(self.request(self.length, Form::BlockWrite(bytes))),
-            "bf" => Line::Bus(self.request(self.length, Form::BlockFill { count: self.count, bytes })),
+            "r" => Line::Bus(self.asked(self.length, Form::Read)),
+            "w" => Line::Bus(self.asked(bytes.len(), Form::Write(bytes))),
+            "br" => Line::Bus(self.asked(self.length, Form::BlockRead { count: self.count })),
+            "bw" => Line::Bus(self.asked(self.length, Form::BlockWrite(bytes))),
+            "bf" => Line::Bus(self.asked(self.length, Form::BlockFill { count: self.count, bytes })),
             "m" => {
                 let function = self.function();
-                Line::Bus(self.request(self.length, Form::Modify(function)))
+                Line::Bus(self.asked(self.length, Form::Modify(function)))
             }
             "lr" => Line::Local(self.local(self.length, Action::Read)),
             "lw" => Line::Local(self.local(bytes.len(), Action::Write(bytes))),
@@ -190,16 +193,16 @@ impl Fields {
                 let function = self.function();
                 Line::Local(self.local(self.length, Action::Modify(function)))
             }
-            "await" => Line::Await(self.request(bytes.len(), Form::Read), bytes),
-            "lock" => Line::Lock(self.request(1, Form::Modify(Function::Set))),
-            "unlock" => Line::Unlock(self.request(1, Form::Write(vec![0]))),
+            "await" => Line::Await(self.asked(bytes.len(), Form::Read), bytes),
+            "lock" => Line::Lock(self.asked(1, Form::Modify(Function::Set))),
+            "unlock" => Line::Unlock(self.asked(1, Form::Write(vec![0]))),
             "put" => Line::Put(self.mailbox, bytes),
             _ => Line::Take(self.mailbox),
         }
     }
 
-    fn request(&self, length: usize, form: Form) -> Request {
-        Request { am: self.am, address: self.address, length, form }
+    fn asked(&self, length: usize, form: Form) -> Asked {
+        Request { am: self.am, address: self.address, length, form }.plan()
     }
 
     fn local(&self, length: usize, action: Action) -> Command {

@@ -3,6 +3,7 @@
 
 mod arbiter;
 mod boards;
+mod check;
 mod codes;
 mod configuration;
 mod cycles;
@@ -47,6 +48,7 @@ fn command(words: &[&str]) -> Ended {
             Ok(seed) => with_file(file, |it| engines::run(it, seed)),
             Err(_) => Ended::usage(),
         },
+        ["check", report, file] => with_file(report, |report| with_file(file, |file| check::check(report, file))),
         ["generate", "lines", count, seed] => generated_lines(count, seed),
         ["generate", kind, count, seed, folder, sources @ ..] => generated_files(kind, count, seed, folder, sources),
         _ => Ended::usage(),

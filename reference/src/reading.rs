@@ -1,11 +1,11 @@
 //! From the text of a file to a configuration, with the refusals in their order.
 
-use crate::boards::{Class, Range};
+use crate::boards::{self, Class, Range};
 use crate::codes::{self, Access, Space};
 use crate::configuration::{BoardEntry, Configuration, Fault, Mailbox, Refused};
 use crate::keys;
 use crate::lines::{self, Line, LineFault};
-use crate::requests::Request;
+use crate::requests::{Form, Plan, Request};
 use crate::toml;
 
 const MOST_BOARDS: usize = 21;
@@ -166,8 +166,8 @@ fn declared(line: Option<Line>, board: usize, whole: &Configuration) -> Result<O
             return if is_declared { Ok(line) } else { Err(LineFault::BadNumber) };
         }
         Some(Line::Local(command)) => Some((board, command.offset, command.offset + command.length as u64)),
-        Some(Line::Bus(request) | Line::Await(request, _) | Line::Lock(request) | Line::Unlock(request)) => {
-            whole.named_bytes(request)
+        Some(Line::Bus(asked) | Line::Await(asked, _) | Line::Lock(asked) | Line::Unlock(asked)) => {
+            asked.as_ref().ok().and_then(|it| whole.named_bytes(it))
         }
     };
     let mailboxes = whole.mailboxes.iter().filter_map(|it| whole.mailbox_bytes(it));
@@ -179,15 +179,14 @@ fn declared(line: Option<Line>, board: usize, whole: &Configuration) -> Result<O
 
 impl Configuration {
     /// The bytes that a lawful request names on the board that it selects.
-    fn named_bytes(&self, request: &Request) -> Option<Bytes> {
-        let plan = request.plan().ok()?;
-        let (board, offset) = crate::boards::select(&self.ranges, &plan)?;
+    fn named_bytes(&self, plan: &Plan) -> Option<Bytes> {
+        let (board, offset) = boards::select(&self.ranges, plan)?;
         Some((board, offset, offset + (plan.data.len() * plan.length) as u64))
     }
 
     fn mailbox_bytes(&self, mailbox: &Mailbox) -> Option<Bytes> {
-        let lock = Request { am: mailbox.am, address: mailbox.address, length: 1, form: crate::requests::Form::Read };
-        let (board, offset, _) = self.named_bytes(&lock)?;
+        let lock = Request { am: mailbox.am, address: mailbox.address, length: 1, form: Form::Read };
+        let (board, offset, _) = self.named_bytes(&lock.plan().ok()?)?;
         Some((board, offset, offset + mailbox.length()))
     }
 }

@@ -5,7 +5,7 @@ use crate::machine::Machine;
 use crate::replies::{digits, is_good, LineReply};
 use crate::words::Ended;
 
-const ROW: usize = 16;
+pub const ROW: usize = 16;
 
 /// What a report says, its replies as texts.
 #[derive(Clone, PartialEq, Eq, Debug)]

@@ -188,9 +188,9 @@ pub enum Outcome {
 impl Plan {
     /// The outcome of a transfer whose data had these replies: all of them, or those up to the first bus error. A
     /// transfer that no board answers has none.
-    pub fn outcome(&self, replies: &[Reply]) -> Outcome {
-        let count = replies.iter().take_while(|it| **it != Reply::Berr).count();
-        let bytes = replies.iter().flat_map(Reply::bytes).copied().collect();
+    pub fn outcome(&self, replies: &[&Reply]) -> Outcome {
+        let count = replies.iter().take_while(|it| ***it != Reply::Berr).count();
+        let bytes = replies.iter().flat_map(|it| it.bytes()).copied().collect();
         if count < self.data.len() {
             return Outcome::Berr { count, bytes };
         }

@@ -4,10 +4,10 @@
 use crate::arbiter;
 use crate::boards::{self, Command, Reply};
 use crate::configuration::{Configuration, Mailbox};
-use crate::lines::Line;
+use crate::lines::{Asked, Line};
 use crate::mailboxes::{self, is_clear};
 use crate::replies::LineReply;
-use crate::requests::{Action, Outcome, Plan, Request};
+use crate::requests::{Action, Outcome, Plan};
 
 /// One command on one object.
 #[derive(Clone, PartialEq, Eq, Debug)]
@@ -40,22 +40,22 @@ pub struct Processor<'a> {
 /// The replies of a try that its task has yet to read.
 pub struct Replies<'a>(pub &'a [EventReply]);
 
-impl Replies<'_> {
+impl<'a> Replies<'a> {
     /// The reply of an event, or the event where it has none yet.
-    fn call(&mut self, event: impl FnOnce() -> Event) -> Result<EventReply, Event> {
+    fn call(&mut self, event: impl FnOnce() -> Event) -> Result<&'a EventReply, Event> {
         let (reply, rest) = self.0.split_first().ok_or_else(event)?;
         self.0 = rest;
-        Ok(reply.clone())
+        Ok(reply)
     }
 
     fn bus(&mut self, command: arbiter::Command) -> Result<arbiter::Reply, Event> {
         match self.call(|| Event::Bus(command))? {
-            EventReply::Bus(reply) => Ok(reply),
+            EventReply::Bus(reply) => Ok(*reply),
             EventReply::Board(_) => unreachable!("the arbiter replies to {command:?}"),
         }
     }
 
-    fn board(&mut self, board: usize, command: impl FnOnce() -> Command) -> Result<Reply, Event> {
+    fn board(&mut self, board: usize, command: impl FnOnce() -> Command) -> Result<&'a Reply, Event> {
         match self.call(|| Event::Board { board, command: command() })? {
             EventReply::Board(reply) => Ok(reply),
             EventReply::Bus(_) => unreachable!("a board replies to its command"),
@@ -71,19 +71,19 @@ impl Processor<'_> {
     /// One try of a line: how it ends, or the event that comes next.
     pub fn attempt(&self, line: &Line, replies: &mut Replies) -> Result<Try, Event> {
         match line {
-            Line::Bus(request) => self.ask(request, replies, |outcome| Try::Ended(LineReply::Transfer(outcome))),
+            Line::Bus(asked) => self.ask(asked, replies, |outcome| Try::Ended(LineReply::Transfer(outcome))),
             Line::Local(command) => self.local(command, replies),
-            Line::Await(request, bytes) => self.ask(request, replies, |outcome| match outcome {
+            Line::Await(asked, bytes) => self.ask(asked, replies, |outcome| match outcome {
                 Outcome::Read(read) if read == *bytes => Try::Ended(LineReply::Met),
                 Outcome::Read(_) => Try::Again(LineReply::Timeout),
                 outcome => Try::Ended(LineReply::Transfer(outcome)),
             }),
-            Line::Lock(request) => self.ask(request, replies, |outcome| match outcome {
+            Line::Lock(asked) => self.ask(asked, replies, |outcome| match outcome {
                 Outcome::Old(old) if is_clear(&old) => Try::Ended(LineReply::Taken),
                 Outcome::Old(_) => Try::Again(LineReply::Busy),
                 outcome => Try::Ended(LineReply::Transfer(outcome)),
             }),
-            Line::Unlock(request) => self.ask(request, replies, |it| Try::Ended(LineReply::Transfer(it))),
+            Line::Unlock(asked) => self.ask(asked, replies, |it| Try::Ended(LineReply::Transfer(it))),
             Line::Put(mailbox, word) => mailboxes::put(self, self.mailbox(*mailbox), word, replies),
             Line::Take(mailbox) => mailboxes::take(self, self.mailbox(*mailbox), replies),
         }
@@ -93,21 +93,21 @@ impl Processor<'_> {
         let outcome = match replies.board(self.board, || command.clone())? {
             Reply::Berr => Outcome::Berr { count: 0, bytes: Vec::new() },
             Reply::Done => Outcome::Done,
-            Reply::Bytes(bytes) if command.action == Action::Read => Outcome::Read(bytes),
-            Reply::Bytes(bytes) => Outcome::Old(bytes),
+            Reply::Bytes(bytes) if command.action == Action::Read => Outcome::Read(bytes.clone()),
+            Reply::Bytes(bytes) => Outcome::Old(bytes.clone()),
         };
         Ok(Try::Ended(LineReply::Transfer(outcome)))
     }
 
     fn ask(
         &self,
-        request: &Request,
+        asked: &Asked,
         replies: &mut Replies,
         end: impl FnOnce(Outcome) -> Try,
     ) -> Result<Try, Event> {
-        match request.plan() {
-            Ok(plan) => Ok(end(self.transfer(&plan, replies)?)),
-            Err(refusal) => Ok(Try::Ended(LineReply::Refused(refusal))),
+        match asked {
+            Ok(plan) => Ok(end(self.transfer(plan, replies)?)),
+            Err(refusal) => Ok(Try::Ended(LineReply::Refused(*refusal))),
         }
     }
 
@@ -124,9 +124,8 @@ impl Processor<'_> {
         if let Some((board, offset)) = boards::select(&self.configuration.ranges, plan) {
             for datum in 0..plan.data.len() {
                 let reply = replies.board(board, || boards::command(plan, offset, datum))?;
-                let is_last = reply == Reply::Berr;
                 answered.push(reply);
-                if is_last {
+                if *reply == Reply::Berr {
                     break;
                 }
             }

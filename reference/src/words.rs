@@ -30,6 +30,11 @@ impl Ended {
         Ended { status: FAULT, written: Vec::new(), said: format!("vme: {fault}\n") }
     }
 
+    /// An answer of the reference's own.
+    pub fn said(status: u8, answer: &str) -> Ended {
+        Ended { status, written: Vec::new(), said: format!("reference: {answer}\n") }
+    }
+
     pub fn usage() -> Ended {
         Ended { status: REFUSED, written: Vec::new(), said: format!("vme: {USAGE}\n") }
     }

@@ -1,0 +1,267 @@
+//! What each line of a script needs by its reply in the report: how many steps of which board, and which bytes.
+
+use crate::boards::{self, Board, Command};
+use crate::configuration::Configuration;
+use crate::lines::{Asked, Line};
+use crate::report::Report;
+use crate::requests::{Action, Form, Plan, Request};
+use std::collections::HashMap;
+
+/// What a try in vain of a line costs.
+#[derive(Clone, Copy, PartialEq, Eq, Debug)]
+pub enum Vain {
+    /// The number of the line's steps is known.
+    Known,
+    /// One step, which changes no byte; how many come is open.
+    OneStep,
+    /// One step, or four of which two write; how many come is open.
+    OneOrFour,
+}
+
+#[derive(Clone, Copy, Debug)]
+pub struct Need {
+    /// The board of its steps; none where it makes none.
+    pub board: Option<usize>,
+    /// How many tries in vain it needs before the last.
+    pub in_vain: u64,
+    /// The steps of what comes after the tries in vain.
+    pub last: u64,
+    pub vain: Vain,
+    /// The most tries in vain.
+    pub most_in_vain: u64,
+}
+
+impl Need {
+    /// The steps that it still needs at least, after some tries in vain.
+    pub fn least(&self, tries: u64) -> u64 {
+        self.in_vain.saturating_sub(tries) + self.last
+    }
+
+    /// Whether it is a put or take that the report says was in vain, by the lock or else.
+    pub fn is_in_vain(&self) -> bool {
+        self.vain == Vain::OneOrFour && self.last != WHOLE_TASK
+    }
+
+    /// The steps that it may make beyond these at most.
+    pub fn room(&self, tries: u64) -> u64 {
+        let left = self.most_in_vain.saturating_sub(tries);
+        let due = self.in_vain.saturating_sub(tries);
+        match self.vain {
+            Vain::Known => 0,
+            Vain::OneStep => left,
+            Vain::OneOrFour => VAIN_TASK * left - due,
+        }
+    }
+}
+
+/// What the lines after one need on a board.
+#[derive(Clone, Copy, Default, Debug)]
+pub struct Later {
+    pub least: u64,
+    pub room: u64,
+}
+
+#[derive(Clone, Copy, Debug)]
+pub struct Touched {
+    pub board: usize,
+    pub first: u64,
+    pub end: u64,
+    pub writes: bool,
+}
+
+/// A processor that comes to a byte, with its last line that does, and its last line that may write it.
+#[derive(Clone, Copy, Debug)]
+struct Visitor {
+    who: usize,
+    last: usize,
+    last_writing: Option<usize>,
+}
+
+pub struct Needs {
+    /// By processor and line.
+    pub lines: Vec<Vec<Need>>,
+    /// By processor, line and board.
+    pub later: Vec<Vec<Vec<Later>>>,
+    /// By processor and board: the last line whose steps are open in number, and the last whose tries in vain cost one
+    /// step or four.
+    pub last_open: Vec<Vec<Option<usize>>>,
+    pub last_mixed: Vec<Vec<Option<usize>>>,
+    /// By processor and line.
+    pub touched: Vec<Vec<Vec<Touched>>>,
+    visitors: HashMap<(usize, u64), Vec<Visitor>>,
+}
+
+/// The steps of a put or take that succeeds, and of one that finds the mailbox full or empty.
+const WHOLE_TASK: u64 = 6;
+const VAIN_TASK: u64 = 4;
+
+impl Needs {
+    pub fn of(configuration: &Configuration, report: &Report) -> Needs {
+        let boards = configuration.boards.len();
+        let mut needs = Needs {
+            lines: Vec::new(),
+            later: Vec::new(),
+            last_open: vec![vec![None; boards]; boards],
+            last_mixed: vec![vec![None; boards]; boards],
+            touched: Vec::new(),
+            visitors: HashMap::new(),
+        };
+        for (who, entry) in configuration.boards.iter().enumerate() {
+            let all = entry.script.iter().zip(&report.replies[who]);
+            let lines: Vec<_> = all.map(|((_, line), reply)| need(configuration, who, line, reply)).collect();
+            needs.later.push(later(&lines, boards));
+            needs.note_open(who, &lines);
+            needs.lines.push(lines);
+            let touched: Vec<_> = entry.script.iter().map(|(_, line)| touched(configuration, who, line)).collect();
+            for (number, ranges) in touched.iter().enumerate() {
+                ranges.iter().for_each(|it| needs.visit(who, number, it));
+            }
+            needs.touched.push(touched);
+        }
+        needs
+    }
+
+    fn note_open(&mut self, who: usize, lines: &[Need]) {
+        for (number, it) in lines.iter().enumerate() {
+            if let Some(board) = it.board {
+                if it.vain != Vain::Known {
+                    self.last_open[who][board] = Some(number);
+                }
+                if it.vain == Vain::OneOrFour {
+                    self.last_mixed[who][board] = Some(number);
+                }
+            }
+        }
+    }
+
+    fn visit(&mut self, who: usize, line: usize, range: &Touched) {
+        for offset in range.first..range.end {
+            let visitors = self.visitors.entry((range.board, offset)).or_default();
+            if visitors.last().map(|it| it.who) != Some(who) {
+                visitors.push(Visitor { who, last: line, last_writing: None });
+            }
+            let visitor = visitors.last_mut().expect("one was put there");
+            visitor.last = line;
+            if range.writes {
+                visitor.last_writing = Some(line);
+            }
+        }
+    }
+
+    /// Whether another processor, from its line at work on, may write these bytes, or touch them where they are written.
+    pub fn meets(&self, who: usize, range: &Touched, at_work: impl Fn(usize) -> usize) -> bool {
+        let meets = |it: &Visitor| {
+            let last = if range.writes { Some(it.last) } else { it.last_writing };
+            it.who != who && last.is_some_and(|last| last >= at_work(it.who))
+        };
+        let mut offsets = range.first..range.end;
+        offsets.any(|offset| self.visitors.get(&(range.board, offset)).is_some_and(|all| all.iter().any(meets)))
+    }
+
+    /// Whether a processor, from its line at work on, may write a byte.
+    pub fn may_be_written(&self, at: (usize, u64), at_work: impl Fn(usize) -> usize) -> bool {
+        let writes = |it: &Visitor| it.last_writing.is_some_and(|last| last >= at_work(it.who));
+        self.visitors.get(&at).is_some_and(|all| all.iter().any(writes))
+    }
+
+    pub fn touched_bytes(&self) -> impl Iterator<Item = &(usize, u64)> {
+        self.visitors.keys()
+    }
+
+    /// The bytes that several processors come to, one of them to write.
+    pub fn shared(&self) -> Vec<(usize, u64)> {
+        let is_shared = |all: &Vec<Visitor>| all.len() > 1 && all.iter().any(|it| it.last_writing.is_some());
+        let shared = self.visitors.iter().filter(|it| is_shared(it.1)).map(|it| *it.0);
+        let mut shared: Vec<_> = shared.collect();
+        shared.sort();
+        shared
+    }
+}
+
+fn later(lines: &[Need], boards: usize) -> Vec<Vec<Later>> {
+    let mut later = Vec::new();
+    let mut sums = vec![Later::default(); boards];
+    for it in lines.iter().rev() {
+        later.push(sums.clone());
+        if let Some(board) = it.board {
+            sums[board].least += it.least(0);
+            sums[board].room += it.room(0);
+        }
+    }
+    later.reverse();
+    later
+}
+
+fn need(configuration: &Configuration, who: usize, line: &Line, reply: &str) -> Need {
+    let tries = configuration.tries;
+    let (board, steps) = match steps(configuration, who, line).first() {
+        Some(first) => (Some(first.0), steps(configuration, who, line).len() as u64),
+        None => (None, 0),
+    };
+    let word = reply.split(' ').next().unwrap_or_default();
+    let (in_vain, last, vain) = match (line, word) {
+        (Line::Await(..), "met") | (Line::Lock(_), "taken") => (0, 1, Vain::OneStep),
+        (Line::Await(..), "timeout") | (Line::Lock(_), "busy") => (tries - 1, 1, Vain::Known),
+        (Line::Put(..) | Line::Take(_), "busy") => (tries - 1, 1, Vain::OneOrFour),
+        (Line::Put(..) | Line::Take(_), "full" | "empty") => (tries - 1, VAIN_TASK, Vain::OneOrFour),
+        (Line::Put(..) | Line::Take(_), _) => (0, WHOLE_TASK, Vain::OneOrFour),
+        _ => (0, steps, Vain::Known),
+    };
+    Need { board, in_vain, last, vain, most_in_vain: tries - 1 }
+}
+
+/// The commands of a line's first transfer or local access, with their boards, up to the first bus error.
+fn steps(configuration: &Configuration, who: usize, line: &Line) -> Vec<(usize, Command)> {
+    let lock;
+    let asked: &Asked = match line {
+        Line::Local(command) => return vec![(who, command.clone())],
+        Line::Bus(asked) | Line::Await(asked, _) | Line::Lock(asked) | Line::Unlock(asked) => asked,
+        Line::Put(number, _) | Line::Take(number) => {
+            let mailbox = configuration.mailboxes[number - 1];
+            lock = Request { am: mailbox.am, address: mailbox.address, length: 1, form: Form::Read }.plan();
+            &lock
+        }
+    };
+    match asked {
+        Ok(plan) => data(configuration, plan),
+        Err(_) => Vec::new(),
+    }
+}
+
+fn data(configuration: &Configuration, plan: &Plan) -> Vec<(usize, Command)> {
+    let Some((board, offset)) = boards::select(&configuration.ranges, plan) else {
+        return Vec::new();
+    };
+    let mut data = Vec::new();
+    for datum in 0..plan.data.len() {
+        let command = boards::command(plan, offset, datum);
+        let is_last = !answers(configuration, board, &command);
+        data.push((board, command));
+        if is_last {
+            break;
+        }
+    }
+    data
+}
+
+fn answers(configuration: &Configuration, board: usize, command: &Command) -> bool {
+    let entry = &configuration.boards[board];
+    Board::new(entry.range.size, entry.class).answers(command)
+}
+
+/// The bytes that a line may touch.
+fn touched(configuration: &Configuration, who: usize, line: &Line) -> Vec<Touched> {
+    let mut touched = Vec::new();
+    for (board, command) in steps(configuration, who, line) {
+        if !answers(configuration, board, &command) {
+            continue;
+        }
+        let length = match line {
+            Line::Put(number, _) | Line::Take(number) => configuration.mailboxes[number - 1].length(),
+            _ => command.length as u64,
+        };
+        let writes = command.action != Action::Read || matches!(line, Line::Put(..) | Line::Take(_));
+        touched.push(Touched { board, first: command.offset, end: command.offset + length, writes });
+    }
+    touched
+}
