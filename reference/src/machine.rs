@@ -62,6 +62,7 @@ impl Position {
     }
 }
 
+#[derive(Clone)]
 pub struct Machine<'a> {
     pub configuration: &'a Configuration,
     pub boards: Vec<Board>,
@@ -125,5 +126,11 @@ impl<'a> Machine<'a> {
                 EventReply::Bus(self.arbiter.step(slot, *command))
             }
         }
+    }
+    /// All that the machine's future and its report depend on.
+    #[cfg(test)]
+    pub fn key(&self) -> String {
+        let bytes: Vec<_> = self.boards.iter().map(|it| &it.bytes).collect();
+        format!("{bytes:?} {:?} {:?} {:?} {:?}", self.arbiter, self.positions, self.replies, self.made)
     }
 }

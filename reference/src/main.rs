@@ -14,6 +14,7 @@ mod lines;
 mod locations;
 mod machine;
 mod mailboxes;
+mod met;
 mod random;
 mod reading;
 mod replies;
@@ -49,10 +50,27 @@ fn command(words: &[&str]) -> Ended {
             Err(_) => Ended::usage(),
         },
         ["check", report, file] => with_file(report, |report| with_file(file, |file| check::check(report, file))),
+        ["met", "lines"] => with_bytes(&mut std::io::stdin().lock(), |input| {
+            let mut met = met::Met::default();
+            met.lines(input);
+            met.ended()
+        }),
+        ["met", "files", files @ ..] => met_by(files),
         ["generate", "lines", count, seed] => generated_lines(count, seed),
         ["generate", kind, count, seed, folder, sources @ ..] => generated_files(kind, count, seed, folder, sources),
         _ => Ended::usage(),
     }
+}
+
+fn met_by(files: &[&str]) -> Ended {
+    let mut met = met::Met::default();
+    for file in files {
+        match std::fs::read(file) {
+            Ok(file) => met.file(&file),
+            Err(_) => return Ended::fault("read"),
+        }
+    }
+    met.ended()
 }
 
 fn generated_lines(count: &str, seed: &str) -> Ended {

@@ -4,6 +4,8 @@ mod judge;
 mod needs;
 mod search;
 mod state;
+#[cfg(test)]
+mod tests;
 
 use crate::configuration::{self, Configuration};
 use crate::reading;

@@ -210,12 +210,12 @@ fn bad_line(random: &mut Random, draft: &mut Draft) {
     let aim = Aim { space: Space::A32, base: 0, size: 16, is_supervisory: false };
     let aims = Aims { boards: vec![aim], own_size: 16, mailboxes: 2, are_close: false };
     let commands = ["r", "w", "br", "bw", "bf", "m", "lr", "lw", "lm", "await", "lock", "unlock", "put", "take"];
-    let mut line = lines::any(random, &aims, &commands);
+    let mut line = lines::bad(random, &aims, &commands);
     line.retain(|it| *it != b'\n');
     let script = script(random, draft);
     let at = random.below(script.len() + 1);
     script.insert(at, line);
-    if random.one_in(3) {
+    if random.one_in(5) {
         let line = random.pick(&["put 0 00000000", "take 0", "take 17", "put 99 00000000", "take", "lr 00000000 3"]);
         script.insert(at, line.into());
     }

@@ -11,9 +11,20 @@ use crate::reading;
 const ALL: [&str; 14] =
     ["r", "w", "br", "bw", "bf", "m", "lr", "lw", "lm", "await", "lock", "unlock", "put", "take"];
 
+/// How large a configuration is, and how close its lines are to each other.
+#[derive(Clone, Copy, PartialEq)]
+enum Extent {
+    /// Boards of all sizes, and lines all over them.
+    Wide,
+    /// Lines on a few bytes of one or two boards.
+    Close,
+    /// The same, with so few lines that all interleavings can be gone through.
+    Small,
+}
+
 /// A configuration for `step`.
 pub fn by_turns(random: &mut Random) -> String {
-    let mut draft = lawful(random, false);
+    let mut draft = lawful(random, Extent::Wide);
     turns(random, &mut draft);
     let faults = random.pick(&[0, 0, 0, 0, 0, 1, 1, 2]);
     for _ in 0..faults {
@@ -24,33 +35,45 @@ pub fn by_turns(random: &mut Random) -> String {
 
 /// A lawful configuration for `run`, whose processors meet on a few bytes.
 pub fn on_threads(random: &mut Random) -> String {
-    lawful(random, true).text(random)
+    lawful(random, Extent::Close).text(random)
 }
 
-fn lawful(random: &mut Random, are_close: bool) -> Draft {
+/// A lawful configuration with few lines.
+pub fn small(random: &mut Random) -> String {
+    lawful(random, Extent::Small).text(random)
+}
+
+fn lawful(random: &mut Random, extent: Extent) -> Draft {
     let mut draft = Draft::default();
-    let aims = boards(random, &mut draft, are_close);
+    let aims = boards(random, &mut draft, extent);
     if random.one_in(2) {
         let count = random.pick(&[1, 1, 1, 2, 3]);
         for _ in 0..count {
             mailbox(random, &mut draft, &aims);
         }
     }
-    let tries = random.pick(if are_close { &[1, 2, 3, 5, 1000] } else { &[1, 2, 3, 4] });
+    let tries = match extent {
+        Extent::Small => random.pick(&[1, 2]),
+        Extent::Close if draft.mailboxes.is_empty() => random.pick(&[1, 2, 3, 5, 1000]),
+        _ => random.pick(&[1, 2, 3, 5, 20]),
+    };
     if tries != 1000 || random.one_in(2) {
         set(&mut draft.top, "tries", &tries.to_string());
     }
     if random.one_in(3) {
         set(&mut draft.top, "arbiter", random.pick(&["\"priority\"", "'rotating'", "\"rotating\""]));
     }
-    scripts(random, &mut draft, aims, are_close);
+    scripts(random, &mut draft, aims, extent);
     repair(random, &mut draft);
     draft
 }
 
-fn boards(random: &mut Random, draft: &mut Draft, are_close: bool) -> Vec<Aim> {
-    let most = if are_close { 5 } else { 21 };
-    let count = if random.one_in(8) { random.from_to(1, most) } else { random.from_to(1, 4) };
+fn boards(random: &mut Random, draft: &mut Draft, extent: Extent) -> Vec<Aim> {
+    let count = match extent {
+        Extent::Small => random.from_to(2, 3),
+        Extent::Wide if random.one_in(8) => random.from_to(1, 21),
+        Extent::Wide | Extent::Close => random.from_to(1, 5),
+    };
     let mut slots: Vec<u32> = (1..=21).collect();
     random.shuffle(&mut slots);
     slots.truncate(count);
@@ -58,7 +81,7 @@ fn boards(random: &mut Random, draft: &mut Draft, are_close: bool) -> Vec<Aim> {
     let mut free = [0; 3];
     let mut aims = Vec::new();
     for slot in slots {
-        let aim = aim(random, &mut free, are_close);
+        let aim = aim(random, &mut free, extent != Extent::Wide);
         draft.boards.push(Board { keys: keys(random, slot, &aim), script: Vec::new() });
         aims.push(aim);
     }
@@ -141,7 +164,9 @@ fn mailbox(random: &mut Random, draft: &mut Draft, aims: &[Aim]) {
     draft.mailboxes.push(keys);
 }
 
-fn scripts(random: &mut Random, draft: &mut Draft, boards: Vec<Aim>, are_close: bool) {
+fn scripts(random: &mut Random, draft: &mut Draft, boards: Vec<Aim>, extent: Extent) {
+    let are_close = extent != Extent::Wide;
+    let counts: &[usize] = if extent == Extent::Small { &[0, 1, 1, 2, 2, 3] } else { &[0, 1, 2, 3, 4, 5, 6, 8, 12] };
     let mut commands = ALL.to_vec();
     if draft.mailboxes.is_empty() {
         commands.truncate(ALL.len() - 2);
@@ -158,7 +183,7 @@ fn scripts(random: &mut Random, draft: &mut Draft, boards: Vec<Aim>, are_close: 
     let aimed = boards[..few_boards].to_vec();
     for (board, aim) in draft.boards.iter_mut().zip(&boards) {
         let aims = Aims { boards: aimed.clone(), own_size: aim.size, mailboxes, are_close };
-        let count = random.pick(&[0, 1, 2, 3, 4, 5, 6, 8, 12]);
+        let count = random.pick(counts);
         board.script = (0..count).map(|_| lines::lawful(random, &aims, &commands).into_bytes()).collect();
         if random.one_in(10) {
             let line = random.pick(&["", "# nothing", "   "]).as_bytes().to_vec();

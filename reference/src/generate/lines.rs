@@ -32,11 +32,7 @@ impl Aims {
 /// A line with one of some commands, now and then none at all or a damaged one.
 pub fn any(random: &mut Random, aims: &Aims, commands: &[&str]) -> Vec<u8> {
     match random.below(40) {
-        0 => no_request(random),
-        1..=3 => {
-            let line = lawful(random, aims, commands);
-            damaged(random, &line)
-        }
+        0..=3 => bad(random, aims, commands),
         4 => {
             let line = lawful(random, aims, commands);
             unspaced(random, &line)
@@ -45,8 +41,17 @@ pub fn any(random: &mut Random, aims: &Aims, commands: &[&str]) -> Vec<u8> {
     }
 }
 
+/// A line that is refused, or that asks for nothing.
+pub fn bad(random: &mut Random, aims: &Aims, commands: &[&str]) -> Vec<u8> {
+    if random.one_in(5) {
+        return no_request(random);
+    }
+    let line = lawful(random, aims, commands);
+    damaged(random, &line)
+}
+
 fn no_request(random: &mut Random) -> Vec<u8> {
-    let length = random.pick(&[0, 1, 79, 80, 81, 82]);
+    let length = random.pick(&[0, 1, 79, 80, 81, 81, 82, 200]);
     let byte = random.pick(b" #");
     match random.below(4) {
         0 => Vec::new(),
@@ -95,12 +100,12 @@ pub fn lawful(random: &mut Random, aims: &Aims, commands: &[&str]) -> String {
     let aim = random.pick(&aims.boards);
     match command {
         "r" => {
-            let length = single_length(random);
-            format!("r {} {length}", place(random, aims, &aim, Use::Single, 1))
+            let (length, multiple) = single_length(random);
+            format!("r {} {length}", place(random, aims, &aim, Use::Single, multiple))
         }
         "w" => {
-            let length = single_length(random);
-            format!("w {} {}", place(random, aims, &aim, Use::Single, 1), bytes(random, length))
+            let (length, multiple) = single_length(random);
+            format!("w {} {}", place(random, aims, &aim, Use::Single, multiple), bytes(random, length))
         }
         "br" | "bf" | "bw" => block(random, aims, &aim, command),
         "m" => {
@@ -118,9 +123,9 @@ pub fn lawful(random: &mut Random, aims: &Aims, commands: &[&str]) -> String {
             format!("lm {} {length} {}", offset(random, aims), function(random, length))
         }
         "await" => {
-            let length = if random.one_in(4) { single_length(random) } else { 1 };
+            let (length, multiple) = if random.one_in(4) { single_length(random) } else { (1, 1) };
             let bytes = random.pick(&["00", "01", "80", "ff"]).repeat(length);
-            format!("await {} {bytes}", place(random, aims, &aim, Use::Single, 1))
+            format!("await {} {bytes}", place(random, aims, &aim, Use::Single, multiple))
         }
         "lock" | "unlock" => format!("{command} {}", place(random, aims, &aim, Use::Modify, 1)),
         "put" => format!("put {} {}", mailbox(random, aims), bytes(random, 4)),
@@ -132,8 +137,13 @@ fn mailbox(random: &mut Random, aims: &Aims) -> usize {
     1 + random.below(aims.mailboxes.max(1))
 }
 
-fn single_length(random: &mut Random) -> usize {
-    if random.one_in(25) { random.from_to(5, 8) } else { random.from_to(1, 4) }
+/// A length, and of what its addresses are mostly multiples.
+fn single_length(random: &mut Random) -> (usize, usize) {
+    match random.below(25) {
+        0 => (random.from_to(5, 8), 1),
+        1..=10 => (random.from_to(1, 4), 1),
+        _ => random.pick(&[(1, 1), (2, 2), (4, 4)]),
+    }
 }
 
 fn block_length(random: &mut Random) -> usize {
@@ -141,6 +151,8 @@ fn block_length(random: &mut Random) -> usize {
 }
 
 fn block(random: &mut Random, aims: &Aims, aim: &Aim, command: &str) -> String {
+    let has_blocks = |it: &&Aim| it.space != Space::A16;
+    let aim = Some(aim).filter(has_blocks).or(aims.boards.iter().find(has_blocks)).unwrap_or(aim);
     let is_wide = random.one_in(4);
     let (to_what, length) = if is_wide { (Use::WideBlock, 8) } else { (Use::Block, block_length(random)) };
     let place = place(random, aims, aim, to_what, length);

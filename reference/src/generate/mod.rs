@@ -27,6 +27,7 @@ pub fn file(kind: &str, number: usize, seed: u64, sources: &[Vec<u8>]) -> Option
     match kind {
         "step" => Some(files::by_turns(&mut random).into_bytes()),
         "run" => Some(files::on_threads(&mut random).into_bytes()),
+        "small" => Some(files::small(&mut random).into_bytes()),
         "damaged" => {
             let text = source(&mut random, sources);
             let other = source(&mut random, sources);
