@@ -56,7 +56,11 @@ pub enum Fault {
 #[derive(Clone, Copy, PartialEq, Eq, Debug)]
 pub enum Refused {
     File(Fault),
-    Script { slot: u32, line: usize, fault: LineFault },
+    Script {
+        slot: u32,
+        line: usize,
+        fault: LineFault,
+    },
     /// The file may well be right; this reader can't say.
     OutsideSubset,
 }

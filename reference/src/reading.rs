@@ -94,11 +94,7 @@ fn schedule(file: &keys::File, boards: &[BoardEntry]) -> Result<Vec<(usize, u32)
     file.schedule.iter().map(|it| Some((index(it.0)?, it.1))).collect::<Option<_>>().ok_or(Fault::BadSchedule)
 }
 
-fn mailboxes(
-    all: &[keys::Mailbox],
-    boards: &[BoardEntry],
-    ranges: &[Range],
-) -> Result<Vec<Mailbox>, Fault> {
+fn mailboxes(all: &[keys::Mailbox], boards: &[BoardEntry], ranges: &[Range]) -> Result<Vec<Mailbox>, Fault> {
     if all.len() > MOST_MAILBOXES {
         return Err(Fault::BadMailbox);
     }

@@ -182,7 +182,10 @@ pub enum Outcome {
     Done,
     Old(Vec<u8>),
     /// A bus error, with the number of data answered before it and what a read got by then.
-    Berr { count: usize, bytes: Vec<u8> },
+    Berr {
+        count: usize,
+        bytes: Vec<u8>,
+    },
 }
 
 impl Plan {

@@ -99,12 +99,7 @@ impl Processor<'_> {
         Ok(Try::Ended(LineReply::Transfer(outcome)))
     }
 
-    fn ask(
-        &self,
-        asked: &Asked,
-        replies: &mut Replies,
-        end: impl FnOnce(Outcome) -> Try,
-    ) -> Result<Try, Event> {
+    fn ask(&self, asked: &Asked, replies: &mut Replies, end: impl FnOnce(Outcome) -> Try) -> Result<Try, Event> {
         match asked {
             Ok(plan) => Ok(end(self.transfer(plan, replies)?)),
             Err(refusal) => Ok(Try::Ended(LineReply::Refused(*refusal))),

@@ -1,4 +1,4 @@
-//! `check`: whether a report of `vme run` is possible, which is whether some interleaving of the whole machine gives it.
+//! `check`: whether some interleaving of the whole machine gives a report of `vme run`.
 
 mod judge;
 mod needs;

@@ -37,11 +37,6 @@ impl Need {
         self.in_vain.saturating_sub(tries) + self.last
     }
 
-    /// Whether it is a put or take that the report says was in vain, by the lock or else.
-    pub fn is_in_vain(&self) -> bool {
-        self.vain == Vain::OneOrFour && self.last != WHOLE_TASK
-    }
-
     /// The steps that it may make beyond these at most.
     pub fn room(&self, tries: u64) -> u64 {
         let left = self.most_in_vain.saturating_sub(tries);
@@ -82,17 +77,23 @@ pub struct Needs {
     pub lines: Vec<Vec<Need>>,
     /// By processor, line and board.
     pub later: Vec<Vec<Vec<Later>>>,
-    /// By processor and board: the last line whose steps are open in number, and the last whose tries in vain cost one
-    /// step or four.
+    /// By processor and board: the last line whose steps are open in number, and the last whose tries in vain cost
+    /// one step or four.
     pub last_open: Vec<Vec<Option<usize>>>,
     pub last_mixed: Vec<Vec<Option<usize>>>,
+    /// The last whose tries in vain cost one step each.
+    pub last_one_step: Vec<Vec<Option<usize>>>,
+    /// The last put or take that the report says was in vain because of its lock.
+    pub last_busy: Vec<Vec<Option<usize>>>,
     /// By processor and line.
     pub touched: Vec<Vec<Vec<Touched>>>,
     visitors: HashMap<(usize, u64), Vec<Visitor>>,
 }
 
-/// The steps of a put or take that succeeds, and of one that finds the mailbox full or empty.
+/// The steps of a put or take that succeeds, of one that finds the mailbox full or empty, and of one that finds the
+/// lock taken.
 const WHOLE_TASK: u64 = 6;
+const BUSY_TRY: u64 = 1;
 const VAIN_TASK: u64 = 4;
 
 impl Needs {
@@ -103,12 +104,14 @@ impl Needs {
             later: Vec::new(),
             last_open: vec![vec![None; boards]; boards],
             last_mixed: vec![vec![None; boards]; boards],
+            last_one_step: vec![vec![None; boards]; boards],
+            last_busy: vec![vec![None; boards]; boards],
             touched: Vec::new(),
             visitors: HashMap::new(),
         };
         for (who, entry) in configuration.boards.iter().enumerate() {
             let all = entry.script.iter().zip(&report.replies[who]);
-            let lines: Vec<_> = all.map(|((_, line), reply)| need(configuration, who, line, reply)).collect();
+            let lines: Vec<_> = all.map(|((_, line), reply)| need(configuration, report, who, line, reply)).collect();
             needs.later.push(later(&lines, boards));
             needs.note_open(who, &lines);
             needs.lines.push(lines);
@@ -123,13 +126,16 @@ impl Needs {
 
     fn note_open(&mut self, who: usize, lines: &[Need]) {
         for (number, it) in lines.iter().enumerate() {
-            if let Some(board) = it.board {
-                if it.vain != Vain::Known {
-                    self.last_open[who][board] = Some(number);
-                }
-                if it.vain == Vain::OneOrFour {
-                    self.last_mixed[who][board] = Some(number);
-                }
+            let Some(board) = it.board.filter(|_| it.vain != Vain::Known) else {
+                continue;
+            };
+            self.last_open[who][board] = Some(number);
+            match it.vain {
+                Vain::OneOrFour => self.last_mixed[who][board] = Some(number),
+                _ => self.last_one_step[who][board] = Some(number),
+            }
+            if it.vain == Vain::OneOrFour && it.last == BUSY_TRY {
+                self.last_busy[who][board] = Some(number);
             }
         }
     }
@@ -148,7 +154,8 @@ impl Needs {
         }
     }
 
-    /// Whether another processor, from its line at work on, may write these bytes, or touch them where they are written.
+    /// Whether another processor, from its line at work on, may write these bytes, or touch them where they are
+    /// written here.
     pub fn meets(&self, who: usize, range: &Touched, at_work: impl Fn(usize) -> usize) -> bool {
         let meets = |it: &Visitor| {
             let last = if range.writes { Some(it.last) } else { it.last_writing };
@@ -192,7 +199,16 @@ fn later(lines: &[Need], boards: usize) -> Vec<Vec<Later>> {
     later
 }
 
-fn need(configuration: &Configuration, who: usize, line: &Line, reply: &str) -> Need {
+/// Whether a mailbox may be full before some put into it: whether the other puts fill it.
+fn may_be_full(configuration: &Configuration, report: &Report, number: usize) -> bool {
+    let is_put = |line: &Line, reply: &str| matches!(line, Line::Put(it, _) if *it == number) && reply == "put";
+    let entries = configuration.boards.iter().zip(&report.replies);
+    let lines = entries.flat_map(|(entry, replies)| entry.script.iter().zip(replies));
+    let puts = lines.filter(|((_, line), reply)| is_put(line, reply)).count();
+    puts > configuration.mailboxes[number - 1].slots as usize
+}
+
+fn need(configuration: &Configuration, report: &Report, who: usize, line: &Line, reply: &str) -> Need {
     let tries = configuration.tries;
     let (board, steps) = match steps(configuration, who, line).first() {
         Some(first) => (Some(first.0), steps(configuration, who, line).len() as u64),
@@ -202,8 +218,9 @@ fn need(configuration: &Configuration, who: usize, line: &Line, reply: &str) -> 
     let (in_vain, last, vain) = match (line, word) {
         (Line::Await(..), "met") | (Line::Lock(_), "taken") => (0, 1, Vain::OneStep),
         (Line::Await(..), "timeout") | (Line::Lock(_), "busy") => (tries - 1, 1, Vain::Known),
-        (Line::Put(..) | Line::Take(_), "busy") => (tries - 1, 1, Vain::OneOrFour),
+        (Line::Put(..) | Line::Take(_), "busy") => (tries - 1, BUSY_TRY, Vain::OneOrFour),
         (Line::Put(..) | Line::Take(_), "full" | "empty") => (tries - 1, VAIN_TASK, Vain::OneOrFour),
+        (Line::Put(it, _), _) if !may_be_full(configuration, report, *it) => (0, WHOLE_TASK, Vain::OneStep),
         (Line::Put(..) | Line::Take(_), _) => (0, WHOLE_TASK, Vain::OneOrFour),
         _ => (0, steps, Vain::Known),
     };

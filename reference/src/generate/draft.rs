@@ -50,7 +50,11 @@ impl Draft {
             parts.insert(at, format!("{line}\n"));
         }
         let text = parts.join(if random.one_in(3) { "\n" } else { "" });
-        if random.one_in(30) { text.replace('\n', "\r\n") } else { text }
+        if random.one_in(30) {
+            text.replace('\n', "\r\n")
+        } else {
+            text
+        }
     }
 }
 

@@ -8,10 +8,39 @@ use crate::random::Random;
 type Fault = fn(&mut Random, &mut Draft);
 
 const FAULTS: [Fault; 33] = [
-    not_toml, unknown_key, absent_key, wrong_kind, out_of_range, bad_pair, no_board, too_many_boards, bad_slot,
-    bad_level, bad_word, bad_arbiter, bad_size, misaligned, outside_space, overlap, bad_schedule, too_many_mailboxes,
-    bad_mailbox, bad_mailbox_board, shared_mailbox, bad_line, bad_line, long_script, mailbox_bytes,
-    bad_line, bad_line, bad_line, bad_line, bad_line, bad_line, mailbox_bytes, mailbox_bytes,
+    not_toml,
+    unknown_key,
+    absent_key,
+    wrong_kind,
+    out_of_range,
+    bad_pair,
+    no_board,
+    too_many_boards,
+    bad_slot,
+    bad_level,
+    bad_word,
+    bad_arbiter,
+    bad_size,
+    misaligned,
+    outside_space,
+    overlap,
+    bad_schedule,
+    too_many_mailboxes,
+    bad_mailbox,
+    bad_mailbox_board,
+    shared_mailbox,
+    bad_line,
+    bad_line,
+    long_script,
+    mailbox_bytes,
+    bad_line,
+    bad_line,
+    bad_line,
+    bad_line,
+    bad_line,
+    bad_line,
+    mailbox_bytes,
+    mailbox_bytes,
 ];
 
 pub fn put_in(random: &mut Random, draft: &mut Draft) {
@@ -20,8 +49,22 @@ pub fn put_in(random: &mut Random, draft: &mut Draft) {
 
 /// Values that are of the wrong kind for some key.
 const VALUES: [&str; 16] = [
-    "1", "true", "false", "1.5", "-inf", "1e3", "''", "\"a32\"", "[]", "[[]]", "[[1, 1]]", "{}", "{ slot = 1 }",
-    "[1]", "'''priority'''", "nan",
+    "1",
+    "true",
+    "false",
+    "1.5",
+    "-inf",
+    "1e3",
+    "''",
+    "\"a32\"",
+    "[]",
+    "[[]]",
+    "[[1, 1]]",
+    "{}",
+    "{ slot = 1 }",
+    "[1]",
+    "'''priority'''",
+    "nan",
 ];
 
 fn board<'a>(random: &mut Random, draft: &'a mut Draft) -> &'a mut Table {
@@ -52,9 +95,29 @@ fn any_table<'a>(random: &mut Random, draft: &'a mut Draft) -> &'a mut Table {
 
 fn not_toml(random: &mut Random, draft: &mut Draft) {
     let line = random.pick(&[
-        "rounds", "rounds = ", "= 1", "tries = 1 2", "x = 'a", "x = \"a\\q\"", "[board]", "x = 01", "x = 1__0",
-        "x = [1, 2", "x = 0xg", "x = tru", "[[board]", "x = {a = 1, a = 2}", "x = \"\\ud800\"", "\u{1}", "x = 1\nx = 2",
-        "x = 99999999999999999999", "[]", "x = '''a''''''", "x = { a = 1 } 1", "x = -0x1", "[board]\n[board]",
+        "rounds",
+        "rounds = ",
+        "= 1",
+        "tries = 1 2",
+        "x = 'a",
+        "x = \"a\\q\"",
+        "[board]",
+        "x = 01",
+        "x = 1__0",
+        "x = [1, 2",
+        "x = 0xg",
+        "x = tru",
+        "[[board]",
+        "x = {a = 1, a = 2}",
+        "x = \"\\ud800\"",
+        "\u{1}",
+        "x = 1\nx = 2",
+        "x = 99999999999999999999",
+        "[]",
+        "x = '''a''''''",
+        "x = { a = 1 } 1",
+        "x = -0x1",
+        "[board]\n[board]",
     ]);
     draft.more.push(line.to_string());
 }
@@ -93,7 +156,8 @@ fn out_of_range(random: &mut Random, draft: &mut Draft) {
 }
 
 fn bad_pair(random: &mut Random, draft: &mut Draft) {
-    let value = random.pick(&["[[1]]", "[1, 1]", "[[1, 1, 1]]", "[[1, -1]]", "[['1', 1]]", "[[]]", "1", "[[1, 4294967296]]"]);
+    let value =
+        random.pick(&["[[1]]", "[1, 1]", "[[1, 1, 1]]", "[[1, -1]]", "[['1', 1]]", "[[]]", "1", "[[1, 4294967296]]"]);
     set(&mut draft.top, "schedule", value);
 }
 
@@ -124,7 +188,12 @@ fn bad_level(random: &mut Random, draft: &mut Draft) {
 
 fn bad_word(random: &mut Random, draft: &mut Draft) {
     let (key, value) = random.pick(&[
-        ("space", "\"a64\""), ("space", "''"), ("space", "\"A32\""), ("width", "24"), ("width", "0"), ("width", "64"),
+        ("space", "\"a64\""),
+        ("space", "''"),
+        ("space", "\"A32\""),
+        ("width", "24"),
+        ("width", "0"),
+        ("width", "64"),
     ]);
     let table = board(random, draft);
     set(table, key, value);
@@ -150,7 +219,8 @@ fn misaligned(random: &mut Random, draft: &mut Draft) {
 }
 
 fn outside_space(random: &mut Random, draft: &mut Draft) {
-    let (space, base) = random.pick(&[("'a16'", "65536"), ("'a16'", "65532"), ("'a24'", "16777212"), ("'a32'", "4294967292")]);
+    let (space, base) =
+        random.pick(&[("'a16'", "65536"), ("'a16'", "65532"), ("'a24'", "16777212"), ("'a32'", "4294967292")]);
     let table = board(random, draft);
     set(table, "space", space);
     set(table, "base", base);
@@ -163,8 +233,14 @@ fn overlap(random: &mut Random, draft: &mut Draft) {
 
 fn bad_schedule(random: &mut Random, draft: &mut Draft) {
     let (key, value) = random.pick(&[
-        ("tries", "0"), ("tries", "1000001"), ("rounds", "1000001"), ("schedule", "[[22, 1]]"), ("schedule", "[[0, 0]]"),
-        ("schedule", "[[1, 1000001]]"), ("schedule", "[[21, 500001], [21, 500000]]"), ("schedule", "[[3, 0], [1, 1]]"),
+        ("tries", "0"),
+        ("tries", "1000001"),
+        ("rounds", "1000001"),
+        ("schedule", "[[22, 1]]"),
+        ("schedule", "[[0, 0]]"),
+        ("schedule", "[[1, 1000001]]"),
+        ("schedule", "[[21, 500001], [21, 500000]]"),
+        ("schedule", "[[3, 0], [1, 1]]"),
     ]);
     set(&mut draft.top, key, value);
 }
@@ -176,9 +252,22 @@ fn too_many_mailboxes(random: &mut Random, draft: &mut Draft) {
 
 fn bad_mailbox(random: &mut Random, draft: &mut Draft) {
     let (key, value) = random.pick(&[
-        ("am", "10"), ("am", "11"), ("am", "0x29"), ("am", "0x39"), ("am", "256"), ("am", "265"), ("am", "16"), ("am", "8"),
-        ("addr", "2"), ("addr", "1"), ("addr", "4294967292"), ("addr", "16"), ("slots", "0"), ("slots", "65"),
-        ("slots", "64"), ("slots", "5"),
+        ("am", "10"),
+        ("am", "11"),
+        ("am", "0x29"),
+        ("am", "0x39"),
+        ("am", "256"),
+        ("am", "265"),
+        ("am", "16"),
+        ("am", "8"),
+        ("addr", "2"),
+        ("addr", "1"),
+        ("addr", "4294967292"),
+        ("addr", "16"),
+        ("slots", "0"),
+        ("slots", "65"),
+        ("slots", "64"),
+        ("slots", "5"),
     ]);
     set(mailbox(random, draft), key, value);
 }

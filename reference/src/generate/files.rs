@@ -8,8 +8,7 @@ use crate::configuration::Refused;
 use crate::random::Random;
 use crate::reading;
 
-const ALL: [&str; 14] =
-    ["r", "w", "br", "bw", "bf", "m", "lr", "lw", "lm", "await", "lock", "unlock", "put", "take"];
+const ALL: [&str; 14] = ["r", "w", "br", "bw", "bf", "m", "lr", "lw", "lm", "await", "lock", "unlock", "put", "take"];
 
 /// How large a configuration is, and how close its lines are to each other.
 #[derive(Clone, Copy, PartialEq)]
@@ -54,8 +53,10 @@ fn lawful(random: &mut Random, extent: Extent) -> Draft {
     }
     let tries = match extent {
         Extent::Small => random.pick(&[1, 2]),
+        Extent::Wide => random.pick(&[1, 2, 3, 5, 20]),
         Extent::Close if draft.mailboxes.is_empty() => random.pick(&[1, 2, 3, 5, 1000]),
-        _ => random.pick(&[1, 2, 3, 5, 20]),
+        // How tries in vain are shared out among several lines is hard to find where there are many.
+        Extent::Close => random.pick(&[1, 2, 3]),
     };
     if tries != 1000 || random.one_in(2) {
         set(&mut draft.top, "tries", &tries.to_string());
@@ -215,8 +216,7 @@ fn repair(random: &mut Random, draft: &mut Draft) {
 
 /// A schedule of some pairs, and some rounds.
 fn turns(random: &mut Random, draft: &mut Draft) {
-    let slots: Vec<String> =
-        draft.boards.iter().filter_map(|it| get(&it.keys, "slot")).map(String::from).collect();
+    let slots: Vec<String> = draft.boards.iter().filter_map(|it| get(&it.keys, "slot")).map(String::from).collect();
     if random.one_in(2) {
         let count = random.below(12);
         let pairs: Vec<String> =

@@ -71,8 +71,33 @@ fn unspaced(random: &mut Random, line: &str) -> Vec<u8> {
 
 /// What stands in a damaged line for a word, or beside one.
 const WORDS: [&str; 27] = [
-    "r", "w", "br", "bf", "m", "lr", "await", "lock", "put", "take", "x", "set", "xchg", "add", "cas", "0", "5", "9",
-    "0g", "100", "0000", "00000", "00000000", "0000000g", "123", "0102030405060708", "010203040506070809",
+    "r",
+    "w",
+    "br",
+    "bf",
+    "m",
+    "lr",
+    "await",
+    "lock",
+    "put",
+    "take",
+    "x",
+    "set",
+    "xchg",
+    "add",
+    "cas",
+    "0",
+    "5",
+    "9",
+    "0g",
+    "100",
+    "0000",
+    "00000",
+    "00000000",
+    "0000000g",
+    "123",
+    "0102030405060708",
+    "010203040506070809",
 ];
 
 fn damaged(random: &mut Random, line: &str) -> Vec<u8> {
@@ -147,7 +172,11 @@ fn single_length(random: &mut Random) -> (usize, usize) {
 }
 
 fn block_length(random: &mut Random) -> usize {
-    if random.one_in(25) { random.from_to(1, 8) } else { random.pick(&[1, 2, 4]) }
+    if random.one_in(25) {
+        random.from_to(1, 8)
+    } else {
+        random.pick(&[1, 2, 4])
+    }
 }
 
 fn block(random: &mut Random, aims: &Aims, aim: &Aim, command: &str) -> String {
