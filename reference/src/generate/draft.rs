@@ -62,7 +62,9 @@ fn board(random: &mut Random, board: &Board) -> String {
     let script = board.script.iter().map(|it| String::from_utf8_lossy(it).into_owned()).collect::<Vec<_>>();
     let mut text = format!("[[board]]\n{}", table(random, &board.keys));
     if !script.is_empty() {
-        text += &format!("script = {}\n", string(random, &script.join("\n")));
+        let end = if random.one_in(10) { "\r\n" } else { "\n" };
+        let last_end = random.pick(&["", "", "", "\n", "\r\n"]);
+        text += &format!("script = {}\n", string(random, &(script.join(end) + last_end)));
     }
     text
 }

@@ -302,6 +302,12 @@ fn bad_line(random: &mut Random, draft: &mut Draft) {
     let mut line = lines::bad(random, &aims, &commands);
     line.retain(|it| *it != b'\n');
     let script = script(random, draft);
+    if random.one_in(8) {
+        // It is not dropped where no line end follows.
+        line.push(b'\r');
+        script.push(line);
+        return;
+    }
     let at = random.below(script.len() + 1);
     script.insert(at, line);
     if random.one_in(5) {

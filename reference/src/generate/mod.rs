@@ -14,9 +14,16 @@ pub fn request_lines(count: usize, seed: u64) -> Vec<u8> {
     let mut random = Random::new(seed);
     let aims = lines::Aims::one_board();
     let mut text = Vec::new();
-    for _ in 0..count {
+    for number in 1..=count {
         text.extend(lines::any(&mut random, &aims, &crate::lines::CYCLES));
-        text.extend(if random.one_in(20) { &b"\r\n"[..] } else { b"\n" });
+        let is_last = number == count;
+        let end: &[u8] = match random.below(20) {
+            0 => b"\r\n",
+            1..=5 if is_last => b"\r",
+            6..=12 if is_last => b"",
+            _ => b"\n",
+        };
+        text.extend(end);
     }
     text
 }
