@@ -35,10 +35,14 @@ impl Draft {
     /// The text, its keys, numbers and strings in one of their spellings.
     pub fn text(&self, random: &mut Random) -> String {
         let mut parts: Vec<String> = Vec::new();
-        let mut boards: Vec<String> = self.boards.iter().map(|it| board(random, it)).collect();
+        let is_inline = random.one_in(20);
+        let mut boards: Vec<String> = match is_inline {
+            true => vec![inline_boards(random, &self.boards)],
+            false => self.boards.iter().map(|it| board(random, it)).collect(),
+        };
         let mailboxes = self.mailboxes.iter().map(|it| format!("[[mailbox]]\n{}", table(random, it)));
         let mailboxes: Vec<String> = mailboxes.collect();
-        if random.one_in(2) {
+        if random.one_in(2) && !is_inline {
             boards.splice(0..0, mailboxes);
         } else {
             boards.extend(mailboxes);
@@ -59,14 +63,33 @@ impl Draft {
 }
 
 fn board(random: &mut Random, board: &Board) -> String {
-    let script = board.script.iter().map(|it| String::from_utf8_lossy(it).into_owned()).collect::<Vec<_>>();
     let mut text = format!("[[board]]\n{}", table(random, &board.keys));
-    if !script.is_empty() {
-        let end = if random.one_in(10) { "\r\n" } else { "\n" };
-        let last_end = random.pick(&["", "", "", "\n", "\r\n"]);
-        text += &format!("script = {}\n", string(random, &(script.join(end) + last_end)));
+    if !board.script.is_empty() {
+        text += &format!("script = {}\n", script(random, &board.script));
     }
     text
+}
+
+/// All boards as one value.
+fn inline_boards(random: &mut Random, boards: &[Board]) -> String {
+    let mut tables = Vec::new();
+    for board in boards {
+        let mut pairs: Vec<String> = board.keys.iter().map(|(key, value)| format!("{key} = {value}")).collect();
+        if !board.script.is_empty() {
+            pairs.push(format!("script = {}", script(random, &board.script)));
+        }
+        random.shuffle(&mut pairs);
+        tables.push(format!("{{ {} }}", pairs.join(", ")));
+    }
+    let last = random.pick(&["", ",", " # a comment\n", ", # a comment\n"]);
+    format!("board = [{}{last}]\n", tables.join(random.pick(&[",", ", ", ",\n    ", "\n,"])))
+}
+
+fn script(random: &mut Random, lines: &[Vec<u8>]) -> String {
+    let lines: Vec<_> = lines.iter().map(|it| String::from_utf8_lossy(it)).collect();
+    let end = if random.one_in(10) { "\r\n" } else { "\n" };
+    let last_end = random.pick(&["", "", "", "\n", "\r\n"]);
+    string(random, &(lines.join(end) + last_end))
 }
 
 fn table(random: &mut Random, table: &Table) -> String {

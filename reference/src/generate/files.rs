@@ -73,6 +73,7 @@ fn boards(random: &mut Random, draft: &mut Draft, extent: Extent) -> Vec<Aim> {
     let count = match extent {
         Extent::Small => random.from_to(2, 3),
         Extent::Wide if random.one_in(8) => random.from_to(1, 21),
+        Extent::Close if random.one_in(30) => random.from_to(6, 21),
         Extent::Wide | Extent::Close => random.from_to(1, 5),
     };
     let mut slots: Vec<u32> = (1..=21).collect();
