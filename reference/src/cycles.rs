@@ -2,11 +2,11 @@
 
 use crate::boards::{self, Board, Class, Range, Reply};
 use crate::codes::Space;
+use crate::exit::Exit;
 use crate::lines::{self, Line, LineFault};
 use crate::locations::{self, Location};
 use crate::replies::{digits, is_good, LineReply};
 use crate::requests::{Action, Plan};
-use crate::words::Ended;
 use std::fmt::Write;
 
 const SIZE: u32 = 4096;
@@ -16,9 +16,9 @@ const CLASS: Class = Class { width: 32, uat: true, blt: true, rmw: true };
 /// The most bytes of the input.
 pub const MOST_BYTES: usize = 1 << 20;
 
-pub fn answer(input: &[u8]) -> Ended {
+pub fn answer(input: &[u8]) -> Exit {
     if input.len() > MOST_BYTES {
-        return Ended::fault("too long");
+        return Exit::fault("too long");
     }
     let mut board = Board::new(SIZE, CLASS);
     let mut output = String::new();
@@ -38,7 +38,7 @@ pub fn answer(input: &[u8]) -> Ended {
         output.push_str(&reply);
         output.push('\n');
     }
-    Ended::report(output, is_clean)
+    Exit::report(output, is_clean)
 }
 
 /// A line as a script has it, but with the first word one of six.

@@ -1,26 +1,26 @@
-//! The whole machine: the boards, the arbiter, and a processor a board that works through its script.
+//! The whole machine: the boards, the arbiter, and one processor a board that executes its script.
 
 use crate::arbiter::{self, Arbiter};
 use crate::boards::Board;
 use crate::configuration::Configuration;
 use crate::replies::LineReply;
-use crate::tasks::{Event, EventReply, Processor, Replies, Try};
+use crate::tasks::{Attempt, Event, EventReply, Processor, Replies};
 
-/// Where a processor stands in its script.
+/// The state of a processor.
 #[derive(Clone, Default, PartialEq, Eq, Debug)]
 pub struct Position {
-    /// Among the lines that ask for something.
+    /// The index of the current line among those that ask for something.
     pub line: usize,
-    /// The tries of the line that ended in vain.
+    /// The failed attempts of the current line.
     pub tries: u64,
-    /// The replies of the try at work. Of several that say that the bus is another's it keeps the first.
+    /// The replies of the current attempt. Of consecutive replies that the bus is not granted yet it keeps the first.
     pub replies: Vec<EventReply>,
 }
 
-/// What a processor comes to next.
+/// What a processor does next.
 pub enum Next {
     Event(Event),
-    /// The line at work ends so.
+    /// The current line ends with this reply.
     Ended(LineReply),
     /// No line is left.
     Nothing,
@@ -34,12 +34,11 @@ impl Position {
         };
         match processor.attempt(line, &mut Replies(&self.replies)) {
             Err(event) => Next::Event(event),
-            Ok(Try::Ended(reply) | Try::Again(reply)) => Next::Ended(reply),
+            Ok(Attempt::Ended(reply) | Attempt::Retry(reply)) => Next::Ended(reply),
         }
     }
 
-    /// Takes the reply of the event that came next; gives the line's reply where that ends it. The line is left only
-    /// by `leave_line`.
+    /// Takes the reply of the next event. Returns the line's reply if the line ends; only `leave_line` moves on.
     pub fn take(&mut self, processor: Processor, reply: EventReply) -> Option<LineReply> {
         let waits = EventReply::Bus(arbiter::Reply::Waiting);
         if reply != waits || self.replies.last() != Some(&waits) {
@@ -48,8 +47,8 @@ impl Position {
         let line = &processor.configuration.boards[processor.board].script[self.line].1;
         match processor.attempt(line, &mut Replies(&self.replies)) {
             Err(_) => None,
-            Ok(Try::Ended(reply)) => Some(reply),
-            Ok(Try::Again(reply)) => {
+            Ok(Attempt::Ended(reply)) => Some(reply),
+            Ok(Attempt::Retry(reply)) => {
                 self.tries += 1;
                 self.replies.clear();
                 (self.tries == processor.configuration.tries).then_some(reply)
@@ -92,7 +91,7 @@ impl<'a> Machine<'a> {
         self.positions[board].line == self.configuration.boards[board].script.len()
     }
 
-    /// One turn: lines that need no event end until one comes to an event; that event is made.
+    /// One turn: lines that need no event end, until a line has an event; that event is made.
     pub fn turn(&mut self, board: usize) {
         let processor = Processor { configuration: self.configuration, board };
         loop {
@@ -127,7 +126,7 @@ impl<'a> Machine<'a> {
             }
         }
     }
-    /// All that the machine's future and its report depend on.
+    /// Everything that later events and the report depend on.
     #[cfg(test)]
     pub fn key(&self) -> String {
         let bytes: Vec<_> = self.boards.iter().map(|it| &it.bytes).collect();

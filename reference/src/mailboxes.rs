@@ -6,7 +6,7 @@
 use crate::configuration::Mailbox;
 use crate::replies::LineReply;
 use crate::requests::{Form, Function, Outcome, Request};
-use crate::tasks::{Event, Processor, Replies, Try};
+use crate::tasks::{Attempt, Event, Processor, Replies};
 
 const LOCK: u32 = 0;
 const PUT_COUNT: u32 = 4;
@@ -31,42 +31,42 @@ pub fn is_clear(old: &[u8]) -> bool {
     old[0] & 0x80 == 0
 }
 
-pub fn put(processor: &Processor, mailbox: Mailbox, word: &[u8], replies: &mut Replies) -> Result<Try, Event> {
+pub fn put(processor: &Processor, mailbox: Mailbox, word: &[u8], replies: &mut Replies) -> Result<Attempt, Event> {
     let mut bus = Transfers { processor, mailbox, replies };
     if !bus.lock()? {
-        return Ok(Try::Again(LineReply::Busy));
+        return Ok(Attempt::Retry(LineReply::Busy));
     }
     let put_count = bus.read_count(PUT_COUNT)?;
     let take_count = bus.read_count(TAKE_COUNT)?;
     if put_count == u32::MAX {
         bus.unlock()?;
-        return Ok(Try::Ended(LineReply::Spent));
+        return Ok(Attempt::Ended(LineReply::Spent));
     }
     if put_count.wrapping_sub(take_count) >= mailbox.slots {
         bus.unlock()?;
-        return Ok(Try::Again(LineReply::Full));
+        return Ok(Attempt::Retry(LineReply::Full));
     }
     bus.write(mailbox.place(put_count), word)?;
     bus.write(PUT_COUNT, &(put_count + 1).to_be_bytes())?;
     bus.unlock()?;
-    Ok(Try::Ended(LineReply::Put))
+    Ok(Attempt::Ended(LineReply::Put))
 }
 
-pub fn take(processor: &Processor, mailbox: Mailbox, replies: &mut Replies) -> Result<Try, Event> {
+pub fn take(processor: &Processor, mailbox: Mailbox, replies: &mut Replies) -> Result<Attempt, Event> {
     let mut bus = Transfers { processor, mailbox, replies };
     if !bus.lock()? {
-        return Ok(Try::Again(LineReply::Busy));
+        return Ok(Attempt::Retry(LineReply::Busy));
     }
     let put_count = bus.read_count(PUT_COUNT)?;
     let take_count = bus.read_count(TAKE_COUNT)?;
     if put_count == take_count {
         bus.unlock()?;
-        return Ok(Try::Again(LineReply::Empty));
+        return Ok(Attempt::Retry(LineReply::Empty));
     }
     let word = bus.read(mailbox.place(take_count))?;
     bus.write(TAKE_COUNT, &take_count.wrapping_add(1).to_be_bytes())?;
     bus.unlock()?;
-    Ok(Try::Ended(LineReply::Took(word)))
+    Ok(Attempt::Ended(LineReply::Took(word)))
 }
 
 struct Transfers<'a, 'b> {

@@ -1,9 +1,9 @@
 //! The text of a report.
 
 use crate::configuration::Configuration;
+use crate::exit::Exit;
 use crate::machine::Machine;
 use crate::replies::{digits, is_good, LineReply};
-use crate::words::Ended;
 
 pub const ROW: usize = 16;
 
@@ -28,9 +28,9 @@ impl Report {
         }
     }
 
-    pub fn ended(&self, configuration: &Configuration) -> Ended {
+    pub fn ended(&self, configuration: &Configuration) -> Exit {
         let is_clean = self.replies.iter().flatten().all(|it| is_good(it));
-        Ended::report(self.text(configuration), is_clean)
+        Exit::report(self.text(configuration), is_clean)
     }
 
     pub fn text(&self, configuration: &Configuration) -> String {

@@ -1,5 +1,5 @@
-//! The events that a line of a script makes. Each task is written as a function of the replies so far, which are
-//! read from the first on: where they end, the task gives the event that it makes next.
+//! The events of a script line. Each task is a function of the replies so far, which it reads from the first on.
+//! Where they end, the task returns its next event.
 
 use crate::arbiter;
 use crate::boards::{self, Command, Reply};
@@ -22,26 +22,26 @@ pub enum EventReply {
     Bus(arbiter::Reply),
 }
 
-/// How one try of a line ends.
+/// How one attempt of a line ends.
 #[derive(Debug)]
-pub enum Try {
+pub enum Attempt {
     Ended(LineReply),
-    /// The line tries again; it ends with this reply if it has no try left.
-    Again(LineReply),
+    /// The line tries again. If it has no attempt left, it ends with this reply.
+    Retry(LineReply),
 }
 
-/// Who makes the events, and among what.
+/// The processor of a board.
 #[derive(Clone, Copy)]
 pub struct Processor<'a> {
     pub configuration: &'a Configuration,
     pub board: usize,
 }
 
-/// The replies of a try that its task has yet to read.
+/// The replies of an attempt that its task has not read yet.
 pub struct Replies<'a>(pub &'a [EventReply]);
 
 impl<'a> Replies<'a> {
-    /// The reply of an event, or the event where it has none yet.
+    /// The next reply, or the event that it belongs to if there is none yet.
     fn call(&mut self, event: impl FnOnce() -> Event) -> Result<&'a EventReply, Event> {
         let (reply, rest) = self.0.split_first().ok_or_else(event)?;
         self.0 = rest;
@@ -68,46 +68,51 @@ impl Processor<'_> {
         self.configuration.mailboxes[number - 1]
     }
 
-    /// One try of a line: how it ends, or the event that comes next.
-    pub fn attempt(&self, line: &Line, replies: &mut Replies) -> Result<Try, Event> {
+    /// One attempt of a line: how it ends, or the next event.
+    pub fn attempt(&self, line: &Line, replies: &mut Replies) -> Result<Attempt, Event> {
         match line {
-            Line::Bus(asked) => self.ask(asked, replies, |outcome| Try::Ended(LineReply::Transfer(outcome))),
+            Line::Bus(asked) => self.ask(asked, replies, |outcome| Attempt::Ended(LineReply::Transfer(outcome))),
             Line::Local(command) => self.local(command, replies),
             Line::Await(asked, bytes) => self.ask(asked, replies, |outcome| match outcome {
-                Outcome::Read(read) if read == *bytes => Try::Ended(LineReply::Met),
-                Outcome::Read(_) => Try::Again(LineReply::Timeout),
-                outcome => Try::Ended(LineReply::Transfer(outcome)),
+                Outcome::Read(read) if read == *bytes => Attempt::Ended(LineReply::Met),
+                Outcome::Read(_) => Attempt::Retry(LineReply::Timeout),
+                outcome => Attempt::Ended(LineReply::Transfer(outcome)),
             }),
             Line::Lock(asked) => self.ask(asked, replies, |outcome| match outcome {
-                Outcome::Old(old) if is_clear(&old) => Try::Ended(LineReply::Taken),
-                Outcome::Old(_) => Try::Again(LineReply::Busy),
-                outcome => Try::Ended(LineReply::Transfer(outcome)),
+                Outcome::Old(old) if is_clear(&old) => Attempt::Ended(LineReply::Taken),
+                Outcome::Old(_) => Attempt::Retry(LineReply::Busy),
+                outcome => Attempt::Ended(LineReply::Transfer(outcome)),
             }),
-            Line::Unlock(asked) => self.ask(asked, replies, |it| Try::Ended(LineReply::Transfer(it))),
+            Line::Unlock(asked) => self.ask(asked, replies, |it| Attempt::Ended(LineReply::Transfer(it))),
             Line::Put(mailbox, word) => mailboxes::put(self, self.mailbox(*mailbox), word, replies),
             Line::Take(mailbox) => mailboxes::take(self, self.mailbox(*mailbox), replies),
         }
     }
 
-    fn local(&self, command: &Command, replies: &mut Replies) -> Result<Try, Event> {
+    fn local(&self, command: &Command, replies: &mut Replies) -> Result<Attempt, Event> {
         let outcome = match replies.board(self.board, || command.clone())? {
             Reply::Berr => Outcome::Berr { count: 0, bytes: Vec::new() },
             Reply::Done => Outcome::Done,
             Reply::Bytes(bytes) if command.action == Action::Read => Outcome::Read(bytes.clone()),
             Reply::Bytes(bytes) => Outcome::Old(bytes.clone()),
         };
-        Ok(Try::Ended(LineReply::Transfer(outcome)))
+        Ok(Attempt::Ended(LineReply::Transfer(outcome)))
     }
 
-    fn ask(&self, asked: &Asked, replies: &mut Replies, end: impl FnOnce(Outcome) -> Try) -> Result<Try, Event> {
+    fn ask(
+        &self,
+        asked: &Asked,
+        replies: &mut Replies,
+        end: impl FnOnce(Outcome) -> Attempt,
+    ) -> Result<Attempt, Event> {
         match asked {
             Ok(plan) => Ok(end(self.transfer(plan, replies)?)),
-            Err(refusal) => Ok(Try::Ended(LineReply::Refused(*refusal))),
+            Err(refusal) => Ok(Attempt::Ended(LineReply::Refused(*refusal))),
         }
     }
 
-    /// A transfer over the bus: it asks for the bus, looks until the bus is its own, makes an event of each datum up
-    /// to the first bus error, and gives the bus back.
+    /// A transfer over the bus: it asks for the bus, looks until the bus is granted, makes one event a datum up to the
+    /// first bus error, and frees the bus.
     pub fn transfer(&self, plan: &Plan, replies: &mut Replies) -> Result<Outcome, Event> {
         let level = self.configuration.boards[self.board].level;
         let mut reply = replies.bus(arbiter::Command::Ask { level })?;

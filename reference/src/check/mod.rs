@@ -8,30 +8,30 @@ mod state;
 mod tests;
 
 use crate::configuration::{self, Configuration};
+use crate::exit::Exit;
 use crate::reading;
 use crate::report::{Report, ROW};
-use crate::words::Ended;
 use search::{Found, Search};
 
-pub fn check(report: &[u8], file: &[u8]) -> Ended {
+pub fn check(report: &[u8], file: &[u8]) -> Exit {
     if file.len() > configuration::MOST_BYTES {
-        return Ended::fault("too long");
+        return Exit::fault("too long");
     }
     let configuration = match reading::configuration(file) {
         Ok(configuration) => configuration,
-        Err(refused) => return Ended::refused(refused),
+        Err(refused) => return Exit::refused(refused),
     };
     let Some(report) = read(report, &configuration) else {
-        return Ended::said(crate::words::MARKED, "the text is no report of this configuration");
+        return Exit::answer(crate::exit::MARKED, "the text is no report of this configuration");
     };
     match Search::of(&configuration, &report).run() {
-        Found::Interleaving => Ended::said(crate::words::CLEAN, "possible"),
-        Found::Nothing => Ended::said(crate::words::MARKED, "no interleaving gives this report"),
-        Found::TooMuch => Ended::said(crate::words::NOT_DECIDED, "not decided"),
+        Found::Interleaving => Exit::answer(crate::exit::CLEAN, "possible"),
+        Found::Nothing => Exit::answer(crate::exit::MARKED, "no interleaving gives this report"),
+        Found::TooMuch => Exit::answer(crate::exit::NOT_DECIDED, "not decided"),
     }
 }
 
-/// What a text says, if it is the text of a report on this configuration.
+/// The report that a text is, if it is one of this configuration.
 fn read(text: &[u8], configuration: &Configuration) -> Option<Report> {
     let text = std::str::from_utf8(text).ok()?;
     let count = configuration.boards.len();
@@ -60,7 +60,7 @@ fn read(text: &[u8], configuration: &Configuration) -> Option<Report> {
         }
         report.memories.push(memory);
     }
-    // Whatever the text says in another way than a report does makes this text another one.
+    // A text that spells something otherwise than a report does differs from the text of what was read.
     let is_whole = report.made.iter().all(|it| it.len() == count);
     (is_whole && report.text(configuration) == text).then_some(report)
 }

@@ -1,4 +1,4 @@
-//! What each line of a script needs by its reply in the report: how many steps of which board, and which bytes.
+//! What each script line needs for its reply in the report: how many steps of which board, and which bytes.
 
 use crate::boards::{self, Board, Command};
 use crate::configuration::Configuration;
@@ -7,44 +7,44 @@ use crate::report::Report;
 use crate::requests::{Action, Form, Plan, Request};
 use std::collections::HashMap;
 
-/// What a try in vain of a line costs.
+/// What the failed attempts of a line cost.
 #[derive(Clone, Copy, PartialEq, Eq, Debug)]
-pub enum Vain {
-    /// The number of the line's steps is known.
-    Known,
-    /// One step, which changes no byte; how many come is open.
+pub enum Retries {
+    /// The number of the line's steps follows from its reply.
+    Fixed,
+    /// One step each, which changes no byte; their number is open.
     OneStep,
-    /// One step, or four of which two write; how many come is open.
+    /// One step each, or four of which two write; their number is open.
     OneOrFour,
 }
 
 #[derive(Clone, Copy, Debug)]
 pub struct Need {
-    /// The board of its steps; none where it makes none.
+    /// The board of its steps, if it makes any.
     pub board: Option<usize>,
-    /// How many tries in vain it needs before the last.
-    pub in_vain: u64,
-    /// The steps of what comes after the tries in vain.
+    /// The failed attempts that it needs before the last attempt.
+    pub failed: u64,
+    /// The steps of the last attempt.
     pub last: u64,
-    pub vain: Vain,
-    /// The most tries in vain.
-    pub most_in_vain: u64,
+    pub retries: Retries,
+    /// The most failed attempts before the last.
+    pub most_failed: u64,
 }
 
 impl Need {
-    /// The steps that it still needs at least, after some tries in vain.
+    /// The least steps that it still needs after some failed attempts.
     pub fn least(&self, tries: u64) -> u64 {
-        self.in_vain.saturating_sub(tries) + self.last
+        self.failed.saturating_sub(tries) + self.last
     }
 
-    /// The steps that it may make beyond these at most.
-    pub fn room(&self, tries: u64) -> u64 {
-        let left = self.most_in_vain.saturating_sub(tries);
-        let due = self.in_vain.saturating_sub(tries);
-        match self.vain {
-            Vain::Known => 0,
-            Vain::OneStep => left,
-            Vain::OneOrFour => VAIN_TASK * left - due,
+    /// The most steps that it can make beyond these.
+    pub fn capacity(&self, tries: u64) -> u64 {
+        let left = self.most_failed.saturating_sub(tries);
+        let due = self.failed.saturating_sub(tries);
+        match self.retries {
+            Retries::Fixed => 0,
+            Retries::OneStep => left,
+            Retries::OneOrFour => VAIN_TASK * left - due,
         }
     }
 }
@@ -53,7 +53,7 @@ impl Need {
 #[derive(Clone, Copy, Default, Debug)]
 pub struct Later {
     pub least: u64,
-    pub room: u64,
+    pub capacity: u64,
 }
 
 #[derive(Clone, Copy, Debug)]
@@ -64,7 +64,7 @@ pub struct Touched {
     pub writes: bool,
 }
 
-/// A processor that comes to a byte, with its last line that does, and its last line that may write it.
+/// A processor that touches a byte, its last line that does so, and its last line that may write the byte.
 #[derive(Clone, Copy, Debug)]
 struct Visitor {
     who: usize,
@@ -77,13 +77,13 @@ pub struct Needs {
     pub lines: Vec<Vec<Need>>,
     /// By processor, line and board.
     pub later: Vec<Vec<Vec<Later>>>,
-    /// By processor and board: the last line whose steps are open in number, and the last whose tries in vain cost
-    /// one step or four.
+    /// By processor and board: the last line with an open number of steps, and the last whose failed attempts cost one
+    /// step or four.
     pub last_open: Vec<Vec<Option<usize>>>,
     pub last_mixed: Vec<Vec<Option<usize>>>,
-    /// The last whose tries in vain cost one step each.
+    /// The last line whose failed attempts cost one step each.
     pub last_one_step: Vec<Vec<Option<usize>>>,
-    /// The last put or take that the report says was in vain because of its lock.
+    /// The last put or take whose reply in the report is `busy`.
     pub last_busy: Vec<Vec<Option<usize>>>,
     /// By processor and line.
     pub touched: Vec<Vec<Vec<Touched>>>,
@@ -126,15 +126,15 @@ impl Needs {
 
     fn note_open(&mut self, who: usize, lines: &[Need]) {
         for (number, it) in lines.iter().enumerate() {
-            let Some(board) = it.board.filter(|_| it.vain != Vain::Known) else {
+            let Some(board) = it.board.filter(|_| it.retries != Retries::Fixed) else {
                 continue;
             };
             self.last_open[who][board] = Some(number);
-            match it.vain {
-                Vain::OneOrFour => self.last_mixed[who][board] = Some(number),
+            match it.retries {
+                Retries::OneOrFour => self.last_mixed[who][board] = Some(number),
                 _ => self.last_one_step[who][board] = Some(number),
             }
-            if it.vain == Vain::OneOrFour && it.last == BUSY_TRY {
+            if it.retries == Retries::OneOrFour && it.last == BUSY_TRY {
                 self.last_busy[who][board] = Some(number);
             }
         }
@@ -154,20 +154,20 @@ impl Needs {
         }
     }
 
-    /// Whether another processor, from its line at work on, may write these bytes, or touch them where they are
-    /// written here.
-    pub fn meets(&self, who: usize, range: &Touched, at_work: impl Fn(usize) -> usize) -> bool {
+    /// Whether another processor, from its current line on, may write these bytes; if they are written here, whether it
+    /// may touch them.
+    pub fn meets(&self, who: usize, range: &Touched, current_line: impl Fn(usize) -> usize) -> bool {
         let meets = |it: &Visitor| {
             let last = if range.writes { Some(it.last) } else { it.last_writing };
-            it.who != who && last.is_some_and(|last| last >= at_work(it.who))
+            it.who != who && last.is_some_and(|last| last >= current_line(it.who))
         };
         let mut offsets = range.first..range.end;
         offsets.any(|offset| self.visitors.get(&(range.board, offset)).is_some_and(|all| all.iter().any(meets)))
     }
 
-    /// Whether a processor, from its line at work on, may write a byte.
-    pub fn may_be_written(&self, at: (usize, u64), at_work: impl Fn(usize) -> usize) -> bool {
-        let writes = |it: &Visitor| it.last_writing.is_some_and(|last| last >= at_work(it.who));
+    /// Whether some processor, from its current line on, may write a byte.
+    pub fn may_be_written(&self, at: (usize, u64), current_line: impl Fn(usize) -> usize) -> bool {
+        let writes = |it: &Visitor| it.last_writing.is_some_and(|last| last >= current_line(it.who));
         self.visitors.get(&at).is_some_and(|all| all.iter().any(writes))
     }
 
@@ -175,7 +175,7 @@ impl Needs {
         self.visitors.keys()
     }
 
-    /// The bytes that several processors come to, one of them to write.
+    /// The bytes that several processors touch and at least one writes.
     pub fn shared(&self) -> Vec<(usize, u64)> {
         let is_shared = |all: &Vec<Visitor>| all.len() > 1 && all.iter().any(|it| it.last_writing.is_some());
         let shared = self.visitors.iter().filter(|it| is_shared(it.1)).map(|it| *it.0);
@@ -192,14 +192,14 @@ fn later(lines: &[Need], boards: usize) -> Vec<Vec<Later>> {
         later.push(sums.clone());
         if let Some(board) = it.board {
             sums[board].least += it.least(0);
-            sums[board].room += it.room(0);
+            sums[board].capacity += it.capacity(0);
         }
     }
     later.reverse();
     later
 }
 
-/// Whether a mailbox may be full before some put into it: whether the other puts fill it.
+/// Whether a mailbox may be full before a put into it, that is, whether the other puts can fill it.
 fn may_be_full(configuration: &Configuration, report: &Report, number: usize) -> bool {
     let is_put = |line: &Line, reply: &str| matches!(line, Line::Put(it, _) if *it == number) && reply == "put";
     let entries = configuration.boards.iter().zip(&report.replies);
@@ -215,16 +215,16 @@ fn need(configuration: &Configuration, report: &Report, who: usize, line: &Line,
         None => (None, 0),
     };
     let word = reply.split(' ').next().unwrap_or_default();
-    let (in_vain, last, vain) = match (line, word) {
-        (Line::Await(..), "met") | (Line::Lock(_), "taken") => (0, 1, Vain::OneStep),
-        (Line::Await(..), "timeout") | (Line::Lock(_), "busy") => (tries - 1, 1, Vain::Known),
-        (Line::Put(..) | Line::Take(_), "busy") => (tries - 1, BUSY_TRY, Vain::OneOrFour),
-        (Line::Put(..) | Line::Take(_), "full" | "empty") => (tries - 1, VAIN_TASK, Vain::OneOrFour),
-        (Line::Put(it, _), _) if !may_be_full(configuration, report, *it) => (0, WHOLE_TASK, Vain::OneStep),
-        (Line::Put(..) | Line::Take(_), _) => (0, WHOLE_TASK, Vain::OneOrFour),
-        _ => (0, steps, Vain::Known),
+    let (failed, last, retries) = match (line, word) {
+        (Line::Await(..), "met") | (Line::Lock(_), "taken") => (0, 1, Retries::OneStep),
+        (Line::Await(..), "timeout") | (Line::Lock(_), "busy") => (tries - 1, 1, Retries::Fixed),
+        (Line::Put(..) | Line::Take(_), "busy") => (tries - 1, BUSY_TRY, Retries::OneOrFour),
+        (Line::Put(..) | Line::Take(_), "full" | "empty") => (tries - 1, VAIN_TASK, Retries::OneOrFour),
+        (Line::Put(it, _), _) if !may_be_full(configuration, report, *it) => (0, WHOLE_TASK, Retries::OneStep),
+        (Line::Put(..) | Line::Take(_), _) => (0, WHOLE_TASK, Retries::OneOrFour),
+        _ => (0, steps, Retries::Fixed),
     };
-    Need { board, in_vain, last, vain, most_in_vain: tries - 1 }
+    Need { board, failed, last, retries, most_failed: tries - 1 }
 }
 
 /// The commands of a line's first transfer or local access, with their boards, up to the first bus error.

@@ -17,7 +17,7 @@ enum Extent {
     Wide,
     /// Lines on a few bytes of one or two boards.
     Close,
-    /// The same, with so few lines that all interleavings can be gone through.
+    /// The same, with so few lines that a test can visit all interleavings.
     Small,
 }
 
@@ -55,7 +55,7 @@ fn lawful(random: &mut Random, extent: Extent) -> Draft {
         Extent::Small => random.pick(&[1, 2]),
         Extent::Wide => random.pick(&[1, 2, 3, 5, 20]),
         Extent::Close if draft.mailboxes.is_empty() => random.pick(&[1, 2, 3, 5, 1000]),
-        // How tries in vain are shared out among several lines is hard to find where there are many.
+        // With many failed attempts of several lines the search of `check` takes long.
         Extent::Close => random.pick(&[1, 2, 3]),
     };
     if tries != 1000 || random.one_in(2) {
@@ -152,8 +152,8 @@ fn mailbox(random: &mut Random, draft: &mut Draft, aims: &[Aim]) {
     }
     let most_slots = (aim.size - 16) / 4;
     let slots = random.from_to(1, most_slots.min(4) as usize) as u32;
-    let room = aim.size - 16 - 4 * slots;
-    let offset = if random.one_in(2) { room } else { 4 * random.below(1 + room as usize / 4) as u32 };
+    let spare = aim.size - 16 - 4 * slots;
+    let offset = if random.one_in(2) { spare } else { 4 * random.below(1 + spare as usize / 4) as u32 };
     let code = match aim.space {
         Space::A16 => 0x29,
         Space::A24 => 0x39,

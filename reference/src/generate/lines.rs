@@ -35,7 +35,7 @@ pub fn any(random: &mut Random, aims: &Aims, commands: &[&str]) -> Vec<u8> {
         0..=3 => bad(random, aims, commands),
         4 => {
             let line = lawful(random, aims, commands);
-            unspaced(random, &line)
+            respelled(random, &line)
         }
         _ => lawful(random, aims, commands).into_bytes(),
     }
@@ -61,7 +61,7 @@ fn no_request(random: &mut Random) -> Vec<u8> {
 }
 
 /// The line with more spaces, or with capital digits.
-fn unspaced(random: &mut Random, line: &str) -> Vec<u8> {
+fn respelled(random: &mut Random, line: &str) -> Vec<u8> {
     match random.below(3) {
         0 => format!("  {}  ", line.replace(' ', "   ")).into_bytes(),
         1 => line.replace('a', "A").replace('f', "F").into_bytes(),
@@ -269,7 +269,7 @@ fn offset(random: &mut Random, aims: &Aims) -> String {
     format!("{offset:08x}")
 }
 
-/// Bytes, mostly of a few values, so that a wait for them may be met.
+/// Bytes, mostly of a few values, so that an `await` for them may be met.
 fn bytes(random: &mut Random, count: usize) -> String {
     let few = !random.one_in(3);
     let drawn = random.bytes(count);

@@ -1,5 +1,5 @@
-//! A reader of the part of TOML 1.0 that configurations use. It tells text that is no TOML from TOML that it does not
-//! read: names with dots, dates and times, and what a later TOML adds.
+//! A reader of the part of TOML 1.0 that configurations use. It distinguishes text that is not TOML from TOML outside
+//! of its subset: dotted keys, dates and times, and additions of later versions.
 
 mod numbers;
 mod strings;

@@ -1,22 +1,22 @@
-//! What inputs meet: forms of lines, codes, byte locations, replies and refusals, each with how often.
+//! What inputs cover: forms of lines, codes, byte locations, replies and refusals, each with a count.
 
 use crate::configuration::Configuration;
 use crate::cycles;
 use crate::engines;
+use crate::exit::{Exit, MARKED};
 use crate::lines::{self, Line};
 use crate::locations;
 use crate::reading;
 use crate::requests::{Action, Function, Plan};
-use crate::words::{Ended, MARKED};
 use std::collections::BTreeMap;
 
 #[derive(Default)]
-pub struct Met(BTreeMap<String, usize>);
+pub struct Coverage(BTreeMap<String, usize>);
 
-impl Met {
-    pub fn ended(self) -> Ended {
+impl Coverage {
+    pub fn ended(self) -> Exit {
         let lines: String = self.0.iter().map(|(what, count)| format!("{count} {what}\n")).collect();
-        Ended::report(lines, true)
+        Exit::report(lines, true)
     }
 
     /// The input of `cycles`.
@@ -26,7 +26,7 @@ impl Met {
                 self.line(&line);
             }
         }
-        let output = cycles::answer(input).written;
+        let output = cycles::answer(input).output;
         for line in String::from_utf8_lossy(&output).lines().filter(|it| !it.starts_with("am=")) {
             self.reply(line);
         }
@@ -36,13 +36,13 @@ impl Met {
     pub fn file(&mut self, file: &[u8]) {
         let ended = engines::step(file);
         if ended.status > MARKED {
-            self.refusal(&ended.said);
+            self.refusal(&ended.error);
             return;
         }
         if let Ok(configuration) = reading::configuration(file) {
             self.scripts(&configuration);
         }
-        for line in String::from_utf8_lossy(&ended.written).lines() {
+        for line in String::from_utf8_lossy(&ended.output).lines() {
             if let Some((_, reply)) = line.split_once(' ').filter(|it| it.0.contains(':')) {
                 self.reply(reply);
             }
@@ -104,8 +104,8 @@ impl Met {
     }
 
     /// A file's refusal, without the slot and the line of a script's.
-    fn refusal(&mut self, said: &str) {
-        let words: Vec<&str> = said.trim_end().split(' ').collect();
+    fn refusal(&mut self, error: &str) {
+        let words: Vec<&str> = error.trim_end().split(' ').collect();
         match words[..] {
             [_, "C14", _, _, _, _, fault] => self.count(&format!("C14 {fault}")),
             _ => self.count(&words[1..].join(" ")),
