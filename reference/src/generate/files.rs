@@ -53,10 +53,10 @@ fn lawful(random: &mut Random, extent: Extent) -> Draft {
     }
     let tries = match extent {
         Extent::Small => random.pick(&[1, 2]),
-        Extent::Wide => random.pick(&[1, 2, 3, 5, 20]),
+        Extent::Wide if draft.mailboxes.is_empty() => random.pick(&[1, 2, 3, 5, 20]),
         Extent::Close if draft.mailboxes.is_empty() => random.pick(&[1, 2, 3, 5, 1000]),
         // With many failed attempts of several lines the search of `check` takes long.
-        Extent::Close => random.pick(&[1, 2, 3]),
+        Extent::Wide | Extent::Close => random.pick(&[1, 2, 3]),
     };
     if tries != 1000 || random.one_in(2) {
         set(&mut draft.top, "tries", &tries.to_string());
