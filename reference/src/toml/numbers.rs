@@ -21,10 +21,15 @@ pub fn value(word: &str) -> Result<Value, Fault> {
     if is_whole(rest) {
         return integer(rest, 10, sign);
     }
-    if is_float(rest) {
-        return Ok(Value::Float);
+    if !is_float(rest) {
+        return Err(Fault::NotToml);
     }
-    Err(Fault::NotToml)
+    // TOML does not say whether a number too large for a float is an error.
+    let is_too_large = rest != "inf" && rest.replace('_', "").parse() == Ok(f64::INFINITY);
+    if is_too_large {
+        return Err(Fault::OutsideSubset);
+    }
+    Ok(Value::Float)
 }
 
 /// `1979-..` and `07:..`.
