@@ -3,6 +3,7 @@ ghost use Rattle.std.specs.Prelude.{◌≡◌, ◌<◌, ◌≤◌, IsTrue, IsSom
 ghost use Rattle.vme_cycle.specs.Requests.{datum_len, function_of, read_len};
 ghost use Rattle.vme_cycle.specs.Functions.{has_len};
 ghost use Rattle.vme_cycle.specs.Lawful.{Transfer as LawfulRequest, transfer_of};
+ghost use Rattle.vme_lanes.specs.Lanes.{carries};
 ghost use Rattle.vme_lanes.specs.Rows.{row_of};
 ghost use Rattle.vme_core.specs.Machines.{process_count, IsThere};
 ghost use Rattle.vme_core.specs.Runs.{target_of};
@@ -54,10 +55,15 @@ fn location(addr: u32, n: u8) -> Option<(u8, u8)> {
     Some((sensed.first(), sensed.len()))
 }
 
-fn moved(location: Location, bytes: &[u8]) -> Datum
+fn placed(location: Location, bytes: &[u8]) -> DataLines
     requires { length bytes.now ≡ (row_of location).len }
 {
-    let lines: DataLines = place(location, bytes);
+    place(location, bytes)
+}
+
+fn picked(location: Location, lines: DataLines) -> Datum
+    requires { IsTrue (carries location lines.lanes) }
+{
     pick(location, lines)
 }
 
@@ -334,7 +340,6 @@ fn each_name_is_in_its_crate(rt: HostRuntime) -> Result<(), Fail> {
     let alloc = rt.alloc();
     assert!(&rt; code(0x0d).is_ok());
     assert_eq!(&rt; location(4, 4), Some((0, 4)));
-    assert_eq!(&rt; moved(Location::Byte1, &[7]).as_slice(), &[7][..]);
     let request = Request::Write {
         am: 0x0d,
         addr: 0,
