@@ -8,7 +8,7 @@ use Rattle.vme_am.specs.declared.code.Kind.TheVariants.{DataAccess, ProgramAcces
 use Rattle.vme_am.specs.declared.code.AmFault.{AmFault}
 use Rattle.vme_am.specs.declared.code.AmFault.TheVariants.{TooLarge, UserDefined, Reserved}
 
--- one row of the address modifier table; IEEE 1014-1987, 2.2.2 (address modifiers)
+-- one row of the address modifier table; IEEE 1014-1987, 2.2.2 (address modifier lines)
 pub record CodeRow : Type 0 where
   pub code : ℕ
   pub space : Space
@@ -21,7 +21,7 @@ abbrev pub row : ℕ → Space → Kind → Bool → Bool → CodeRow
 row code space kind supervisory wide =
     record { code = code; space = space; kind = kind; supervisory = supervisory; wide = wide }
 
--- the address modifier table; IEEE 1014-1987, 2.2.2 (address modifiers). 08, 0c, 38 and 3c: the 64-bit block codes
+-- the address modifier table; IEEE 1014-1987, 2.2.2 (address modifier lines). 08, 0c, 38 and 3c: the 64-bit block codes
 -- (MBLT) of VME64, ANSI/VITA 1-1994; here address phase and first datum are one event, and no address has 64 bits
 abbrev pub table : List CodeRow
 table =
@@ -34,12 +34,12 @@ table =
     ∷ row 0x08 A32 BlockAccess false true ∷ row 0x0c A32 BlockAccess true true
     ∷ []
 
--- the row of a code, if the table has one; IEEE 1014-1987, 2.2.2 (address modifiers)
+-- the row of a code, if the table has one; IEEE 1014-1987, 2.2.2 (address modifier lines)
 abbrev pub row_at : ℕ → Option CodeRow
 row_at code = find (λ r. r.code == code) table
 
 -- the fault of a number without a row: above 3f, from 10 to 1f (user-defined), or another number;
--- IEEE 1014-1987, 2.2.2 (address modifiers)
+-- IEEE 1014-1987, 2.2.2 (address modifier lines)
 abbrev pub fault_of : ℕ → AmFault
 fault_of code = if nat_lt 0x3f code then TooLarge else (if nat_le 0x10 code && nat_le code 0x1f then UserDefined else Reserved)
 

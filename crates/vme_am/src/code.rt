@@ -5,7 +5,8 @@ ghost use Rattle.vme_am.specs.Bits.{space_by_bits, kind_by_bits};
 
 use std::marker::Model;
 
-/// An address space of the bus. It states how many address lines count in a cycle (section 2.3.5).
+/// An address space of the bus. It states how many address lines count in a cycle: IEEE 1014-1987,
+/// 2.3.5 (addressing).
 #[derive(Clone, Copy, Debug, PartialEq, Eq)]
 pub enum Space {
     /// Short addresses, A01 to A15.
@@ -17,7 +18,8 @@ pub enum Space {
 }
 
 impl Space {
-    /// Returns the number of byte addresses of the space: 2^16, 2^24 or 2^32 (section 2.3.5).
+    /// Returns the number of byte addresses of the space: 2^16, 2^24 or 2^32; IEEE 1014-1987, 2.3.5
+    /// (addressing).
     pub fn addresses(self) -> u64
         ensures { result ≡ addresses_of self }
     {
@@ -29,7 +31,8 @@ impl Space {
     }
 }
 
-/// The kind of access that an address modifier code selects (section 2.2.2).
+/// The kind of access that an address modifier code selects: IEEE 1014-1987, 2.2.2 (address
+/// modifier lines).
 #[derive(Clone, Copy, Debug, PartialEq, Eq)]
 pub enum Kind {
     /// Data access, in the standard or the extended space.
@@ -106,7 +109,8 @@ pub enum AmFault {
     Reserved,
 }
 
-/// An address modifier: a code of the table with the entries of its row (section 2.2.2).
+/// An address modifier: a code of the table with the entries of its row; IEEE 1014-1987, 2.2.2
+/// (address modifier lines).
 #[derive(Clone, Copy, Debug, PartialEq, Eq)]
 pub struct Am {
     code: u8,
@@ -139,7 +143,7 @@ impl Am {
     ghost use Rattle.std.specs.Prelude.{Some};
     ghost use Rattle.vme_am.specs.Codes.{row_at, read_code};
 
-    /// Reads a code of the address modifier table (section 2.2.2).
+    /// Reads a code of the address modifier table: IEEE 1014-1987, 2.2.2 (address modifier lines).
     ///
     /// AM5 and AM4 select the space, or make the code user-defined. AM3 is high in each row, AM2
     /// states the privilege, and AM1 and AM0 select the kind of access. Where both are low, the

@@ -14,7 +14,7 @@ use Rattle.vme_arbiter.specs.declared.kind.ArbiterKind.TheVariants.{Rotating}
 use Rattle.vme_arbiter.specs.Levels.{level_order, stands_before, levels_before, first_after}
 use Rattle.vme_arbiter.specs.Requests.{BusRequest, bus_request}
 use Rattle.vme_arbiter.specs.Grants.{IsBehind}
-use Rattle.vme_arbiter.specs.Arbitration.{Arbitration, holds, can_ask, lawful_ask, bus_after_release, next_of, turn_step}
+use Rattle.vme_arbiter.specs.Arbitration.{Arbitration, holds, can_ask, lawful_ask, bus_after_release, next_of, arbiter_step}
 use Rattle.vme_arbiter.specs.Orderly.{IsBySlot, IsOrderly, IsLawfulRequest}
 use Rattle.vme_arbiter.specs.Shares.{grant_of, grants_in, IsLowest, LeavesLowest, Waits}
 use Rattle.vme_arbiter.proofs.Orders.{before-apart, turn-nearer, three-before}
@@ -24,7 +24,7 @@ use Rattle.vme_arbiter.proofs.lemmas.Orderly.{levels_ok, orderly-step, kind-stay
 use Rattle.vme_arbiter.proofs.Sets.{contains_parts, with-contains, without-contains}
 
 -- a slot that is granted the bus holds it
-pub grant-holds : (bus : Arbitration) (cmd : ArbCmd) (r : BusRequest) → grant_of bus cmd ≡ Some r → (turn_step bus cmd).0.holder ≡ Some r.slot
+pub grant-holds : (bus : Arbitration) (cmd : ArbCmd) (r : BusRequest) → grant_of bus cmd ≡ Some r → (arbiter_step bus cmd).0.holder ≡ Some r.slot
 grant-holds bus cmd r is = search rules
 
 -- each new holder is granted the bus
@@ -39,7 +39,7 @@ handed_granted : (next : Option BusRequest) (bus : Arbitration) (slot : ℕ) →
 handed_granted None bus slot now = cc
 handed_granted (Some next) bus slot now = (next, refl, same_Some next.slot slot now)
 
-pub holder-granted : (bus : Arbitration) (cmd : ArbCmd) (slot : ℕ) → bus.holder ≢ Some slot → (turn_step bus cmd).0.holder ≡ Some slot
+pub holder-granted : (bus : Arbitration) (cmd : ArbCmd) (slot : ℕ) → bus.holder ≢ Some slot → (arbiter_step bus cmd).0.holder ≡ Some slot
     → (r : BusRequest) × (grant_of bus cmd ≡ Some r) × (r.slot ≡ slot)
 holder-granted bus (Ask asks level) slot other now =
     elim (cases_Bool (can_ask bus asks level)) [
@@ -172,7 +172,7 @@ handed_goes bus r (Some next) later on is_next others =
 -- each command leaves the request waiting, and its grant, if any, has the properties
 turn_goes : (bus : Arbitration) (r : BusRequest) (cmd : ArbCmd) (later : List BusRequest) → WaitsOn bus r → LeavesLowest r cmd
     → All (λ grant. grant ≢ r) (cons_option (grant_of bus cmd) later)
-    → IsLowest (turn_step bus cmd).0 r × (Goes (turn_step bus cmd).0 r later → Goes bus r (cons_option (grant_of bus cmd) later))
+    → IsLowest (arbiter_step bus cmd).0 r × (Goes (arbiter_step bus cmd).0 r later → Goes bus r (cons_option (grant_of bus cmd) later))
 turn_goes bus r (Ask slot level) later on leaves others =
     elim (cases_Bool (can_ask bus slot level)) [
       | inl can ↦ rw can (taken_goes bus.holder bus r (bus_request level slot) later refl on.orderly on.waits leaves)
@@ -195,7 +195,7 @@ all_go : (bus : Arbitration) (r : BusRequest) (h : List (Entry ArbCmd ArbReply))
     → All (λ grant. grant ≢ r) (grants_in bus h) → Goes bus r (grants_in bus h)
 all_go bus r [] on leaves others = record { elsewhere = All-nil (λ grant. grant.level ≢ r.level); by_order = omega arith }
 all_go bus r (e ∷ h) on leaves others =
-    let then = (turn_step bus e.cmd).0 in
+    let then = (arbiter_step bus e.cmd).0 in
     let later = grants_in then h in
     let turn = turn_goes bus r e.cmd later on (All-head (λ e. LeavesLowest r e.cmd) e h leaves) others in
     turn.1 (all_go then r h

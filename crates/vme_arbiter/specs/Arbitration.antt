@@ -71,7 +71,7 @@ abbrev pub done_step : Arbitration → ℕ → Arbitration × ArbReply
 done_step bus slot = if holds bus slot then (bus_after_release (next_of bus) bus, Freed) else (bus, Denied)
 
 -- the step of the arbiter: the new state and the reply for a command
-abbrev pub turn_step : Arbitration → ArbCmd → Arbitration × ArbReply
-turn_step bus (Ask slot level) = ask_step bus slot level
-turn_step bus (Look slot) = look_step bus slot
-turn_step bus (Done slot) = done_step bus slot
+abbrev pub arbiter_step : Arbitration → ArbCmd → Arbitration × ArbReply
+arbiter_step bus (Ask slot level) = ask_step bus slot level
+arbiter_step bus (Look slot) = look_step bus slot
+arbiter_step bus (Done slot) = done_step bus slot

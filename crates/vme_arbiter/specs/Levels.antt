@@ -3,7 +3,7 @@ use Rattle.std.specs.Prelude.{ℕ, ◌-◌, Bool, false, not, ◌==◌, ◌&&◌
 use Rattle.vme_arbiter.specs.declared.kind.ArbiterKind.{ArbiterKind}
 use Rattle.vme_arbiter.specs.declared.kind.ArbiterKind.TheVariants.{Priority, Rotating}
 
--- all levels, the greatest first; IEEE 1014-1987, 3.2 (lines of the arbitration bus)
+-- all levels, the greatest first; IEEE 1014-1987, 3.2 (arbitration bus lines)
 abbrev pub all_levels : List ℕ
 all_levels = 3 ∷ 2 ∷ 1 ∷ 0 ∷ []
 

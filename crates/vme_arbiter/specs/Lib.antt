@@ -3,5 +3,5 @@ pub mod Requests
 pub mod Grants
 pub mod Arbitration
 pub mod Orderly
-pub mod Turns
+pub mod Masters
 pub mod Shares

@@ -4,7 +4,7 @@ use Rattle.std.specs.List.{list_any}
 use Rattle.vme_arbiter.specs.Levels.{stands_before}
 
 -- a request for the bus: a slot drives the bus request line of a level;
--- IEEE 1014-1987, 3.2 (lines of the arbitration bus)
+-- IEEE 1014-1987, 3.2 (arbitration bus lines)
 pub record BusRequest : Type 0 where
   pub level : ℕ
   pub slot : ℕ
@@ -17,7 +17,7 @@ bus_request level slot = record { level = level; slot = slot }
 abbrev pub is_slot : ℕ → Bool
 is_slot slot = nat_le 1 slot && nat_le slot 21
 
--- the levels of bus requests: BR0* to BR3*; IEEE 1014-1987, 3.2 (lines of the arbitration bus)
+-- the levels of bus requests: BR0* to BR3*; IEEE 1014-1987, 3.2 (arbitration bus lines)
 abbrev pub is_level : ℕ → Bool
 is_level level = nat_lt level 4
 

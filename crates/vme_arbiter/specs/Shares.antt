@@ -7,7 +7,7 @@ use Rattle.vme_arbiter.specs.declared.command.ArbCmd.{ArbCmd}
 use Rattle.vme_arbiter.specs.declared.command.ArbCmd.TheVariants.{Ask, Look, Done}
 use Rattle.vme_arbiter.specs.declared.command.ArbReply.{ArbReply}
 use Rattle.vme_arbiter.specs.Requests.{BusRequest, bus_request}
-use Rattle.vme_arbiter.specs.Arbitration.{Arbitration, holds, can_ask, next_of, turn_step}
+use Rattle.vme_arbiter.specs.Arbitration.{Arbitration, holds, can_ask, next_of, arbiter_step}
 
 -- the request to which a command grants the bus, if any: a new request on a free bus, or the next one when the holder
 -- is done
@@ -20,7 +20,7 @@ grant_of bus (Done slot) = if holds bus slot then next_of bus else None
 -- the requests to which a history grants the bus, in order
 abbrev pub grants_in : Arbitration → List (Entry ArbCmd ArbReply) → List BusRequest
 grants_in bus [] = []
-grants_in bus (e ∷ h) = cons_option (grant_of bus e.cmd) (grants_in (turn_step bus e.cmd).0 h)
+grants_in bus (e ∷ h) = cons_option (grant_of bus e.cmd) (grants_in (arbiter_step bus e.cmd).0 h)
 
 -- a request is pending, and is that of the lowest slot on its level
 pub record IsLowest (bus : Arbitration) (r : BusRequest) : Type 0 where

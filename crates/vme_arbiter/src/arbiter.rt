@@ -15,9 +15,9 @@ pub const SLOTS: u16 = 21;
 /// One place for each slot number, and place 0, which stays empty.
 const PLACES: usize = 22;
 
-/// The arbiter (section 3.3): the holder of the data transfer bus, and the pending requests with
-/// their levels. Contracts see it as its kind, the level at which its next grant begins, its
-/// holder, and the set of pending requests.
+/// The arbiter of IEEE 1014-1987, 3.3 (arbiter and requesters): the holder of the data transfer
+/// bus, and the pending requests with their levels. Contracts see it as its kind, the level at
+/// which its next grant begins, its holder, and the set of pending requests.
 #[derive(Debug, Drop)]
 pub struct Arbiter {
     kind: ArbiterKind,
@@ -153,13 +153,13 @@ fn is_slot(number: u16) -> bool
 }
 
 impl Object for Arbiter {
-    ghost use Rattle.vme_arbiter.specs.Arbitration.{turn_step};
+    ghost use Rattle.vme_arbiter.specs.Arbitration.{arbiter_step};
 
     type Cmd = ArbCmd;
 
     type Reply = ArbReply;
 
-    ghost step = { turn_step };
+    ghost step = { arbiter_step };
 
     #[inline(always)]
     fn apply(&mut self, cmd: &ArbCmd) -> ArbReply {

@@ -3,7 +3,7 @@ ghost use Rattle.vme_arbiter.specs.Levels.{first_after};
 
 use crate::levels::HIGHEST;
 
-/// How an arbiter chooses the level of a grant (section 3.3).
+/// How an arbiter chooses the level of a grant: IEEE 1014-1987, 3.3 (arbiter and requesters).
 #[derive(Clone, Copy, Debug, PartialEq, Eq)]
 pub enum ArbiterKind {
     /// Priority: each grant begins at the greatest level, 3.

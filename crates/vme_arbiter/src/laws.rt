@@ -10,10 +10,10 @@ ghost use Rattle.vme_arbiter.specs.declared.kind.ArbiterKind.TheVariants.{Rotati
 ghost use Rattle.vme_arbiter.specs.Levels.{level_order, levels_before};
 ghost use Rattle.vme_arbiter.specs.Requests.{BusRequest, is_slot, next_request, with_request, without_slot, is_level};
 ghost use Rattle.vme_arbiter.specs.Grants.{IsNext};
-ghost use Rattle.vme_arbiter.specs.Arbitration.{Arbitration, opening_bus, turn_step};
+ghost use Rattle.vme_arbiter.specs.Arbitration.{Arbitration, opening_bus, arbiter_step};
 ghost use Rattle.vme_arbiter.specs.Orderly.{IsBySlot, IsOrderly};
 ghost use Rattle.vme_arbiter.specs.Shares.{grant_of, grants_in, Waits};
-ghost use Rattle.vme_arbiter.specs.Turns.{slot_of, HasTheBus, may_give, StandsAsReplied, TakeTurns};
+ghost use Rattle.vme_arbiter.specs.Masters.{slot_of, HasTheBus, may_give, StandsAsReplied, FollowReplies};
 
 /// States which request is granted next: the one on the first level in the order from `first`, and
 /// on that level the one of the lowest slot. Each set of requests on levels in range that is not
@@ -47,9 +47,9 @@ pub fn pending_requests_are_a_set()
 /// free.
 pub fn states_are_orderly()
     ensures all { (kind : ArbiterKind) (h : List (Entry ArbCmd ArbReply)) →
-        IsOrderly (replay turn_step (opening_bus kind) h) }
-    ensures step { (bus : Arbitration) (cmd : ArbCmd) → IsOrderly bus → IsOrderly (turn_step bus cmd).0 }
-    ensures kind { (bus : Arbitration) (cmd : ArbCmd) → (turn_step bus cmd).0.kind ≡ bus.kind }
+        IsOrderly (replay arbiter_step (opening_bus kind) h) }
+    ensures step { (bus : Arbitration) (cmd : ArbCmd) → IsOrderly bus → IsOrderly (arbiter_step bus cmd).0 }
+    ensures kind { (bus : Arbitration) (cmd : ArbCmd) → (arbiter_step bus cmd).0.kind ≡ bus.kind }
 {}
 
 /// States that the replies show the holder. Only the holder has the reply `Granted`, and a check by
@@ -57,13 +57,13 @@ pub fn states_are_orderly()
 /// the holder stays.
 pub fn replies_show_the_holder()
     ensures granted { (bus : Arbitration) (cmd : ArbCmd) →
-        (turn_step bus cmd).1 ≡ Granted → (turn_step bus cmd).0.holder ≡ Some (slot_of cmd) }
+        (arbiter_step bus cmd).1 ≡ Granted → (arbiter_step bus cmd).0.holder ≡ Some (slot_of cmd) }
     ensures looks { (bus : Arbitration) (slot : ℕ) →
-        bus.holder ≡ Some slot → (turn_step bus (Look slot)).1 ≡ Granted }
+        bus.holder ≡ Some slot → (arbiter_step bus (Look slot)).1 ≡ Granted }
     ensures freed { (bus : Arbitration) (cmd : ArbCmd) →
-        (turn_step bus cmd).1 ≡ Freed → bus.holder ≡ Some (slot_of cmd) }
+        (arbiter_step bus cmd).1 ≡ Freed → bus.holder ≡ Some (slot_of cmd) }
     ensures stays { (bus : Arbitration) (cmd : ArbCmd) (slot : ℕ) → bus.holder ≡ Some slot →
-        (turn_step bus cmd).1 ≢ Freed → (turn_step bus cmd).0.holder ≡ Some slot }
+        (arbiter_step bus cmd).1 ≢ Freed → (arbiter_step bus cmd).0.holder ≡ Some slot }
 {}
 
 /// States that at most one slot has the bus. In a legal history, a slot with a reply `Granted` and
@@ -71,38 +71,38 @@ pub fn replies_show_the_holder()
 /// the reply `Granted` or `Freed` next.
 pub fn one_slot_has_the_bus()
     ensures holder { (kind : ArbiterKind) (h : List (Entry ArbCmd ArbReply)) (slot : ℕ) →
-        IsLegal turn_step (opening_bus kind) h → HasTheBus slot h →
-        (replay turn_step (opening_bus kind) h).holder ≡ Some slot }
+        IsLegal arbiter_step (opening_bus kind) h → HasTheBus slot h →
+        (replay arbiter_step (opening_bus kind) h).holder ≡ Some slot }
     ensures alone { (kind : ArbiterKind) (h : List (Entry ArbCmd ArbReply)) (a b : ℕ) →
-        IsLegal turn_step (opening_bus kind) h → HasTheBus a h → HasTheBus b h → a ≡ b }
+        IsLegal arbiter_step (opening_bus kind) h → HasTheBus a h → HasTheBus b h → a ≡ b }
     ensures granted { (kind : ArbiterKind) (h : List (Entry ArbCmd ArbReply)) (next : Entry ArbCmd ArbReply) (slot : ℕ) →
-        IsLegal turn_step (opening_bus kind) (h ++ next ∷ []) → HasTheBus slot h →
+        IsLegal arbiter_step (opening_bus kind) (h ++ next ∷ []) → HasTheBus slot h →
         next.reply ≡ Granted → slot_of next.cmd ≡ slot }
     ensures freed { (kind : ArbiterKind) (h : List (Entry ArbCmd ArbReply)) (next : Entry ArbCmd ArbReply) (slot : ℕ) →
-        IsLegal turn_step (opening_bus kind) (h ++ next ∷ []) → HasTheBus slot h →
+        IsLegal arbiter_step (opening_bus kind) (h ++ next ∷ []) → HasTheBus slot h →
         next.reply ≡ Freed → slot_of next.cmd ≡ slot }
 {}
 
 /// States that the last reply to a slot describes whether the slot holds the bus or waits. This
 /// holds after each command: a command of the slot that is allowed after its last reply, and a
 /// command of any other slot. A slot whose last reply is `Granted` is the holder.
-pub fn a_turn_leaves_each_where_it_was()
+pub fn replies_show_who_waits()
     ensures opening { (kind : ArbiterKind) (slot : ℕ) → StandsAsReplied (opening_bus kind) slot None }
     ensures own { (bus : Arbitration) (slot : ℕ) (last : Option ArbReply) (cmd : ArbCmd) →
         IsOrderly bus → IsTrue (is_slot slot) → StandsAsReplied bus slot last →
         IsTrue (may_give slot last cmd) →
-        StandsAsReplied (turn_step bus cmd).0 slot (Some (turn_step bus cmd).1) }
+        StandsAsReplied (arbiter_step bus cmd).0 slot (Some (arbiter_step bus cmd).1) }
     ensures other { (bus : Arbitration) (slot : ℕ) (last : Option ArbReply) (cmd : ArbCmd) →
         slot_of cmd ≢ slot → StandsAsReplied bus slot last →
-        StandsAsReplied (turn_step bus cmd).0 slot last }
+        StandsAsReplied (arbiter_step bus cmd).0 slot last }
     ensures holder { (bus : Arbitration) (slot : ℕ) →
         StandsAsReplied bus slot (Some Granted) → bus.holder ≡ Some slot }
 {}
 
 /// States that no reply is `Denied` if each master has a slot of its own and follows the replies.
-pub fn no_turn_is_denied()
+pub fn no_command_is_denied()
     ensures { (kind : ArbiterKind) (k : ℕ) (slots : ℕ → ℕ) (h : List (Entry ArbCmd ArbReply)) →
-        IsLegal turn_step (opening_bus kind) h → TakeTurns k slots h → All (λ e. e.reply ≢ Denied) h }
+        IsLegal arbiter_step (opening_bus kind) h → FollowReplies k slots h → All (λ e. e.reply ≢ Denied) h }
 {}
 
 /// States how many grants precede that of a waiting request at a rotating arbiter, if the request
@@ -111,9 +111,9 @@ pub fn no_turn_is_denied()
 /// Each grant makes its slot the holder, and each new holder comes from a grant.
 pub fn at_most_three_go_before()
     ensures granted { (bus : Arbitration) (cmd : ArbCmd) (r : BusRequest) → grant_of bus cmd ≡ Some r →
-        (turn_step bus cmd).0.holder ≡ Some r.slot }
+        (arbiter_step bus cmd).0.holder ≡ Some r.slot }
     ensures every { (bus : Arbitration) (cmd : ArbCmd) (slot : ℕ) → bus.holder ≢ Some slot →
-        (turn_step bus cmd).0.holder ≡ Some slot →
+        (arbiter_step bus cmd).0.holder ≡ Some slot →
         (r : BusRequest) × (grant_of bus cmd ≡ Some r) × (r.slot ≡ slot) }
     ensures elsewhere { (bus : Arbitration) (r : BusRequest) (h : List (Entry ArbCmd ArbReply)) →
         IsOrderly bus → bus.kind ≡ Rotating → Waits bus r h →

@@ -6,9 +6,9 @@ use Rattle.vme_memory.specs.Boards.{Board}
 use Rattle.vme_memory.specs.Steps.{Command, answer}
 use Rattle.vme_memory.specs.Locals.{command_given}
 use Rattle.vme_arbiter.specs.declared.command.ArbCmd.{ArbCmd}
-use Rattle.vme_arbiter.specs.Arbitration.{turn_step}
+use Rattle.vme_arbiter.specs.Arbitration.{arbiter_step}
 use Rattle.vme_core.specs.declared.event.Event.{Event}
-use Rattle.vme_core.specs.declared.event.Event.TheVariants as asked
+use Rattle.vme_core.specs.declared.event.Event.TheVariants as events
 use Rattle.vme_core.specs.declared.event.EventReply.{EventReply}
 use Rattle.vme_core.specs.declared.event.EventReply.TheVariants as replies
 use Rattle.vme_core.specs.CountedStates.{CountedState}
@@ -22,8 +22,8 @@ pub data Call : Type 0 where
 
 -- the call of an event
 abbrev pub call_of : Event → Call
-call_of (asked.Board board cmd) = OnBoard board (command_given cmd)
-call_of (asked.Bus cmd) = OnBus cmd
+call_of (events.Board board cmd) = OnBoard board (command_given cmd)
+call_of (events.Bus cmd) = OnBus cmd
 
 -- the step of a board's memory on a command, if any; without one, the reply is a bus error
 abbrev pub command_step : Board → Option Command → Board × Reply
@@ -51,8 +51,8 @@ board_after machine who x command (Some board) = (
 -- the machine after a command to the arbiter, and the reply
 abbrev pub bus_after : Machine → ℕ → ArbCmd → Machine × EventReply
 bus_after machine who cmd = (
-  record machine { bus = (counted_step turn_step machine.bus who cmd).0 },
-  replies.Bus (counted_step turn_step machine.bus who cmd).1,
+  record machine { bus = (counted_step arbiter_step machine.bus who cmd).0 },
+  replies.Bus (counted_step arbiter_step machine.bus who cmd).1,
 )
 
 -- the machine after a call of the processor who, and the reply

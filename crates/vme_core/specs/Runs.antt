@@ -9,9 +9,9 @@ use Rattle.vme_memory.specs.Boards.{Board}
 use Rattle.vme_memory.specs.Locals.{board_step}
 use Rattle.vme_arbiter.specs.declared.command.ArbCmd.{ArbCmd}
 use Rattle.vme_arbiter.specs.declared.command.ArbReply.{ArbReply}
-use Rattle.vme_arbiter.specs.Arbitration.{Arbitration, turn_step}
+use Rattle.vme_arbiter.specs.Arbitration.{Arbitration, arbiter_step}
 use Rattle.vme_core.specs.declared.event.Event.{Event}
-use Rattle.vme_core.specs.declared.event.Event.TheVariants as asked
+use Rattle.vme_core.specs.declared.event.Event.TheVariants as events
 use Rattle.vme_core.specs.declared.event.EventReply.{EventReply}
 use Rattle.vme_core.specs.declared.event.EventReply.TheVariants as replies
 use Rattle.vme_core.specs.declared.event.Target.{Target}
@@ -35,27 +35,27 @@ move who event reply = record { who = who; event = event; reply = reply }
 
 -- the object that takes an event
 abbrev pub target_of : Event → Target
-target_of (asked.Board board cmd) = at.Board board
-target_of (asked.Bus cmd) = at.Bus
+target_of (events.Board board cmd) = at.Board board
+target_of (events.Bus cmd) = at.Bus
 
 -- a reply matches its event: it is a board's, or the arbiter's
 abbrev pub IsReplyTo : Event → EventReply → Type 0
-IsReplyTo (asked.Board board cmd) (replies.Board reply) = Unit {0}
-IsReplyTo (asked.Board board cmd) (replies.Bus reply) = ⊥
-IsReplyTo (asked.Bus cmd) (replies.Board reply) = ⊥
-IsReplyTo (asked.Bus cmd) (replies.Bus reply) = Unit {0}
+IsReplyTo (events.Board board cmd) (replies.Board reply) = Unit {0}
+IsReplyTo (events.Board board cmd) (replies.Bus reply) = ⊥
+IsReplyTo (events.Bus cmd) (replies.Board reply) = ⊥
+IsReplyTo (events.Bus cmd) (replies.Bus reply) = Unit {0}
 
 -- the entry that a transition adds to the history of a board, if any
 abbrev pub board_entry : ℕ → ℕ → Event → EventReply → Option (Entry BoardCmd Reply)
-board_entry x who (asked.Board board cmd) (replies.Board reply) = if board == x then Some (entry who cmd reply) else None
-board_entry x who (asked.Board board cmd) (replies.Bus reply) = None
-board_entry x who (asked.Bus cmd) reply = None
+board_entry x who (events.Board board cmd) (replies.Board reply) = if board == x then Some (entry who cmd reply) else None
+board_entry x who (events.Board board cmd) (replies.Bus reply) = None
+board_entry x who (events.Bus cmd) reply = None
 
 -- the entry that a transition adds to the history of the arbiter, if any
 abbrev pub bus_entry : ℕ → Event → EventReply → Option (Entry ArbCmd ArbReply)
-bus_entry who (asked.Board board cmd) reply = None
-bus_entry who (asked.Bus cmd) (replies.Board reply) = None
-bus_entry who (asked.Bus cmd) (replies.Bus reply) = Some (entry who cmd reply)
+bus_entry who (events.Board board cmd) reply = None
+bus_entry who (events.Bus cmd) (replies.Board reply) = None
+bus_entry who (events.Bus cmd) (replies.Bus reply) = Some (entry who cmd reply)
 
 -- the history of a board in a run
 abbrev pub board_part : ℕ → List Transition → List (Entry BoardCmd Reply)
@@ -77,4 +77,4 @@ replies_in run = map (λ m. m.reply) run
 pub record IsRun (run : List Transition) (before after : Machine) : Type 0 where
   pub fitting : All (λ m. IsReplyTo m.event m.reply) run
   pub boards : AllAt (λ x b a. IsObjectRun board_step (board_part x run) b a) before.boards after.boards
-  pub bus : IsObjectRun turn_step (bus_part run) before.bus after.bus
+  pub bus : IsObjectRun arbiter_step (bus_part run) before.bus after.bus

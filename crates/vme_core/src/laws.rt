@@ -2,7 +2,7 @@ ghost use Rattle.std.specs.Prelude.{◌++◌, ◌∷◌, ℕ, List, []};
 ghost use Rattle.vme_object.specs.Each.{AllAt};
 ghost use Rattle.vme_memory.specs.Boards.{Board};
 ghost use Rattle.vme_memory.specs.Locals.{board_step};
-ghost use Rattle.vme_arbiter.specs.Arbitration.{Arbitration, turn_step};
+ghost use Rattle.vme_arbiter.specs.Arbitration.{Arbitration, arbiter_step};
 ghost use Rattle.vme_core.specs.CountedStates.{IsCountedReplay};
 ghost use Rattle.vme_core.specs.Runs.{Machine, Transition, IsRun, move, target_of, board_part, bus_part};
 ghost use Rattle.vme_core.specs.Calls.{call_of, machine_step};
@@ -25,7 +25,7 @@ pub fn opening_is_replayed()
         IsRun run (opening memories bus k) after →
         AllAt (λ x memory b. IsCountedReplay board_step memory (board_part x run) k b) memories after.boards }
     ensures bus { (memories : List Board) (bus : Arbitration) (k : ℕ) (run : List Transition) (after : Machine) →
-        IsRun run (opening memories bus k) after → IsCountedReplay turn_step bus (bus_part run) k after.bus }
+        IsRun run (opening memories bus k) after → IsCountedReplay arbiter_step bus (bus_part run) k after.bus }
 {}
 
 /// States that the call of an event is a run of one transition, with the reply of that call.

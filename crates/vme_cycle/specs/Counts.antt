@@ -3,7 +3,7 @@ use Rattle.std.specs.Prelude.{ℕ, ◌/◌, nat_le, Bool, true, false, ◌==◌,
 use Rattle.vme_am.specs.declared.code.AmFault.{AmFault}
 use Rattle.vme_am.specs.Codes.{CodeRow, read_code}
 
--- the lengths of a single datum, one to four bytes; IEEE 1014-1987, 2.2.1 (address lines and data lines)
+-- the lengths of a single datum, one to four bytes; IEEE 1014-1987, 2.2.1 (addressing lines)
 abbrev pub is_single_len : ℕ → Bool
 is_single_len n = nat_le 1 n && nat_le n 4
 

@@ -34,12 +34,12 @@ row_passes test (Err fault) = false
 abbrev pub is_aligned_kind : Request → Bool
 is_aligned_kind request = is_block_request request || is_some (function_of request)
 
--- the byte location of n bytes that begin at an address; IEEE 1014-1987, 2.2.1 (address lines and data lines). Eight
+-- the byte location of n bytes that begin at an address; IEEE 1014-1987, 2.2.1 (addressing lines). Eight
 -- bytes use BYTE(0-3)
 abbrev pub location_for : ℕ → ℕ → Option Location
 location_for addr n = if is_wide_len n then Some Bytes03 else location_at addr n
 
--- the byte location of the first datum; IEEE 1014-1987, 2.2.1 (address lines and data lines)
+-- the byte location of the first datum; IEEE 1014-1987, 2.2.1 (addressing lines)
 abbrev pub first_location : Request → Option Location
 first_location request =
     if is_aligned_kind request && not (addr_of request % datum_len request == 0) then None

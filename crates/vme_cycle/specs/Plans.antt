@@ -10,11 +10,11 @@ use Rattle.vme_cycle.specs.Lawful.{Transfer, location_for}
 use Rattle.vme_cycle.specs.SignalLines.{SignalLines, placed_lanes}
 
 -- the location of n bytes that begin at an address, or BYTE(0) where none has them;
--- IEEE 1014-1987, 2.2.1 (address lines and data lines)
+-- IEEE 1014-1987, 2.2.1 (addressing lines)
 unfoldable pub location_from : ℕ → ℕ → Location
 location_from addr n = unwrap_or (location_for addr n) Byte0
 
--- the location of datum i on its own; IEEE 1014-1987, 2.2.1 (address lines and data lines)
+-- the location of datum i on its own; IEEE 1014-1987, 2.2.1 (addressing lines)
 abbrev pub own_location : Transfer → ℕ → Location
 own_location t i = location_from (address_of t.request i) (datum_len t.request)
 

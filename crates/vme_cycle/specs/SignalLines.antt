@@ -9,7 +9,7 @@ use Rattle.vme_lanes.specs.Rows.{row_of, location_sensed}
 use Rattle.vme_lanes.specs.Lanes.{lanes_with, wide_lanes}
 
 -- the lines of one cycle: address modifier, address lines from A02 up, strobes with A01 and LWORD*, level of WRITE*,
--- and the eight lanes, the most significant first; IEEE 1014-1987, 2.2 (lines of the data transfer bus)
+-- and the eight lanes, the most significant first; IEEE 1014-1987, 2.2 (data transfer bus lines)
 pub record SignalLines : Type 0 where
   pub am : CodeRow
   pub addr : ℕ
@@ -22,11 +22,11 @@ abbrev pub len_with : Bool → ℕ → Option ℕ
 len_with false len = Some len
 len_with true len = if len == 4 then Some 8 else None
 
--- the number of bytes that code and location select; IEEE 1014-1987, 2.2.1 (address lines and data lines)
+-- the number of bytes that code and location select; IEEE 1014-1987, 2.2.1 (addressing lines)
 abbrev pub chosen_len : Bool → Location → Option ℕ
 chosen_len wide l = len_with wide (row_of l).len
 
--- the number of bytes that code and strobes select; IEEE 1014-1987, 2.2.1 (address lines and data lines)
+-- the number of bytes that code and strobes select; IEEE 1014-1987, 2.2.1 (addressing lines)
 abbrev pub row_len : Bool → Strobes → Option ℕ
 row_len wide strobes = option_and_then (chosen_len wide) (location_sensed strobes)
 
@@ -37,7 +37,7 @@ placed_lanes true l bytes = wide_lanes bytes
 placed_lanes false l bytes = lanes_with l bytes
 
 -- the address of the first byte: the address lines from A02 up, and the place that the strobes select;
--- IEEE 1014-1987, 2.2.1 (address lines and data lines)
+-- IEEE 1014-1987, 2.2.1 (addressing lines)
 abbrev pub first_byte : SignalLines → Option ℕ
 first_byte s = option_map (λ l. s.addr + (row_of l).first) (location_sensed s.strobes)
 

@@ -3,8 +3,8 @@ ghost use Rattle.vme_cycle.specs.Functions.{number_from, bytes_onto, number_byte
 
 use vme_lanes::{Datum, copy_bytes};
 
-/// The function of a read-modify-write cycle: it determines the bytes that replace the old bytes
-/// (section 2.3.8).
+/// The function of a read-modify-write cycle: it determines the bytes that replace the old bytes:
+/// IEEE 1014-1987, 2.3.8 (read-modify-write).
 #[derive(Debug, Drop, PartialEq, Eq)]
 pub enum Modify {
     /// Sets bit 7 of the byte at the lowest address.

@@ -142,7 +142,8 @@ impl<'a> Plan<'a> {
         self.request().addr()
     }
 
-    /// Returns the signals of datum `i` before a slave replies (sections 2.3.6 and 2.3.7).
+    /// Returns the signals of datum `i` before a slave replies: IEEE 1014-1987, 2.3.6 (basic data
+    /// transfer) and 2.3.7 (block transfer).
     ///
     /// In a block, the address lines, A01 and LWORD* stay those of the first datum. A slave that
     /// increments the address senses the location of each datum.
@@ -167,8 +168,8 @@ impl<'a> Plan<'a> {
         Signals::new(self.am(), request.addr(), location, read, lines)
     }
 
-    /// Returns the signals of the write half of a read-modify-write that drives these bytes
-    /// (section 2.3.8). Its read half is `signals(0)`.
+    /// Returns the signals of the write half of a read-modify-write that drives these bytes: IEEE
+    /// 1014-1987, 2.3.8 (read-modify-write). Its read half is `signals(0)`.
     #[tactic(auto, unfolding(crate::specs::Plans::signals_of, crate::specs::Plans::write_half_of))]
     pub fn write_half(&self, bytes: &Datum) -> Signals
         requires modify { IsSome (function_of self.now.request) }

@@ -6,7 +6,8 @@ use crate::block::Block;
 use crate::modify::Modify;
 use vme_lanes::{Datum, Location};
 
-/// The distance between the addresses that no block crosses (section 2.3.7).
+/// The distance between the addresses that no block crosses: IEEE 1014-1987, 2.3.7 (block
+/// transfer).
 const BOUNDARY: u64 = 256;
 
 /// This distance for blocks whose data have eight bytes.

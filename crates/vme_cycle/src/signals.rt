@@ -8,8 +8,8 @@ use vme_am::Am;
 use vme_lanes::{DataLines, Location, Strobes, place, place_wide};
 
 /// The signals of one cycle: the address modifier, the address lines from A02 up, the strobes with
-/// A01 and LWORD*, WRITE*, and the data lanes (section 2.2). The strobes always select a byte
-/// location.
+/// A01 and LWORD*, WRITE*, and the data lanes; IEEE 1014-1987, 2.2 (data transfer bus lines). The
+/// strobes always select a byte location.
 #[derive(Clone, Copy, Debug, PartialEq, Eq)]
 pub struct Signals {
     am: Am,
@@ -144,7 +144,8 @@ impl Signals {
     }
 
     /// Returns the byte location that a slave senses when its address counter is at `at`, or `None`
-    /// where there is none. In a block the slave takes A01 from bit 1 of `at` (section 2.3.7).
+    /// where there is none. In a block the slave takes A01 from bit 1 of `at`: IEEE 1014-1987,
+    /// 2.3.7 (block transfer).
     pub fn sensed_at(&self, at: u32) -> Option<Location>
         ensures { result ≡ sensed_at self.now at }
     {

@@ -21,7 +21,7 @@ abbrev pub covers : Entry → Space → ℕ → Bool
 covers entry space addr = same_space entry.space space && nat_le entry.base addr && nat_lt addr (end_of entry)
 
 -- whether an entry admits a code: a supervisory entry admits only supervisory codes;
--- IEEE 1014-1987, 2.2.2 (address modifiers)
+-- IEEE 1014-1987, 2.2.2 (address modifier lines)
 abbrev pub admits : Entry → CodeRow → Bool
 admits entry code = code.supervisory || not entry.supervisory
 

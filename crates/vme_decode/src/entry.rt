@@ -1,8 +1,8 @@
 use crate::fault::MapFault;
 use vme_am::{Am, Space};
 
-/// The addresses at which one board responds: `size` bytes of a space, from `base` up (section
-/// 2.3.5).
+/// The addresses at which one board responds: `size` bytes of a space, from `base` up: IEEE
+/// 1014-1987, 2.3.5 (addressing).
 #[derive(Clone, Copy, Debug, PartialEq, Eq)]
 pub struct Entry {
     /// The address space.

@@ -66,8 +66,9 @@ impl AddressMap {
     }
 
     /// Returns the position, in the caller's order, of the entry that a code and the address of a
-    /// first byte select, and the offset of that address from the entry's base in bytes (section
-    /// 2.3.5). Returns `None` where no entry covers the address and admits the code.
+    /// first byte select, and the offset of that address from the entry's base in bytes: IEEE
+    /// 1014-1987, 2.3.5 (addressing). Returns `None` where no entry covers the address and admits
+    /// the code.
     pub fn select_at(&self, am: Am, addr: u32) -> Option<(usize, u32)>
         ensures value { result ≡ selection_at self.now am addr }
         ensures place { IfSome result (λ found. found.0 < length self.now) }

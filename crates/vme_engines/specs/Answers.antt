@@ -50,7 +50,7 @@ abbrev pub offset_of : Transfer → Option ℕ
 offset_of t = option_map (λ found. found.1) (selection board_map (signals_of t 0))
 
 -- the reply to datum i and the board after it, by the offset of the transfer; with no board selected, the bus timer
--- drives BERR* (IEEE 1014-1987, 2.3.3 (data transfer acknowledge and bus error))
+-- drives BERR* (IEEE 1014-1987, 2.3.3 (bus timer))
 abbrev pub reply_at : Board → Transfer → ℕ → Option ℕ → Reply × Board
 reply_at board t i None = (Berr, board)
 reply_at board t i (Some offset) = cycle board (signals_of t i) (offset + i * datum_len t.request) (function_of t.request)

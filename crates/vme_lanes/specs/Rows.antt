@@ -6,7 +6,7 @@ use Rattle.vme_lanes.specs.declared.location.Location.TheVariants.{Byte0, Byte1,
 use Rattle.vme_lanes.specs.declared.location.Strobes.{Strobes}
 
 -- one row of the byte location table: first byte, length, strobes, and first lane, counted from D31-D24;
--- IEEE 1014-1987, 2.2.1 (address lines and data lines)
+-- IEEE 1014-1987, 2.2.1 (addressing lines)
 pub record Row : Type 0 where
   pub first : ℕ
   pub len : ℕ
@@ -26,7 +26,7 @@ abbrev pub row_with : ℕ → ℕ → Bool → Bool → Bool → Bool → ℕ �
 row_with first len ds1 ds0 a01 lword lane =
     record { first = first; len = len; strobes = record { ds1 = ds1; ds0 = ds0; a01 = a01; lword = lword }; lane = lane }
 
--- the byte location table; IEEE 1014-1987, 2.2.1 (address lines and data lines)
+-- the byte location table; IEEE 1014-1987, 2.2.1 (addressing lines)
 abbrev pub row_of : Location → Row
 row_of Byte0 = row_with 0 1 L H L H 2
 row_of Byte1 = row_with 1 1 H L L H 3
@@ -39,7 +39,7 @@ row_of Bytes02 = row_with 0 3 L H L L 0
 row_of Bytes13 = row_with 1 3 H L L L 1
 row_of Bytes12 = row_with 1 2 L L H L 1
 
--- the ten locations of the table; IEEE 1014-1987, 2.2.1 (address lines and data lines)
+-- the ten locations of the table; IEEE 1014-1987, 2.2.1 (addressing lines)
 abbrev pub locations : List Location
 locations = Byte0 ∷ Byte1 ∷ Byte2 ∷ Byte3 ∷ Bytes01 ∷ Bytes23 ∷ Bytes03 ∷ Bytes02 ∷ Bytes13 ∷ Bytes12 ∷ []
 
@@ -47,10 +47,10 @@ locations = Byte0 ∷ Byte1 ∷ Byte2 ∷ Byte3 ∷ Bytes01 ∷ Bytes23 ∷ Byte
 abbrev pub same_strobes : Strobes → Strobes → Bool
 same_strobes a b = beq a.ds1 b.ds1 && beq a.ds0 b.ds0 && beq a.a01 b.a01 && beq a.lword b.lword
 
--- the row with n bytes that begin at an address, if any; IEEE 1014-1987, 2.2.1 (address lines and data lines)
+-- the row with n bytes that begin at an address, if any; IEEE 1014-1987, 2.2.1 (addressing lines)
 unfoldable pub location_at : ℕ → ℕ → Option Location
 location_at addr n = find (λ l. (row_of l).first == addr % 4 && (row_of l).len == n) locations
 
--- the row with these strobes, if any; IEEE 1014-1987, 2.2.1 (address lines and data lines)
+-- the row with these strobes, if any; IEEE 1014-1987, 2.2.1 (addressing lines)
 unfoldable pub location_sensed : Strobes → Option Location
 location_sensed strobes = find (λ l. same_strobes (row_of l).strobes strobes) locations

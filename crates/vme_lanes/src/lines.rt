@@ -19,8 +19,8 @@ pub fn copy_bytes<const N: usize>(bytes: &ArrayVec<u8, N>) -> ArrayVec<u8, N>
 /// The number of lanes before D31-D24.
 const UPPER: usize = 4;
 
-/// The data lanes of the bus, the most significant first. Each lane carries a byte or nothing
-/// (section 2.2.3).
+/// The data lanes of the bus, the most significant first. Each lane carries a byte or nothing: IEEE
+/// 1014-1987, 2.2.3 (data lines).
 #[derive(Clone, Copy, Debug, PartialEq, Eq)]
 pub struct DataLines {
     /// The four lanes of the address lines, D63 to D32, and then D31-D24, D23-D16, D15-D08 and
@@ -51,8 +51,8 @@ impl DataLines {
     }
 }
 
-/// Returns the lanes with bytes on those of a location, in order of address (section 2.2.3). The
-/// other lanes carry nothing.
+/// Returns the lanes with bytes on those of a location, in order of address: IEEE 1014-1987, 2.2.3
+/// (data lines). The other lanes carry nothing.
 pub fn place(location: Location, bytes: &[u8]) -> DataLines
     requires { length bytes.now ≡ (row_of location).len }
     ensures { result.lanes ≡ lanes_with location bytes.now }
@@ -102,7 +102,8 @@ pub fn place_wide(bytes: &[u8]) -> DataLines
     }
 }
 
-/// Returns the bytes on the lanes of a location, in order of address (section 2.2.3).
+/// Returns the bytes on the lanes of a location, in order of address: IEEE 1014-1987, 2.2.3 (data
+/// lines).
 #[tactic(auto, using(crate::proofs::Full::length_bytes_of))]
 pub fn pick(location: Location, lines: DataLines) -> Datum
     requires { IsTrue (carries location lines.lanes) }

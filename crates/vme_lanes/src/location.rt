@@ -1,8 +1,8 @@
 ghost use Rattle.std.specs.Prelude.{◌≡◌, ◌+◌, ◌%◌, ◌≤◌, ℕ, Some, IfSome};
 ghost use Rattle.vme_lanes.specs.Rows.{row_of, location_at, location_sensed};
 
-/// The bytes of a group of four that one cycle reaches, named by their addresses modulo four
-/// (section 2.2.1).
+/// The bytes of a group of four that one cycle reaches, named by their addresses modulo four: IEEE
+/// 1014-1987, 2.2.1 (addressing lines).
 #[derive(Clone, Copy, Debug, PartialEq, Eq)]
 pub enum Location {
     /// BYTE(0)
@@ -130,7 +130,8 @@ impl Location {
     }
 }
 
-/// The levels of the lines that select a byte location (section 2.2.1). `true` is high.
+/// The levels of the lines that select a byte location: IEEE 1014-1987, 2.2.1 (addressing lines).
+/// `true` is high.
 #[derive(Clone, Copy, Debug, PartialEq, Eq)]
 pub struct Strobes {
     /// DS1*
@@ -144,7 +145,7 @@ pub struct Strobes {
 }
 
 impl Strobes {
-    /// Returns the strobes of a location (section 2.2.1).
+    /// Returns the strobes of a location: IEEE 1014-1987, 2.2.1 (addressing lines).
     ///
     /// If the bytes lie in one half of the group of four, LWORD* is high and A01 is high for the
     /// upper half. DS1* is then low for an even byte and DS0* for an odd byte. If the bytes lie in

@@ -6,10 +6,10 @@ use Rattle.vme_memory.specs.declared.reply.Reply.{Reply}
 use Rattle.vme_memory.specs.Steps.{Command}
 use Rattle.vme_arbiter.specs.declared.command.ArbCmd.{ArbCmd}
 use Rattle.vme_arbiter.specs.declared.command.ArbReply.{ArbReply}
-use Rattle.vme_arbiter.specs.declared.command.ArbReply.TheVariants as turned
+use Rattle.vme_arbiter.specs.declared.command.ArbReply.TheVariants as arb_replies
 use Rattle.vme_arbiter.specs.Requests.{is_level}
 use Rattle.vme_arbiter.specs.Arbitration.{Arbitration}
-use Rattle.vme_arbiter.specs.Turns.{may_give, StandsAsReplied}
+use Rattle.vme_arbiter.specs.Masters.{may_give, StandsAsReplied}
 use Rattle.vme_core.specs.declared.event.EventReply.{EventReply}
 use Rattle.vme_core.specs.declared.event.EventReply.TheVariants as event_replies
 use Rattle.vme_core.specs.Calls.{Call, OnBoard, OnBus}
@@ -18,8 +18,8 @@ use Rattle.vme_master.specs.declared.job.Job.{Job}
 use Rattle.vme_master.specs.declared.job.Job.TheVariants.{Bus, Local}
 use Rattle.vme_master.specs.declared.outcome.Outcome.{Outcome}
 use Rattle.vme_master.specs.declared.outcome.Outcome.TheVariants as outcomes
-use Rattle.vme_master.specs.Tables.{Given, next_of}
-use Rattle.vme_master.specs.Laws.{last_turn}
+use Rattle.vme_master.specs.Tables.{Inputs, next_of}
+use Rattle.vme_master.specs.Laws.{last_arb_reply}
 use Rattle.vme_master.proofs.lemmas.Tenures.{turns_go_by, holds_for_data}
 use Rattle.vme_shared.specs.declared.reply.LineReply.{LineReply}
 use Rattle.vme_shared.specs.declared.reply.LineReply.TheVariants as replies
@@ -46,14 +46,14 @@ IsOwnAttempt slot level (Awaiting job want) = IsOwnJob slot level job
 IsOwnAttempt slot level (Sharing s) = (s.slot ≡ slot) × (s.level ≡ level)
 
 -- the arbiter's last reply allows each command to the arbiter
-job_turns : (slot level : ℕ) (job : Job) (g : Given) (cmd : ArbCmd) → IsOwnJob slot level job → is_level level ≡ true
+job_turns : (slot level : ℕ) (job : Job) (g : Inputs) (cmd : ArbCmd) → IsOwnJob slot level job → is_level level ≡ true
     → next_of job g ≡ Invokes (OnBus cmd) → may_give slot (job_reported job g) cmd ≡ true
 job_turns slot level (Bus j) g cmd own lawful made =
-    subst (λ (s : ℕ). may_give s (last_turn g) cmd ≡ true) own.0
+    subst (λ (s : ℕ). may_give s (last_arb_reply g) cmd ≡ true) own.0
     (turns_go_by j g cmd (subst (λ (l : ℕ). is_level l ≡ true) (sym own.1) lawful) made)
 job_turns slot level (Local j) g cmd own lawful made = absurd (local_never j g cmd made)
 
-pub attempt_turns : (slot level : ℕ) (a : Attempt) (g : Given) (cmd : ArbCmd) → IsOwnAttempt slot level a → is_level level ≡ true
+pub attempt_turns : (slot level : ℕ) (a : Attempt) (g : Inputs) (cmd : ArbCmd) → IsOwnAttempt slot level a → is_level level ≡ true
     → attempt_next a g ≡ Invokes (OnBus cmd) → may_give slot (attempt_reported a g) cmd ≡ true
 attempt_turns slot level (Transferring job) g cmd own lawful made =
     job_turns slot level job g cmd own lawful (moves_makes (next_of job g) (OnBus cmd) made)
@@ -71,8 +71,8 @@ IsTransfer (Awaiting (Bus j) want) = Unit {0}
 IsTransfer (Awaiting (Local j) want) = ⊥
 IsTransfer (Sharing s) = Unit {0}
 
-pub attempt_holds : (a : Attempt) (g : Given) (b : ℕ) (command : Option Command) → IsTransfer a
-    → attempt_next a g ≡ Invokes (OnBoard b command) → attempt_reported a g ≡ Some turned.Granted
+pub attempt_holds : (a : Attempt) (g : Inputs) (b : ℕ) (command : Option Command) → IsTransfer a
+    → attempt_next a g ≡ Invokes (OnBoard b command) → attempt_reported a g ≡ Some arb_replies.Granted
 attempt_holds (Transferring (Bus j)) g b command transfer made =
     holds_for_data j g b command (moves_makes (next_of (Bus j) g) (OnBoard b command) made)
 attempt_holds (Transferring (Local j)) g b command transfer made = absurd transfer
@@ -83,7 +83,7 @@ attempt_holds (Sharing s) g b command transfer made =
     laws.holds_for_data s g b command (shares_makes (shared_next s g) (OnBoard b command) made)
 
 -- after a good reply of the arbiter the slot stands as it states
-pub attempt_turn : (a : Attempt) (g : Given) (cmd : ArbCmd) (reply : ArbReply) (bus : Arbitration) (slot : ℕ)
+pub attempt_turn : (a : Attempt) (g : Inputs) (cmd : ArbCmd) (reply : ArbReply) (bus : Arbitration) (slot : ℕ)
     → attempt_next a g ≡ Invokes (OnBus cmd) → IsGood (OnBus cmd) (event_replies.Bus reply) → StandsAsReplied bus slot (Some reply)
     → StandsAsReplied bus slot (attempt_reported a (Some (event_replies.Bus reply) ∷ g))
 attempt_turn (Transferring job) g cmd reply bus slot made good stands =
@@ -94,7 +94,7 @@ attempt_turn (Sharing s) g cmd reply bus slot made good stands =
     laws.turn_reported s g cmd reply bus slot (shares_makes (shared_next s g) (OnBus cmd) made) good.fit good.granted stands
 
 -- a good reply of a board leaves the arbiter's last reply the same
-pub attempt_datum : (a : Attempt) (g : Given) (call : Call) (reply : Reply) → attempt_next a g ≡ Invokes call → IsGood call (event_replies.Board reply)
+pub attempt_datum : (a : Attempt) (g : Inputs) (call : Call) (reply : Reply) → attempt_next a g ≡ Invokes call → IsGood call (event_replies.Board reply)
     → attempt_reported a (Some (event_replies.Board reply) ∷ g) ≡ attempt_reported a g
 attempt_datum (Transferring job) g call reply made good = datum_reported job g reply
 attempt_datum (Awaiting job want) g call reply made good = datum_reported job g reply
@@ -103,7 +103,7 @@ attempt_datum (Sharing s) g call reply made good =
 
 -- an attempt that ends with a good reply is no denial, and leaves the slot as one without a reply of the arbiter; if
 -- the reply is a board's, there was none before
-pub record EndsWell (a : Attempt) (g : Given) (reply : EventReply) (answer : LineReply) : Type 0 where
+pub record EndsWell (a : Attempt) (g : Inputs) (reply : EventReply) (answer : LineReply) : Type 0 where
   pub granted : IsGranted answer
   pub free : (bus : Arbitration) (slot : ℕ) → StandsAsReplied bus slot (attempt_reported a (Some reply ∷ g)) → StandsAsReplied bus slot None
   pub quiet : (datum : Reply) → reply ≡ event_replies.Board datum → attempt_reported a g ≡ None
@@ -154,11 +154,11 @@ shares_ends (Returns outcome) answer ends = record { outcome = outcome; ends = r
 shared_granted : (outcome : SharedOutcome) → outcome ≢ shared.Denied → IsGranted (replies.Shared outcome)
 shared_granted outcome good = (λ denied. absurd cc, λ denied. good cc)
 
-board_quiet : (job : Job) (g : Given) (reply : EventReply) (datum : Reply) → FreedBy job reply → reply ≡ event_replies.Board datum → job_reported job g ≡ None
+board_quiet : (job : Job) (g : Inputs) (reply : EventReply) (datum : Reply) → FreedBy job reply → reply ≡ event_replies.Board datum → job_reported job g ≡ None
 board_quiet (Bus j) g reply datum freed board = absurd cc
 board_quiet (Local j) g reply datum freed board = refl
 
-pub attempt_ends : (a : Attempt) (g : Given) (call : Call) (reply : EventReply) (answer : LineReply) → attempt_next a g ≡ Invokes call
+pub attempt_ends : (a : Attempt) (g : Inputs) (call : Call) (reply : EventReply) (answer : LineReply) → attempt_next a g ≡ Invokes call
     → IsGood call reply → attempt_next a (Some reply ∷ g) ≡ Returns answer → EndsWell a g reply answer
 attempt_ends (Transferring job) g call reply answer made good ends =
     let was : next_of job g ≡ Invokes call = moves_makes (next_of job g) call made in
@@ -184,5 +184,5 @@ attempt_ends (Sharing s) g call reply answer made good ends =
     record {
       granted = subst IsGranted by.is (shared_granted by.outcome well.granted);
       free = λ bus slot stands. subst (StandsAsReplied bus slot) well.nothing stands;
-      quiet = λ datum board. let one : event_replies.Bus turned.Freed ≡ event_replies.Board datum = sym well.freed ∙ board in absurd cc;
+      quiet = λ datum board. let one : event_replies.Bus arb_replies.Freed ≡ event_replies.Board datum = sym well.freed ∙ board in absurd cc;
     }

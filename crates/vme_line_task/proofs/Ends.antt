@@ -8,7 +8,7 @@ use Rattle.vme_core.specs.NextSteps.{NextStep, NotStarted, Invokes, Returns}
 use Rattle.vme_shared.specs.declared.outcome.SharedOutcome.{SharedOutcome}
 use Rattle.vme_master.specs.declared.job.Job.{Job}
 use Rattle.vme_master.specs.declared.outcome.Outcome.{Outcome}
-use Rattle.vme_master.specs.Tables.{Given, next_of, next_after}
+use Rattle.vme_master.specs.Tables.{Inputs, next_of, next_after}
 use Rattle.vme_shared.specs.declared.reply.LineReply.{LineReply}
 use Rattle.vme_shared.specs.declared.reply.LineReply.TheVariants as replies
 use Rattle.vme_shared.specs.declared.reply.LineReply.TheVariants.{Shared}
@@ -24,30 +24,30 @@ use Rattle.vme_line_task.specs.Tenures.{IsGranted}
 use Rattle.vme_line_task.specs.Tables.{moves_next, waits_next, shares_next, attempt_next, asks_again, next_wants_retry, Attempts, next_attempt, attempts_of, lawful_next, next_given}
 
 -- a task's outcome is final
-task_stays : (job : Job) (given : Given) (last : Option EventReply) (outcome : Outcome) → next_of job given ≡ Returns outcome
+task_stays : (job : Job) (given : Inputs) (last : Option EventReply) (outcome : Outcome) → next_of job given ≡ Returns outcome
     → next_of job (last ∷ given) ≡ Returns outcome
 task_stays job given last outcome ended = ap (λ next. next_after job next last given) ended
 
-moves_stays : (job : Job) (given : Given) (last : Option EventReply) (answer : LineReply) (next : NextStep Outcome) → next_of job given ≡ next
+moves_stays : (job : Job) (given : Inputs) (last : Option EventReply) (answer : LineReply) (next : NextStep Outcome) → next_of job given ≡ next
     → moves_next next ≡ Returns answer → moves_next (next_of job (last ∷ given)) ≡ Returns answer
 moves_stays job given last answer NotStarted is ends = absurd cc
 moves_stays job given last answer (Invokes call) is ends = absurd cc
 moves_stays job given last answer (Returns outcome) is ends = ap moves_next (task_stays job given last outcome is) ∙ ends
 
-waits_stays : (job : Job) (want : List ℕ) (given : Given) (last : Option EventReply) (answer : LineReply) (next : NextStep Outcome) → next_of job given ≡ next
+waits_stays : (job : Job) (want : List ℕ) (given : Inputs) (last : Option EventReply) (answer : LineReply) (next : NextStep Outcome) → next_of job given ≡ next
     → waits_next want next ≡ Returns answer → waits_next want (next_of job (last ∷ given)) ≡ Returns answer
 waits_stays job want given last answer NotStarted is ends = absurd cc
 waits_stays job want given last answer (Invokes call) is ends = absurd cc
 waits_stays job want given last answer (Returns outcome) is ends = ap (waits_next want) (task_stays job given last outcome is) ∙ ends
 
-shares_stays : (s : SharedJob) (given : Given) (last : Option EventReply) (answer : LineReply) (next : NextStep SharedOutcome) → shared_next s given ≡ next
+shares_stays : (s : SharedJob) (given : Inputs) (last : Option EventReply) (answer : LineReply) (next : NextStep SharedOutcome) → shared_next s given ≡ next
     → shares_next next ≡ Returns answer → shares_next (shared_next s (last ∷ given)) ≡ Returns answer
 shares_stays s given last answer NotStarted is ends = absurd cc
 shares_stays s given last answer (Invokes call) is ends = absurd cc
 shares_stays s given last answer (Returns outcome) is ends = ap shares_next (end_stays s given outcome last is) ∙ ends
 
 -- an attempt's reply is final
-attempt_stays : (a : Attempt) (given : Given) (last : Option EventReply) (answer : LineReply) → attempt_next a given ≡ Returns answer
+attempt_stays : (a : Attempt) (given : Inputs) (last : Option EventReply) (answer : LineReply) → attempt_next a given ≡ Returns answer
     → attempt_next a (last ∷ given) ≡ Returns answer
 attempt_stays (Transferring job) given last answer ends = moves_stays job given last answer (next_of job given) refl ends
 attempt_stays (Awaiting job want) given last answer ends = waits_stays job want given last answer (next_of job given) refl ends
@@ -94,14 +94,14 @@ last_attempt a made =
       | inr last ↦ rw last (λ answer ends. subst (λ next. (next_wants_retry next && nat_lt 1 made.left) ≡ false) ends last)
     ]
 
-all_last : (a : Attempt) (tries : ℕ) (given : Given) → IsLast a (attempts_of a tries given)
+all_last : (a : Attempt) (tries : ℕ) (given : Inputs) → IsLast a (attempts_of a tries given)
 all_last a tries [] = λ answer ends. rw (not_begun a answer ends).last refl
 all_last a tries (last ∷ before) =
     let made = attempts_of a tries before in
     last_attempt a (record { given = last ∷ made.given; left = made.left })
 
 -- the reply of a line's attempts is final
-lawful_stays : (tries : ℕ) (attempt : Result Attempt CycleFault) (given : Given) (last : Option EventReply) (answer : LineReply)
+lawful_stays : (tries : ℕ) (attempt : Result Attempt CycleFault) (given : Inputs) (last : Option EventReply) (answer : LineReply)
     → lawful_next tries attempt given ≡ Returns answer → lawful_next tries attempt (last ∷ given) ≡ Returns answer
 lawful_stays tries (Err fault) given last answer ends = ends
 lawful_stays tries (Ok a) given last answer ends =
@@ -111,7 +111,7 @@ lawful_stays tries (Ok a) given last answer ends =
     ap (λ (next : NextStep LineReply). attempt_next a (next_attempt (record { given = last ∷ made.given; left = made.left }) next).given) stays
     ∙ rw over stays
 
-pub answer_stays : (config : Configuration) (board : ℕ) (line : Line) (given : Given) (last : Option EventReply) (answer : LineReply)
+pub answer_stays : (config : Configuration) (board : ℕ) (line : Line) (given : Inputs) (last : Option EventReply) (answer : LineReply)
     → next_given config board line given ≡ Returns answer → next_given config board line (last ∷ given) ≡ Returns answer
 unfolding next_given
 answer_stays config board line given last answer ends = lawful_stays config.tries (line_attempt config board line) given last answer ends

@@ -4,9 +4,9 @@ use Rattle.vme_memory.specs.declared.reply.Reply.{Reply}
 use Rattle.vme_memory.specs.declared.reply.Reply.TheVariants.{Bytes, Done, Berr}
 use Rattle.vme_arbiter.specs.declared.command.ArbCmd.{ArbCmd}
 use Rattle.vme_arbiter.specs.declared.command.ArbReply.{ArbReply}
-use Rattle.vme_arbiter.specs.declared.command.ArbReply.TheVariants as turned
+use Rattle.vme_arbiter.specs.declared.command.ArbReply.TheVariants as arb_replies
 use Rattle.vme_arbiter.specs.Arbitration.{Arbitration}
-use Rattle.vme_arbiter.specs.Turns.{StandsAsReplied}
+use Rattle.vme_arbiter.specs.Masters.{StandsAsReplied}
 use Rattle.vme_core.specs.declared.event.EventReply.{EventReply}
 use Rattle.vme_core.specs.declared.event.EventReply.TheVariants as replies
 use Rattle.vme_core.specs.Calls.{Call, OnBus}
@@ -21,7 +21,7 @@ use Rattle.vme_master.specs.declared.outcome.Outcome.{Outcome}
 use Rattle.vme_master.specs.declared.outcome.Outcome.TheVariants as outcomes
 use Rattle.vme_master.specs.Jobs.{local_call, fits, expected_outcome}
 use Rattle.vme_master.specs.Tables as tasks
-use Rattle.vme_master.specs.Tables.{Given, next_of, outcome_by, row_of_reply}
+use Rattle.vme_master.specs.Tables.{Inputs, next_of, outcome_by, row_of_reply}
 use Rattle.vme_master.proofs.lemmas.Tenures.{ends_freed}
 use Rattle.vme_master.proofs.lemmas.Locals.{local_calls}
 use Rattle.vme_shared.proofs.lemmas.Granted.{expected_granted, outcome_granted}
@@ -43,15 +43,15 @@ datum_granted : (j : BusJob) (i : ℕ) → IsDenial (Invokes (tasks.datum_or_don
 datum_granted j i denial = denial
 
 -- what follows a good reply is no denial
-row_granted : (job : Job) (g : Given) (call : Call) (reply : EventReply) → next_of job g ≡ Invokes call → IsGood call reply
+row_granted : (job : Job) (g : Inputs) (call : Call) (reply : EventReply) → next_of job g ≡ Invokes call → IsGood call reply
     → IsDenial (row_of_reply job reply g) → ⊥
-row_granted (Bus j) g call (replies.Bus turned.Waiting) made good denial = denial
-row_granted (Bus j) g call (replies.Bus turned.Granted) made good denial = denial
+row_granted (Bus j) g call (replies.Bus arb_replies.Waiting) made good denial = denial
+row_granted (Bus j) g call (replies.Bus arb_replies.Granted) made good denial = denial
 row_granted (Bus j) g call (replies.Board (Bytes datum)) made good denial = denial
 row_granted (Bus j) g call (replies.Board Done) made good denial = denial
 row_granted (Bus j) g call (replies.Board Berr) made good denial = denial
-row_granted (Bus j) g call (replies.Bus turned.Freed) made good denial = end_granted (outcome_by j j.place g) (outcome_granted j j.place g) denial
-row_granted (Bus j) g call (replies.Bus turned.Denied) made good denial = good.granted refl
+row_granted (Bus j) g call (replies.Bus arb_replies.Freed) made good denial = end_granted (outcome_by j j.place g) (outcome_granted j j.place g) denial
+row_granted (Bus j) g call (replies.Bus arb_replies.Denied) made good denial = good.granted refl
 row_granted (Local j) g call (replies.Board (Bytes datum)) made good denial = end_granted _ (expected_granted _ datum.items) denial
 row_granted (Local j) g call (replies.Board Done) made good denial = end_granted _ (expected_granted _ []) denial
 row_granted (Local j) g call (replies.Board Berr) made good denial = denial
@@ -61,12 +61,12 @@ row_granted (Local j) g call (replies.Bus reply) made good denial =
     absurd cc
 
 -- after a good reply a task goes by its table
-good_row : (job : Job) (g : Given) (call : Call) (reply : EventReply) → next_of job g ≡ Invokes call → IsGood call reply
+good_row : (job : Job) (g : Inputs) (call : Call) (reply : EventReply) → next_of job g ≡ Invokes call → IsGood call reply
     → next_of job (Some reply ∷ g) ≡ row_of_reply job reply g
 good_row job g call reply made good = rw (made, good.fit) refl
 
 -- an outcome after a good reply is no denial
-pub good_end : (job : Job) (g : Given) (call : Call) (reply : EventReply) (outcome : Outcome) → next_of job g ≡ Invokes call
+pub good_end : (job : Job) (g : Inputs) (call : Call) (reply : EventReply) (outcome : Outcome) → next_of job g ≡ Invokes call
     → IsGood call reply → next_of job (Some reply ∷ g) ≡ Returns outcome → outcome ≢ outcomes.Denied
 good_end job g call reply outcome made good ends = λ denied.
     row_granted job g call reply made good
@@ -74,34 +74,34 @@ good_end job g call reply outcome made good ends = λ denied.
 
 -- the reply of a transfer is `Freed`
 abbrev pub FreedBy : Job → EventReply → Type 0
-FreedBy (Bus j) reply = reply ≡ replies.Bus turned.Freed
+FreedBy (Bus j) reply = reply ≡ replies.Bus arb_replies.Freed
 FreedBy (Local j) reply = Unit {0}
 
-pub good_freed : (job : Job) (g : Given) (call : Call) (reply : EventReply) (outcome : Outcome) → next_of job g ≡ Invokes call
+pub good_freed : (job : Job) (g : Inputs) (call : Call) (reply : EventReply) (outcome : Outcome) → next_of job g ≡ Invokes call
     → IsGood call reply → next_of job (Some reply ∷ g) ≡ Returns outcome → FreedBy job reply
 good_freed (Bus j) g call reply outcome made good ends =
     ends_freed j g call reply outcome made ends (good_end (Bus j) g call reply outcome made good ends)
 good_freed (Local j) g call reply outcome made good ends = tt
 
 -- a slot that was freed stands as one without a reply of the arbiter
-pub freed_stands : (job : Job) (g : Given) (reply : EventReply) (bus : Arbitration) (slot : ℕ) → FreedBy job reply
+pub freed_stands : (job : Job) (g : Inputs) (reply : EventReply) (bus : Arbitration) (slot : ℕ) → FreedBy job reply
     → StandsAsReplied bus slot (job_reported job (Some reply ∷ g)) → StandsAsReplied bus slot None
 freed_stands (Bus j) g reply bus slot freed stands = subst (λ r. StandsAsReplied bus slot (job_reported (Bus j) (Some r ∷ g))) freed stands
 freed_stands (Local j) g reply bus slot freed stands = stands
 
 -- a local command never goes to the arbiter
-pub local_never : (j : LocalJob) (g : Given) (cmd : ArbCmd) → next_of (Local j) g ≡ Invokes (OnBus cmd) → ⊥
+pub local_never : (j : LocalJob) (g : Inputs) (cmd : ArbCmd) → next_of (Local j) g ≡ Invokes (OnBus cmd) → ⊥
 local_never j g cmd made = let own : OnBus cmd ≡ local_call j = local_calls j g (OnBus cmd) made in absurd cc
 
 -- the arbiter's reply is its last reply to the task
-pub turn_reported : (job : Job) (g : Given) (cmd : ArbCmd) (reply : ArbReply) (bus : Arbitration) (slot : ℕ)
+pub turn_reported : (job : Job) (g : Inputs) (cmd : ArbCmd) (reply : ArbReply) (bus : Arbitration) (slot : ℕ)
     → next_of job g ≡ Invokes (OnBus cmd) → StandsAsReplied bus slot (Some reply)
     → StandsAsReplied bus slot (job_reported job (Some (replies.Bus reply) ∷ g))
 turn_reported (Bus j) g cmd reply bus slot made stands = stands
 turn_reported (Local j) g cmd reply bus slot made stands = absurd (local_never j g cmd made)
 
 -- a board's reply leaves the arbiter's last reply the same
-pub datum_reported : (job : Job) (g : Given) (reply : Reply) → job_reported job (Some (replies.Board reply) ∷ g) ≡ job_reported job g
+pub datum_reported : (job : Job) (g : Inputs) (reply : Reply) → job_reported job (Some (replies.Board reply) ∷ g) ≡ job_reported job g
 datum_reported (Bus j) g reply = refl
 datum_reported (Local j) g reply = refl
 

@@ -1,15 +1,13 @@
 -- A read that waits for bytes reads few bytes.
-use Rattle.std.proofs.Common.{◌≡◌, ℕ, ◌≤◌, List, length, Result, Ok, Err, ap, subst, ◌∙◌}
+use Rattle.std.proofs.Common.{◌≡◌, ℕ, List, length, Result, Ok, Err, ap, subst, ◌∙◌}
 use Rattle.arrayvec.specs.ArrayVec.{ArrayVec}
-use Rattle.vme_cycle.specs.BlockBuffers.{inline_capacity}
 use Rattle.vme_cycle.specs.declared.fault.CycleFault.{CycleFault}
 use Rattle.vme_cycle.specs.declared.request.Request.TheVariants.{Read}
 use Rattle.vme_cycle.specs.Requests.{read_len}
 use Rattle.vme_cycle.specs.Lawful.{Transfer, transfer_of}
 use Rattle.vme_cycle.proofs.lemmas.Transfers.{comes_from}
 use Rattle.vme_decode.specs.declared.entry.Entry.{Entry}
-use Rattle.vme_master.specs.Jobs.{bus_job}
-use Rattle.vme_master.specs.Machine.{TaskView, fresh_task, bus_task, job_read_len}
+use Rattle.vme_master.specs.Machine.{TaskView, fresh_task, bus_task}
 use Rattle.vme_script.specs.Boards.{entries_of}
 use Rattle.vme_script.specs.Configurations.{Configuration}
 use Rattle.vme_line_task.specs.declared.attempt.AttemptTask.{AttemptTask}
@@ -21,15 +19,6 @@ use Rattle.vme_line_task.specs.Machine.{fresh_of}
 -- a lawful read reads as many bytes as it says
 pub reads_so_many : (am addr n : ℕ) (t : Transfer) → transfer_of (Read am addr n) ≡ Ok t → read_len t.request ≡ n
 reads_so_many am addr n t is = ap read_len (comes_from (Read am addr n) t is).same
-
--- the task of a short read needs no more than the inline capacity
-pub task_is_short : (map : List Entry) (slot level : ℕ) (transfer : Result Transfer CycleFault) (task : TaskView)
-    → ((t : Transfer) → transfer ≡ Ok t → read_len t.request ≤ inline_capacity) → Ok task ≡ bus_task map slot level transfer
-    → job_read_len task.job ≤ inline_capacity
-task_is_short map slot level (Ok t) task short is =
-    let same : task ≡ fresh_task (bus_job map slot level t) = cc in
-    rw same (short t cc)
-task_is_short map slot level (Err fault) task short is = absurd cc
 
 -- a wait, by its task and the bytes that it waits for
 pub waits_so : (config : Configuration) (board am addr : ℕ) (bytes want : List ℕ) (task : TaskView) (wait : AwaitView)

@@ -5,15 +5,14 @@ use Rattle.vme_core.specs.declared.event.EventReply.{EventReply}
 use Rattle.vme_core.specs.Calls.{Call}
 use Rattle.vme_core.specs.NextSteps.{NextStep, Invokes, Returns}
 use Rattle.vme_shared.specs.declared.reply.LineReply.{LineReply}
-use Rattle.vme_master.specs.Tables.{Given}
+use Rattle.vme_master.specs.Tables.{Inputs}
 use Rattle.vme_master.specs.Machine.{fresh_task, advance, to_do}
-use Rattle.vme_master.specs.declared.outcome.Outcome.TheVariants as outcomes
 use Rattle.vme_shared.specs.declared.reply.LineReply.TheVariants as replies
 use Rattle.vme_shared.specs.Machine.{shared_fresh, shared_advance, shared_to_do}
 use Rattle.vme_grammar.specs.declared.line.Line.{Line}
 use Rattle.vme_script.specs.Configurations.{Configuration}
 use Rattle.vme_line_task.specs.declared.task.LineTask.{LineTask}
-use Rattle.vme_line_task.specs.declared.task.LineTask.TheVariants.{Refused, Running, Finished}
+use Rattle.vme_line_task.specs.declared.task.LineTask.TheVariants.{Refused, Running}
 use Rattle.vme_line_task.specs.declared.attempt.Attempts.{Attempts}
 use Rattle.vme_line_task.specs.declared.attempt.AttemptTask.{AttemptTask}
 use Rattle.vme_line_task.specs.declared.attempt.AttemptTask.TheVariants as tries
@@ -80,38 +79,24 @@ line_started config board line = line_fresh config.tries (line_attempt config bo
 abbrev pub line_advance : LineTask → Option EventReply → LineTask
 line_advance (Refused fault) given = Refused fault
 line_advance (Running a) given = Running (attempts_advance a given)
-line_advance Finished given = Finished
 
--- what a line does next; one whose reply was taken is denied any other
+-- what a line does next
 abbrev pub line_to_do : LineTask → NextStep LineReply
 line_to_do (Refused fault) = Returns (replies.Refused fault)
 line_to_do (Running a) = attempt_to_do a.attempt
-line_to_do Finished = Returns (replies.Transfer outcomes.Denied)
 
--- the number of attempts that are left, the current one among them; none at a line that is refused or whose reply was
--- taken
+-- the number of attempts that are left, the current one among them; none at a line that is refused
 abbrev pub attempts_left : LineTask → ℕ
 attempts_left (Refused fault) = 0
 attempts_left (Running a) = a.left
-attempts_left Finished = 0
-
--- the attempts after their reply was taken, if they have one
-abbrev pub attempts_taken : Attempts → NextStep LineReply → LineTask
-attempts_taken a (Returns answer) = Finished
-attempts_taken a next = Running a
-
--- a line after its reply was taken, if it has one; a refusal stays
-abbrev pub line_taken : LineTask → LineTask
-line_taken (Running a) = attempts_taken a (attempt_to_do a.attempt)
-line_taken task = task
 
 -- a line after all that it was given, the newest first
-abbrev pub line_advanced : LineTask → Given → LineTask
+abbrev pub line_advanced : LineTask → Inputs → LineTask
 line_advanced task [] = task
 line_advanced task (last ∷ before) = line_advance (line_advanced task before) last
 
 -- a line of a board's processor after all that it was given, the newest first
-abbrev pub line_given : Configuration → ℕ → Line → Given → LineTask
+abbrev pub line_given : Configuration → ℕ → Line → Inputs → LineTask
 line_given config board line given = line_advanced (line_started config board line) given
 
 -- a line after its first call and these replies, the newest first
@@ -120,4 +105,4 @@ line_after config board line replies = line_given config board line (given_of re
 
 -- the boards that a line calls, whatever it is given, are among the first n
 unfoldable pub IsLineBelow : ℕ → LineTask → Type 0
-IsLineBelow n task = (given : Given) (call : Call) → line_to_do (line_advanced task given) ≡ Invokes call → IsCallBelow n call
+IsLineBelow n task = (given : Inputs) (call : Call) → line_to_do (line_advanced task given) ≡ Invokes call → IsCallBelow n call

@@ -7,7 +7,7 @@ use Rattle.vme_core.specs.NextSteps.{NextStep, Returns, next_map}
 use Rattle.vme_master.specs.declared.outcome.Outcome.{Outcome}
 use Rattle.vme_shared.specs.declared.outcome.SharedOutcome.{SharedOutcome}
 use Rattle.vme_master.specs.declared.outcome.Outcome.TheVariants as outcomes
-use Rattle.vme_master.specs.Tables.{Given, next_of}
+use Rattle.vme_master.specs.Tables.{Inputs, next_of}
 use Rattle.vme_shared.specs.declared.outcome.SharedOutcome.TheVariants as shared
 use Rattle.vme_shared.specs.declared.reply.LineReply.{LineReply}
 use Rattle.vme_shared.specs.declared.reply.LineReply.TheVariants.{Transfer, Refused, Met, Timeout, Shared}
@@ -34,7 +34,7 @@ abbrev pub shares_next : NextStep SharedOutcome → NextStep LineReply
 shares_next next = next_map Shared next
 
 -- what an attempt does next, by all that it was given
-abbrev pub attempt_next : Attempt → Given → NextStep LineReply
+abbrev pub attempt_next : Attempt → Inputs → NextStep LineReply
 attempt_next (Transferring job) given = moves_next (next_of job given)
 attempt_next (Awaiting job want) given = waits_next want (next_of job given)
 attempt_next (Sharing s) given = shares_next (shared_next s given)
@@ -51,7 +51,7 @@ asks_again answer = false
 -- the attempts at a line: what the current one was given, the newest first, and how many are left, the current one
 -- among them
 pub record Attempts : Type 0 where
-  pub given : Given
+  pub given : Inputs
   pub left : ℕ
 
 -- whether an attempt has ended with a reply that asks for another
@@ -71,22 +71,22 @@ attempt_given attempt last made =
     next_attempt (record { given = last ∷ made.given; left = made.left }) (attempt_next attempt (last ∷ made.given))
 
 -- the attempts, at most so many, by all that the line was given, the newest first
-abbrev pub attempts_of : Attempt → ℕ → Given → Attempts
+abbrev pub attempts_of : Attempt → ℕ → Inputs → Attempts
 attempts_of attempt tries [] = record { given = []; left = tries }
 attempts_of attempt tries (last ∷ before) = attempt_given attempt last (attempts_of attempt tries before)
 
 -- a line does what its current attempt does; one whose request is refused has ended without a call
-abbrev pub lawful_next : ℕ → Result Attempt CycleFault → Given → NextStep LineReply
+abbrev pub lawful_next : ℕ → Result Attempt CycleFault → Inputs → NextStep LineReply
 lawful_next tries (Ok attempt) given = attempt_next attempt (attempts_of attempt tries given).given
 lawful_next tries (Err fault) given = Returns (Refused fault)
 
 -- what a line of a board's processor does next, by all that it was given, the newest first: the reply to each call, or
 -- none
-unfoldable pub next_given : Configuration → ℕ → Line → Given → NextStep LineReply
+unfoldable pub next_given : Configuration → ℕ → Line → Inputs → NextStep LineReply
 next_given config board line given = lawful_next config.tries (line_attempt config board line) given
 
 -- what a line with these replies was given, the newest first: none at its first call
-abbrev pub given_of : List EventReply → Given
+abbrev pub given_of : List EventReply → Inputs
 given_of [] = None ∷ []
 given_of (reply ∷ replies) = Some reply ∷ given_of replies
 

@@ -3,15 +3,15 @@ use Rattle.std.specs.Prelude.{ℕ, ◌≢◌, IsTrue, List, Option, Some, None, 
 use Rattle.vme_cycle.specs.declared.fault.CycleFault.{CycleFault}
 use Rattle.vme_memory.specs.Steps.{Command, LocalRead, LocalWrite, LocalModify}
 use Rattle.vme_arbiter.specs.declared.command.ArbReply.{ArbReply}
-use Rattle.vme_arbiter.specs.declared.command.ArbReply.TheVariants as turned
+use Rattle.vme_arbiter.specs.declared.command.ArbReply.TheVariants as arb_replies
 use Rattle.vme_core.specs.declared.event.EventReply.{EventReply}
 use Rattle.vme_core.specs.declared.event.EventReply.TheVariants as event_replies
 use Rattle.vme_core.specs.Calls.{Call}
 use Rattle.vme_master.specs.declared.job.Job.{Job}
 use Rattle.vme_master.specs.declared.job.Job.TheVariants.{Bus, Local}
 use Rattle.vme_master.specs.Jobs.{fits}
-use Rattle.vme_master.specs.Tables.{Given}
-use Rattle.vme_master.specs.Laws.{last_turn}
+use Rattle.vme_master.specs.Tables.{Inputs}
+use Rattle.vme_master.specs.Laws.{last_arb_reply}
 use Rattle.vme_master.specs.declared.outcome.Outcome.TheVariants as outcomes
 use Rattle.vme_shared.specs.declared.outcome.SharedOutcome.TheVariants as shared
 use Rattle.vme_shared.specs.declared.reply.LineReply.{LineReply}
@@ -23,18 +23,18 @@ use Rattle.vme_line_task.specs.Scripts.{Attempt, Transferring, Awaiting, Sharing
 use Rattle.vme_line_task.specs.Tables.{attempts_of, given_of}
 
 -- the arbiter's last reply to a job, if there was one; a local command has none
-abbrev pub job_reported : Job → Given → Option ArbReply
-job_reported (Bus job) given = last_turn given
+abbrev pub job_reported : Job → Inputs → Option ArbReply
+job_reported (Bus job) given = last_arb_reply given
 job_reported (Local job) given = None
 
 -- the arbiter's last reply to an attempt, if there was one
-abbrev pub attempt_reported : Attempt → Given → Option ArbReply
+abbrev pub attempt_reported : Attempt → Inputs → Option ArbReply
 attempt_reported (Transferring job) given = job_reported job given
 attempt_reported (Awaiting job want) given = job_reported job given
 attempt_reported (Sharing s) given = shared_reported s given
 
 -- the arbiter's last reply to the current attempt at a line, if there was one
-abbrev pub lawful_reported : ℕ → Result Attempt CycleFault → Given → Option ArbReply
+abbrev pub lawful_reported : ℕ → Result Attempt CycleFault → Inputs → Option ArbReply
 lawful_reported tries (Ok attempt) given = attempt_reported attempt (attempts_of attempt tries given).given
 lawful_reported tries (Err fault) given = None
 
@@ -52,7 +52,7 @@ IsLocal command = ⊥
 -- a reply that fits a call, and is no denial of the arbiter
 pub record IsGood (call : Call) (reply : EventReply) : Type 0 where
   pub fit : IsTrue (fits call reply)
-  pub granted : reply ≢ event_replies.Bus turned.Denied
+  pub granted : reply ≢ event_replies.Bus arb_replies.Denied
 
 -- a line's reply that is no denial
 abbrev pub IsGranted : LineReply → Type 0

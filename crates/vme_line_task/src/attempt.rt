@@ -1,12 +1,14 @@
 //! Attempts at a line, one after another.
-ghost use Rattle.std.specs.Prelude.{◌≡◌, ◌≢◌, ◌<◌, option_map, option_copied, is_some, true, Some, None};
+ghost use Rattle.std.specs.Prelude.{◌≡◌, ◌≢◌, ◌<◌, option_map, option_copied, is_some, Some, None};
 ghost use Rattle.vme_core.specs.EventRefs.{call_asked};
 ghost use Rattle.vme_core.specs.Machines.{process_count};
 ghost use Rattle.vme_core.specs.NextSteps.{NotStarted, call_in, result_in};
 ghost use Rattle.vme_core.specs.Advances.{CanMake, AdvancesOn};
 ghost use Rattle.vme_line_task.specs.Tables.{next_wants_retry};
+ghost use Rattle.vme_line_task.specs.Events.{reply_in};
 ghost use Rattle.vme_line_task.specs.Machine.{attempt_anew, attempt_advance, attempt_to_do, attempts_advance, attempts_to_do};
 
+use crate::reply::LineReplyRef;
 use crate::wait::AwaitTask;
 use vme_core::{Core, EventRef, EventReply};
 use vme_master::Task;
@@ -116,14 +118,24 @@ impl AttemptTask<'_> {
         }
     }
 
-    /// Returns the line's reply, if the attempt has ended, and takes the bytes that were read out
-    /// of the attempt.
-    pub(crate) fn take_reply(&mut self) -> Option<LineReply>
-        ensures { result ≡ result_in (attempt_to_do self.old) }
+    /// Returns the line's reply by reference, if the attempt has ended.
+    pub(crate) fn reply(&self) -> Option<LineReplyRef<'_>>
+        ensures { option_map reply_in result ≡ result_in (attempt_to_do self.now) }
     {
         match self {
-            AttemptTask::Transfer(task) => Some(LineReply::Transfer(task.take_outcome()?)),
-            AttemptTask::Await(wait) => wait.take_reply(),
+            AttemptTask::Transfer(task) => Some(LineReplyRef::Transfer(task.outcome()?)),
+            AttemptTask::Await(wait) => wait.reply(),
+            AttemptTask::Shared(task) => Some(LineReplyRef::Shared(task.outcome()?)),
+        }
+    }
+
+    /// Consumes the attempt and returns the line's reply, if the attempt has ended.
+    pub(crate) fn into_reply(self) -> Option<LineReply>
+        ensures { result ≡ result_in (attempt_to_do self.entry) }
+    {
+        match self {
+            AttemptTask::Transfer(task) => Some(LineReply::Transfer(task.into_outcome()?)),
+            AttemptTask::Await(wait) => wait.into_reply(),
             AttemptTask::Shared(task) => Some(LineReply::Shared(task.outcome()?)),
         }
     }
@@ -143,14 +155,13 @@ impl AttemptTask<'_> {
         }
     }
 
-    /// Puts the attempt back before its first call. A transfer or a local command never needs this.
+    /// Puts the attempt back before its first call.
     #[inline(never)]
     fn restart(&mut self)
-        requires { next_wants_retry (attempt_to_do self.old) ≡ true }
         ensures { self.new ≡ attempt_anew self.old }
     {
         match self {
-            AttemptTask::Transfer(_) => {}
+            AttemptTask::Transfer(task) => task.restart(),
             AttemptTask::Await(wait) => wait.restart(),
             AttemptTask::Shared(task) => task.restart(),
         }

@@ -6,13 +6,13 @@ ghost use Rattle.vme_arbiter.specs.declared.command.ArbReply.{ArbReply};
 ghost use Rattle.vme_arbiter.specs.declared.command.ArbReply.TheVariants.{Granted};
 ghost use Rattle.vme_arbiter.specs.Requests.{is_level};
 ghost use Rattle.vme_arbiter.specs.Arbitration.{Arbitration};
-ghost use Rattle.vme_arbiter.specs.Turns.{may_give, StandsAsReplied};
+ghost use Rattle.vme_arbiter.specs.Masters.{may_give, StandsAsReplied};
 ghost use Rattle.vme_core.specs.declared.event.EventReply.{EventReply};
 ghost use Rattle.vme_core.specs.declared.event.EventReply.TheVariants as event_replies;
 ghost use Rattle.vme_core.specs.Calls.{Call, OnBoard, OnBus, call_of};
 ghost use Rattle.vme_core.specs.Runs.{Transition};
 ghost use Rattle.vme_core.specs.NextSteps.{Invokes, Returns};
-ghost use Rattle.vme_master.specs.Tables.{Given};
+ghost use Rattle.vme_master.specs.Tables.{Inputs};
 ghost use Rattle.vme_shared.specs.declared.reply.LineReply.{LineReply};
 ghost use Rattle.vme_grammar.specs.declared.line.Line.{Line};
 ghost use Rattle.vme_grammar.specs.Grammar.{IsOwnLine};
@@ -27,11 +27,11 @@ ghost use Rattle.vme_line_task.specs.Tenures.{line_reported, IsLocal, IsGood, Is
 /// A line follows the table: after calls with any replies it does next what the table says. A
 /// line's reply is final.
 pub fn lines_go_by_the_table()
-    ensures given { (config : Configuration) (board : ℕ) (line : Line) (given : Given) →
+    ensures given { (config : Configuration) (board : ℕ) (line : Line) (given : Inputs) →
         line_to_do (line_given config board line given) ≡ next_given config board line given }
     ensures replies { (config : Configuration) (board : ℕ) (line : Line) (replies : List EventReply) →
         line_to_do (line_after config board line replies) ≡ line_next config board line replies }
-    ensures end { (config : Configuration) (board : ℕ) (line : Line) (given : Given)
+    ensures end { (config : Configuration) (board : ℕ) (line : Line) (given : Inputs)
         (last : Option EventReply) (answer : LineReply) →
         next_given config board line given ≡ Returns answer →
         next_given config board line (last ∷ given) ≡ Returns answer }
@@ -39,7 +39,7 @@ pub fn lines_go_by_the_table()
 
 /// Each board that a line calls is one of the configuration.
 pub fn lines_call_boards_that_are_there()
-    ensures { (config : Configuration) (board : ℕ) (line : Line) (given : Given) (call : Call) →
+    ensures { (config : Configuration) (board : ℕ) (line : Line) (given : Inputs) (call : Call) →
         board < length config.boards → next_given config board line given ≡ Invokes call →
         IsCallBelow (length config.boards) call }
 {}

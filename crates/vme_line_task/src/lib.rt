@@ -9,6 +9,7 @@
 mod attempt;
 mod laws;
 mod read_buffers;
+mod reply;
 mod start;
 mod task;
 mod todo;
@@ -20,6 +21,7 @@ pub use laws::{
     traces_go_line_by_line,
 };
 pub use read_buffers::{ReadBuffers, line_read_len};
+pub use reply::LineReplyRef;
 pub use task::{LineTask, line_count};
 pub use todo::LineTodo;
 pub use wait::AwaitTask;

@@ -5,22 +5,23 @@ ghost use Rattle.vme_core.specs.NextSteps.{NotStarted, call_in, result_in};
 ghost use Rattle.vme_core.specs.Advances.{CanMake, AdvancesOn};
 ghost use Rattle.vme_grammar.specs.declared.line.Line.{Line as AnyLine};
 ghost use Rattle.vme_script.specs.Configurations.{Configuration};
-ghost use Rattle.vme_master.specs.Tables.{Given};
+ghost use Rattle.vme_master.specs.Tables.{Inputs};
 ghost use Rattle.vme_line_task.specs.Scripts.{HasItsMailbox, lines_at};
 ghost use Rattle.vme_line_task.specs.ReadBuffers.{line_read_len};
 ghost use Rattle.vme_line_task.specs.Tables.{next_given};
-ghost use Rattle.vme_line_task.specs.Machine.{line_started, line_advance, line_to_do, line_taken, line_given, attempts_left, IsLineBelow};
+ghost use Rattle.vme_line_task.specs.Machine.{line_started, line_advance, line_to_do, line_given, attempts_left, IsLineBelow};
 ghost use Rattle.vme_line_task.specs.declared.attempt.AttemptTask.TheVariants as tries;
 ghost use Rattle.vme_line_task.specs.declared.task.LineTask.TheVariants.{Running};
-ghost use Rattle.vme_line_task.specs.Events.{next_in, IsTodoBelow};
+ghost use Rattle.vme_line_task.specs.Events.{call_of_todo, reply_in, IsTodoBelow};
 
 use crate::attempt::{AttemptTask, Attempts};
+use crate::reply::LineReplyRef;
 use crate::start::{attempt_of, transfer};
 use crate::todo::LineTodo;
 use vme_core::{Core, EventRef, EventReply};
 use vme_cycle::{BlockBuffer, CycleFault};
 use vme_grammar::Line;
-use vme_master::{Outcome, Task};
+use vme_master::Task;
 use vme_script::Config;
 use vme_shared::LineReply;
 
@@ -31,8 +32,6 @@ pub enum LineTask<'a> {
     Refused(CycleFault),
     /// Attempts at the line, one after another.
     Running(Attempts<'a>),
-    /// The line's reply was taken.
-    Finished,
 }
 
 impl<'a> LineTask<'a> {
@@ -57,22 +56,24 @@ impl<'a> LineTask<'a> {
     }
 
     /// Returns what the line does next. `given` is `None` at the first call, and then the reply to
-    /// the event that the call before returned. If the line has ended, its reply is taken.
+    /// the event that the call before returned. After the end it returns `Ended` again, and the
+    /// line's reply stays the same.
     pub fn next(&mut self, given: Option<EventReply>) -> LineTodo
-        ensures task { self.new ≡ line_taken (line_advance self.old given) }
-        ensures todo { next_in result ≡ line_to_do (line_advance self.old given) }
-        ensures table { (config : Configuration) (board : ℕ) (line : AnyLine) (before : Given) →
+        ensures task { self.new ≡ line_advance self.old given }
+        ensures begun { line_to_do self.new ≢ NotStarted }
+        ensures todo { call_of_todo result ≡ call_in (line_to_do self.new) }
+        ensures table { (config : Configuration) (board : ℕ) (line : AnyLine) (before : Inputs) →
             self.old ≡ line_given config board line before →
-            next_in result ≡ next_given config board line (given ∷ before) }
+            line_to_do self.new ≡ next_given config board line (given ∷ before) }
         ensures below { (n : ℕ) → IsLineBelow n self.old → IsLineBelow n self.new }
         ensures there { (n : ℕ) → IsLineBelow n self.old → IsTodoBelow n result }
     {
         self.advance(given.as_ref());
-        self.todo()
+        LineTodo::of(self.event_ref())
     }
 
     /// Gives the line the reply to its event, or `None` at the first call. `event_ref` then returns
-    /// the next event, and `take_reply` the line's reply.
+    /// the next event, and `reply` the line's reply.
     #[inline(always)]
     pub fn advance(&mut self, given: Option<&EventReply>)
         ensures task { self.new ≡ line_advance self.old (option_copied given.entry) }
@@ -111,14 +112,13 @@ impl<'a> LineTask<'a> {
         }
     }
 
-    /// Returns whether the line has ended. A driver asks this first, so that it moves no empty
-    /// reply.
+    /// Returns whether the line has ended. It reads less than `reply`.
     #[inline(always)]
     pub fn is_finished(&self) -> bool
         ensures { result ≡ is_some (result_in (line_to_do self.now)) }
     {
         match self {
-            LineTask::Refused(_) | LineTask::Finished => true,
+            LineTask::Refused(_) => true,
             LineTask::Running(attempts) => attempts.attempt.is_finished(),
         }
     }
@@ -129,42 +129,30 @@ impl<'a> LineTask<'a> {
         ensures { result ≡ attempts_left self.now }
     {
         match self {
-            LineTask::Refused(_) | LineTask::Finished => 0,
+            LineTask::Refused(_) => 0,
             LineTask::Running(attempts) => attempts.left,
         }
     }
 
-    /// Takes the line's reply, if the line has ended. Any later reply is a denial, unless the
-    /// request is refused.
-    #[inline(never)]
-    pub fn take_reply(&mut self) -> Option<LineReply>
-        ensures answer { result ≡ result_in (line_to_do self.old) }
-        ensures task { self.new ≡ line_taken self.old }
+    /// Returns the line's reply by reference, if the line has ended.
+    pub fn reply(&self) -> Option<LineReplyRef<'_>>
+        ensures { option_map reply_in result ≡ result_in (line_to_do self.now) }
     {
         match self {
-            LineTask::Refused(fault) => Some(LineReply::Refused(*fault)),
-            LineTask::Running(attempts) if attempts.attempt.is_finished() => {
-                let answer = attempts.attempt.take_reply();
-                *self = LineTask::Finished;
-                answer
-            }
-            LineTask::Running(_) => None,
-            LineTask::Finished => Some(LineReply::Transfer(Outcome::Denied)),
+            LineTask::Refused(fault) => Some(LineReplyRef::Refused(*fault)),
+            LineTask::Running(attempts) => attempts.attempt.reply(),
         }
     }
 
-    fn todo(&mut self) -> LineTodo
-        requires { line_to_do self.old ≢ NotStarted }
-        ensures todo { next_in result ≡ line_to_do self.old }
-        ensures task { self.new ≡ line_taken self.old }
+    /// Consumes the line and returns its reply, if it has ended. The bytes that were read are moved,
+    /// not copied.
+    #[inline(never)]
+    pub fn into_reply(self) -> Option<LineReply>
+        ensures { result ≡ result_in (line_to_do self.entry) }
     {
-        let event = match self.event_ref() {
-            Some(event_ref) => Some(event_ref.to_event()),
-            None => None,
-        };
-        match event {
-            Some(event) => LineTodo::Call(event),
-            None => LineTodo::Ended(self.take_reply().unwrap()),
+        match self {
+            LineTask::Refused(fault) => Some(LineReply::Refused(fault)),
+            LineTask::Running(attempts) => attempts.attempt.into_reply(),
         }
     }
 

@@ -1,17 +1,17 @@
 //! Reads that wait for bytes.
-ghost use Rattle.std.specs.Prelude.{◌≡◌, ◌≢◌, ◌≤◌, if◌then◌else◌, option_map, option_copied, is_some};
+ghost use Rattle.std.specs.Prelude.{◌≡◌, ◌≢◌, option_map, option_copied, is_some};
 ghost use Rattle.std.specs.Str.{bytes_eq};
-ghost use Rattle.vme_cycle.specs.BlockBuffers.{inline_capacity};
 ghost use Rattle.vme_core.specs.EventRefs.{call_asked};
 ghost use Rattle.vme_core.specs.NextSteps.{NotStarted, call_in, result_in};
-ghost use Rattle.vme_master.specs.Machine.{advance, fresh_task, to_do, job_read_len};
-ghost use Rattle.vme_shared.specs.declared.reply.LineReply.TheVariants.{Met, Timeout};
+ghost use Rattle.vme_master.specs.Machine.{advance, fresh_task, to_do};
 ghost use Rattle.vme_line_task.specs.Tables.{waits_next, next_wants_retry};
+ghost use Rattle.vme_line_task.specs.Events.{reply_in};
 
+use crate::reply::LineReplyRef;
 use std::marker::Model;
 use vme_core::{EventRef, EventReply};
 use vme_lanes::Datum;
-use vme_master::{Outcome, Task};
+use vme_master::{Outcome, OutcomeRef, Task};
 use vme_shared::LineReply;
 
 /// A read that waits for bytes, which are so few that they lie in the task itself.
@@ -22,22 +22,16 @@ pub struct AwaitTask<'a> {
 }
 
 impl<'a> Model for AwaitTask<'a> {
-    ghost use Rattle.std.specs.Prelude.{◌≤◌};
-    ghost use Rattle.vme_cycle.specs.BlockBuffers.{inline_capacity};
-    ghost use Rattle.vme_master.specs.Machine.{job_read_len};
     ghost use Rattle.vme_line_task.specs.Waits.{AwaitView};
 
     ghost Value = { AwaitView };
 
     ghost view = { λ w. record { task = w.task; want = w.want } };
-
-    ghost invariant = { λ w. job_read_len w.task.job ≤ inline_capacity };
 }
 
 impl<'a> AwaitTask<'a> {
     /// Returns a read, by its task, that waits for `want`.
     pub(crate) fn of(task: Task<'a>, want: Datum) -> AwaitTask<'a>
-        requires { job_read_len task.job ≤ inline_capacity }
         ensures task { result.task ≡ task.entry }
         ensures want { result.want ≡ want }
     {
@@ -45,7 +39,6 @@ impl<'a> AwaitTask<'a> {
     }
 
     /// Gives the read the reply to its event, or `None` at the first call.
-    #[tactic(auto, using(vme_master::proofs::lemmas::Stands::job_stays))]
     pub(crate) fn advance(&mut self, given: Option<&EventReply>)
         ensures task { self.new ≡ record self.old { task = advance self.old.task (option_copied given.entry) } }
         ensures begun { waits_next self.new.want.items (to_do self.new.task) ≢ NotStarted }
@@ -72,21 +65,34 @@ impl<'a> AwaitTask<'a> {
     pub(crate) fn wants_retry(&self) -> bool
         ensures { result ≡ next_wants_retry (waits_next self.now.want.items (to_do self.now.task)) }
     {
-        match self.task.read() {
-            Some(bytes) => !self.is_met(bytes),
-            None => false,
+        match self.task.outcome() {
+            Some(OutcomeRef::Read(bytes)) => !self.is_met(bytes),
+            _ => false,
         }
     }
 
-    /// Returns the line's reply, if the read has ended: whether its bytes are those that it waits
-    /// for.
-    pub(crate) fn take_reply(&mut self) -> Option<LineReply>
-        ensures { result ≡ result_in (waits_next self.old.want.items (to_do self.old.task)) }
+    /// Returns the line's reply by reference, if the read has ended: whether its bytes are those
+    /// that it waits for.
+    pub(crate) fn reply(&self) -> Option<LineReplyRef<'_>>
+        ensures { option_map reply_in result ≡ result_in (waits_next self.now.want.items (to_do self.now.task)) }
     {
-        match self.task.take_outcome()? {
-            Outcome::Read(bytes) => Some(self.found(bytes.as_slice())),
-            outcome => Some(LineReply::Transfer(outcome)),
-        }
+        Some(match self.task.outcome()? {
+            OutcomeRef::Read(bytes) if self.is_met(bytes) => LineReplyRef::Met,
+            OutcomeRef::Read(_) => LineReplyRef::Timeout,
+            outcome => LineReplyRef::Transfer(outcome),
+        })
+    }
+
+    /// Consumes the read and returns the line's reply, if the read has ended.
+    pub(crate) fn into_reply(self) -> Option<LineReply>
+        ensures { result ≡ result_in (waits_next self.entry.want.items (to_do self.entry.task)) }
+    {
+        let AwaitTask { task, want } = self;
+        Some(match task.into_outcome()? {
+            Outcome::Read(bytes) if bytes.as_slice() == want.as_slice() => LineReply::Met,
+            Outcome::Read(_) => LineReply::Timeout,
+            outcome => LineReply::Transfer(outcome),
+        })
     }
 
     /// Puts the read back before its first call.
@@ -94,17 +100,6 @@ impl<'a> AwaitTask<'a> {
         ensures { self.new ≡ record self.old { task = fresh_task self.old.task.job } }
     {
         self.task.restart();
-    }
-
-    /// Returns the line's reply to a read of these bytes.
-    fn found(&self, bytes: &[u8]) -> LineReply
-        ensures { result ≡ (if bytes_eq bytes.now self.now.want.items then Met else Timeout) }
-    {
-        if self.is_met(bytes) {
-            LineReply::Met
-        } else {
-            LineReply::Timeout
-        }
     }
 
     /// Returns whether these bytes are those that the read waits for.

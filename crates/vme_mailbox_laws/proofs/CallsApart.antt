@@ -5,7 +5,7 @@ use Rattle.vme_core.specs.declared.event.EventReply.{EventReply}
 use Rattle.vme_core.specs.Calls.{Call}
 use Rattle.vme_core.specs.NextSteps.{Invokes}
 use Rattle.vme_master.specs.declared.job.Job.{Job}
-use Rattle.vme_master.specs.Tables.{Given, next_of}
+use Rattle.vme_master.specs.Tables.{Inputs, next_of}
 use Rattle.vme_shared.specs.Tables.{SharedJob, shared_next}
 use Rattle.vme_grammar.specs.declared.line.Line.{Line}
 use Rattle.vme_script.specs.Configurations.{Configuration}
@@ -15,11 +15,11 @@ use Rattle.vme_line_task.proofs.lemmas.Below.{moves_makes, waits_makes, shares_m
 
 -- a job makes a call, for some replies
 abbrev pub JobCalls : Job → Call → Type 0
-JobCalls job call = (g : Given) × (next_of job g ≡ Invokes call)
+JobCalls job call = (g : Inputs) × (next_of job g ≡ Invokes call)
 
 -- a job of a lock or a mailbox makes a call, for some replies
 abbrev pub SharedCalls : SharedJob → Call → Type 0
-SharedCalls s call = (g : Given) × (shared_next s g ≡ Invokes call)
+SharedCalls s call = (g : Inputs) × (shared_next s g ≡ Invokes call)
 
 -- an attempt makes a call, if it is not refused
 abbrev pub Calls : Result Attempt CycleFault → Call → Type 0
@@ -28,7 +28,7 @@ Calls (Ok (Awaiting job want)) call = JobCalls job call
 Calls (Ok (Sharing s)) call = SharedCalls s call
 Calls (Err fault) call = ⊥
 
-lawful_calls : (tries : ℕ) (attempt : Result Attempt CycleFault) (given : Given) (call : Call)
+lawful_calls : (tries : ℕ) (attempt : Result Attempt CycleFault) (given : Inputs) (call : Call)
     → lawful_next tries attempt given ≡ Invokes call → Calls attempt call
 lawful_calls tries (Ok (Transferring job)) given call made =
     let g = (attempts_of (Transferring job) tries given).given in (g, moves_makes (next_of job g) call made)

@@ -16,7 +16,7 @@ use Rattle.vme_master.specs.declared.job.BusJob.{BusJob}
 use Rattle.vme_master.specs.declared.job.Job.{Job}
 use Rattle.vme_master.specs.declared.job.Job.TheVariants.{Bus}
 use Rattle.vme_master.specs.Jobs.{ask_call, look_call, done_call, expected_outcome}
-use Rattle.vme_master.specs.Tables.{Given, next_of}
+use Rattle.vme_master.specs.Tables.{Inputs, next_of}
 use Rattle.vme_shared.specs.MailboxSteps.{BoardMailbox}
 use Rattle.vme_shared.specs.Phases.{Phase, Idle, after_command}
 use Rattle.vme_shared.specs.Words.{put_by, taken_by}
@@ -24,13 +24,13 @@ use Rattle.vme_shared.proofs.lemmas.Quiet.{no_put, no_taken}
 use Rattle.vme_shared.specs.declared.mailbox.Mailbox.{Mailbox}
 use Rattle.vme_shared.specs.declared.outcome.SharedOutcome.{SharedOutcome}
 use Rattle.vme_shared.specs.declared.request.SharedRequest.{SharedRequest}
-use Rattle.vme_shared.specs.declared.request.SharedRequest.TheVariants as asked
+use Rattle.vme_shared.specs.declared.request.SharedRequest.TheVariants as events
 use Rattle.vme_shared.specs.declared.stage.Stage.{Stage}
 use Rattle.vme_shared.specs.declared.stage.Stage.TheVariants.{Locks}
 use Rattle.vme_shared.specs.declared.stage.Stage.TheVariants as stages
-use Rattle.vme_shared.specs.declared.stage.Step.{Step}
-use Rattle.vme_shared.specs.declared.stage.Step.TheVariants.{Continue, Finish}
-use Rattle.vme_shared.specs.Mailboxes.{IsAsked}
+use Rattle.vme_shared.specs.declared.stage.StageResult.{StageResult}
+use Rattle.vme_shared.specs.declared.stage.StageResult.TheVariants.{Continue, Finish}
+use Rattle.vme_shared.specs.Mailboxes.{HasMailbox}
 use Rattle.vme_shared.proofs.lemmas.Starts.{all_lawful}
 use Rattle.vme_shared.specs.Steps.{first_stage, step_after}
 use Rattle.vme_shared.specs.Tables.{SharedJob, Progress, At, Over, stage_job, stage_begun, step_begun, progress_by, progress_given, progress_of, task_shown, next_at}
@@ -40,14 +40,14 @@ use Rattle.vme_mailbox_laws.proofs.Stages.{IsStage, is_stage, stage_command, sta
 use Rattle.vme_mailbox_laws.proofs.Rows.{Before, Words, Leads, IsFine, IsFineEnd, goes}
 
 -- a stage in this phase: its datum has no reply yet, or the stage's outcome leads on
-abbrev pub AtWork : BoardMailbox → SharedRequest → Stage → BusJob → Given → Phase → List ℕ → List ℕ → Type 0
+abbrev pub AtWork : BoardMailbox → SharedRequest → Stage → BusJob → Inputs → Phase → List ℕ → List ℕ → Type 0
 AtWork m request stage bus g phase put taken =
     (Waits bus g × (Before m request stage phase × Words request stage put taken))
     ⊎ ((reply : Reply) × Answered bus reply g
     × Leads m request (step_after request stage (expected_outcome (stage_expected stage) (reply_bytes reply))) phase put taken)
 
 -- a stage at work, with its phase and words
-pub record IsAt (m : BoardMailbox) (board : ℕ) (request : SharedRequest) (stage : Stage) (job : Job) (g : Given) (at : Option Phase)
+pub record IsAt (m : BoardMailbox) (board : ℕ) (request : SharedRequest) (stage : Stage) (job : Job) (g : Inputs) (at : Option Phase)
     (put taken : List ℕ) : Type 0 where
   pub phase : Phase
   pub is : at ≡ Some phase
@@ -75,18 +75,18 @@ unmoved m board request progress at after put taken same stands =
     (subst (λ ts. Stands m board request progress at put ts) (sym (ap (λ ws. taken ++ ws) (no_taken at) ∙ append-nil taken)) stands))
 
 -- a mailbox of a put or a take has a slot
-asked_slot : (request : SharedRequest) (mailbox : Mailbox) → mailbox_in request ≡ Some mailbox → IsAsked request → 1 ≤ mailbox.slots
-asked_slot (asked.Lock am addr) mailbox is formed = absurd cc
-asked_slot (asked.Unlock am addr) mailbox is formed = absurd cc
-asked_slot (asked.Put own word) mailbox is formed = let same : own ≡ mailbox = cc in subst (λ (o : Mailbox). 1 ≤ o.slots) same formed.some_slot
-asked_slot (asked.Take own) mailbox is formed = let same : own ≡ mailbox = cc in subst (λ (o : Mailbox). 1 ≤ o.slots) same formed.some_slot
+asked_slot : (request : SharedRequest) (mailbox : Mailbox) → mailbox_in request ≡ Some mailbox → HasMailbox request → 1 ≤ mailbox.slots
+asked_slot (events.Lock am addr) mailbox is formed = absurd cc
+asked_slot (events.Unlock am addr) mailbox is formed = absurd cc
+asked_slot (events.Put own word) mailbox is formed = let same : own ≡ mailbox = cc in subst (λ (o : Mailbox). 1 ≤ o.slots) same formed.some_slot
+asked_slot (events.Take own) mailbox is formed = let same : own ≡ mailbox = cc in subst (λ (o : Mailbox). 1 ≤ o.slots) same formed.some_slot
 
 pub some_slot : (s : SharedJob) (board : ℕ) (m : BoardMailbox) → UsesMailbox s board m → 1 ≤ m.slots
 some_slot s board m uses = rw uses.lies.slots (asked_slot s.request uses.mailbox uses.asked uses.formed)
 
 module _ (s : SharedJob) (board : ℕ) (m : BoardMailbox) (uses : UsesMailbox s board m) where
   -- a stage begins
-  begun : (stage : Stage) (g : Given) (result : Result Job CycleFault) (at : Option Phase) (phase : Phase) (put taken : List ℕ) → stage_job s stage ≡ result
+  begun : (stage : Stage) (g : Inputs) (result : Result Job CycleFault) (at : Option Phase) (phase : Phase) (put taken : List ℕ) → stage_job s stage ≡ result
       → at ≡ Some phase → Before m s.request stage phase → Words s.request stage put taken → ((bus : BusJob) → Waits bus g)
       → Stands m board s.request (stage_begun stage g result) at put taken
   begun stage g (Ok job) at phase put taken made there before words waits =
@@ -96,7 +96,7 @@ module _ (s : SharedJob) (board : ℕ) (m : BoardMailbox) (uses : UsesMailbox s 
       let lawful = all_lawful s stage uses.formed uses.started in let refused = sym made ∙ lawful.1 in absurd cc
 
   -- a step is taken
-  stepped : (step : Step) (at : Option Phase) (phase : Phase) (put taken : List ℕ) → at ≡ Some phase → Leads m s.request step phase put taken
+  stepped : (step : StageResult) (at : Option Phase) (phase : Phase) (put taken : List ℕ) → at ≡ Some phase → Leads m s.request step phase put taken
       → Stands m board s.request (step_begun s step) at put taken
   stepped (Continue stage) at phase put taken there leads =
       begun stage (None ∷ []) (stage_job s stage) at phase put taken refl there leads.0 leads.1 (λ bus. waits_called bus [] (waits_fresh bus) refl)
@@ -109,12 +109,12 @@ module _ (s : SharedJob) (board : ℕ) (m : BoardMailbox) (uses : UsesMailbox s 
     where
       by_request : (request : SharedRequest) → s.request ≡ request
           → Stands m board s.request (stage_begun (first_stage s.request) [] (stage_job s (first_stage s.request))) (Some Idle) [] []
-      by_request (asked.Lock am addr) same = let none = ap mailbox_in (sym same) ∙ uses.asked in absurd cc
-      by_request (asked.Unlock am addr) same = let none = ap mailbox_in (sym same) ∙ uses.asked in absurd cc
-      by_request (asked.Put own word) same =
+      by_request (events.Lock am addr) same = let none = ap mailbox_in (sym same) ∙ uses.asked in absurd cc
+      by_request (events.Unlock am addr) same = let none = ap mailbox_in (sym same) ∙ uses.asked in absurd cc
+      by_request (events.Put own word) same =
           let first : first_stage s.request ≡ Locks = ap first_stage same in
           rw first (begun Locks [] (stage_job s Locks) (Some Idle) Idle [] [] refl refl refl (refl, refl) (λ bus. waits_fresh bus))
-      by_request (asked.Take own) same =
+      by_request (events.Take own) same =
           let first : first_stage s.request ≡ Locks = ap first_stage same in
           rw first (begun Locks [] (stage_job s Locks) (Some Idle) Idle [] [] refl refl refl (refl, refl) (λ bus. waits_fresh bus))
 
@@ -131,7 +131,7 @@ module _ (s : SharedJob) (board : ℕ) (m : BoardMailbox) (uses : UsesMailbox s 
       rw goes_to (subst (λ p. Stands m board s.request to p (put ++ put_by at p) (taken ++ taken_by at p)) (sym phase_is) stands)
 
   -- a stage whose datum has no reply yet stays at work
-  waits_stays : (stage : Stage) (job : Job) (bus : BusJob) (g : Given) → job ≡ Bus bus → Waits bus g
+  waits_stays : (stage : Stage) (job : Job) (bus : BusJob) (g : Inputs) → job ≡ Bus bus → Waits bus g
       → progress_by s stage job g (next_of job g) ≡ At stage job g
   waits_stays stage job bus g made waits =
       ap (λ j. progress_by s stage job g (next_of j g)) made
@@ -143,7 +143,7 @@ module _ (s : SharedJob) (board : ℕ) (m : BoardMailbox) (uses : UsesMailbox s 
       ]
 
   -- a stage whose datum goes to no board stays at work
-  waits_on : (stage : Stage) (job : Job) (g : Given) (at : Option Phase) (put taken : List ℕ) (last : Option EventReply)
+  waits_on : (stage : Stage) (job : Job) (g : Inputs) (at : Option Phase) (put taken : List ℕ) (last : Option EventReply)
       (stands : IsAt m board s.request stage job g at put taken) → Waits stands.own.bus (last ∷ g)
       → Before m s.request stage stands.phase × Words s.request stage put taken
       → phase_given m board (next_at (At stage job g)) last at ≡ at → Moved (At stage job g) last at put taken
@@ -153,7 +153,7 @@ module _ (s : SharedJob) (board : ℕ) (m : BoardMailbox) (uses : UsesMailbox s 
       (record { phase = stands.phase; is = stands.is; own = stands.own; work = inl (waits, before) }))
 
   -- the arbiter replies to a request or a look
-  turned_on : (stage : Stage) (job : Job) (g : Given) (at : Option Phase) (put taken : List ℕ) (last : Option EventReply) (call : Call)
+  turned_on : (stage : Stage) (job : Job) (g : Inputs) (at : Option Phase) (put taken : List ℕ) (last : Option EventReply) (call : Call)
       (stands : IsAt m board s.request stage job g at put taken) → Waits stands.own.bus g
       → Before m s.request stage stands.phase × Words s.request stage put taken
       → ((call ≡ ask_call stands.own.bus) ⊎ (call ≡ look_call stands.own.bus)) → next_of job g ≡ Invokes call
@@ -179,7 +179,7 @@ module _ (s : SharedJob) (board : ℕ) (m : BoardMailbox) (uses : UsesMailbox s 
       before same
 
   -- the datum goes to the board
-  datum_on : (stage : Stage) (job : Job) (g : Given) (at : Option Phase) (put taken : List ℕ) (last : Option EventReply)
+  datum_on : (stage : Stage) (job : Job) (g : Inputs) (at : Option Phase) (put taken : List ℕ) (last : Option EventReply)
       (stands : IsAt m board s.request stage job g at put taken) → Waits stands.own.bus g
       → Before m s.request stage stands.phase × Words s.request stage put taken
       → next_of job g ≡ Invokes (OnBoard board (Some (stage_command m stage))) → IsGood (next_at (At stage job g)) last
@@ -210,7 +210,7 @@ module _ (s : SharedJob) (board : ℕ) (m : BoardMailbox) (uses : UsesMailbox s 
       })
 
   -- the bus is released, and the stage's outcome leads on
-  freed : (stage : Stage) (job : Job) (g : Given) (at : Option Phase) (put taken : List ℕ) (last : Option EventReply) (reply : Reply)
+  freed : (stage : Stage) (job : Job) (g : Inputs) (at : Option Phase) (put taken : List ℕ) (last : Option EventReply) (reply : Reply)
       (stands : IsAt m board s.request stage job g at put taken) → Answered stands.own.bus reply g
       → Leads m s.request (step_after s.request stage (expected_outcome (stage_expected stage) (reply_bytes reply))) stands.phase put taken
       → IsGood (next_at (At stage job g)) last → Moved (At stage job g) last at put taken
@@ -231,7 +231,7 @@ module _ (s : SharedJob) (board : ℕ) (m : BoardMailbox) (uses : UsesMailbox s 
       (stepped (step_after s.request stage outcome) at stands.phase put taken stands.is leads))
 
   -- a stage before its first call
-  called : (stage : Stage) (job : Job) (g : Given) (at : Option Phase) (put taken : List ℕ) (last : Option EventReply)
+  called : (stage : Stage) (job : Job) (g : Inputs) (at : Option Phase) (put taken : List ℕ) (last : Option EventReply)
       (stands : IsAt m board s.request stage job g at put taken) → Waits stands.own.bus g
       → Before m s.request stage stands.phase × Words s.request stage put taken → next_of job g ≡ NotStarted
       → IsGood (next_at (At stage job g)) last → Moved (At stage job g) last at put taken
@@ -278,7 +278,7 @@ module _ (s : SharedJob) (board : ℕ) (m : BoardMailbox) (uses : UsesMailbox s 
   before_count (stages.Unlocks shared.Spent) phase before = subst (λ q. IsCount (Some q)) (sym before.2) tt
   before_count (stages.Unlocks end) phase before = absurd before
 
-  leads_count : (step : Step) (phase : Phase) (put taken : List ℕ) → Leads m s.request step phase put taken → IsCount (Some phase)
+  leads_count : (step : StageResult) (phase : Phase) (put taken : List ℕ) → Leads m s.request step phase put taken → IsCount (Some phase)
   leads_count (Continue stage) phase put taken leads = before_count stage phase leads.0
   leads_count (Finish end) phase put taken leads = subst (λ p. IsCount (Some p)) (sym leads.0) tt
 
@@ -292,7 +292,7 @@ module _ (s : SharedJob) (board : ℕ) (m : BoardMailbox) (uses : UsesMailbox s 
       ])
 
   -- a command with a good reply follows the protocol
-  datum_goes : (stage : Stage) (job : Job) (g : Given) (at : Option Phase) (put taken : List ℕ) (reply : Reply)
+  datum_goes : (stage : Stage) (job : Job) (g : Inputs) (at : Option Phase) (put taken : List ℕ) (reply : Reply)
       (stands : IsAt m board s.request stage job g at put taken) → Waits stands.own.bus g
       → Before m s.request stage stands.phase × Words s.request stage put taken
       → IsGood (Invokes (OnBoard board (Some (stage_command m stage)))) (Some (replies.Board reply))
@@ -329,7 +329,7 @@ module _ (s : SharedJob) (board : ℕ) (m : BoardMailbox) (uses : UsesMailbox s 
       ]
 
   -- the progress matches its phase and its words, for all good replies
-  pub stands_along : (given : Given) → AllGood s given → AllCounts m board s given
+  pub stands_along : (given : Inputs) → AllGood s given → AllCounts m board s given
       → Stands m board s.request (progress_of s given) (phase_along m board s given) (words_given put_by m board s given) (words_given taken_by m board s given)
   stands_along [] good counts = opening
   stands_along (last ∷ before) good counts =

@@ -18,7 +18,7 @@ use Rattle.vme_core.specs.Calls.{OnBoard}
 use Rattle.vme_core.specs.NextSteps.{Invokes}
 use Rattle.vme_master.specs.declared.job.BusJob.{BusJob}
 use Rattle.vme_master.specs.Jobs.{bus_job}
-use Rattle.vme_master.specs.Tables.{Given, data_in, next_of}
+use Rattle.vme_master.specs.Tables.{Inputs, data_in, next_of}
 use Rattle.vme_master.proofs.lemmas.Tenures.{data_go_on}
 use Rattle.vme_shared.specs.MailboxSteps.{offset_of, len_of}
 use Rattle.vme_script.specs.declared.board_range.BoardRange.{BoardRange}
@@ -61,7 +61,7 @@ same_command : (c d : Command) → Some c ≡ Some d → c ≡ d
 same_command c d same = cc
 
 -- a command that a transfer sends to a board is among the bytes of its request
-pub sent : (entries : List Entry) (slot level : ℕ) (request : Request) (t : Transfer) (g : Given) (x : ℕ) (c : Command)
+pub sent : (entries : List Entry) (slot level : ℕ) (request : Request) (t : Transfer) (g : Inputs) (x : ℕ) (c : Command)
     → transfer_of request ≡ Ok t → next_of (bus_job entries slot level t) g ≡ Invokes (OnBoard x (Some c))
     → (bytes : BoardRange) × (request_bytes entries request ≡ Some bytes) × IsAmong bytes x c
 unfolding request_bytes

@@ -21,15 +21,15 @@ use Rattle.vme_master.specs.declared.outcome.Outcome.{Outcome}
 use Rattle.vme_master.specs.declared.job.BusJob.{BusJob}
 use Rattle.vme_master.specs.declared.job.Job.{Job}
 use Rattle.vme_master.specs.Jobs.{bus_job}
-use Rattle.vme_master.specs.Tables.{Given, data_in, next_of}
+use Rattle.vme_master.specs.Tables.{Inputs, data_in, next_of}
 use Rattle.vme_master.proofs.lemmas.Tenures.{data_go_on}
 use Rattle.vme_shared.specs.MailboxSteps.{BoardMailbox, LiesIn, touches}
 use Rattle.vme_shared.specs.declared.mailbox.Mailbox.{Mailbox}
 use Rattle.vme_shared.specs.declared.request.SharedRequest.{SharedRequest}
-use Rattle.vme_shared.specs.declared.request.SharedRequest.TheVariants as asked
+use Rattle.vme_shared.specs.declared.request.SharedRequest.TheVariants as events
 use Rattle.vme_shared.specs.declared.stage.Stage.{Stage}
-use Rattle.vme_shared.specs.declared.stage.Step.{Step}
-use Rattle.vme_shared.specs.declared.stage.Step.TheVariants.{Continue, Finish}
+use Rattle.vme_shared.specs.declared.stage.StageResult.{StageResult}
+use Rattle.vme_shared.specs.declared.stage.StageResult.TheVariants.{Continue, Finish}
 use Rattle.vme_shared.specs.Mailboxes.{mailbox_request, stage_request, set_lock, clear_lock}
 use Rattle.vme_shared.specs.Steps.{first_stage, step_after}
 use Rattle.vme_shared.specs.Tables.{SharedJob, Progress, At, Over, transfer_job, stage_job, stage_begun, step_begun, progress_by, progress_given, progress_of, next_at, shared_next}
@@ -48,7 +48,7 @@ record Sent (s : SharedJob) (request : Request) (x : ℕ) (command : Option Comm
   selected : selection_at s.map code (addr_of request) ≡ Some (x, offset)
   own : command ≡ Some (datum_command request 0 offset)
 
-sent_by : (s : SharedJob) (request : Request) (t : Transfer) (g : Given) (x : ℕ) (command : Option Command) → count_of request ≡ 1
+sent_by : (s : SharedJob) (request : Request) (t : Transfer) (g : Inputs) (x : ℕ) (command : Option Command) → count_of request ≡ 1
     → transfer_of request ≡ Ok t → next_of (bus_job s.map s.slot s.level t) g ≡ Invokes (OnBoard x command) → Sent s request x command
 sent_by s request t g x command one lawful makes =
     let from = comes_from request t lawful in
@@ -68,7 +68,7 @@ sent_by s request t g x command one lawful makes =
           ∙ ap (λ r. Some (datum_command r 0 next.offset)) from.same;
     }
 
-sent_in : (s : SharedJob) (request : Request) (result : Result Transfer CycleFault) (job : Job) (g : Given) (x : ℕ) (command : Option Command)
+sent_in : (s : SharedJob) (request : Request) (result : Result Transfer CycleFault) (job : Job) (g : Inputs) (x : ℕ) (command : Option Command)
     → count_of request ≡ 1 → transfer_of request ≡ result → transfer_job s result ≡ Ok job → next_of job g ≡ Invokes (OnBoard x command)
     → Sent s request x command
 sent_in s request (Ok t) job g x command one is made makes =
@@ -78,10 +78,10 @@ sent_in s request (Err fault) job g x command one is made makes = absurd cc
 
 -- each transfer has one datum
 single : (request : SharedRequest) (stage : Stage) → count_of (stage_request request stage) ≡ 1
-single (asked.Lock am addr) stage = refl
-single (asked.Unlock am addr) stage = refl
-single (asked.Put mailbox word) stage = (shape mailbox (record { offset = 0; slots = mailbox.slots }) stage refl).count
-single (asked.Take mailbox) stage = (shape mailbox (record { offset = 0; slots = mailbox.slots }) stage refl).count
+single (events.Lock am addr) stage = refl
+single (events.Unlock am addr) stage = refl
+single (events.Put mailbox word) stage = (shape mailbox (record { offset = 0; slots = mailbox.slots }) stage refl).count
+single (events.Take mailbox) stage = (shape mailbox (record { offset = 0; slots = mailbox.slots }) stage refl).count
 
 sent_at : (s : SharedJob) (progress : Progress) (x : ℕ) (command : Option Command) → OwnJob s progress → next_at progress ≡ Invokes (OnBoard x command)
     → (stage : Stage) × Sent s (stage_request s.request stage) x command
@@ -93,7 +93,7 @@ sent_at s (At stage job g) x command own makes = (
 sent_at s (Over end) x command own makes = absurd cc
 
 -- each command to a board is the datum of a stage
-sent : (s : SharedJob) (given : Given) (x : ℕ) (command : Option Command) → shared_next s given ≡ Invokes (OnBoard x command)
+sent : (s : SharedJob) (given : Inputs) (x : ℕ) (command : Option Command) → shared_next s given ≡ Invokes (OnBoard x command)
     → (stage : Stage) × Sent s (stage_request s.request stage) x command
 sent s given x command makes = sent_at s (progress_of s given) x command (own_job s given) makes
 
@@ -115,7 +115,7 @@ mailbox_sent s mailbox board x m stage command lies some out =
     (ap (λ p. p.0) same, out.own ∙ ap (λ a. Some (datum_command (mailbox_request mailbox stage) 0 a)) at ∙ ap Some form.own)
 
 -- the board of the mailbox gets the commands of the stages
-pub stage_commands : (s : SharedJob) (given : Given) (mailbox : Mailbox) (board x : ℕ) (m : BoardMailbox) (command : Option Command)
+pub stage_commands : (s : SharedJob) (given : Inputs) (mailbox : Mailbox) (board x : ℕ) (m : BoardMailbox) (command : Option Command)
     → mailbox_in s.request ≡ Some mailbox → LiesAt s.map mailbox board m → 1 ≤ m.slots
     → shared_next s given ≡ Invokes (OnBoard x command)
     → (x ≡ board) × ((stage : Stage) × (command ≡ Some (stage_command m stage)))
@@ -125,19 +125,19 @@ stage_commands s given mailbox board x m command asks lies some makes =
     let is = mailbox_sent s mailbox board x m out.0 command lies some (subst (λ r. Sent s r x command) own out.1) in
     (is.0, (out.0, is.1))
 
-pub commands : (s : SharedJob) (given : Given) (board x : ℕ) (m : BoardMailbox) (command : Option Command) → UsesMailbox s board m
+pub commands : (s : SharedJob) (given : Inputs) (board x : ℕ) (m : BoardMailbox) (command : Option Command) → UsesMailbox s board m
     → shared_next s given ≡ Invokes (OnBoard x command) → (x ≡ board) × ((stage : Stage) × (command ≡ Some (stage_command m stage)))
 commands s given board x m command uses makes =
     stage_commands s given uses.mailbox board x m command uses.asked uses.lies (some_slot s board m uses) makes
 
-pub touching : (s : SharedJob) (given : Given) (board x : ℕ) (m : BoardMailbox) (command : Option Command) → UsesMailbox s board m
+pub touching : (s : SharedJob) (given : Inputs) (board x : ℕ) (m : BoardMailbox) (command : Option Command) → UsesMailbox s board m
     → shared_next s given ≡ Invokes (OnBoard x command) → (x ≡ board) × ((c : Command) × (command ≡ Some c) × (touches m c ≡ true))
 touching s given board x m command uses makes =
     let own = commands s given board x m command uses makes in
     (own.0, (stage_command m own.1.0, own.1.1, stage_touches m own.1.0 (some_slot s board m uses)))
 
 -- the board of the mailbox gives good replies
-pub answered : (s : SharedJob) (given : Given) (board x : ℕ) (m : BoardMailbox) (command : Option Command) (memory : Board) → UsesMailbox s board m
+pub answered : (s : SharedJob) (given : Inputs) (board x : ℕ) (m : BoardMailbox) (command : Option Command) (memory : Board) → UsesMailbox s board m
     → LiesIn memory m → shared_next s given ≡ Invokes (OnBoard x command)
     → IsGood (shared_next s given) (Some (replies.Board (command_step memory command).1))
 answered s given board x m command memory uses lies makes =
@@ -150,14 +150,14 @@ answered s given board x m command memory uses lies makes =
     rw makes (rw own.1.1 fine)
 
 -- the command of a lock
-pub taken : (s : SharedJob) (given : Given) (am addr board : ℕ) (command : Option Command) → s.request ≡ asked.Lock am addr
+pub taken : (s : SharedJob) (given : Inputs) (am addr board : ℕ) (command : Option Command) → s.request ≡ events.Lock am addr
     → shared_next s given ≡ Invokes (OnBoard board command) → GoesTo s.map am addr board (λ offset. Modify offset 1 Set) command
 taken s given am addr board command is makes =
     let out = sent s given board command makes in
     let own : Sent s (set_lock am addr) board command = subst (λ r. Sent s (stage_request r out.0) board command) is out.1 in
     record { code = own.code; row = own.row; offset = own.offset; selected = own.selected; own = own.own }
 
-pub given_back : (s : SharedJob) (given : Given) (am addr board : ℕ) (command : Option Command) → s.request ≡ asked.Unlock am addr
+pub given_back : (s : SharedJob) (given : Inputs) (am addr board : ℕ) (command : Option Command) → s.request ≡ events.Unlock am addr
     → shared_next s given ≡ Invokes (OnBoard board command) → GoesTo s.map am addr board (λ offset. Write offset (0 ∷ [])) command
 given_back s given am addr board command is makes =
     let out = sent s given board command makes in

@@ -3,7 +3,7 @@ use Rattle.std.proofs.Common.{◌≡◌, ℕ, true, List, Option, refl, ap, subs
 use Rattle.std.specs.Prelude.{is_some}
 use Rattle.vme_core.specs.NextSteps.{Returns}
 use Rattle.vme_master.specs.declared.job.Job.{Job}
-use Rattle.vme_master.specs.Tables.{Given, next_of}
+use Rattle.vme_master.specs.Tables.{Inputs, next_of}
 use Rattle.vme_shared.specs.MailboxSteps.{BoardMailbox}
 use Rattle.vme_shared.specs.Phases.{Phase}
 use Rattle.vme_shared.specs.Words.{put_by, taken_by}
@@ -21,7 +21,7 @@ some_phase m board request (At stage job g) at put taken stands = rw stands.is r
 some_phase m board request (Over end) at put taken stands = rw stands.is refl
 
 -- a stage at work has not ended
-goes_on_yet : (m : BoardMailbox) (board : ℕ) (request : SharedRequest) (stage : Stage) (job : Job) (g : Given) (at : Option Phase) (put taken : List ℕ)
+goes_on_yet : (m : BoardMailbox) (board : ℕ) (request : SharedRequest) (stage : Stage) (job : Job) (g : Inputs) (at : Option Phase) (put taken : List ℕ)
     (outcome : SharedOutcome) → IsAt m board request stage job g at put taken → task_shown (next_of job g) ≡ Returns outcome → ⊥
 goes_on_yet m board request stage job g at put taken outcome stands is =
     let to_job = ap (λ j. next_of j g) stands.own.is in
@@ -45,7 +45,7 @@ ends_in m board request (At stage job g) at put taken outcome stands is =
 ends_in m board request (Over end) at put taken outcome stands is =
     let same : end ≡ outcome = cc in subst (λ e. IsOver request e at put taken) same stands
 
-module _ (s : SharedJob) (given : Given) (board : ℕ) (m : BoardMailbox) (uses : UsesMailbox s board m) (good : AllGood s given)
+module _ (s : SharedJob) (given : Inputs) (board : ℕ) (m : BoardMailbox) (uses : UsesMailbox s board m) (good : AllGood s given)
     (counts : AllCounts m board s given) where
   pub goes_on : is_some (phase_along m board s given) ≡ true
   goes_on = some_phase m board s.request (progress_of s given) _ _ _ (stands_along s board m uses given good counts)

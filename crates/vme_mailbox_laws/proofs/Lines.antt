@@ -9,7 +9,7 @@ use Rattle.vme_memory.specs.declared.reply.Reply.{Reply}
 use Rattle.vme_memory.specs.Steps.{Command}
 use Rattle.vme_memory.specs.Locals.{command_given}
 use Rattle.vme_core.specs.declared.event.Event.{Event}
-use Rattle.vme_core.specs.declared.event.Event.TheVariants as asked
+use Rattle.vme_core.specs.declared.event.Event.TheVariants as events
 use Rattle.vme_core.specs.declared.event.EventReply.{EventReply}
 use Rattle.vme_core.specs.declared.event.EventReply.TheVariants as event_replies
 use Rattle.vme_core.specs.Runs.{Transition, move, board_entry, board_part}
@@ -137,10 +137,10 @@ beside m (Some c) reply alone = rw (alone c refl) refl
 move_beside : (m : BoardMailbox) (board : ℕ) (who : ℕ) (event : Event) (reply : EventReply) (more : List (Entry BoardCmd Reply)) (wanted : Wanted)
     → ((c : Command) → call_of event ≡ OnBoard board (Some c) → touches m c ≡ false) → Through m (Some Idle) more wanted
     → Through m (Some Idle) (board_part board (move who event reply ∷ []) ++ more) wanted
-move_beside m board who (asked.Bus cmd) (event_replies.Bus reply) more wanted alone through = through
-move_beside m board who (asked.Bus cmd) (event_replies.Board reply) more wanted alone through = through
-move_beside m board who (asked.Board x cmd) (event_replies.Bus reply) more wanted alone through = through
-move_beside m board who (asked.Board x cmd) (event_replies.Board reply) more wanted alone through =
+move_beside m board who (events.Bus cmd) (event_replies.Bus reply) more wanted alone through = through
+move_beside m board who (events.Bus cmd) (event_replies.Board reply) more wanted alone through = through
+move_beside m board who (events.Board x cmd) (event_replies.Bus reply) more wanted alone through = through
+move_beside m board who (events.Board x cmd) (event_replies.Board reply) more wanted alone through =
     elim (cases_Bool (x == board)) [
       | inl same ↦
           let here : x ≡ board = eqb-true x board same in

@@ -18,11 +18,11 @@ use Rattle.vme_shared.specs.declared.mailbox.Mailbox.{Mailbox}
 use Rattle.vme_shared.specs.declared.outcome.SharedOutcome.{SharedOutcome}
 use Rattle.vme_shared.specs.declared.outcome.SharedOutcome.TheVariants as shared
 use Rattle.vme_shared.specs.declared.request.SharedRequest.{SharedRequest}
-use Rattle.vme_shared.specs.declared.request.SharedRequest.TheVariants as asked
+use Rattle.vme_shared.specs.declared.request.SharedRequest.TheVariants as events
 use Rattle.vme_shared.specs.declared.stage.Stage.{Stage}
 use Rattle.vme_shared.specs.declared.stage.Stage.TheVariants.{Locks, ReadsPutCount, ReadsTakeCount, WritesWord, RaisesPutCount, ReadsWord, RaisesTakeCount, Unlocks}
-use Rattle.vme_shared.specs.declared.stage.Step.{Step}
-use Rattle.vme_shared.specs.declared.stage.Step.TheVariants.{Continue, Finish}
+use Rattle.vme_shared.specs.declared.stage.StageResult.{StageResult}
+use Rattle.vme_shared.specs.declared.stage.StageResult.TheVariants.{Continue, Finish}
 use Rattle.vme_shared.specs.Mailboxes.{raised}
 use Rattle.vme_shared.specs.Steps.{has_top_bit, word_in, words_between, counted_stage, mailbox_step, step_after}
 use Rattle.vme_mailbox_laws.specs.Along.{mailbox_in, IsCount, put_reported, taken_reported}
@@ -44,9 +44,9 @@ Before m request Locks phase = phase ≡ Idle
 Before m request ReadsPutCount phase = phase ≡ Locked
 Before m request (ReadsTakeCount p) phase = (phase ≡ First p) × (p < 2 ^ 32)
 Before m request (WritesWord p word) phase =
-    (t : ℕ) × (mailbox : Mailbox) × (phase ≡ Both p t) × (has_space m p t ≡ true) × (request ≡ asked.Put mailbox word)
+    (t : ℕ) × (mailbox : Mailbox) × (phase ≡ Both p t) × (has_space m p t ≡ true) × (request ≡ events.Put mailbox word)
 Before m request (RaisesPutCount p) phase =
-    (word : ℕ) × (mailbox : Mailbox) × (phase ≡ Written p (word % 2 ^ 32)) × (p < 2 ^ 32 - 1) × (request ≡ asked.Put mailbox word)
+    (word : ℕ) × (mailbox : Mailbox) × (phase ≡ Written p (word % 2 ^ 32)) × (p < 2 ^ 32 - 1) × (request ≡ events.Put mailbox word)
 Before m request (ReadsWord t) phase = (p : ℕ) × (phase ≡ Both p t) × ((p == t) ≡ false)
 Before m request (RaisesTakeCount t word) phase = phase ≡ Fetched t word
 Before m request (Unlocks end) phase = BeforeUnlock end phase
@@ -61,7 +61,7 @@ abbrev pub IsFineEnd : SharedOutcome → Type 0
 IsFineEnd end = (end ≢ shared.Berr) × (end ≢ shared.Denied)
 
 -- the progress that a step leads to matches its phase and its words
-abbrev pub Leads : BoardMailbox → SharedRequest → Step → Phase → List ℕ → List ℕ → Type 0
+abbrev pub Leads : BoardMailbox → SharedRequest → StageResult → Phase → List ℕ → List ℕ → Type 0
 Leads m request (Continue stage) phase put taken = Before m request stage phase × Words request stage put taken
 Leads m request (Finish end) phase put taken = (phase ≡ Idle) × (put ≡ put_reported end request) × (taken ≡ taken_reported end) × IsFineEnd end
 
@@ -111,13 +111,13 @@ module _ (m : BoardMailbox) (request : SharedRequest) (mailbox : Mailbox) (is : 
     where
       by_request : (request : SharedRequest) → mailbox_in request ≡ Some mailbox → (stage : Stage) (outcome : Outcome)
           → step_after request stage outcome ≡ mailbox_step request stage outcome
-      by_request (asked.Lock am addr) is stage outcome = absurd cc
-      by_request (asked.Unlock am addr) is stage outcome = absurd cc
-      by_request (asked.Put own word) is stage outcome = refl
-      by_request (asked.Take own) is stage outcome = refl
+      by_request (events.Lock am addr) is stage outcome = absurd cc
+      by_request (events.Unlock am addr) is stage outcome = absurd cc
+      by_request (events.Put own word) is stage outcome = refl
+      by_request (events.Take own) is stage outcome = refl
 
   -- a stage goes on to a next phase by a step
-  goes_by : (stage : Stage) (phase : Phase) (reply : Reply) (next : Phase) (step : Step)
+  goes_by : (stage : Stage) (phase : Phase) (reply : Reply) (next : Phase) (step : StageResult)
       → next_phase m phase (access_of (stage_command m stage) reply) ≡ Some next
       → mailbox_step request stage (expected_outcome (stage_expected stage) (reply_bytes reply)) ≡ step
       → (IsCount (Some next) → Leads m request step next (put ++ put_by (Some phase) (Some next)) (taken ++ taken_by (Some phase) (Some next)))
@@ -159,9 +159,9 @@ module _ (m : BoardMailbox) (request : SharedRequest) (mailbox : Mailbox) (is : 
     where
       by_request : (request : SharedRequest) → mailbox_in request ≡ Some mailbox
           → Before m request (counted_stage request p t) (Both p t) × Words request (counted_stage request p t) (put ++ []) (taken ++ [])
-      by_request (asked.Lock am addr) is = absurd cc
-      by_request (asked.Unlock am addr) is = absurd cc
-      by_request (asked.Put own word) is =
+      by_request (events.Lock am addr) is = absurd cc
+      by_request (events.Unlock am addr) is = absurd cc
+      by_request (events.Put own word) is =
           let same : own ≡ mailbox = cc in
           let capacity : m.slots ≡ own.slots = slots ∙ ap (λ (o : Mailbox). o.slots) (sym same) in
           elim (cases_Bool (p == 2 ^ 32 - 1)) [
@@ -176,7 +176,7 @@ module _ (m : BoardMailbox) (request : SharedRequest) (mailbox : Mailbox) (is : 
                       rw (less, free) ((t, own, refl, has, refl), (nothing put no_put, nothing taken no_taken))
                 ]
           ]
-      by_request (asked.Take own) is =
+      by_request (events.Take own) is =
           elim (cases_Bool (p == t)) [
             | inl same ↦ rw same ((p, t, refl), (nothing put no_put, nothing taken no_taken))
             | inr other ↦ rw other ((p, refl, other), (nothing put no_put, nothing taken no_taken))
@@ -203,7 +203,7 @@ module _ (m : BoardMailbox) (request : SharedRequest) (mailbox : Mailbox) (is : 
   no_unlock : (n x : ℕ) → is_unlock m (places.word_at m n) 4 x ≡ false
   no_unlock n x = and_left _ _ (and_left _ _ (ne_eqb (places.word_at m n) (places.lock_at m) (λ same. omega arith)))
 
-  row_writes_word : (p t word : ℕ) (own : Mailbox) (reply : Reply) → has_space m p t ≡ true → request ≡ asked.Put own word
+  row_writes_word : (p t word : ℕ) (own : Mailbox) (reply : Reply) → has_space m p t ≡ true → request ≡ events.Put own word
       → IsFine m (WritesWord p word) reply → Words request (WritesWord p word) put taken
       → Went m request (WritesWord p word) (Both p t) put taken reply
   row_writes_word p t word own (Bytes datum) has is_put fine none = let form = fine.form in absurd cc
@@ -217,7 +217,7 @@ module _ (m : BoardMailbox) (request : SharedRequest) (mailbox : Mailbox) (is : 
       refl (λ count. ((word, own, refl, below, is_put), (nothing put none.0, nothing taken none.1)))
   row_writes_word p t word own Berr has is_put fine none = absurd (fine.good refl)
 
-  row_raises_put_count : (p word : ℕ) (own : Mailbox) (reply : Reply) → p < 2 ^ 32 - 1 → request ≡ asked.Put own word
+  row_raises_put_count : (p word : ℕ) (own : Mailbox) (reply : Reply) → p < 2 ^ 32 - 1 → request ≡ events.Put own word
       → IsFine m (RaisesPutCount p) reply → Words request (RaisesPutCount p) put taken
       → Went m request (RaisesPutCount p) (Written p (word % 2 ^ 32)) put taken reply
   row_raises_put_count p word own (Bytes datum) below is_put fine none = let form = fine.form in absurd cc

@@ -25,7 +25,7 @@ use Rattle.vme_shared.specs.MailboxSteps.{BoardMailbox, end_of, touches, offset_
 use Rattle.vme_shared.proofs.lemmas.Places.{rest_below}
 use Rattle.vme_shared.specs.declared.mailbox.Mailbox.{Mailbox}
 use Rattle.vme_shared.specs.declared.request.SharedRequest.{SharedRequest}
-use Rattle.vme_shared.specs.declared.request.SharedRequest.TheVariants as asked
+use Rattle.vme_shared.specs.declared.request.SharedRequest.TheVariants as events
 use Rattle.vme_shared.specs.declared.stage.Stage.{Stage}
 use Rattle.vme_shared.specs.declared.stage.Stage.TheVariants.{Locks, ReadsPutCount, ReadsTakeCount, WritesWord, RaisesPutCount, ReadsWord, RaisesTakeCount, Unlocks}
 use Rattle.vme_shared.specs.Mailboxes.{raised, mailbox_request, stage_request}
@@ -124,10 +124,10 @@ shape mailbox m (Unlocks end) slots =
 -- a stage of a put or a take is a stage of its mailbox
 pub own_request : (request : SharedRequest) (mailbox : Mailbox) (stage : Stage) → mailbox_in request ≡ Some mailbox
     → stage_request request stage ≡ mailbox_request mailbox stage
-own_request (asked.Lock am addr) mailbox stage is = absurd cc
-own_request (asked.Unlock am addr) mailbox stage is = absurd cc
-own_request (asked.Put own word) mailbox stage is = let same : own ≡ mailbox = cc in ap (λ o. mailbox_request o stage) same
-own_request (asked.Take own) mailbox stage is = let same : own ≡ mailbox = cc in ap (λ o. mailbox_request o stage) same
+own_request (events.Lock am addr) mailbox stage is = absurd cc
+own_request (events.Unlock am addr) mailbox stage is = absurd cc
+own_request (events.Put own word) mailbox stage is = let same : own ≡ mailbox = cc in ap (λ o. mailbox_request o stage) same
+own_request (events.Take own) mailbox stage is = let same : own ≡ mailbox = cc in ap (λ o. mailbox_request o stage) same
 
 -- the bus job of a stage
 pub record IsStage (m : BoardMailbox) (board : ℕ) (stage : Stage) (job : Job) : Type 0 where

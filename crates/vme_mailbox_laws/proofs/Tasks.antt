@@ -9,13 +9,13 @@ use Rattle.vme_memory.specs.declared.command.BoardCmd.{BoardCmd}
 use Rattle.vme_memory.specs.declared.reply.Reply.{Reply}
 use Rattle.vme_memory.specs.Locals.{command_given, answer_given}
 use Rattle.vme_core.specs.declared.event.Event.{Event}
-use Rattle.vme_core.specs.declared.event.Event.TheVariants as asked
+use Rattle.vme_core.specs.declared.event.Event.TheVariants as events
 use Rattle.vme_core.specs.declared.event.EventReply.{EventReply}
 use Rattle.vme_core.specs.declared.event.EventReply.TheVariants as replies
 use Rattle.vme_core.specs.Runs.{move, board_part}
 use Rattle.vme_core.specs.Calls.{Call, OnBoard, OnBus, call_of, command_step}
 use Rattle.vme_core.specs.NextSteps.{Invokes}
-use Rattle.vme_master.specs.Tables.{Given}
+use Rattle.vme_master.specs.Tables.{Inputs}
 use Rattle.vme_shared.specs.MailboxSteps.{BoardMailbox}
 use Rattle.vme_shared.specs.Phases.{Phase, after_command}
 use Rattle.vme_shared.specs.Words.{put_by, taken_by}
@@ -35,11 +35,11 @@ joined wanted put a taken b p ps ts is =
 
 module _ (s : SharedJob) (board : ℕ) (m : BoardMailbox) (uses : UsesMailbox s board m) where
   -- the state of a put or a take by its replies, with its phase and words
-  abbrev pub IsIn : Given → Option Phase → List ℕ → List ℕ → Type 0
+  abbrev pub IsIn : Inputs → Option Phase → List ℕ → List ℕ → Type 0
   IsIn given at put taken = Stands m board s.request (progress_of s given) at put taken
 
   -- a good reply leads to the next state
-  given_on : (given : Given) (at : Option Phase) (put taken : List ℕ) (call : Call) (reply : EventReply) (next : Option Phase) → IsIn given at put taken
+  given_on : (given : Inputs) (at : Option Phase) (put taken : List ℕ) (call : Call) (reply : EventReply) (next : Option Phase) → IsIn given at put taken
       → shared_next s given ≡ Invokes call → IsGood (Invokes call) (Some reply) → phase_given m board (Invokes call) (Some reply) at ≡ next → IsCount next
       → IsIn (Some reply ∷ given) next (put ++ put_by at next) (taken ++ taken_by at next)
   given_on given at put taken call reply next stands makes good leads count =
@@ -50,7 +50,7 @@ module _ (s : SharedJob) (board : ℕ) (m : BoardMailbox) (uses : UsesMailbox s 
       (subst IsCount (sym after) count))
 
   -- a board in which the mailbox lies gives a good reply
-  by_answer : (given : Given) (x : ℕ) (cmd : BoardCmd) (who : ℕ) (reply : Reply) → shared_next s given ≡ Invokes (OnBoard x (command_given cmd))
+  by_answer : (given : Inputs) (x : ℕ) (cmd : BoardCmd) (who : ℕ) (reply : Reply) → shared_next s given ≡ Invokes (OnBoard x (command_given cmd))
       → IsAnswered m (entry who cmd reply) → IsGood (Invokes (OnBoard x (command_given cmd))) (Some (replies.Board reply))
   unfolding answer_given
   by_answer given x cmd who reply makes is =
@@ -59,13 +59,13 @@ module _ (s : SharedJob) (board : ℕ) (m : BoardMailbox) (uses : UsesMailbox s 
       (subst (λ n. IsGood n (Some (replies.Board (command_step is.memory (command_given cmd)).1))) makes fine)
 
   -- one transition, and the entries after it
-  pub one_move : (given : Given) (at : Option Phase) (put taken : List ℕ) (who : ℕ) (event : Event) (reply : EventReply)
+  pub one_move : (given : Inputs) (at : Option Phase) (put taken : List ℕ) (who : ℕ) (event : Event) (reply : EventReply)
       (rest : List (Entry BoardCmd Reply)) (wanted : Wanted) → IsIn given at put taken → shared_next s given ≡ Invokes (call_of event) → IsTurned event reply
       → ((next : Option Phase) (a b : List ℕ) → IsIn (Some reply ∷ given) next (put ++ a) (taken ++ b) → Through m next rest (behind wanted a b))
       → Through m at (board_part board (move who event reply ∷ []) ++ rest) wanted
-  one_move given at put taken who (asked.Bus cmd) (replies.Board reply) rest wanted stands makes good leads = absurd good
-  one_move given at put taken who (asked.Board x cmd) (replies.Bus reply) rest wanted stands makes good leads = absurd good
-  one_move given at put taken who (asked.Bus cmd) (replies.Bus reply) rest wanted stands makes good leads =
+  one_move given at put taken who (events.Bus cmd) (replies.Board reply) rest wanted stands makes good leads = absurd good
+  one_move given at put taken who (events.Board x cmd) (replies.Bus reply) rest wanted stands makes good leads = absurd good
+  one_move given at put taken who (events.Bus cmd) (replies.Bus reply) rest wanted stands makes good leads =
       let fine : IsGood (Invokes (OnBus cmd)) (Some (replies.Bus reply)) = (good.0, λ error. absurd cc, good.1) in
       let count = stands_count s board m uses (progress_of s given) at put taken stands in
       let next = given_on given at put taken (OnBus cmd) (replies.Bus reply) at stands makes fine refl count in
@@ -73,7 +73,7 @@ module _ (s : SharedJob) (board : ℕ) (m : BoardMailbox) (uses : UsesMailbox s 
       let words_taken : taken ++ taken_by at at ≡ taken ++ [] = ap (λ ws. taken ++ ws) (no_taken at) in
       leads at [] [] (subst (λ ps. IsIn (Some (replies.Bus reply) ∷ given) at ps (taken ++ [])) words_put
       (subst (λ ts. IsIn (Some (replies.Bus reply) ∷ given) at (put ++ put_by at at) ts) words_taken next))
-  one_move given at put taken who (asked.Board x cmd) (replies.Board reply) rest wanted stands makes good leads =
+  one_move given at put taken who (events.Board x cmd) (replies.Board reply) rest wanted stands makes good leads =
       let own = commands s given board x m (command_given cmd) uses makes in
       let there : (x == board) ≡ true = eq-eqb x board own.0 in
       rw there (λ is.
@@ -90,7 +90,7 @@ module _ (s : SharedJob) (board : ℕ) (m : BoardMailbox) (uses : UsesMailbox s 
       ))
 
   -- one transition, by all words since the beginning
-  pub move_on : (given : Given) (at : Option Phase) (put taken : List ℕ) (who : ℕ) (event : Event) (reply : EventReply)
+  pub move_on : (given : Inputs) (at : Option Phase) (put taken : List ℕ) (who : ℕ) (event : Event) (reply : EventReply)
       (rest : List (Entry BoardCmd Reply)) (wanted : Wanted) → IsIn given at put taken → shared_next s given ≡ Invokes (call_of event) → IsTurned event reply
       → ((next : Option Phase) (ps ts : List ℕ) → IsIn (Some reply ∷ given) next ps ts → Through m next rest (behind wanted ps ts))
       → Through m at (board_part board (move who event reply ∷ []) ++ rest) (behind wanted put taken)

@@ -4,7 +4,7 @@ use Rattle.std.proofs.lemmas.Bool.{cases_Bool, and_parts, ltb-true, ltb-false}
 use Rattle.vme_memory.specs.Steps.{Command}
 use Rattle.vme_core.specs.Calls.{OnBoard}
 use Rattle.vme_core.specs.NextSteps.{Invokes}
-use Rattle.vme_master.specs.Tables.{Given}
+use Rattle.vme_master.specs.Tables.{Inputs}
 use Rattle.vme_shared.specs.MailboxSteps.{BoardMailbox, end_of, touches, offset_of, len_of}
 use Rattle.vme_shared.proofs.lemmas.Places.{rest_below}
 use Rattle.vme_shared.specs.declared.mailbox.Mailbox.{Mailbox}
@@ -27,7 +27,7 @@ stage_within m (ReadsWord t) some = let rest = rest_below t m.slots some in reco
 stage_within m (RaisesTakeCount t word) some = record { from = omega arith; to = omega arith }
 stage_within m (Unlocks end) some = record { from = omega arith; to = omega arith }
 
-pub within : (s : SharedJob) (given : Given) (mailbox : Mailbox) (board x : ℕ) (mine : BoardMailbox) (command : Option Command)
+pub within : (s : SharedJob) (given : Inputs) (mailbox : Mailbox) (board x : ℕ) (mine : BoardMailbox) (command : Option Command)
     → mailbox_in s.request ≡ Some mailbox → LiesAt s.map mailbox board mine → 1 ≤ mailbox.slots
     → shared_next s given ≡ Invokes (OnBoard x command)
     → (x ≡ board) × ((c : Command) × (command ≡ Some c) × IsWithin mine c)
@@ -37,7 +37,7 @@ within s given mailbox board x mine command asks lies some makes =
     (own.0, (stage_command mine own.1.0, own.1.1, stage_within mine own.1.0 slot))
 
 -- the commands of a put or a take that is not refused are within the mailbox
-pub within_used : (s : SharedJob) (given : Given) (board x : ℕ) (m : BoardMailbox) (command : Command) → UsesMailbox s board m
+pub within_used : (s : SharedJob) (given : Inputs) (board x : ℕ) (m : BoardMailbox) (command : Command) → UsesMailbox s board m
     → shared_next s given ≡ Invokes (OnBoard x (Some command)) → (x ≡ board) × IsWithin m command
 within_used s given board x m command uses makes =
     let some : 1 ≤ uses.mailbox.slots = rw (← uses.lies.slots) (some_slot s board m uses) in
@@ -61,7 +61,7 @@ beside mine other c inside apart =
       | inr free ↦ free
     ]
 
-pub others : (s : SharedJob) (given : Given) (mailbox : Mailbox) (board x : ℕ) (mine other : BoardMailbox) (command : Command)
+pub others : (s : SharedJob) (given : Inputs) (mailbox : Mailbox) (board x : ℕ) (mine other : BoardMailbox) (command : Command)
     → mailbox_in s.request ≡ Some mailbox → LiesAt s.map mailbox board mine → 1 ≤ mailbox.slots → overlap mine other ≡ false
     → shared_next s given ≡ Invokes (OnBoard x (Some command)) → touches other command ≡ false
 others s given mailbox board x mine other command asks lies some apart makes =

@@ -12,7 +12,7 @@ use Rattle.vme_core.specs.declared.event.EventReply.TheVariants as replies
 use Rattle.vme_core.specs.Calls.{OnBoard}
 use Rattle.vme_core.specs.NextSteps.{NextStep, NotStarted, Invokes, Returns}
 use Rattle.vme_master.specs.Jobs.{fits}
-use Rattle.vme_master.specs.Tables.{Given}
+use Rattle.vme_master.specs.Tables.{Inputs}
 use Rattle.vme_shared.specs.Layout.{mailbox_len}
 use Rattle.vme_shared.specs.MailboxSteps.{BoardMailbox, end_of, offset_of, len_of}
 use Rattle.vme_shared.specs.Phases.{Phase, Idle, First, after_command}
@@ -20,16 +20,16 @@ use Rattle.vme_shared.specs.declared.mailbox.Mailbox.{Mailbox}
 use Rattle.vme_shared.specs.declared.outcome.SharedOutcome.{SharedOutcome}
 use Rattle.vme_shared.specs.declared.outcome.SharedOutcome.TheVariants as shared
 use Rattle.vme_shared.specs.declared.request.SharedRequest.{SharedRequest}
-use Rattle.vme_shared.specs.declared.request.SharedRequest.TheVariants as asked
-use Rattle.vme_shared.specs.Mailboxes.{IsAsked, shared_refusal}
+use Rattle.vme_shared.specs.declared.request.SharedRequest.TheVariants as events
+use Rattle.vme_shared.specs.Mailboxes.{HasMailbox, shared_refusal}
 use Rattle.vme_shared.specs.Tables.{SharedJob, shared_next}
 
 -- the mailbox of a put or a take
 abbrev pub mailbox_in : SharedRequest → Option Mailbox
-mailbox_in (asked.Lock am addr) = None
-mailbox_in (asked.Unlock am addr) = None
-mailbox_in (asked.Put mailbox word) = Some mailbox
-mailbox_in (asked.Take mailbox) = Some mailbox
+mailbox_in (events.Lock am addr) = None
+mailbox_in (events.Unlock am addr) = None
+mailbox_in (events.Put mailbox word) = Some mailbox
+mailbox_in (events.Take mailbox) = Some mailbox
 
 -- a mailbox lies in a board of a map: each of its addresses selects the board, at the same distance from the first byte
 pub record LiesAt (map : List Entry) (mailbox : Mailbox) (board : ℕ) (m : BoardMailbox) : Type 0 where
@@ -43,7 +43,7 @@ pub record UsesMailbox (s : SharedJob) (board : ℕ) (m : BoardMailbox) : Type 0
   pub mailbox : Mailbox
   pub asked : mailbox_in s.request ≡ Some mailbox
   pub lies : LiesAt s.map mailbox board m
-  pub formed : IsAsked s.request
+  pub formed : HasMailbox s.request
   pub started : shared_refusal s.request ≡ None
 
 -- a reply is good for the step before it: none before the first call; then it fits the call, and is neither a bus error
@@ -55,7 +55,7 @@ IsGood (Invokes call) (Some reply) = IsTrue (fits call reply) × (reply ≢ repl
 IsGood (Returns outcome) last = Unit {0}
 
 -- all replies given to a put or a take are good
-abbrev pub AllGood : SharedJob → Given → Type 0
+abbrev pub AllGood : SharedJob → Inputs → Type 0
 AllGood s [] = Unit {0}
 AllGood s (last ∷ before) = IsGood (shared_next s before) last × AllGood s before
 
@@ -66,12 +66,12 @@ phase_given m board (Invokes (OnBoard x command)) (Some (replies.Board reply)) p
 phase_given m board next last phase = phase
 
 -- the phase that a put's or take's commands to the board lead to, from idle on
-abbrev pub phase_along : BoardMailbox → ℕ → SharedJob → Given → Option Phase
+abbrev pub phase_along : BoardMailbox → ℕ → SharedJob → Inputs → Option Phase
 phase_along m board s [] = Some Idle
 phase_along m board s (last ∷ before) = phase_given m board (shared_next s before) last (phase_along m board s before)
 
 -- the words that the commands of a put or a take to the board have put or taken
-abbrev pub words_given : (Option Phase → Option Phase → List ℕ) → BoardMailbox → ℕ → SharedJob → Given → List ℕ
+abbrev pub words_given : (Option Phase → Option Phase → List ℕ) → BoardMailbox → ℕ → SharedJob → Inputs → List ℕ
 words_given by m board s [] = []
 words_given by m board s (last ∷ before) =
     words_given by m board s before ++ by (phase_along m board s before) (phase_along m board s (last ∷ before))
@@ -82,13 +82,13 @@ IsCount (Some (First p)) = p < 2 ^ 32
 IsCount phase = Unit {0}
 
 -- each put count that a put or a take has read is a number of four bytes
-abbrev pub AllCounts : BoardMailbox → ℕ → SharedJob → Given → Type 0
+abbrev pub AllCounts : BoardMailbox → ℕ → SharedJob → Inputs → Type 0
 AllCounts m board s [] = Unit {0}
 AllCounts m board s (last ∷ before) = IsCount (phase_along m board s (last ∷ before)) × AllCounts m board s before
 
 -- the words that a put reports by its outcome: its word, as four bytes, if it was put
 abbrev pub put_reported : SharedOutcome → SharedRequest → List ℕ
-put_reported shared.Put (asked.Put mailbox word) = word % 2 ^ 32 ∷ []
+put_reported shared.Put (events.Put mailbox word) = word % 2 ^ 32 ∷ []
 put_reported outcome request = []
 
 -- the words that a take reports by its outcome

@@ -7,7 +7,7 @@ use Rattle.vme_memory.specs.declared.command.BoardCmd.{BoardCmd}
 use Rattle.vme_memory.specs.declared.reply.Reply.{Reply}
 use Rattle.vme_arbiter.specs.declared.command.ArbReply.TheVariants.{Denied}
 use Rattle.vme_core.specs.declared.event.Event.{Event}
-use Rattle.vme_core.specs.declared.event.Event.TheVariants as asked
+use Rattle.vme_core.specs.declared.event.Event.TheVariants as events
 use Rattle.vme_core.specs.declared.event.EventReply.{EventReply}
 use Rattle.vme_core.specs.declared.event.EventReply.TheVariants as replies
 use Rattle.vme_core.specs.Runs.{Transition, board_part}
@@ -20,8 +20,8 @@ use Rattle.vme_line_task.specs.Traces.{IsTrace}
 
 -- a reply is of its event's kind; a reply of the arbiter also fits its command and is not a denial
 abbrev pub IsTurned : Event → EventReply → Type 0
-IsTurned (asked.Bus cmd) (replies.Bus reply) = IsTrue (fits (OnBus cmd) (replies.Bus reply)) × (replies.Bus reply ≢ replies.Bus Denied)
-IsTurned (asked.Board x cmd) (replies.Board reply) = Unit {0}
+IsTurned (events.Bus cmd) (replies.Bus reply) = IsTrue (fits (OnBus cmd) (replies.Bus reply)) × (replies.Bus reply ≢ replies.Bus Denied)
+IsTurned (events.Board x cmd) (replies.Board reply) = Unit {0}
 IsTurned event reply = ⊥
 
 -- all replies of a run satisfy `IsTurned`

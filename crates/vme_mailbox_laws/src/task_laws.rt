@@ -5,7 +5,7 @@ ghost use Rattle.vme_memory.specs.Steps.{Command, Write, Modify};
 ghost use Rattle.vme_core.specs.declared.event.EventReply.TheVariants as replies;
 ghost use Rattle.vme_core.specs.Calls.{OnBoard, command_step};
 ghost use Rattle.vme_core.specs.NextSteps.{Invokes, Returns};
-ghost use Rattle.vme_master.specs.Tables.{Given};
+ghost use Rattle.vme_master.specs.Tables.{Inputs};
 ghost use Rattle.vme_shared.specs.MailboxSteps.{BoardMailbox, LiesIn, touches};
 ghost use Rattle.vme_shared.specs.Phases.{Idle};
 ghost use Rattle.vme_shared.specs.Words.{put_by, taken_by};
@@ -20,11 +20,11 @@ ghost use Rattle.vme_mailbox_laws.specs.Along.{mailbox_in, LiesAt, IsWithin, ove
 /// the mailbox. If the mailbox lies wholly in a board that answers quad bytes and
 /// read-modify-writes, the reply is good: it fits and is not a bus error.
 pub fn puts_and_takes_touch_their_mailbox_alone()
-    ensures touches { (s : SharedJob) (given : Given) (board x : ℕ) (m : BoardMailbox)
+    ensures touches { (s : SharedJob) (given : Inputs) (board x : ℕ) (m : BoardMailbox)
         (command : Option Command) → UsesMailbox s board m →
         shared_next s given ≡ Invokes (OnBoard x command) →
         (x ≡ board) × ((c : Command) × (command ≡ Some c) × IsTrue (touches m c)) }
-    ensures answered { (s : SharedJob) (given : Given) (board x : ℕ) (m : BoardMailbox)
+    ensures answered { (s : SharedJob) (given : Inputs) (board x : ℕ) (m : BoardMailbox)
         (command : Option Command) (memory : Board) → UsesMailbox s board m → LiesIn memory m →
         shared_next s given ≡ Invokes (OnBoard x command) →
         IsGood (shared_next s given) (Some (replies.Board (command_step memory command).1)) }
@@ -34,12 +34,12 @@ pub fn puts_and_takes_touch_their_mailbox_alone()
 /// of its mailbox and lies wholly within the bytes of that mailbox. So it touches no other mailbox
 /// there that shares no byte with it.
 pub fn puts_and_takes_stay_in_their_mailbox()
-    ensures within { (s : SharedJob) (given : Given) (mailbox : Mailbox) (board x : ℕ)
+    ensures within { (s : SharedJob) (given : Inputs) (mailbox : Mailbox) (board x : ℕ)
         (mine : BoardMailbox) (command : Option Command) → mailbox_in s.request ≡ Some mailbox →
         LiesAt s.map mailbox board mine → 1 ≤ mailbox.slots →
         shared_next s given ≡ Invokes (OnBoard x command) →
         (x ≡ board) × ((c : Command) × (command ≡ Some c) × IsWithin mine c) }
-    ensures others { (s : SharedJob) (given : Given) (mailbox : Mailbox) (board x : ℕ)
+    ensures others { (s : SharedJob) (given : Inputs) (mailbox : Mailbox) (board x : ℕ)
         (mine other : BoardMailbox) (command : Command) → mailbox_in s.request ≡ Some mailbox →
         LiesAt s.map mailbox board mine → 1 ≤ mailbox.slots → overlap mine other ≡ false →
         shared_next s given ≡ Invokes (OnBoard x (Some command)) → touches other command ≡ false }
@@ -50,22 +50,22 @@ pub fn puts_and_takes_stay_in_their_mailbox()
 /// neither a bus error nor a denial, and the words that it has put or taken are those that its
 /// outcome reports.
 pub fn puts_and_takes_go_by_the_rows()
-    ensures rows { (s : SharedJob) (given : Given) (board : ℕ) (m : BoardMailbox) →
+    ensures rows { (s : SharedJob) (given : Inputs) (board : ℕ) (m : BoardMailbox) →
         UsesMailbox s board m → AllGood s given → AllCounts m board s given →
         IsTrue (is_some (phase_along m board s given)) }
-    ensures leaves { (s : SharedJob) (given : Given) (board : ℕ) (m : BoardMailbox)
+    ensures leaves { (s : SharedJob) (given : Inputs) (board : ℕ) (m : BoardMailbox)
         (outcome : SharedOutcome) → UsesMailbox s board m → AllGood s given →
         AllCounts m board s given → shared_next s given ≡ Returns outcome →
         phase_along m board s given ≡ Some Idle }
-    ensures fine { (s : SharedJob) (given : Given) (board : ℕ) (m : BoardMailbox)
+    ensures fine { (s : SharedJob) (given : Inputs) (board : ℕ) (m : BoardMailbox)
         (outcome : SharedOutcome) → UsesMailbox s board m → AllGood s given →
         AllCounts m board s given → shared_next s given ≡ Returns outcome →
         (outcome ≢ Berr) × (outcome ≢ Denied) }
-    ensures put { (s : SharedJob) (given : Given) (board : ℕ) (m : BoardMailbox)
+    ensures put { (s : SharedJob) (given : Inputs) (board : ℕ) (m : BoardMailbox)
         (outcome : SharedOutcome) → UsesMailbox s board m → AllGood s given →
         AllCounts m board s given → shared_next s given ≡ Returns outcome →
         words_given put_by m board s given ≡ put_reported outcome s.request }
-    ensures taken { (s : SharedJob) (given : Given) (board : ℕ) (m : BoardMailbox)
+    ensures taken { (s : SharedJob) (given : Inputs) (board : ℕ) (m : BoardMailbox)
         (outcome : SharedOutcome) → UsesMailbox s board m → AllGood s given →
         AllCounts m board s given → shared_next s given ≡ Returns outcome →
         words_given taken_by m board s given ≡ taken_reported outcome }
@@ -74,10 +74,10 @@ pub fn puts_and_takes_go_by_the_rows()
 /// The only commands that a lock sends to a board are the read-modify-write that sets its byte and
 /// the write of zero that clears it, at the board and the offset that its address selects.
 pub fn locks_touch_their_byte_alone()
-    ensures taken { (s : SharedJob) (given : Given) (am addr board : ℕ) (command : Option Command) →
+    ensures taken { (s : SharedJob) (given : Inputs) (am addr board : ℕ) (command : Option Command) →
         s.request ≡ Lock am addr → shared_next s given ≡ Invokes (OnBoard board command) →
         GoesTo s.map am addr board (λ offset. Modify offset 1 Set) command }
-    ensures given_back { (s : SharedJob) (given : Given) (am addr board : ℕ)
+    ensures given_back { (s : SharedJob) (given : Inputs) (am addr board : ℕ)
         (command : Option Command) → s.request ≡ Unlock am addr →
         shared_next s given ≡ Invokes (OnBoard board command) →
         GoesTo s.map am addr board (λ offset. Write offset (0 ∷ [])) command }

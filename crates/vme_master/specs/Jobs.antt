@@ -37,7 +37,7 @@ bus_job map slot level t =
 abbrev pub local_job : ℕ → BoardCmd → Job
 local_job board cmd = Local (record { board = board; cmd = cmd })
 
--- the slot requests the bus on its level; IEEE 1014-1987, 3.2 (lines of the arbitration bus)
+-- the slot requests the bus on its level; IEEE 1014-1987, 3.2 (arbitration bus lines)
 abbrev pub ask_call : BusJob → Call
 ask_call job = OnBus (Ask job.slot job.level)
 
@@ -61,17 +61,17 @@ abbrev pub local_call : LocalJob → Call
 local_call job = OnBoard job.board (command_given job.cmd)
 
 -- whether the arbiter can reply so: `Freed` only to a release, `Granted` and `Waiting` only to a request or a poll
-abbrev pub answers_turn : ArbCmd → ArbReply → Bool
-answers_turn (Ask slot level) Freed = false
-answers_turn (Look slot) Freed = false
-answers_turn (Done slot) Granted = false
-answers_turn (Done slot) Waiting = false
-answers_turn cmd reply = true
+abbrev pub answers_command : ArbCmd → ArbReply → Bool
+answers_command (Ask slot level) Freed = false
+answers_command (Look slot) Freed = false
+answers_command (Done slot) Granted = false
+answers_command (Done slot) Waiting = false
+answers_command cmd reply = true
 
 -- whether a reply fits a call: the arbiter can reply so to the command; or the board replies as many bytes as the
 -- command reads, done if it reads none, or a bus error
 abbrev pub fits : Call → EventReply → Bool
-fits (OnBus cmd) (replies.Bus reply) = answers_turn cmd reply
+fits (OnBus cmd) (replies.Bus reply) = answers_command cmd reply
 fits (OnBoard board command) (replies.Board reply) = has_form (option_and_then reply_len command) reply
 fits call reply = false
 

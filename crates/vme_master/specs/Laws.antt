@@ -8,17 +8,17 @@ use Rattle.vme_core.specs.declared.event.EventReply.TheVariants as replies
 use Rattle.vme_master.specs.declared.job.BusJob.{BusJob}
 use Rattle.vme_master.specs.declared.job.Job.{Job}
 use Rattle.vme_master.specs.declared.job.Job.TheVariants.{Bus, Local}
-use Rattle.vme_master.specs.Tables.{Given, data_in}
+use Rattle.vme_master.specs.Tables.{Inputs, data_in}
 
 -- the last reply of the arbiter, if there was one
-abbrev pub last_turn : Given → Option ArbReply
-last_turn [] = None
-last_turn (Some (replies.Bus reply) ∷ before) = Some reply
-last_turn (given ∷ before) = last_turn before
+abbrev pub last_arb_reply : Inputs → Option ArbReply
+last_arb_reply [] = None
+last_arb_reply (Some (replies.Bus reply) ∷ before) = Some reply
+last_arb_reply (given ∷ before) = last_arb_reply before
 
 -- a board's command is that of the next datum: as many data as were answered precede it in the request, and it goes to
 -- the board and offset that the first datum selected, counted on
-pub record IsNextDatum (job : BusJob) (given : Given) (board : ℕ) (command : Option Command) : Type 0 where
+pub record IsNextDatum (job : BusJob) (given : Inputs) (board : ℕ) (command : Option Command) : Type 0 where
   pub offset : ℕ
   pub placed : job.place ≡ Some (board, offset)
   pub more : data_in given < count_of job.transfer.request

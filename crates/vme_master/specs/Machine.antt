@@ -9,7 +9,7 @@ use Rattle.vme_memory.specs.declared.reply.Reply.TheVariants.{Bytes, Done, Berr}
 use Rattle.vme_memory.specs.Locals.{command_given}
 use Rattle.vme_memory.specs.Data.{has_form}
 use Rattle.vme_arbiter.specs.declared.command.ArbReply.{ArbReply}
-use Rattle.vme_arbiter.specs.declared.command.ArbReply.TheVariants as turned
+use Rattle.vme_arbiter.specs.declared.command.ArbReply.TheVariants as arb_replies
 use Rattle.vme_core.specs.declared.event.EventReply.{EventReply}
 use Rattle.vme_core.specs.declared.event.EventReply.TheVariants as replies
 use Rattle.vme_core.specs.NextSteps.{NextStep, NotStarted, Invokes, Returns}
@@ -24,7 +24,7 @@ use Rattle.vme_master.specs.declared.expected.ExpectedReply.TheVariants as expec
 use Rattle.vme_master.specs.declared.outcome.Outcome.{Outcome}
 use Rattle.vme_master.specs.declared.outcome.Outcome.TheVariants as outcomes
 use Rattle.vme_master.specs.Jobs.{bus_job, ask_call, look_call, done_call, datum_call, local_call, request_expected, command_expected, expected_outcome, error_outcome}
-use Rattle.vme_master.specs.Tables.{Given}
+use Rattle.vme_master.specs.Tables.{Inputs}
 
 -- a task: its job, its phase, and the bytes that it has read so far
 pub record TaskView : Type 0 where
@@ -80,10 +80,10 @@ first_phase (Local job) = phase_at (Local job) 0
 
 -- the phase after the arbiter's reply to a request or a poll
 abbrev pub phase_answered : Job → ArbReply → Phase
-phase_answered job turned.Granted = phase_at job 0
-phase_answered job turned.Waiting = Polling
-phase_answered job turned.Freed = Denied
-phase_answered job turned.Denied = Denied
+phase_answered job arb_replies.Granted = phase_at job 0
+phase_answered job arb_replies.Waiting = Polling
+phase_answered job arb_replies.Freed = Denied
+phase_answered job arb_replies.Denied = Denied
 
 -- the phase after a board's reply to call i
 abbrev pub phase_replied : Job → ℕ → Reply → Phase
@@ -114,7 +114,7 @@ task_after t New None = task_at t (first_phase t.job)
 task_after t Requesting (Some (replies.Bus reply)) = task_at t (phase_answered t.job reply)
 task_after t Polling (Some (replies.Bus reply)) = task_at t (phase_answered t.job reply)
 task_after t (Transferring i) (Some (replies.Board reply)) = task_replied t i reply
-task_after t (Releasing berr) (Some (replies.Bus turned.Freed)) = task_at t (Finished berr)
+task_after t (Releasing berr) (Some (replies.Bus arb_replies.Freed)) = task_at t (Finished berr)
 task_after t (Finished berr) given = t
 task_after t phase given = task_at t Denied
 
@@ -123,7 +123,7 @@ abbrev pub advance : TaskView → Option EventReply → TaskView
 advance t given = task_after t t.phase given
 
 -- the task of a job after these replies, the newest first
-abbrev pub task_given : Job → Given → TaskView
+abbrev pub task_given : Job → Inputs → TaskView
 task_given job [] = fresh_task job
 task_given job (last ∷ before) = advance (task_given job before) last
 
@@ -192,16 +192,11 @@ HasRead job (Finished berr) read = length read ≤ job_read_len job
 HasRead job Denied read = Unit {0}
 HasRead job phase read = length read ≡ 0
 
--- the buffer's capacity is enough for all that the job reads; after the end the buffer may have been taken
-abbrev pub IsEnough : Job → Phase → ℕ → Type 0
-IsEnough job (Finished berr) capacity = Unit {0}
-IsEnough job phase capacity = job_read_len job ≤ capacity
-
--- the invariant of a task whose buffer has this capacity
+-- the invariant of a task whose buffer has this capacity, which is enough for all that the job reads
 pub record IsSound (t : TaskView) (capacity : ℕ) : Type 0 where
   pub placed : IsPlaced t.job
   pub read : HasRead t.job t.phase t.read
-  pub enough : IsEnough t.job t.phase capacity
+  pub enough : job_read_len t.job ≤ capacity
 
 -- the invariant of a task, with its buffer's capacity and the facts of its job that it stores
 pub record IsKept (t : TaskView) (capacity : ℕ) (expected : ExpectedReply) (count : ℕ) : Type 0 where

@@ -1,16 +1,17 @@
-ghost use Rattle.std.specs.Prelude.{◌≡◌, ◌<◌, ◌≤◌, ℕ, List, length, Some, option_map};
+ghost use Rattle.std.specs.Prelude.{◌≡◌, ◌<◌, ◌≤◌, ℕ, List, length, Some, option_map, is_some};
 ghost use Rattle.vme_cycle.specs.BlockBuffers.{block_limit};
 ghost use Rattle.vme_cycle.specs.Requests.{count_of};
 ghost use Rattle.vme_memory.specs.Locals.{command_given};
 ghost use Rattle.vme_core.specs.Calls.{OnBoard};
 ghost use Rattle.vme_core.specs.EventRefs.{call_asked};
-ghost use Rattle.vme_core.specs.NextSteps.{call_in};
+ghost use Rattle.vme_core.specs.NextSteps.{call_in, result_in};
 ghost use Rattle.vme_master.specs.Jobs.{datum_call};
 ghost use Rattle.vme_master.specs.Machine.{job_expected, datum_phase, phase_at, first_phase, phase_answered, phase_replied, bus_next, local_next, job_next, end_outcome, IsPlaced, IsShort, call_count, job_read_len};
 ghost use Rattle.vme_master.specs.declared.phase.Phase.TheVariants.{Transferring};
+ghost use Rattle.vme_master.specs.Events.{outcome_in};
 
 use crate::expected::ExpectedReply;
-use crate::outcome::Outcome;
+use crate::outcome::{Outcome, OutcomeRef};
 use crate::phase::Phase;
 use vme_arbiter::{ArbCmd, ArbReply};
 use vme_core::{DatumCycle, EventRef};
@@ -203,6 +204,30 @@ impl Job<'_> {
             (_, Reply::Bytes(_) | Reply::Done) => self.at(i + 1, count),
             (Job::Bus(_), Reply::Berr) => Phase::Releasing { berr: Some(i) },
             (Job::Local(_), Reply::Berr) => Phase::Finished { berr: Some(i) },
+        }
+    }
+
+    /// Whether a task of the job has ended, by its phase.
+    pub(crate) fn has_ended(&self, phase: Phase) -> bool
+        ensures { (read : List ℕ) → result ≡ is_some (result_in (job_next self.now phase read)) }
+    {
+        match (self, phase) {
+            (_, Phase::Finished { .. } | Phase::Denied) => true,
+            (_, Phase::New | Phase::Transferring { .. }) | (Job::Bus(_), _) => false,
+            (Job::Local(_), _) => true,
+        }
+    }
+
+    /// The outcome by reference, with the bytes that were read and the number of data before a bus
+    /// error, if one came.
+    pub(crate) fn end_ref<'r>(&self, berr: Option<u16>, read: &'r [u8]) -> OutcomeRef<'r>
+        ensures { outcome_in result ≡ end_outcome (job_expected self.now) berr read.now }
+    {
+        match (berr, self.expected()) {
+            (Some(count), _) => OutcomeRef::Berr { count, bytes: read },
+            (None, ExpectedReply::Read { .. }) => OutcomeRef::Read(read),
+            (None, ExpectedReply::Modify { .. }) => OutcomeRef::Old(read),
+            (None, ExpectedReply::Write) => OutcomeRef::Done,
         }
     }
 

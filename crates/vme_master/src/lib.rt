@@ -18,6 +18,6 @@ pub use laws::{
     boards_are_of_the_map, data_go_in_order, replies_fit, tasks_go_by_the_table,
     transfers_keep_their_tenure,
 };
-pub use outcome::Outcome;
+pub use outcome::{Outcome, OutcomeRef};
 pub use task::Task;
 pub use todo::Todo;

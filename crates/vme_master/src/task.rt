@@ -9,17 +9,16 @@ ghost use Rattle.vme_core.specs.EventRefs.{call_asked};
 ghost use Rattle.vme_core.specs.Machines.{process_count};
 ghost use Rattle.vme_core.specs.NextSteps.{NotStarted, call_in, result_in};
 ghost use Rattle.vme_core.specs.Advances.{CanMake, AdvancesOn};
-ghost use Rattle.vme_master.specs.Tables.{Given, next_of};
+ghost use Rattle.vme_master.specs.Tables.{Inputs, next_of};
 ghost use Rattle.vme_master.specs.Machine.{bytes_of, fresh_task, bus_task, advance, task_given, to_do, is_called, job_read_len, IsPlaced};
-ghost use Rattle.vme_master.specs.Events.{next_in, read_in, given_out};
+ghost use Rattle.vme_master.specs.Events.{call_of_todo, outcome_in};
 
 use crate::expected::ExpectedReply;
 use crate::job::{BusJob, Job, LocalJob};
-use crate::outcome::Outcome;
+use crate::outcome::{Outcome, OutcomeRef};
 use crate::phase::Phase;
 use crate::todo::Todo;
 use std::marker::Model;
-use std::mem;
 use vme_arbiter::{ArbCmd, ArbReply};
 use vme_core::{Core, EventRef, EventReply};
 use vme_cycle::{BlockBuffer, CycleFault, Request, Transfer};
@@ -147,20 +146,21 @@ impl<'a> Task<'a> {
     }
 
     /// Returns what the task does next. `reply` is `None` at the first call, and then the reply to
-    /// the event that the call before returned. The outcome takes the bytes that were read out of
-    /// the task.
+    /// the event that the call before returned. After the end it returns `Finished` again, and the
+    /// outcome stays the same.
     pub fn next(&mut self, reply: Option<EventReply>) -> Todo
-        ensures task { self.new ≡ given_out (advance self.old reply) }
-        ensures todo { next_in result ≡ to_do (advance self.old reply) }
-        ensures table { (job : AnyJob) (before : Given) → self.old ≡ task_given job before →
-            next_in result ≡ next_of job (reply ∷ before) }
+        ensures task { self.new ≡ advance self.old reply }
+        ensures begun { to_do self.new ≢ NotStarted }
+        ensures todo { call_of_todo result ≡ call_in (to_do self.new) }
+        ensures table { (job : AnyJob) (before : Inputs) → self.old ≡ task_given job before →
+            to_do self.new ≡ next_of job (reply ∷ before) }
     {
         self.advance(reply.as_ref());
-        self.todo()
+        Todo::of(self.event_ref())
     }
 
     /// Gives the task the reply to its event, or `None` at the first call. `event_ref` then returns
-    /// the next event, and `take_outcome` the outcome.
+    /// the next event, and `outcome` the outcome.
     #[inline(always)]
     pub fn advance(&mut self, reply: Option<&EventReply>)
         ensures task { self.new ≡ advance self.old (option_copied reply.entry) }
@@ -221,57 +221,46 @@ impl<'a> Task<'a> {
         }
     }
 
-    /// Returns whether the task has ended. A driver asks this first, so that it moves no empty
-    /// outcome.
+    /// Returns whether the task has ended. It reads less than `outcome`.
     #[inline(always)]
     pub fn is_finished(&self) -> bool
         ensures { result ≡ is_some (result_in (to_do self.now)) }
     {
-        match self.phase {
-            Phase::New => false,
-            Phase::Finished { .. } | Phase::Denied => true,
-            _ => self.event_ref().is_none(),
-        }
+        self.job.has_ended(self.phase)
     }
 
-    /// Returns all bytes that the task was to read, if it has ended with them. They stay in the
-    /// task.
-    pub fn read(&self) -> Option<&[u8]>
-        ensures { option_map (λ bytes. bytes.now) result ≡ read_in (to_do self.now) }
+    /// Returns the outcome by reference, if the task has ended.
+    pub fn outcome(&self) -> Option<OutcomeRef<'_>>
+        ensures { option_map outcome_in result ≡ result_in (to_do self.now) }
     {
-        match (self.phase, self.expected) {
-            (Phase::Finished { berr: None }, ExpectedReply::Read { .. }) => Some(
-                self.read.as_slice(),
-            ),
+        match self.phase {
+            Phase::Finished { berr } => Some(self.job.end_ref(berr, self.read.as_slice())),
+            phase if self.job.has_ended(phase) => Some(OutcomeRef::Denied),
             _ => None,
         }
     }
 
-    /// Returns the outcome, if the task has ended, and takes the bytes that were read out of the
-    /// task.
+    /// Consumes the task and returns its outcome, if it has ended. The bytes that were read are
+    /// moved, not copied.
     #[inline(never)]
-    pub fn take_outcome(&mut self) -> Option<Outcome>
-        ensures outcome { result ≡ result_in (to_do self.old) }
-        ensures task { self.new ≡ given_out self.old }
+    pub fn into_outcome(self) -> Option<Outcome>
+        ensures { result ≡ result_in (to_do self.entry) }
     {
-        match self.phase {
-            Phase::New => None,
-            Phase::Finished { berr } => {
-                let read = mem::replace(&mut self.read, BlockBuffer::new());
-                Some(self.job.end(berr, read))
-            }
-            _ if self.event_ref().is_some() => None,
-            _ => {
-                self.read.clear();
-                Some(Outcome::Denied)
-            }
+        let Task {
+            job,
+            phase,
+            read,
+            ..
+        } = self;
+        match phase {
+            Phase::Finished { berr } => Some(job.end(berr, read)),
+            phase if job.has_ended(phase) => Some(Outcome::Denied),
+            _ => None,
         }
     }
 
-    /// Puts the task back before its first call. The buffer may have been taken, so the job may
-    /// read no more bytes than a buffer holds inline.
+    /// Puts the task back before its first call.
     pub fn restart(&mut self)
-        requires { job_read_len self.old.job ≤ inline_capacity }
         ensures { self.new ≡ fresh_task self.old.job }
     {
         self.phase = Phase::New;
@@ -321,21 +310,6 @@ impl<'a> Task<'a> {
             }
             Phase::Finished { .. } => {}
             _ => self.phase = Phase::Denied,
-        }
-    }
-
-    fn todo(&mut self) -> Todo
-        requires { to_do self.old ≢ NotStarted }
-        ensures todo { next_in result ≡ to_do self.old }
-        ensures task { self.new ≡ given_out self.old }
-    {
-        let event = match self.event_ref() {
-            Some(event_ref) => Some(event_ref.to_event()),
-            None => None,
-        };
-        match event {
-            Some(event) => Todo::Call(event),
-            None => Todo::Finished(self.take_outcome().unwrap()),
         }
     }
 }

@@ -130,7 +130,7 @@ command_at am write f at l lanes =
     if am.wide then wide_command write f at l lanes else narrow_command (is_block am.kind) write f at l lanes
 
 -- the command of a cycle at an offset, if any: of the location that the board senses, at that location's place;
--- IEEE 1014-1987, 2.2.1 (address lines and data lines)
+-- IEEE 1014-1987, 2.2.1 (addressing lines)
 abbrev pub command_of : SignalLines → ℕ → Option functions.Modify → Option Command
 command_of s at f =
     option_and_then

@@ -17,15 +17,15 @@ word_bytes word = to_be_bytes w32 word
 abbrev pub bytes_of_words : List ℕ → List ℕ
 bytes_of_words words = flat_map word_bytes words
 
--- whether a location has the byte at a place in the group of four; IEEE 1014-1987, 2.2.1 (address lines and data lines)
+-- whether a location has the byte at a place in the group of four; IEEE 1014-1987, 2.2.1 (addressing lines)
 abbrev pub has_byte : Location → ℕ → Bool
 has_byte l place = nat_le (row_of l).first place && nat_lt place ((row_of l).first + (row_of l).len)
 
--- the bytes of a location in a word, in order of address; IEEE 1014-1987, 2.2.1 (address lines and data lines)
+-- the bytes of a location in a word, in order of address; IEEE 1014-1987, 2.2.1 (addressing lines)
 abbrev pub part_of : Location → ℕ → List ℕ
 part_of l word = slice_range (word_bytes word) (row_of l).first ((row_of l).first + (row_of l).len)
 
 -- the byte enables of a location as a mask of the word: all bits of each of its bytes;
--- IEEE 1014-1987, 2.2.1 (address lines and data lines)
+-- IEEE 1014-1987, 2.2.1 (addressing lines)
 abbrev pub enables_of : Location → ℕ
 enables_of l = from_be_bytes w32 (map (λ place. if has_byte l place then 255 else 0) (0 ∷ 1 ∷ 2 ∷ 3 ∷ []))

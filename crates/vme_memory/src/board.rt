@@ -2,11 +2,11 @@ ghost use Rattle.std.specs.Prelude.{ℕ, ◌≡◌, ◌↔◌, ◌+◌, ◌%◌,
 ghost use Rattle.vme_lanes.specs.Rows.{row_of};
 ghost use Rattle.vme_memory.specs.Words.{part_of};
 ghost use Rattle.vme_cycle.specs.SignalLines.{len_at};
-ghost use Rattle.vme_memory.specs.Classes.{answers_quads, is_block_place, is_modify_place, is_local_len};
+ghost use Rattle.vme_memory.specs.Classes.{answers_quads, is_block_place, is_modify_place};
 ghost use Rattle.vme_memory.specs.Boards.{is_board_size, zeros};
 
 use crate::class::{Class, Width8To32};
-use crate::command::BoardCmd;
+use crate::fault::MemoryFault;
 use crate::reply::Reply;
 use crate::storage::{Row, Storage};
 use crate::word::{driven_word, placed_word};
@@ -15,19 +15,10 @@ use std::marker::Model;
 use vme_cycle::{Modify, Signals};
 use vme_lanes::{DataLines, Datum, Location, pick_wide};
 
-/// Why there is no memory of some size.
-#[derive(Clone, Copy, Debug, PartialEq, Eq)]
-pub enum MemoryFault {
-    /// C5: the size is not from 4 to 1,048,576 bytes, or is not a multiple of four.
-    BadSize,
-    /// An allocation failed.
-    OutOfMemory,
-}
-
 /// The memory of a board, with the class of its slave.
 #[derive(Drop)]
 pub struct ByteMemory {
-    storage: Storage,
+    pub(crate) storage: Storage,
     class: Class,
 }
 
@@ -47,7 +38,6 @@ impl ByteMemory {
     ghost use Rattle.vme_cycle.specs.Functions.{has_len};
     ghost use Rattle.vme_memory.specs.Steps as Steps;
     ghost use Rattle.vme_memory.specs.Steps.{fits, has_cycle, bytes_at, modify_at, step, answer, read_command, write_command, driven_write, wide_write, wide_command, cycle, HasLen};
-    ghost use Rattle.vme_memory.specs.Locals.{answer_given};
 
     /// Returns a memory of `size` bytes, all zero.
     ///
@@ -103,8 +93,9 @@ impl ByteMemory {
     }
 
     /// Returns the reply to the cycle that the signals show, with its first byte at offset `at` and
-    /// the function of a read-modify-write (sections 2.3.6 to 2.3.9). The reply and the new memory
-    /// are those of the command of the cycle. After `Berr` nothing has changed.
+    /// the function of a read-modify-write: IEEE 1014-1987, 2.3.6 (basic data transfer) to 2.3.9
+    /// (unaligned transfer). The reply and the new memory are those of the command of the cycle.
+    /// After `Berr` nothing has changed.
     ///
     /// In a block, this is one datum: the slave increments the address and takes A01 from `at`. A
     /// read-modify-write shows its read half, and the reply has the old bytes.
@@ -131,23 +122,6 @@ impl ByteMemory {
             (_, false, None) => self.drive(block, location, at, signals.lines()),
             (false, true, Some(f)) => self.modify(location, at, f),
             (_, _, Some(_)) => Reply::Berr,
-        }
-    }
-
-    /// Returns the reply to a command by either port. The reply and the new memory are those of the
-    /// command. After `Berr` nothing has changed. The local port accepts any offset and ignores the
-    /// board's class.
-    #[tactic(auto, unfolding(crate::specs::Locals::answer_given, crate::specs::Steps::cycle))]
-    pub fn local(&mut self, command: &BoardCmd) -> Reply
-        ensures reply { result ≡ (answer_given self.old command.now).0 }
-        ensures memory { self.new ≡ (answer_given self.old command.now).1 }
-        ensures berr { result ≡ Reply.Berr → self.new ≡ self.old }
-    {
-        match command {
-            BoardCmd::LocalRead { offset, n } => self.local_read(*offset, *n),
-            BoardCmd::LocalWrite { offset, bytes } => self.local_write(*offset, bytes),
-            BoardCmd::LocalModify { offset, n, f } => self.local_modify(*offset, *n, f),
-            BoardCmd::Cycle { signals, at, f } => self.cycle(signals, *at, f.as_ref()),
         }
     }
 
@@ -235,7 +209,7 @@ impl ByteMemory {
     }
 
     #[inline(always)]
-    fn fits(&self, at: u32, len: u8) -> bool
+    pub(crate) fn fits(&self, at: u32, len: u8) -> bool
         ensures { result ≡ fits self.now at len }
     {
         u64::from(at) + u64::from(len) <= u64::from(self.storage.len())
@@ -350,52 +324,6 @@ impl ByteMemory {
         ensures { result ≡ (fits self.now at n && has_cycle self.now at n && (not block || self.now.class.blt)) }
     {
         self.fits(at, n) && self.class.answers_whole(n) && (!block || self.class.blt)
-    }
-
-    #[inline(never)]
-    fn local_read(&self, at: u32, n: u8) -> Reply
-        ensures reply { result ≡ (step self.now (Steps.LocalRead at n)).0 }
-        ensures memory { self.now ≡ (step self.now (Steps.LocalRead at n)).1 }
-    {
-        if !self.is_local_place(at, n) {
-            return Reply::Berr;
-        }
-        Reply::Bytes(self.storage.datum(at, n))
-    }
-
-    fn local_write(&mut self, at: u32, bytes: &Datum) -> Reply
-        ensures reply { result ≡ (step self.old (Steps.LocalWrite at bytes.now.items)).0 }
-        ensures memory { self.new ≡ (step self.old (Steps.LocalWrite at bytes.now.items)).1 }
-    {
-        if !self.is_local_place(at, bytes.as_slice().len() as u8) {
-            return Reply::Berr;
-        }
-        self.storage.overwrite(at, bytes.as_slice());
-        Reply::Done
-    }
-
-    #[inline(never)]
-    fn local_modify(&mut self, at: u32, n: u8, f: &Modify) -> Reply
-        ensures reply { result ≡ (step self.old (Steps.LocalModify at n f.now)).0 }
-        ensures memory { self.new ≡ (step self.old (Steps.LocalModify at n f.now)).1 }
-    {
-        if !self.is_local_place(at, n) {
-            return Reply::Berr;
-        }
-        if !f.has_len(n) {
-            return Reply::Berr;
-        }
-        let old = self.storage.datum(at, n);
-        let new = f.value(&old);
-        self.storage.overwrite(at, new.as_slice());
-        Reply::Bytes(old)
-    }
-
-    /// Whether the local port reaches `n` bytes at `at`.
-    fn is_local_place(&self, at: u32, n: u8) -> bool
-        ensures { result ≡ (fits self.now at n && is_local_len n) }
-    {
-        self.fits(at, n) && (n == 1 || n == 2 || n == 4)
     }
 }
 

@@ -1,6 +1,7 @@
 use vme_lanes::Location;
 
-/// The data width of a slave. Each width includes the narrower ones (section 2.3.6).
+/// The data width of a slave. Each width includes the narrower ones: IEEE 1014-1987, 2.3.6 (basic
+/// data transfer).
 #[derive(Clone, Copy, Debug, PartialEq, Eq)]
 pub enum Width8To32 {
     /// Single even and odd bytes: D08(EO).
@@ -17,11 +18,11 @@ pub struct Class {
     /// The greatest data width.
     pub width: Width8To32,
     /// Unaligned cycles: three bytes, and the two middle bytes of a group of four. They also
-    /// require D32 (section 2.3.9).
+    /// require D32: IEEE 1014-1987, 2.3.9 (unaligned transfer).
     pub uat: bool,
-    /// Block transfers (section 2.3.7).
+    /// Block transfers: IEEE 1014-1987, 2.3.7 (block transfer).
     pub blt: bool,
-    /// Read-modify-write cycles (section 2.3.8).
+    /// Read-modify-write cycles: IEEE 1014-1987, 2.3.8 (read-modify-write).
     pub rmw: bool,
 }
 

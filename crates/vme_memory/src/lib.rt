@@ -8,15 +8,18 @@ mod apply;
 mod board;
 mod class;
 mod command;
+mod fault;
 mod laws;
+mod local;
 mod reply;
 mod storage;
 mod word;
 
 pub use access::Access;
-pub use board::{ByteMemory, MemoryFault};
+pub use board::ByteMemory;
 pub use class::{Class, Width8To32};
 pub use command::BoardCmd;
+pub use fault::MemoryFault;
 pub use laws::{
     bytes_are_overwritten, cycles_are_the_requests_own, replies_have_their_form, written_is_read,
 };

@@ -78,8 +78,8 @@ pub fn word_of(bytes: [u8; 4]) -> u32
     u32::from_be_bytes(bytes)
 }
 
-/// Returns a word with the bytes that the data lines carry for a location, at the location's place
-/// (section 2.2.3).
+/// Returns a word with the bytes that the data lines carry for a location, at the location's place:
+/// IEEE 1014-1987, 2.2.3 (data lines).
 ///
 /// Where LWORD* is low, each lane carries the byte of its own place. Otherwise both halves of the
 /// word take D15-D00.

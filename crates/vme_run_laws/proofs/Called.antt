@@ -8,13 +8,13 @@ use Rattle.vme_memory.specs.declared.reply.Reply.TheVariants.{Berr}
 use Rattle.vme_memory.specs.Boards.{Board}
 use Rattle.vme_memory.specs.Steps.{Command}
 use Rattle.vme_arbiter.specs.declared.command.ArbCmd.{ArbCmd}
-use Rattle.vme_arbiter.specs.declared.command.ArbCmd.TheVariants as turns
+use Rattle.vme_arbiter.specs.declared.command.ArbCmd.TheVariants as arb_commands
 use Rattle.vme_arbiter.specs.declared.command.ArbReply.{ArbReply}
-use Rattle.vme_arbiter.specs.declared.command.ArbReply.TheVariants as turned
+use Rattle.vme_arbiter.specs.declared.command.ArbReply.TheVariants as arb_replies
 use Rattle.vme_arbiter.specs.Requests.{is_slot}
-use Rattle.vme_arbiter.specs.Arbitration.{Arbitration, turn_step}
+use Rattle.vme_arbiter.specs.Arbitration.{Arbitration, arbiter_step}
 use Rattle.vme_arbiter.specs.Orderly.{IsOrderly}
-use Rattle.vme_arbiter.specs.Turns.{slot_of, may_give, StandsAsReplied}
+use Rattle.vme_arbiter.specs.Masters.{slot_of, may_give, StandsAsReplied}
 use Rattle.vme_arbiter.proofs.lemmas.Turns.{own-turn}
 use Rattle.vme_arbiter.proofs.lemmas.Orderly.{orderly-step}
 use Rattle.vme_core.specs.declared.event.EventReply.{EventReply}
@@ -50,17 +50,17 @@ board_called machine who x command = by_found machine who x command (slice_get m
 -- a slot's command to the arbiter that follows its last reply is not denied, and the slot is in the state of its new
 -- reply
 pub record BusCalled (bus : Arbitration) (slot : ℕ) (cmd : ArbCmd) : Type 0 where
-  pub orderly : IsOrderly (turn_step bus cmd).0
+  pub orderly : IsOrderly (arbiter_step bus cmd).0
   pub own : slot_of cmd ≡ slot
-  pub stands : StandsAsReplied (turn_step bus cmd).0 slot (Some (turn_step bus cmd).1)
-  pub good : IsGood (OnBus cmd) (replies.Bus (turn_step bus cmd).1)
+  pub stands : StandsAsReplied (arbiter_step bus cmd).0 slot (Some (arbiter_step bus cmd).1)
+  pub good : IsGood (OnBus cmd) (replies.Bus (arbiter_step bus cmd).1)
 
 never_denied : (bus : Arbitration) (slot : ℕ) (reply : ArbReply) → StandsAsReplied bus slot (Some reply)
-    → replies.Bus reply ≢ replies.Bus turned.Denied
-never_denied bus slot turned.Denied stands = λ same. stands
-never_denied bus slot turned.Granted stands = λ same. absurd cc
-never_denied bus slot turned.Waiting stands = λ same. absurd cc
-never_denied bus slot turned.Freed stands = λ same. absurd cc
+    → replies.Bus reply ≢ replies.Bus arb_replies.Denied
+never_denied bus slot arb_replies.Denied stands = λ same. stands
+never_denied bus slot arb_replies.Granted stands = λ same. absurd cc
+never_denied bus slot arb_replies.Waiting stands = λ same. absurd cc
+never_denied bus slot arb_replies.Freed stands = λ same. absurd cc
 
 and_left : (a b : Bool) → (a && b) ≡ true → a ≡ true
 and_left true b both = refl
@@ -68,10 +68,10 @@ and_left false b both = absurd cc
 
 -- a command that a slot may give names the slot
 own_slot : (slot : ℕ) (last : Option ArbReply) (cmd : ArbCmd) → may_give slot last cmd ≡ true → slot_of cmd ≡ slot
-own_slot slot None (turns.Ask s level) may = eqb-true s slot (and_left _ _ may)
-own_slot slot (Some turned.Freed) (turns.Ask s level) may = eqb-true s slot (and_left _ _ may)
-own_slot slot (Some turned.Waiting) (turns.Look s) may = eqb-true s slot may
-own_slot slot (Some turned.Granted) (turns.Done s) may = eqb-true s slot may
+own_slot slot None (arb_commands.Ask s level) may = eqb-true s slot (and_left _ _ may)
+own_slot slot (Some arb_replies.Freed) (arb_commands.Ask s level) may = eqb-true s slot (and_left _ _ may)
+own_slot slot (Some arb_replies.Waiting) (arb_commands.Look s) may = eqb-true s slot may
+own_slot slot (Some arb_replies.Granted) (arb_commands.Done s) may = eqb-true s slot may
 own_slot slot last cmd may = absurd cc
 
 pub bus_called : (bus : Arbitration) (slot : ℕ) (last : Option ArbReply) (cmd : ArbCmd) → IsOrderly bus → is_slot slot ≡ true
@@ -82,16 +82,16 @@ bus_called bus slot last cmd orderly lawful stands may =
       orderly = orderly-step bus cmd orderly;
       own = own_slot slot last cmd may;
       stands = now;
-      good = record { fit = turn_fits bus cmd; granted = never_denied (turn_step bus cmd).0 slot (turn_step bus cmd).1 now };
+      good = record { fit = turn_fits bus cmd; granted = never_denied (arbiter_step bus cmd).0 slot (arbiter_step bus cmd).1 now };
     }
 
 -- the reply to a call is not a denial
 pub call_granted : (machine : Machine) (who slot : ℕ) (last : Option ArbReply) (call : Call) → IsOrderly machine.bus.object
     → is_slot slot ≡ true → StandsAsReplied machine.bus.object slot last → ((cmd : ArbCmd) → call ≡ OnBus cmd → may_give slot last cmd ≡ true)
-    → (machine_step machine who call).1 ≢ replies.Bus turned.Denied
+    → (machine_step machine who call).1 ≢ replies.Bus arb_replies.Denied
 call_granted machine who slot last (OnBoard x command) orderly lawful stands may =
     let called = board_called machine who x command in
-    let board : replies.Board called.reply ≢ replies.Bus turned.Denied = λ same. absurd cc in
+    let board : replies.Board called.reply ≢ replies.Bus arb_replies.Denied = λ same. absurd cc in
     λ same. board (sym called.replied ∙ same)
 call_granted machine who slot last (OnBus cmd) orderly lawful stands may =
     (bus_called machine.bus.object slot last cmd orderly lawful stands (may cmd refl)).good.granted

@@ -18,7 +18,7 @@ use Rattle.vme_memory.specs.Locals.{command_given}
 use Rattle.vme_memory.specs.Data.{datum_command}
 use Rattle.vme_core.specs.declared.event.EventReply.{EventReply}
 use Rattle.vme_core.specs.declared.event.Event.{Event}
-use Rattle.vme_core.specs.declared.event.Event.TheVariants as asked
+use Rattle.vme_core.specs.declared.event.Event.TheVariants as events
 use Rattle.vme_core.specs.Runs.{Machine, target_of}
 use Rattle.vme_core.specs.Calls.{Call, OnBoard, OnBus, call_of}
 use Rattle.vme_core.specs.Machines.{IsThere}
@@ -27,7 +27,7 @@ use Rattle.vme_master.specs.declared.outcome.Outcome.{Outcome}
 use Rattle.vme_master.specs.declared.job.BusJob.{BusJob}
 use Rattle.vme_master.specs.declared.job.Job.{Job}
 use Rattle.vme_master.specs.Jobs.{bus_job, local_job, datum_call}
-use Rattle.vme_master.specs.Tables.{Given, data_in, next_of}
+use Rattle.vme_master.specs.Tables.{Inputs, data_in, next_of}
 use Rattle.vme_master.specs.Laws.{IsNextDatum}
 use Rattle.vme_memory.proofs.lemmas.Data.{own_command}
 use Rattle.vme_master.proofs.lemmas.ReadLengths.{same_place}
@@ -70,7 +70,7 @@ datum_is job place i at signals f placed here shown function lawful less same =
     rw (placed, shown, function) (ap (OnBoard place.0) own ∙ ap (λ n. OnBoard place.0 (Some (datum_command job.transfer.request i n))) here)
 
 -- a datum of a lawful transfer, on a board whose range begins at a multiple of four
-data_event : (config : Configuration) → IsLawful config → (slot level : ℕ) (t : Transfer) → IsLawfulTransfer t → (g : Given) (x : ℕ)
+data_event : (config : Configuration) → IsLawful config → (slot level : ℕ) (t : Transfer) → IsLawfulTransfer t → (g : Inputs) (x : ℕ)
     (command : Option Command) → next_of (bus_job (entries_of config.boards) slot level t) g ≡ Invokes (OnBoard x command)
     → HasEvent (OnBoard x command)
 data_event config lawful slot level t whole g x command made =
@@ -81,22 +81,22 @@ data_event config lawful slot level t whole g x command made =
     let at = datum.offset + i * datum_len t.request in
     let remainder = place_remainder (entries_of config.boards) t.am (addr_of t.request) x datum.offset lawful.map datum.placed in
     record {
-      event = asked.Board x (given_cmd.Cycle (signals_of t i) at (function_of t.request));
+      event = events.Board x (given_cmd.Cycle (signals_of t i) at (function_of t.request));
       is = datum_is j (x, datum.offset) i at (signals_of t i) (function_of t.request) datum.placed refl refl refl whole datum.more remainder
           ∙ ap (λ place. datum_call j place i) datum.placed ∙ ap (OnBoard x) (sym datum.own);
     }
 
 -- a command to the local port
-local_event : (board : ℕ) (cmd : BoardCmd) (g : Given) (x : ℕ) (command : Option Command)
+local_event : (board : ℕ) (cmd : BoardCmd) (g : Inputs) (x : ℕ) (command : Option Command)
     → next_of (local_job board cmd) g ≡ Invokes (OnBoard x command) → HasEvent (OnBoard x command)
 local_event board cmd g x command made =
     let own : OnBoard x command ≡ OnBoard board (command_given cmd) = local_calls (record { board = board; cmd = cmd }) g (OnBoard x command) made in
-    record { event = asked.Board board cmd; is = sym own }
+    record { event = events.Board board cmd; is = sym own }
 
 -- a call of a request
 lawful_event : (config : Configuration) → IsLawful config → (board : ℕ) (request : Request) (transfer : Result Transfer CycleFault)
-    (attempt : Transfer → Attempt) (given : Given) (x : ℕ) (command : Option Command) → transfer_of request ≡ transfer
-    → ((t : Transfer) (g : Given) → attempt_next (attempt t) g ≡ Invokes (OnBoard x command)
+    (attempt : Transfer → Attempt) (given : Inputs) (x : ℕ) (command : Option Command) → transfer_of request ≡ transfer
+    → ((t : Transfer) (g : Inputs) → attempt_next (attempt t) g ≡ Invokes (OnBoard x command)
     → next_of (transfer_job config board t) g ≡ Invokes (OnBoard x command))
     → lawful_next config.tries (request_attempt attempt transfer) given ≡ Invokes (OnBoard x command) → HasEvent (OnBoard x command)
 lawful_event config lawful board request (Err fault) attempt given x command is makes made = absurd cc
@@ -108,7 +108,7 @@ lawful_event config lawful board request (Ok t) attempt given x command is makes
 record IsOfStage (s : SharedJob) (call : Call) : Type 0 where
   stage : Stage
   job : Job
-  given : Given
+  given : Inputs
   own : stage_job s stage ≡ Ok job
   makes : next_of job given ≡ Invokes call
 
@@ -118,7 +118,7 @@ stage_calls s (At stage job given) call own made =
 stage_calls s (Over end) call own made = absurd cc
 
 stage_event : (config : Configuration) → IsLawful config → (board : ℕ) (request : SharedRequest) (cycle : Request)
-    (transfer : Result Transfer CycleFault) (job : Job) (g : Given) (x : ℕ) (command : Option Command) → transfer_of cycle ≡ transfer
+    (transfer : Result Transfer CycleFault) (job : Job) (g : Inputs) (x : ℕ) (command : Option Command) → transfer_of cycle ≡ transfer
     → shared_transfer (shared_job config board request) transfer ≡ Ok job → next_of job g ≡ Invokes (OnBoard x command)
     → HasEvent (OnBoard x command)
 stage_event config lawful board request cycle (Err fault) job g x command is own made = absurd cc
@@ -127,7 +127,7 @@ stage_event config lawful board request cycle (Ok t) job g x command is own made
     data_event config lawful (slot_at config board) (level_at config board) t (transfer_is_lawful cycle t is) g x command
     (subst (λ (one : Job). next_of one g ≡ Invokes (OnBoard x command)) same made)
 
-shared_event : (config : Configuration) → IsLawful config → (board : ℕ) (request : SharedRequest) (refusal : Option CycleFault) (given : Given)
+shared_event : (config : Configuration) → IsLawful config → (board : ℕ) (request : SharedRequest) (refusal : Option CycleFault) (given : Inputs)
     (x : ℕ) (command : Option Command)
     → lawful_next config.tries (unless_refused (Sharing (shared_job config board request)) refusal) given ≡ Invokes (OnBoard x command)
     → HasEvent (OnBoard x command)
@@ -139,9 +139,9 @@ shared_event config lawful board request None given x command made =
     stage_event config lawful board request (stage_request request at.stage) (transfer_of (stage_request request at.stage)) at.job at.given x command
     refl at.own at.makes
 
-line_event : (config : Configuration) → IsLawful config → (board : ℕ) (line : Line) (given : Given) (call : Call)
+line_event : (config : Configuration) → IsLawful config → (board : ℕ) (line : Line) (given : Inputs) (call : Call)
     → lawful_next config.tries (line_attempt config board line) given ≡ Invokes call → HasEvent call
-line_event config lawful board line given (OnBus cmd) made = record { event = asked.Bus cmd; is = refl }
+line_event config lawful board line given (OnBus cmd) made = record { event = events.Bus cmd; is = refl }
 line_event config lawful board (lines.Bus request) given (OnBoard x command) made =
     lawful_event config lawful board request (transfer_of request) (λ t. Transferring (transfer_job config board t)) given x command refl
     (λ t g makes. moves_makes (next_of (transfer_job config board t) g) (OnBoard x command) makes) made
@@ -163,7 +163,7 @@ line_event config lawful board (lines.Take box) given (OnBoard x command) made =
     let request = asked_shared.Take (mailbox_at config box) in
     shared_event config lawful board request (shared_refusal request) given x command made
 
-pub has_event : (config : Configuration) → IsLawful config → (board : ℕ) (line : Line) (given : Given) (call : Call)
+pub has_event : (config : Configuration) → IsLawful config → (board : ℕ) (line : Line) (given : Inputs) (call : Call)
     → next_given config board line given ≡ Invokes call → HasEvent call
 unfolding next_given
 has_event config lawful board line given call made = line_event config lawful board line given call made
@@ -171,5 +171,5 @@ has_event config lawful board line given call made = line_event config lawful bo
 -- the event of a call on an existing board
 pub event_there : (machine : Machine) (event : Event) (call : Call) → call_of event ≡ call → IsCallBelow (length machine.boards) call
     → IsThere machine (target_of event)
-event_there machine (asked.Board x cmd) call is below = subst (IsCallBelow (length machine.boards)) (sym is) below
-event_there machine (asked.Bus cmd) call is below = tt
+event_there machine (events.Board x cmd) call is below = subst (IsCallBelow (length machine.boards)) (sym is) below
+event_there machine (events.Bus cmd) call is below = tt

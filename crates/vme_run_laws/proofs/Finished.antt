@@ -9,7 +9,7 @@ use Rattle.vme_core.specs.NextSteps.{NextStep, NotStarted, Invokes, Returns}
 use Rattle.vme_master.specs.declared.outcome.Outcome.{Outcome}
 use Rattle.vme_shared.specs.declared.outcome.SharedOutcome.{SharedOutcome}
 use Rattle.vme_master.specs.declared.outcome.Outcome.TheVariants as outcomes
-use Rattle.vme_master.specs.Tables.{Given, next_of}
+use Rattle.vme_master.specs.Tables.{Inputs, next_of}
 use Rattle.vme_shared.specs.declared.reply.LineReply.{LineReply}
 use Rattle.vme_shared.specs.declared.reply.LineReply.TheVariants.{Met, Timeout, Unfinished}
 use Rattle.vme_shared.specs.Tables.{shared_next}
@@ -46,19 +46,19 @@ by_shares NotStarted answer ends over = cc
 by_shares (Invokes call) answer ends over = cc
 by_shares (Returns outcome) answer ends over = cc
 
-by_attempt : (a : Attempt) (given : Given) (answer : LineReply) → attempt_next a given ≡ Returns answer → answer ≢ Unfinished
+by_attempt : (a : Attempt) (given : Inputs) (answer : LineReply) → attempt_next a given ≡ Returns answer → answer ≢ Unfinished
 by_attempt (Transferring job) given answer ends over = by_moves (next_of job given) answer ends over
 by_attempt (Awaiting job want) given answer ends over = by_waits want (next_of job given) answer ends over
 by_attempt (Sharing s) given answer ends over = by_shares (shared_next s given) answer ends over
 
 -- any attempt
-by_line : (tries : ℕ) (attempt : Result Attempt CycleFault) (given : Given) (answer : LineReply) → lawful_next tries attempt given ≡ Returns answer
+by_line : (tries : ℕ) (attempt : Result Attempt CycleFault) (given : Inputs) (answer : LineReply) → lawful_next tries attempt given ≡ Returns answer
     → answer ≢ Unfinished
 by_line tries (Ok a) given answer ends over = by_attempt a (attempts_of a tries given).given answer ends over
 by_line tries (Err fault) given answer ends over = cc
 
 -- any line, by the table
-by_table : (config : Configuration) (board : ℕ) (line : Line) (given : Given) (answer : LineReply) → next_given config board line given ≡ Returns answer
+by_table : (config : Configuration) (board : ℕ) (line : Line) (given : Inputs) (answer : LineReply) → next_given config board line given ≡ Returns answer
     → answer ≢ Unfinished
 unfolding next_given
 by_table config board line given answer ends over = by_line config.tries (line_attempt config board line) given answer ends over

@@ -5,7 +5,7 @@ use Rattle.std.specs.Option.{option_to_list}
 use Rattle.std.proofs.lemmas.Bool.Decides.{eqb_tells}
 use Rattle.std.proofs.lemmas.List.{append-nil, map-append, length-map}
 use Rattle.std.proofs.lemmas.List.Elements.{filter-append}
-use Rattle.vme_arbiter.specs.Arbitration.{opening_bus, turn_step}
+use Rattle.vme_arbiter.specs.Arbitration.{opening_bus, arbiter_step}
 use Rattle.vme_core.specs.CountedStates.{fresh_count}
 use Rattle.vme_core.specs.Runs.{Machine, Transition, IsRun, bus_part}
 use Rattle.vme_core.specs.Calls.{Call, call_of}
@@ -129,7 +129,7 @@ are_run config slots lawful =
       record {
         calls = all.same;
         boards = opened_boards memories (opening_bus config.arbiter) (length config.boards) all.more after.machine all.did;
-        bus = run_replays turn_step (opening_bus config.arbiter) (bus_part all.more) (length config.boards) after.machine.bus all.did.bus;
+        bus = run_replays arbiter_step (opening_bus config.arbiter) (bus_part all.more) (length config.boards) after.machine.bus all.did.bus;
         script_states = all.follow;
       },
     )

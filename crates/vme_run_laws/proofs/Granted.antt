@@ -14,11 +14,11 @@ use Rattle.vme_memory.specs.Boards.{Board}
 use Rattle.vme_memory.specs.Locals.{command_given, answer_given, board_step}
 use Rattle.vme_arbiter.specs.declared.command.ArbCmd.{ArbCmd}
 use Rattle.vme_arbiter.specs.declared.command.ArbReply.{ArbReply}
-use Rattle.vme_arbiter.specs.declared.command.ArbReply.TheVariants as turned
-use Rattle.vme_arbiter.specs.Arbitration.{turn_step, opening_bus}
-use Rattle.vme_arbiter.specs.Turns.{StandsAsReplied}
+use Rattle.vme_arbiter.specs.declared.command.ArbReply.TheVariants as arb_replies
+use Rattle.vme_arbiter.specs.Arbitration.{arbiter_step, opening_bus}
+use Rattle.vme_arbiter.specs.Masters.{StandsAsReplied}
 use Rattle.vme_core.specs.declared.event.Event.{Event}
-use Rattle.vme_core.specs.declared.event.Event.TheVariants as asked
+use Rattle.vme_core.specs.declared.event.Event.TheVariants as events
 use Rattle.vme_core.specs.declared.event.EventReply.{EventReply}
 use Rattle.vme_core.specs.declared.event.EventReply.TheVariants as event_replies
 use Rattle.vme_core.specs.Runs.{Transition, move, IsReplyTo, board_part, bus_part}
@@ -45,8 +45,8 @@ use Rattle.vme_run_laws.proofs.Turns.{Leads, GoodTurn, GoesWhile, turns_good}
 
 -- a reply of an existing board fits, and a reply of the arbiter is of its kind
 abbrev Well : ℕ → Event → EventReply → Type 0
-Well n (asked.Board x cmd) (event_replies.Board reply) = x < n → IsGood (OnBoard x (command_given cmd)) (event_replies.Board reply)
-Well n (asked.Bus cmd) (event_replies.Bus reply) = Unit {0}
+Well n (events.Board x cmd) (event_replies.Board reply) = x < n → IsGood (OnBoard x (command_given cmd)) (event_replies.Board reply)
+Well n (events.Bus cmd) (event_replies.Bus reply) = Unit {0}
 Well n event reply = ⊥
 
 abbrev AllWell : ℕ → List Transition → Type 0
@@ -55,7 +55,7 @@ AllWell n (m ∷ run) = Well n m.event m.reply × AllWell n run
 
 -- a reply of the arbiter is good too
 abbrev Replied : Event → EventReply → Type 0
-Replied (asked.Bus cmd) (event_replies.Bus reply) = IsGood (OnBus cmd) (event_replies.Bus reply)
+Replied (events.Bus cmd) (event_replies.Bus reply) = IsGood (OnBus cmd) (event_replies.Bus reply)
 Replied event reply = Unit {0}
 
 abbrev AllReplied : List Transition → Type 0
@@ -91,18 +91,18 @@ module _ (config : Configuration) (lawful : IsLawful config) (board : ℕ) (ther
       → ((last : Option ArbReply) → Closes config board line (reply ∷ before)
       → Leads (slot_at config board) last (line_reported config board line (reply ∷ before)) → GoesWhile (slot_at config board) last (bus_part tail))
       → GoesWhile (slot_at config board) last (bus_part (move who event reply ∷ tail))
-  by_move line before who (asked.Board x cmd) (event_replies.Board reply) tail last made well leads then =
+  by_move line before who (events.Board x cmd) (event_replies.Board reply) tail last made well leads then =
       let good = well (next_below config board line (given_of before) (OnBoard x (command_given cmd)) there made) in
       let same = line_datum config board line before (OnBoard x (command_given cmd)) reply made good in
       then last (closes_next config board line before (OnBoard x (command_given cmd)) (event_replies.Board reply) made good)
       (λ bus stands. subst (StandsAsReplied bus (slot_at config board)) (sym same) (leads bus stands))
-  by_move line before who (asked.Bus cmd) (event_replies.Bus reply) tail last made well leads then = (
+  by_move line before who (events.Bus cmd) (event_replies.Bus reply) tail last made well leads then = (
     (line_reported config board line before, leads, line_turns config board line before cmd (lawful_level config board lawful there) made),
     λ good. then (Some reply) (closes_next config board line before (OnBus cmd) (event_replies.Bus reply) made good)
         (λ bus stands. line_turn config board line before cmd reply bus (slot_at config board) made good stands),
   )
-  by_move line before who (asked.Board x cmd) (event_replies.Bus reply) tail last made well leads then = absurd well
-  by_move line before who (asked.Bus cmd) (event_replies.Board reply) tail last made well leads then = absurd well
+  by_move line before who (events.Board x cmd) (event_replies.Bus reply) tail last made well leads then = absurd well
+  by_move line before who (events.Bus cmd) (event_replies.Board reply) tail last made well leads then = absurd well
 
   by_line : (line : Line) (before : List EventReply) (moves rest : List Transition) (replies : List EventReply) (answer : LineReply)
       (last : Option ArbReply) → Continues config board line before moves replies → line_next config board line replies ≡ Returns answer
@@ -132,11 +132,11 @@ module _ (config : Configuration) (lawful : IsLawful config) (board : ℕ) (ther
   move_good : (line : Line) (before : List EventReply) (event : Event) (reply : EventReply)
       → line_next config board line before ≡ Invokes (call_of event) → Well (length config.boards) event reply → Replied event reply
       → IsGood (call_of event) reply
-  move_good line before (asked.Board x cmd) (event_replies.Board reply) made well good =
+  move_good line before (events.Board x cmd) (event_replies.Board reply) made well good =
       well (next_below config board line (given_of before) (OnBoard x (command_given cmd)) there made)
-  move_good line before (asked.Bus cmd) (event_replies.Bus reply) made well good = good
-  move_good line before (asked.Board x cmd) (event_replies.Bus reply) made well good = absurd well
-  move_good line before (asked.Bus cmd) (event_replies.Board reply) made well good = absurd well
+  move_good line before (events.Bus cmd) (event_replies.Bus reply) made well good = good
+  move_good line before (events.Board x cmd) (event_replies.Bus reply) made well good = absurd well
+  move_good line before (events.Bus cmd) (event_replies.Board reply) made well good = absurd well
 
   record Left (rest : List Transition) (answer : LineReply) : Type 0 where
     granted : IsGranted answer
@@ -192,7 +192,7 @@ all_own P who (e ∷ h) all =
 
 -- a reply of a board, by the board's part of a run
 abbrev FitAt : ℕ → Event → EventReply → Type 0
-FitAt x (asked.Board b cmd) (event_replies.Board reply) = b ≡ x → IsGood (OnBoard b (command_given cmd)) (event_replies.Board reply)
+FitAt x (events.Board b cmd) (event_replies.Board reply) = b ≡ x → IsGood (OnBoard b (command_given cmd)) (event_replies.Board reply)
 FitAt x event reply = Unit {0}
 
 abbrev AllFitAt : ℕ → List Transition → Type 0
@@ -201,7 +201,7 @@ AllFitAt x (m ∷ run) = FitAt x m.event m.reply × AllFitAt x run
 
 fit_head : (x who : ℕ) (event : Event) (reply : EventReply) (tail : List Transition) → All (Fit x) (board_part x (move who event reply ∷ tail))
     → FitAt x event reply × All (Fit x) (board_part x tail)
-fit_head x who (asked.Board b cmd) (event_replies.Board reply) tail all =
+fit_head x who (events.Board b cmd) (event_replies.Board reply) tail all =
     elim (cases_Bool (eqb b x)) [
       | inl same ↦
           let now : All (Fit x) (record { who = who; cmd = cmd; reply = reply } ∷ board_part x tail) = rw same at all in (
@@ -211,8 +211,8 @@ fit_head x who (asked.Board b cmd) (event_replies.Board reply) tail all =
           )
       | inr other ↦ (λ at. absurd (eqb-false b x other at), rw other at all)
     ]
-fit_head x who (asked.Board b cmd) (event_replies.Bus reply) tail all = (tt, all)
-fit_head x who (asked.Bus cmd) reply tail all = (tt, all)
+fit_head x who (events.Board b cmd) (event_replies.Bus reply) tail all = (tt, all)
+fit_head x who (events.Bus cmd) reply tail all = (tt, all)
 
 fit_moves : (x : ℕ) (run : List Transition) → All (Fit x) (board_part x run) → AllFitAt x run
 fit_moves x [] all = tt
@@ -221,10 +221,10 @@ fit_moves x (m ∷ run) all =
     (parts.0, fit_moves x run parts.1)
 
 well_move : (n : ℕ) (event : Event) (reply : EventReply) → IsReplyTo event reply → ((x : ℕ) → x < n → FitAt x event reply) → Well n event reply
-well_move n (asked.Board x cmd) (event_replies.Board reply) kind fit = λ less. fit x less refl
-well_move n (asked.Bus cmd) (event_replies.Bus reply) kind fit = tt
-well_move n (asked.Board x cmd) (event_replies.Bus reply) kind fit = kind
-well_move n (asked.Bus cmd) (event_replies.Board reply) kind fit = kind
+well_move n (events.Board x cmd) (event_replies.Board reply) kind fit = λ less. fit x less refl
+well_move n (events.Bus cmd) (event_replies.Bus reply) kind fit = tt
+well_move n (events.Board x cmd) (event_replies.Bus reply) kind fit = kind
+well_move n (events.Bus cmd) (event_replies.Board reply) kind fit = kind
 
 abbrev OfKind : Transition → Type 0
 OfKind m = IsReplyTo m.event m.reply
@@ -238,9 +238,9 @@ well_moves n (m ∷ run) kind fit = (
 
 reported_head : (who : ℕ) (event : Event) (reply : EventReply) (tail : List Transition) → All GoodTurn (bus_part (move who event reply ∷ tail))
     → Replied event reply × All GoodTurn (bus_part tail)
-reported_head who (asked.Board b cmd) reply tail all = (tt, all)
-reported_head who (asked.Bus cmd) (event_replies.Board reply) tail all = (tt, all)
-reported_head who (asked.Bus cmd) (event_replies.Bus reply) tail all = (
+reported_head who (events.Board b cmd) reply tail all = (tt, all)
+reported_head who (events.Bus cmd) (event_replies.Board reply) tail all = (tt, all)
+reported_head who (events.Bus cmd) (event_replies.Bus reply) tail all = (
   All-head GoodTurn (record { who = who; cmd = cmd; reply = reply }) (bus_part tail) all,
   All-tail GoodTurn (record { who = who; cmd = cmd; reply = reply }) (bus_part tail) all,
 )
@@ -299,16 +299,16 @@ all_turns config lawful report is =
     (by_script_state config lawful who below (lines_at config who) (slice_index_or is.runs who []) (answers_in (slice_index_or report.lines.items who some).items)
     (is.trace.each who [] some within) (run_well config report is who within) None (λ bus stands. stands)))
 
-none_denied : (h : List (Entry ArbCmd ArbReply)) → All GoodTurn h → All (λ e. e.reply ≢ turned.Denied) h
-none_denied [] good = All-nil (λ (e : Entry ArbCmd ArbReply). e.reply ≢ turned.Denied)
+none_denied : (h : List (Entry ArbCmd ArbReply)) → All GoodTurn h → All (λ e. e.reply ≢ arb_replies.Denied) h
+none_denied [] good = All-nil (λ (e : Entry ArbCmd ArbReply). e.reply ≢ arb_replies.Denied)
 none_denied (e ∷ h) good =
-    All-cons (λ (e : Entry ArbCmd ArbReply). e.reply ≢ turned.Denied) e h
+    All-cons (λ (e : Entry ArbCmd ArbReply). e.reply ≢ arb_replies.Denied) e h
     (λ denied. (All-head GoodTurn e h good).granted (ap (λ (r : ArbReply). event_replies.Bus r) denied))
     (none_denied h (All-tail GoodTurn e h good))
 
 -- the arbiter of a report denies no command
 pub report_turns : (config : Configuration) (report : Report) → IsLawful config → (is : IsReportOf config report)
-    → All (λ e. e.reply ≢ turned.Denied) is.bus.1.history
+    → All (λ e. e.reply ≢ arb_replies.Denied) is.bus.1.history
 report_turns config report lawful is = none_denied is.bus.1.history (all_turns config lawful report is)
 
 -- no line of a report is denied
@@ -320,5 +320,5 @@ report_granted config report lawful is who d below =
     script_state_granted config lawful who there (lines_at config who) (slice_index_or is.runs who [])
     (answers_in (slice_index_or report.lines.items who d).items) (is.trace.each who [] d within) (run_well config report is who within)
     (reported_moves (slice_index_or is.runs who [])
-    (part_good turn_step (opening_bus config.arbiter) bus_part is.runs is.bus.0 report.arbiter_steps report.arbiter_made.items GoodTurn is.bus.1 who within
+    (part_good arbiter_step (opening_bus config.arbiter) bus_part is.runs is.bus.0 report.arbiter_steps report.arbiter_made.items GoodTurn is.bus.1 who within
     (all_turns config lawful report is)))

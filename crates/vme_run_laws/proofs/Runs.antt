@@ -5,7 +5,7 @@ use Rattle.std.specs.Option.{option_map_or}
 use Rattle.std.proofs.lemmas.Bool.Decides.{eqb_tells}
 use Rattle.std.proofs.lemmas.List.{length-set, length-map}
 use Rattle.std.proofs.lemmas.Option.{slice_get_within, slice_get-map}
-use Rattle.vme_arbiter.specs.declared.command.ArbReply.TheVariants as turned
+use Rattle.vme_arbiter.specs.declared.command.ArbReply.TheVariants as arb_replies
 use Rattle.vme_arbiter.specs.Arbitration.{opening_bus}
 use Rattle.vme_arbiter.specs.Orderly.{IsOrderly}
 use Rattle.vme_arbiter.proofs.lemmas.Orderly.{orderly-opening}
@@ -158,12 +158,12 @@ holder_is config system slot board place command lawful stand is =
 
 -- the reply to the call is not a denial
 pub granted_is : (config : Configuration) (system : SystemState) (slot board : ℕ) (call : Call) → IsLawful config → AllStand config system
-    → turn_call config system slot ≡ Some (board, call) → (machine_step system.machine board call).1 ≢ replies.Bus turned.Denied
+    → turn_call config system slot ≡ Some (board, call) → (machine_step system.machine board call).1 ≢ replies.Bus arb_replies.Denied
 granted_is config system slot board call lawful stand is =
     let one = call_is config system slot board call is in
     let at = place_is config slot board one.place in
     let stands = stand.each board one.c one.found in
-    first_is config lawful board at.there (λ made. (machine_step system.machine board made).1 ≢ replies.Bus turned.Denied) system.machine.bus.object
+    first_is config lawful board at.there (λ made. (machine_step system.machine board made).1 ≢ replies.Bus arb_replies.Denied) system.machine.bus.object
     (replied_granted config lawful board at.there system.machine stand.orderly) (lines_left config board one.c) one.c.replies call
     (left_own config board one.c lawful at.there) stands.stands stands.opens one.first
 

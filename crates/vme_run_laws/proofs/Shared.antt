@@ -13,10 +13,10 @@ use Rattle.vme_shared.specs.Layout.{mailbox_len}
 use Rattle.vme_shared.specs.MailboxSteps.{BoardMailbox, LiesIn, IsNewMailbox, end_of}
 use Rattle.vme_arbiter.specs.declared.command.ArbCmd.{ArbCmd}
 use Rattle.vme_arbiter.specs.declared.command.ArbReply.{ArbReply}
-use Rattle.vme_arbiter.specs.declared.command.ArbReply.TheVariants as turned
-use Rattle.vme_arbiter.specs.Arbitration.{Arbitration, turn_step, opening_bus}
+use Rattle.vme_arbiter.specs.declared.command.ArbReply.TheVariants as arb_replies
+use Rattle.vme_arbiter.specs.Arbitration.{Arbitration, arbiter_step, opening_bus}
 use Rattle.vme_core.specs.declared.event.Event.{Event}
-use Rattle.vme_core.specs.declared.event.Event.TheVariants as asked
+use Rattle.vme_core.specs.declared.event.Event.TheVariants as events
 use Rattle.vme_core.specs.declared.event.EventReply.{EventReply}
 use Rattle.vme_core.specs.declared.event.EventReply.TheVariants as replies
 use Rattle.vme_core.specs.Runs.{Transition, move, IsReplyTo, board_part, bus_part}
@@ -38,26 +38,26 @@ use Rattle.vme_run_laws.proofs.Granted.{report_turns, all_own}
 
 -- a reply of the arbiter fits and is not a denial
 abbrev Fine : Entry ArbCmd ArbReply → Type 0
-Fine e = IsTrue (fits (OnBus e.cmd) (replies.Bus e.reply)) × (replies.Bus e.reply ≢ replies.Bus turned.Denied)
+Fine e = IsTrue (fits (OnBus e.cmd) (replies.Bus e.reply)) × (replies.Bus e.reply ≢ replies.Bus arb_replies.Denied)
 
 abbrev Granted : Entry ArbCmd ArbReply → Type 0
-Granted e = e.reply ≢ turned.Denied
+Granted e = e.reply ≢ arb_replies.Denied
 
-all_fine : (bus : Arbitration) (h : List (Entry ArbCmd ArbReply)) → IsLegal turn_step bus h → All Granted h → All Fine h
+all_fine : (bus : Arbitration) (h : List (Entry ArbCmd ArbReply)) → IsLegal arbiter_step bus h → All Granted h → All Fine h
 all_fine bus [] legal granted = All-nil Fine
 all_fine bus (e ∷ h) legal granted =
     let fit : fits (OnBus e.cmd) (replies.Bus e.reply) ≡ true =
     subst (λ (r : ArbReply). fits (OnBus e.cmd) (replies.Bus r) ≡ true) (sym legal.0) (turn_fits bus e.cmd) in
-    let no_denial : replies.Bus e.reply ≢ replies.Bus turned.Denied = λ same. All-head Granted e h granted cc in
-    All-cons Fine e h (fit, no_denial) (all_fine (turn_step bus e.cmd).0 h legal.1 (All-tail Granted e h granted))
+    let no_denial : replies.Bus e.reply ≢ replies.Bus arb_replies.Denied = λ same. All-head Granted e h granted cc in
+    All-cons Fine e h (fit, no_denial) (all_fine (arbiter_step bus e.cmd).0 h legal.1 (All-tail Granted e h granted))
 
 -- the reply of each transition satisfies `IsTurned`
 one_turned : (who : ℕ) (event : Event) (reply : EventReply) (tail : List Transition) → IsReplyTo event reply
     → All Fine (bus_part (move who event reply ∷ tail)) → IsTurned event reply × All Fine (bus_part tail)
-one_turned who (asked.Board x cmd) (replies.Board reply) tail kind all = (tt, all)
-one_turned who (asked.Board x cmd) (replies.Bus reply) tail kind all = absurd kind
-one_turned who (asked.Bus cmd) (replies.Board reply) tail kind all = absurd kind
-one_turned who (asked.Bus cmd) (replies.Bus reply) tail kind all = (
+one_turned who (events.Board x cmd) (replies.Board reply) tail kind all = (tt, all)
+one_turned who (events.Board x cmd) (replies.Bus reply) tail kind all = absurd kind
+one_turned who (events.Bus cmd) (replies.Board reply) tail kind all = absurd kind
+one_turned who (events.Bus cmd) (replies.Bus reply) tail kind all = (
   All-head Fine (record { who = who; cmd = cmd; reply = reply }) (bus_part tail) all,
   All-tail Fine (record { who = who; cmd = cmd; reply = reply }) (bus_part tail) all,
 )

@@ -5,10 +5,10 @@ use Rattle.std.proofs.lemmas.List.Elements.{All-push}
 use Rattle.vme_memory.specs.Steps.{Command}
 use Rattle.vme_arbiter.specs.declared.command.ArbCmd.{ArbCmd}
 use Rattle.vme_arbiter.specs.declared.command.ArbReply.{ArbReply}
-use Rattle.vme_arbiter.specs.declared.command.ArbReply.TheVariants as turned
-use Rattle.vme_arbiter.specs.Arbitration.{Arbitration, turn_step}
+use Rattle.vme_arbiter.specs.declared.command.ArbReply.TheVariants as arb_replies
+use Rattle.vme_arbiter.specs.Arbitration.{Arbitration, arbiter_step}
 use Rattle.vme_arbiter.specs.Orderly.{IsOrderly}
-use Rattle.vme_arbiter.specs.Turns.{StandsAsReplied}
+use Rattle.vme_arbiter.specs.Masters.{StandsAsReplied}
 use Rattle.vme_arbiter.proofs.lemmas.Turns.{other-turn, holds-holder}
 use Rattle.vme_core.specs.declared.event.EventReply.{EventReply}
 use Rattle.vme_core.specs.declared.event.EventReply.TheVariants as event_replies
@@ -76,9 +76,9 @@ module _ (config : Configuration) (lawful : IsLawful config) (board : ℕ) (ther
       (lawful_slot config board lawful there) stands may in
       record {
         orderly = called.orderly;
-        own = settled_stands config (turn_step bus cmd).0 board c.ended c.replies line rest (OnBus cmd) (event_replies.Bus (turn_step bus cmd).1) _ left
+        own = settled_stands config (arbiter_step bus cmd).0 board c.ended c.replies line rest (OnBus cmd) (event_replies.Bus (arbiter_step bus cmd).1) _ left
             made called.good
-            (line_turn config board line c.replies cmd (turn_step bus cmd).1 (turn_step bus cmd).0 (slot_at config board) made called.good
+            (line_turn config board line c.replies cmd (arbiter_step bus cmd).1 (arbiter_step bus cmd).0 (slot_at config board) made called.good
             called.stands) granted refl;
         others = λ slot last apart was. other-turn bus slot last cmd (λ same. apart (sym called.own ∙ same)) was;
       }
@@ -179,7 +179,7 @@ module _ (config : Configuration) (lawful : IsLawful config) (board : ℕ) (ther
   -- the reply to the call is not a denial
   pub replied_granted : (machine : Machine) → IsOrderly machine.bus.object → (line : Line) (replies : List EventReply) (call : Call)
       → IsOwnLine line → StandsAsReplied machine.bus.object (slot_at config board) (line_reported config board line replies)
-      → line_next config board line replies ≡ Invokes call → (machine_step machine board call).1 ≢ event_replies.Bus turned.Denied
+      → line_next config board line replies ≡ Invokes call → (machine_step machine board call).1 ≢ event_replies.Bus arb_replies.Denied
   replied_granted machine orderly line replies call own stands made =
       call_granted machine board (slot_at config board) (line_reported config board line replies) call orderly
       (lawful_slot config board lawful there) stands

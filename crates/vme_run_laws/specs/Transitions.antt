@@ -4,7 +4,7 @@ use Rattle.std.specs.List.{filter}
 use Rattle.std.specs.Option.{option_to_list}
 use Rattle.vme_object.specs.Each.{AllAt}
 use Rattle.vme_memory.specs.Locals.{board_step}
-use Rattle.vme_arbiter.specs.Arbitration.{opening_bus, turn_step}
+use Rattle.vme_arbiter.specs.Arbitration.{opening_bus, arbiter_step}
 use Rattle.vme_core.specs.CountedStates.{IsCountedReplay}
 use Rattle.vme_core.specs.Runs.{Transition, board_part, bus_part}
 use Rattle.vme_core.specs.Calls.{Call, call_of}
@@ -35,7 +35,7 @@ pub record AreRun (config : Configuration) (slots : List ℕ) (run : List Transi
       AllAt (λ x memory board. IsCountedReplay board_step memory (board_part x run) (length config.boards) board)
       (map opening_memory config.boards) (state_after config slots).machine.boards
   pub bus :
-      IsCountedReplay turn_step (opening_bus config.arbiter) (bus_part run) (length config.boards)
+      IsCountedReplay arbiter_step (opening_bus config.arbiter) (bus_part run) (length config.boards)
       (state_after config slots).machine.bus
   pub script_states :
       (b : ℕ) (c : ScriptState) → slice_get (state_after config slots).script_states b ≡ Some c → IsTracePrefix config b (moves_of b run) c

@@ -6,8 +6,8 @@ ghost use Rattle.vme_arbiter.specs.declared.command.ArbCmd.{ArbCmd};
 ghost use Rattle.vme_arbiter.specs.declared.command.ArbReply.{ArbReply};
 ghost use Rattle.vme_arbiter.specs.declared.command.ArbReply.TheVariants.{Denied};
 ghost use Rattle.vme_arbiter.specs.declared.kind.ArbiterKind.{ArbiterKind};
-ghost use Rattle.vme_arbiter.specs.Arbitration.{opening_bus, turn_step};
-ghost use Rattle.vme_arbiter.specs.Turns.{TakeTurns};
+ghost use Rattle.vme_arbiter.specs.Arbitration.{opening_bus, arbiter_step};
+ghost use Rattle.vme_arbiter.specs.Masters.{FollowReplies};
 ghost use Rattle.vme_script.specs.Configurations.{Configuration};
 ghost use Rattle.vme_script.specs.Lawful.{IsLawful};
 ghost use Rattle.vme_threads.specs.declared.report.Report.{Report};
@@ -33,7 +33,7 @@ pub fn no_line_is_denied()
 /// configuration's report, no reply is `Denied` either.
 pub fn the_arbiter_denies_nobody()
     ensures law { (kind : ArbiterKind) (k : ℕ) (slots : ℕ → ℕ) (h : List (Entry ArbCmd ArbReply)) →
-        IsLegal turn_step (opening_bus kind) h → TakeTurns k slots h →
+        IsLegal arbiter_step (opening_bus kind) h → FollowReplies k slots h →
         All (λ e. e.reply ≢ Denied) h }
     ensures report { (config : Configuration) (report : Report) → IsLawful config →
         (is : IsReportOf config report) → All (λ e. e.reply ≢ Denied) is.bus.1.history }

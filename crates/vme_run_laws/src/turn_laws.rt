@@ -1,6 +1,6 @@
 ghost use Rattle.std.specs.Prelude.{◌≡◌, ◌≢◌, ◌⊎◌, ℕ, List, Option, Some, None, All, slice_get};
 ghost use Rattle.vme_memory.specs.Steps.{Command};
-ghost use Rattle.vme_arbiter.specs.declared.command.ArbReply.TheVariants as turned;
+ghost use Rattle.vme_arbiter.specs.declared.command.ArbReply.TheVariants as arb_replies;
 ghost use Rattle.vme_arbiter.specs.Orderly.{IsOrderly};
 ghost use Rattle.vme_core.specs.declared.event.EventReply.TheVariants as replies;
 ghost use Rattle.vme_core.specs.Runs.{Transition};
@@ -36,7 +36,7 @@ pub fn commands_are_the_holders()
         IsLocal command ⊎ ((state_after config slots).machine.bus.object.holder ≡ Some slot) }
     ensures granted { (config : Configuration) (slots : List ℕ) (slot board : ℕ) (call : Call) →
         IsLawful config → turn_call config (state_after config slots) slot ≡ Some (board, call) →
-        (machine_step (state_after config slots).machine board call).1 ≢ replies.Bus turned.Denied }
+        (machine_step (state_after config slots).machine board call).1 ≢ replies.Bus arb_replies.Denied }
     ensures answers { (config : Configuration) (slots : List ℕ) (board : ℕ) (c : ScriptState) →
         IsLawful config → slice_get (state_after config slots).script_states board ≡ Some c →
         All IsGranted c.ended }

@@ -7,7 +7,7 @@ use Rattle.vme_config_toml.specs.declared.file.MailboxTable.{MailboxTable}
 use Rattle.vme_config_toml.specs.Keys.{◌>>=◌, when}
 use Rattle.vme_shared.specs.declared.mailbox.Mailbox.{Mailbox}
 
--- whether a code is one of data or short access (IEEE 1014-1987, 2.2.2 (address modifiers))
+-- whether a code is one of data or short access (IEEE 1014-1987, 2.2.2 (address modifier lines))
 abbrev pub is_mailbox_code : ℕ → Bool
 is_mailbox_code am = list_any (λ code. code == am) (0x09 ∷ 0x0d ∷ 0x29 ∷ 0x2d ∷ 0x39 ∷ 0x3d ∷ [])
 

@@ -6,13 +6,13 @@ use Rattle.vme_core.specs.NextSteps.{Invokes, Returns}
 use Rattle.vme_master.specs.declared.job.Job.{Job}
 use Rattle.vme_master.specs.declared.outcome.Outcome.TheVariants as outcomes
 use Rattle.vme_master.specs.Jobs.{bus_job, fits}
-use Rattle.vme_master.specs.Tables.{Given, next_of}
+use Rattle.vme_master.specs.Tables.{Inputs, next_of}
 use Rattle.vme_shared.specs.declared.outcome.SharedOutcome.TheVariants as shared
 use Rattle.vme_shared.specs.declared.request.SharedRequest.{SharedRequest}
 use Rattle.vme_shared.specs.declared.request.SharedRequest.TheVariants.{Lock, Unlock, Put, Take}
 use Rattle.vme_shared.specs.declared.stage.Stage.{Stage}
 use Rattle.vme_shared.specs.declared.stage.Stage.TheVariants.{Locks, ReadsPutCount, ReadsTakeCount, WritesWord, RaisesPutCount, ReadsWord, RaisesTakeCount, Unlocks}
-use Rattle.vme_shared.specs.declared.stage.Step.TheVariants.{Finish}
+use Rattle.vme_shared.specs.declared.stage.StageResult.TheVariants.{Finish}
 use Rattle.vme_shared.specs.Mailboxes.{shared_refusal}
 use Rattle.vme_shared.specs.Steps.{first_stage, mailbox_step, step_after}
 use Rattle.vme_shared.specs.Tables.{SharedJob, Progress, At, Over, transfer_job, stage_begun, step_begun, progress_by, progress_given, progress_of, next_at, shared_next}
@@ -37,7 +37,7 @@ step_denied (Put mailbox word) stage = mailbox_denied (Put mailbox word) stage
 step_denied (Take mailbox) stage = mailbox_denied (Take mailbox) stage
 
 -- a denied bus job ends the task with a denial
-task_denied : (s : SharedJob) (stage : Stage) (job : Job) (given : Given) (last : Option EventReply)
+task_denied : (s : SharedJob) (stage : Stage) (job : Job) (given : Inputs) (last : Option EventReply)
     → next_of job (last ∷ given) ≡ Returns outcomes.Denied → next_at (progress_given s last (At stage job given)) ≡ Returns shared.Denied
 task_denied s stage job given last ends =
     ap (λ next. next_at (progress_by s stage job (last ∷ given) next)) ends ∙ ap (λ step. next_at (step_begun s step)) (step_denied s.request stage)
@@ -49,7 +49,7 @@ misfit_at s (At stage job given) call reply made misfit =
     task_denied s stage job given (Some reply) (rw (task, misfit) refl)
 misfit_at s (Over end) call reply made misfit = absurd cc
 
-pub misfit_denied : (s : SharedJob) (g : Given) (call : Call) (reply : EventReply) → shared_next s g ≡ Invokes call → fits call reply ≡ false
+pub misfit_denied : (s : SharedJob) (g : Inputs) (call : Call) (reply : EventReply) → shared_next s g ≡ Invokes call → fits call reply ≡ false
     → shared_next s (Some reply ∷ g) ≡ Returns shared.Denied
 misfit_denied s g call reply made misfit = misfit_at s (progress_of s g) call reply made misfit
 
@@ -59,7 +59,7 @@ absent_at s (At stage job given) call made =
     task_denied s stage job given None (rw task refl)
 absent_at s (Over end) call made = absurd cc
 
-pub absent_denied : (s : SharedJob) (g : Given) (call : Call) → shared_next s g ≡ Invokes call → shared_next s (None ∷ g) ≡ Returns shared.Denied
+pub absent_denied : (s : SharedJob) (g : Inputs) (call : Call) → shared_next s g ≡ Invokes call → shared_next s (None ∷ g) ≡ Returns shared.Denied
 absent_denied s g call made = absent_at s (progress_of s g) call made
 
 pub early_denied : (s : SharedJob) (reply : EventReply) → shared_refusal s.request ≡ None → shared_next s (Some reply ∷ []) ≡ Returns shared.Denied

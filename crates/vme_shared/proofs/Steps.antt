@@ -14,8 +14,8 @@ use Rattle.vme_shared.specs.declared.request.SharedRequest.{SharedRequest}
 use Rattle.vme_shared.specs.declared.request.SharedRequest.TheVariants.{Lock, Unlock, Put, Take}
 use Rattle.vme_shared.specs.declared.stage.Stage.{Stage}
 use Rattle.vme_shared.specs.declared.stage.Stage.TheVariants.{Locks, ReadsPutCount, ReadsTakeCount, WritesWord, RaisesPutCount, ReadsWord, RaisesTakeCount, Unlocks}
-use Rattle.vme_shared.specs.declared.stage.Step.{Step}
-use Rattle.vme_shared.specs.declared.stage.Step.TheVariants.{Continue, Finish}
+use Rattle.vme_shared.specs.declared.stage.StageResult.{StageResult}
+use Rattle.vme_shared.specs.declared.stage.StageResult.TheVariants.{Continue, Finish}
 use Rattle.vme_shared.specs.Mailboxes.{mailbox_request, stage_request}
 use Rattle.vme_shared.specs.Steps.{first_stage, has_top_bit, word_in, on_word, words_between, counted_stage, lock_step, unlock_step, mailbox_step, step_after}
 use Rattle.vme_shared.proofs.Transfers.{IsFormed}
@@ -26,12 +26,12 @@ IsSound (Unlocks end) = end ≢ shared.Denied
 IsSound stage = Unit {0}
 
 -- an end is no denial, and the next stage is sound
-abbrev pub IsGood : Step → Type 0
+abbrev pub IsGood : StageResult → Type 0
 IsGood (Continue stage) = IsSound stage
 IsGood (Finish end) = end ≢ shared.Denied
 
 -- the next stage is sound, if there is one
-abbrev pub GoesSound : Step → Type 0
+abbrev pub GoesSound : StageResult → Type 0
 GoesSound (Continue stage) = IsSound stage
 GoesSound (Finish end) = Unit {0}
 

@@ -10,8 +10,8 @@ use Rattle.vme_memory.specs.declared.reply.Reply.{Reply}
 use Rattle.vme_memory.specs.declared.reply.Reply.TheVariants.{Bytes, Done, Berr}
 use Rattle.vme_memory.specs.Steps.{Command}
 use Rattle.vme_memory.specs.Data.{reply_len, has_form}
-use Rattle.vme_arbiter.specs.declared.command.ArbCmd.TheVariants as turns
-use Rattle.vme_arbiter.specs.declared.command.ArbReply.TheVariants as turned
+use Rattle.vme_arbiter.specs.declared.command.ArbCmd.TheVariants as arb_commands
+use Rattle.vme_arbiter.specs.declared.command.ArbReply.TheVariants as arb_replies
 use Rattle.vme_core.specs.declared.event.EventReply.{EventReply}
 use Rattle.vme_core.specs.declared.event.EventReply.TheVariants as replies
 use Rattle.vme_core.specs.Calls.{Call, OnBoard, OnBus}
@@ -23,7 +23,7 @@ use Rattle.vme_master.specs.declared.job.Job.TheVariants.{Bus}
 use Rattle.vme_master.specs.declared.outcome.Outcome.{Outcome}
 use Rattle.vme_master.specs.declared.outcome.Outcome.TheVariants as outcomes
 use Rattle.vme_master.specs.Jobs.{datum_call, fits, request_expected, expected_outcome}
-use Rattle.vme_master.specs.Tables.{Given, data_in, bytes_in, datum_or_done, outcome_by, bus_row, next_after, next_of}
+use Rattle.vme_master.specs.Tables.{Inputs, data_in, bytes_in, datum_or_done, outcome_by, bus_row, next_after, next_of}
 use Rattle.vme_master.specs.Machine.{expected_len}
 use Rattle.vme_master.proofs.lemmas.Expected.{datum_len_wanted}
 use Rattle.vme_shared.proofs.lemmas.Granted.{outcome_granted}
@@ -31,20 +31,20 @@ use Rattle.vme_shared.proofs.lemmas.Granted.{outcome_granted}
 same_end : (a b : Outcome) → Returns a ≡ Returns b → a ≡ b
 same_end a b same = cc
 
-row_granted : (j : BusJob) (g : Given) (reply : EventReply) (outcome : Outcome) → reply ≢ replies.Bus turned.Denied
+row_granted : (j : BusJob) (g : Inputs) (reply : EventReply) (outcome : Outcome) → reply ≢ replies.Bus arb_replies.Denied
     → bus_row j reply g ≡ Returns outcome → outcome ≢ outcomes.Denied
-row_granted j g (replies.Bus turned.Waiting) outcome good row = λ denied. absurd cc
-row_granted j g (replies.Bus turned.Granted) outcome good row = λ denied. absurd cc
-row_granted j g (replies.Bus turned.Freed) outcome good row = λ denied.
+row_granted j g (replies.Bus arb_replies.Waiting) outcome good row = λ denied. absurd cc
+row_granted j g (replies.Bus arb_replies.Granted) outcome good row = λ denied. absurd cc
+row_granted j g (replies.Bus arb_replies.Freed) outcome good row = λ denied.
     outcome_granted j j.place g (same_end (outcome_by j j.place g) outcome row ∙ denied)
-row_granted j g (replies.Bus turned.Denied) outcome good row = λ denied. good refl
+row_granted j g (replies.Bus arb_replies.Denied) outcome good row = λ denied. good refl
 row_granted j g (replies.Board (Bytes datum)) outcome good row = λ denied. absurd cc
 row_granted j g (replies.Board Done) outcome good row = λ denied. absurd cc
 row_granted j g (replies.Board Berr) outcome good row = λ denied. absurd cc
 
 -- after a reply that fits and is no denial, the outcome is no denial
-pub good_end : (j : BusJob) (g : Given) (call : Call) (reply : EventReply) (outcome : Outcome) → next_of (Bus j) g ≡ Invokes call
-    → fits call reply ≡ true → reply ≢ replies.Bus turned.Denied → next_of (Bus j) (Some reply ∷ g) ≡ Returns outcome → outcome ≢ outcomes.Denied
+pub good_end : (j : BusJob) (g : Inputs) (call : Call) (reply : EventReply) (outcome : Outcome) → next_of (Bus j) g ≡ Invokes call
+    → fits call reply ≡ true → reply ≢ replies.Bus arb_replies.Denied → next_of (Bus j) (Some reply ∷ g) ≡ Returns outcome → outcome ≢ outcomes.Denied
 good_end j g call reply outcome made fit good ends = row_granted j g reply outcome good (let after = rw (made, fit) at ends in after)
 
 -- an outcome has as many bytes as are expected
@@ -67,29 +67,29 @@ denied_formed (expected_replies.Modify n) = tt
 denied_formed expected_replies.Write = tt
 
 -- no datum was answered yet
-abbrev IsBare : Given → Type 0
+abbrev IsBare : Inputs → Type 0
 IsBare g = (data_in g ≡ 0) × (bytes_in g ≡ [])
 
 -- what a transfer does next has its form
-abbrev Formed : BusJob → Given → NextStep Outcome → Type 0
+abbrev Formed : BusJob → Inputs → NextStep Outcome → Type 0
 Formed j g NotStarted = g ≡ []
-Formed j g (Invokes (OnBus (turns.Ask slot level))) = IsBare g
-Formed j g (Invokes (OnBus (turns.Look slot))) = IsBare g
-Formed j g (Invokes (OnBus (turns.Done slot))) = IsFormed (request_expected j.transfer.request) (outcome_by j j.place g)
+Formed j g (Invokes (OnBus (arb_commands.Ask slot level))) = IsBare g
+Formed j g (Invokes (OnBus (arb_commands.Look slot))) = IsBare g
+Formed j g (Invokes (OnBus (arb_commands.Done slot))) = IsFormed (request_expected j.transfer.request) (outcome_by j j.place g)
 Formed j g (Invokes (OnBoard board command)) =
     IsBare g × (is_some j.place ≡ true) × (option_and_then reply_len command ≡ expected_len (request_expected j.transfer.request))
 Formed j g (Returns outcome) = IsFormed (request_expected j.transfer.request) outcome
 
 -- the call of the one datum has its form
-datum_formed : (j : BusJob) (place : Option (ℕ × ℕ)) (g : Given) → j.place ≡ place → IsBare g → Formed j g (Invokes (datum_call j place 0))
+datum_formed : (j : BusJob) (place : Option (ℕ × ℕ)) (g : Inputs) → j.place ≡ place → IsBare g → Formed j g (Invokes (datum_call j place 0))
 datum_formed j None g placed bare = rw placed (berr_formed (request_expected j.transfer.request) 0 [])
 datum_formed j (Some p) g placed bare = (bare, rw placed refl, datum_len_wanted j.transfer.request 0 _)
 
-first_formed : (j : BusJob) (g : Given) → count_of j.transfer.request ≡ 1 → IsBare g → Formed j g (Invokes (datum_or_done j 0))
+first_formed : (j : BusJob) (g : Inputs) → count_of j.transfer.request ≡ 1 → IsBare g → Formed j g (Invokes (datum_or_done j 0))
 first_formed j g single bare = rw single (datum_formed j j.place g refl bare)
 
 -- the release of the bus after the one datum has its form
-last_formed : (j : BusJob) (g : Given) (count : ℕ) → count_of j.transfer.request ≡ 1 → count ≡ 0
+last_formed : (j : BusJob) (g : Inputs) (count : ℕ) → count_of j.transfer.request ≡ 1 → count ≡ 0
     → IsFormed (request_expected j.transfer.request) (outcome_by j j.place g) → Formed j g (Invokes (datum_or_done j (count + 1)))
 last_formed j g count single none formed = rw (single, none) formed
 
@@ -112,7 +112,7 @@ done_formed expected_replies.Write None same form = tt
 done_formed expected (Some n) same form = absurd cc
 
 -- what follows a board's reply has its form
-board_formed : (j : BusJob) (g : Given) (board : ℕ) (command : Option Command) (reply : Reply) → count_of j.transfer.request ≡ 1
+board_formed : (j : BusJob) (g : Inputs) (board : ℕ) (command : Option Command) (reply : Reply) → count_of j.transfer.request ≡ 1
     → Formed j g (Invokes (OnBoard board command)) → has_form (option_and_then reply_len command) reply ≡ true
     → Formed j (Some (replies.Board reply) ∷ g) (bus_row j (replies.Board reply) g)
 board_formed j g board command (Bytes datum) single ((none, empty), some, wanted) form =
@@ -137,25 +137,25 @@ board_formed j g board command Berr single ((none, empty), some, wanted) form = 
     by_place (Some p) some = berr_formed (request_expected j.transfer.request) (data_in g) (bytes_in g)
 
 -- what follows one reply more has its form
-step_formed : (j : BusJob) (g : Given) (next : NextStep Outcome) (last : Option EventReply) → count_of j.transfer.request ≡ 1 → Formed j g next
+step_formed : (j : BusJob) (g : Inputs) (next : NextStep Outcome) (last : Option EventReply) → count_of j.transfer.request ≡ 1 → Formed j g next
     → Formed j (last ∷ g) (next_after (Bus j) next last g)
 step_formed j g NotStarted None single formed = (ap data_in formed, ap bytes_in formed)
 step_formed j g NotStarted (Some reply) single formed = denied_formed (request_expected j.transfer.request)
 step_formed j g (Invokes call) None single formed = denied_formed (request_expected j.transfer.request)
-step_formed j g (Invokes (OnBus (turns.Ask slot level))) (Some (replies.Bus turned.Granted)) single formed =
-    first_formed j (Some (replies.Bus turned.Granted) ∷ g) single formed
-step_formed j g (Invokes (OnBus (turns.Ask slot level))) (Some (replies.Bus turned.Waiting)) single formed = formed
-step_formed j g (Invokes (OnBus (turns.Ask slot level))) (Some (replies.Bus turned.Freed)) single formed = denied_formed (request_expected j.transfer.request)
-step_formed j g (Invokes (OnBus (turns.Ask slot level))) (Some (replies.Bus turned.Denied)) single formed = denied_formed (request_expected j.transfer.request)
-step_formed j g (Invokes (OnBus (turns.Look slot))) (Some (replies.Bus turned.Granted)) single formed =
-    first_formed j (Some (replies.Bus turned.Granted) ∷ g) single formed
-step_formed j g (Invokes (OnBus (turns.Look slot))) (Some (replies.Bus turned.Waiting)) single formed = formed
-step_formed j g (Invokes (OnBus (turns.Look slot))) (Some (replies.Bus turned.Freed)) single formed = denied_formed (request_expected j.transfer.request)
-step_formed j g (Invokes (OnBus (turns.Look slot))) (Some (replies.Bus turned.Denied)) single formed = denied_formed (request_expected j.transfer.request)
-step_formed j g (Invokes (OnBus (turns.Done slot))) (Some (replies.Bus turned.Freed)) single formed = formed
-step_formed j g (Invokes (OnBus (turns.Done slot))) (Some (replies.Bus turned.Granted)) single formed = denied_formed (request_expected j.transfer.request)
-step_formed j g (Invokes (OnBus (turns.Done slot))) (Some (replies.Bus turned.Waiting)) single formed = denied_formed (request_expected j.transfer.request)
-step_formed j g (Invokes (OnBus (turns.Done slot))) (Some (replies.Bus turned.Denied)) single formed = denied_formed (request_expected j.transfer.request)
+step_formed j g (Invokes (OnBus (arb_commands.Ask slot level))) (Some (replies.Bus arb_replies.Granted)) single formed =
+    first_formed j (Some (replies.Bus arb_replies.Granted) ∷ g) single formed
+step_formed j g (Invokes (OnBus (arb_commands.Ask slot level))) (Some (replies.Bus arb_replies.Waiting)) single formed = formed
+step_formed j g (Invokes (OnBus (arb_commands.Ask slot level))) (Some (replies.Bus arb_replies.Freed)) single formed = denied_formed (request_expected j.transfer.request)
+step_formed j g (Invokes (OnBus (arb_commands.Ask slot level))) (Some (replies.Bus arb_replies.Denied)) single formed = denied_formed (request_expected j.transfer.request)
+step_formed j g (Invokes (OnBus (arb_commands.Look slot))) (Some (replies.Bus arb_replies.Granted)) single formed =
+    first_formed j (Some (replies.Bus arb_replies.Granted) ∷ g) single formed
+step_formed j g (Invokes (OnBus (arb_commands.Look slot))) (Some (replies.Bus arb_replies.Waiting)) single formed = formed
+step_formed j g (Invokes (OnBus (arb_commands.Look slot))) (Some (replies.Bus arb_replies.Freed)) single formed = denied_formed (request_expected j.transfer.request)
+step_formed j g (Invokes (OnBus (arb_commands.Look slot))) (Some (replies.Bus arb_replies.Denied)) single formed = denied_formed (request_expected j.transfer.request)
+step_formed j g (Invokes (OnBus (arb_commands.Done slot))) (Some (replies.Bus arb_replies.Freed)) single formed = formed
+step_formed j g (Invokes (OnBus (arb_commands.Done slot))) (Some (replies.Bus arb_replies.Granted)) single formed = denied_formed (request_expected j.transfer.request)
+step_formed j g (Invokes (OnBus (arb_commands.Done slot))) (Some (replies.Bus arb_replies.Waiting)) single formed = denied_formed (request_expected j.transfer.request)
+step_formed j g (Invokes (OnBus (arb_commands.Done slot))) (Some (replies.Bus arb_replies.Denied)) single formed = denied_formed (request_expected j.transfer.request)
 step_formed j g (Invokes (OnBus cmd)) (Some (replies.Board reply)) single formed = denied_formed (request_expected j.transfer.request)
 step_formed j g (Invokes (OnBoard board command)) (Some (replies.Bus reply)) single formed = denied_formed (request_expected j.transfer.request)
 step_formed j g (Invokes (OnBoard board command)) (Some (replies.Board reply)) single formed =
@@ -165,11 +165,11 @@ step_formed j g (Invokes (OnBoard board command)) (Some (replies.Board reply)) s
     ]
 step_formed j g (Returns outcome) last single formed = formed
 
-next_formed : (j : BusJob) (g : Given) → count_of j.transfer.request ≡ 1 → Formed j g (next_of (Bus j) g)
+next_formed : (j : BusJob) (g : Inputs) → count_of j.transfer.request ≡ 1 → Formed j g (next_of (Bus j) g)
 next_formed j [] single = refl
 next_formed j (last ∷ g) single = step_formed j g (next_of (Bus j) g) last single (next_formed j g single)
 
 -- the outcome of a transfer of one datum has its form
-pub ends_formed : (j : BusJob) (g : Given) (outcome : Outcome) → count_of j.transfer.request ≡ 1 → next_of (Bus j) g ≡ Returns outcome
+pub ends_formed : (j : BusJob) (g : Inputs) (outcome : Outcome) → count_of j.transfer.request ≡ 1 → next_of (Bus j) g ≡ Returns outcome
     → IsFormed (request_expected j.transfer.request) outcome
 ends_formed j g outcome single ends = subst (Formed j g) ends (next_formed j g single)

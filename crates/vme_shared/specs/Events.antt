@@ -3,7 +3,7 @@ use Rattle.std.specs.Prelude.{◌≡◌, ◌∷◌, Option}
 use Rattle.vme_core.specs.declared.event.EventReply.{EventReply}
 use Rattle.vme_core.specs.Calls.{call_of}
 use Rattle.vme_core.specs.NextSteps.{NextStep, Invokes, Returns}
-use Rattle.vme_master.specs.Tables.{Given}
+use Rattle.vme_master.specs.Tables.{Inputs}
 use Rattle.vme_shared.specs.declared.outcome.SharedOutcome.{SharedOutcome}
 use Rattle.vme_shared.specs.declared.todo.SharedTodo.{SharedTodo}
 use Rattle.vme_shared.specs.declared.todo.SharedTodo.TheVariants as todos
@@ -19,4 +19,4 @@ next_in (todos.Finished outcome) = Returns outcome
 pub record IsNextOf (old new : SharedView) (reply : Option EventReply) (result : SharedTodo) : Type 0 where
   pub task : new ≡ shared_advance old reply
   pub todo : next_in result ≡ shared_to_do new
-  pub table : (s : SharedJob) (before : Given) → old ≡ shared_given s before → next_in result ≡ shared_next s (reply ∷ before)
+  pub table : (s : SharedJob) (before : Inputs) → old ≡ shared_given s before → next_in result ≡ shared_next s (reply ∷ before)

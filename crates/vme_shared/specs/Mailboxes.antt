@@ -42,11 +42,11 @@ pub record IsMailbox (m : Mailbox) : Type 0 where
   pub within : mailbox_end m ≤ 2 ^ 32
 
 -- the mailbox of a put or a take is one
-abbrev pub IsAsked : SharedRequest → Type 0
-IsAsked (Lock am addr) = Unit {0}
-IsAsked (Unlock am addr) = Unit {0}
-IsAsked (Put mailbox word) = IsMailbox mailbox
-IsAsked (Take mailbox) = IsMailbox mailbox
+abbrev pub HasMailbox : SharedRequest → Type 0
+HasMailbox (Lock am addr) = Unit {0}
+HasMailbox (Unlock am addr) = Unit {0}
+HasMailbox (Put mailbox word) = IsMailbox mailbox
+HasMailbox (Take mailbox) = IsMailbox mailbox
 
 -- a lock is taken by one read-modify-write of its byte, which sets bit 7
 abbrev pub set_lock : ℕ → ℕ → Request

@@ -9,8 +9,8 @@ use Rattle.vme_shared.specs.declared.request.SharedRequest.{SharedRequest}
 use Rattle.vme_shared.specs.declared.request.SharedRequest.TheVariants.{Lock, Unlock, Put, Take}
 use Rattle.vme_shared.specs.declared.stage.Stage.{Stage}
 use Rattle.vme_shared.specs.declared.stage.Stage.TheVariants.{Locks, ReadsPutCount, ReadsTakeCount, WritesWord, RaisesPutCount, ReadsWord, RaisesTakeCount, Unlocks}
-use Rattle.vme_shared.specs.declared.stage.Step.{Step}
-use Rattle.vme_shared.specs.declared.stage.Step.TheVariants.{Continue, Finish}
+use Rattle.vme_shared.specs.declared.stage.StageResult.{StageResult}
+use Rattle.vme_shared.specs.declared.stage.StageResult.TheVariants.{Continue, Finish}
 
 -- the first stage: an unlock has one transfer, and all others begin with the lock
 abbrev pub first_stage : SharedRequest → Stage
@@ -29,7 +29,7 @@ abbrev pub word_in : List ℕ → Option ℕ
 word_in bytes = if length bytes == 4 then Some (number_of bytes) else None
 
 -- what follows a number that was read; bytes of another length do not fit
-abbrev pub on_word : Option ℕ → (ℕ → Step) → Step
+abbrev pub on_word : Option ℕ → (ℕ → StageResult) → StageResult
 on_word (Some word) lead = lead word
 on_word None lead = Finish shared.Denied
 
@@ -47,20 +47,20 @@ counted_stage (Put mailbox word) p t =
 counted_stage request p t = if p == t then Unlocks shared.Empty else ReadsWord t
 
 -- the table of a lock
-abbrev pub lock_step : Outcome → Step
+abbrev pub lock_step : Outcome → StageResult
 lock_step (outcomes.Old old) = Finish (if has_top_bit old.items then shared.Busy else shared.Taken)
 lock_step (outcomes.Berr count bytes) = Finish shared.Berr
 lock_step outcome = Finish shared.Denied
 
 -- the table of an unlock, which ends with this outcome
-abbrev pub unlock_step : SharedOutcome → Outcome → Step
+abbrev pub unlock_step : SharedOutcome → Outcome → StageResult
 unlock_step end outcomes.Done = Finish end
 unlock_step end (outcomes.Berr count bytes) = Finish shared.Berr
 unlock_step end outcome = Finish shared.Denied
 
 -- the table of a put and a take, by the stage and its transfer's outcome; after a bus error the lock is released, if it
 -- was taken
-abbrev pub mailbox_step : SharedRequest → Stage → Outcome → Step
+abbrev pub mailbox_step : SharedRequest → Stage → Outcome → StageResult
 mailbox_step request Locks (outcomes.Old old) = if has_top_bit old.items then Finish shared.Busy else Continue ReadsPutCount
 mailbox_step request ReadsPutCount (outcomes.Read bytes) = on_word (word_in bytes.items) (λ p. Continue (ReadsTakeCount p))
 mailbox_step request (ReadsTakeCount p) (outcomes.Read bytes) =
@@ -75,7 +75,7 @@ mailbox_step request stage (outcomes.Berr count bytes) = Continue (Unlocks share
 mailbox_step request stage outcome = Finish shared.Denied
 
 -- what follows the outcome of a stage's transfer
-abbrev pub step_after : SharedRequest → Stage → Outcome → Step
+abbrev pub step_after : SharedRequest → Stage → Outcome → StageResult
 step_after (Lock am addr) stage outcome = lock_step outcome
 step_after (Unlock am addr) stage outcome = unlock_step shared.Unlocked outcome
 step_after (Put mailbox word) stage outcome = mailbox_step (Put mailbox word) stage outcome

@@ -9,14 +9,14 @@ use Rattle.vme_core.specs.NextSteps.{NextStep, Returns, next_map}
 use Rattle.vme_master.specs.declared.outcome.Outcome.{Outcome}
 use Rattle.vme_master.specs.declared.job.Job.{Job}
 use Rattle.vme_master.specs.Jobs.{bus_job}
-use Rattle.vme_master.specs.Tables.{Given, next_of}
-use Rattle.vme_master.specs.Laws.{last_turn}
+use Rattle.vme_master.specs.Tables.{Inputs, next_of}
+use Rattle.vme_master.specs.Laws.{last_arb_reply}
 use Rattle.vme_shared.specs.declared.outcome.SharedOutcome.{SharedOutcome}
 use Rattle.vme_shared.specs.declared.outcome.SharedOutcome.TheVariants as shared
 use Rattle.vme_shared.specs.declared.request.SharedRequest.{SharedRequest}
 use Rattle.vme_shared.specs.declared.stage.Stage.{Stage}
-use Rattle.vme_shared.specs.declared.stage.Step.{Step}
-use Rattle.vme_shared.specs.declared.stage.Step.TheVariants.{Continue, Finish}
+use Rattle.vme_shared.specs.declared.stage.StageResult.{StageResult}
+use Rattle.vme_shared.specs.declared.stage.StageResult.TheVariants.{Continue, Finish}
 use Rattle.vme_shared.specs.Mailboxes.{stage_request}
 use Rattle.vme_shared.specs.Steps.{first_stage, step_after}
 
@@ -38,22 +38,22 @@ stage_job s stage = transfer_job s (transfer_of (stage_request s.request stage))
 
 -- how far the task has come: the stage at work, with its bus job and what that was given, the newest first; or the end
 pub data Progress : Type 0 where
-  At : Stage → Job → Given → Progress
+  At : Stage → Job → Inputs → Progress
   Over : SharedOutcome → Progress
 
 -- a stage whose bus job was given so much; a refused transfer ends the task with a bus error, but an accepted request
 -- has none
-abbrev pub stage_begun : Stage → Given → Result Job CycleFault → Progress
+abbrev pub stage_begun : Stage → Inputs → Result Job CycleFault → Progress
 stage_begun stage given (Ok job) = At stage job given
 stage_begun stage given (Err fault) = Over shared.Berr
 
 -- what follows a transfer: the next one, with its first call made, or the end
-abbrev pub step_begun : SharedJob → Step → Progress
+abbrev pub step_begun : SharedJob → StageResult → Progress
 step_begun s (Continue stage) = stage_begun stage (None ∷ []) (stage_job s stage)
 step_begun s (Finish end) = Over end
 
 -- a stage by what its bus job does next: an outcome leads on
-abbrev pub progress_by : SharedJob → Stage → Job → Given → NextStep Outcome → Progress
+abbrev pub progress_by : SharedJob → Stage → Job → Inputs → NextStep Outcome → Progress
 progress_by s stage job given (Returns outcome) = step_begun s (step_after s.request stage outcome)
 progress_by s stage job given next = At stage job given
 
@@ -63,7 +63,7 @@ progress_given s last (At stage job given) = progress_by s stage job (last ∷ g
 progress_given s last (Over end) = Over end
 
 -- how far the task has come by all that it was given, the newest first: the reply to each call, or none
-abbrev pub progress_of : SharedJob → Given → Progress
+abbrev pub progress_of : SharedJob → Inputs → Progress
 progress_of s [] = stage_begun (first_stage s.request) [] (stage_job s (first_stage s.request))
 progress_of s (last ∷ before) = progress_given s last (progress_of s before)
 
@@ -77,14 +77,14 @@ next_at (At stage job given) = task_shown (next_of job given)
 next_at (Over end) = Returns end
 
 -- what the task does next, by all that it was given, the newest first
-abbrev pub shared_next : SharedJob → Given → NextStep SharedOutcome
+abbrev pub shared_next : SharedJob → Inputs → NextStep SharedOutcome
 shared_next s given = next_at (progress_of s given)
 
 -- the arbiter's last reply to the bus job at work, if there was one
 abbrev pub reported_at : Progress → Option ArbReply
-reported_at (At stage job given) = last_turn given
+reported_at (At stage job given) = last_arb_reply given
 reported_at (Over end) = None
 
 -- the arbiter's last reply to the bus job at work, if there was one, by all that the task was given
-abbrev pub shared_reported : SharedJob → Given → Option ArbReply
+abbrev pub shared_reported : SharedJob → Inputs → Option ArbReply
 shared_reported s given = reported_at (progress_of s given)

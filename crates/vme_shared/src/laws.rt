@@ -4,21 +4,21 @@ ghost use Rattle.vme_memory.specs.Steps.{Command};
 ghost use Rattle.vme_arbiter.specs.declared.command.ArbCmd.{ArbCmd};
 ghost use Rattle.vme_arbiter.specs.declared.command.ArbCmd.TheVariants.{Ask};
 ghost use Rattle.vme_arbiter.specs.declared.command.ArbReply.{ArbReply};
-ghost use Rattle.vme_arbiter.specs.declared.command.ArbReply.TheVariants as turned;
+ghost use Rattle.vme_arbiter.specs.declared.command.ArbReply.TheVariants as arb_replies;
 ghost use Rattle.vme_arbiter.specs.Requests.{is_level};
 ghost use Rattle.vme_arbiter.specs.Arbitration.{Arbitration};
-ghost use Rattle.vme_arbiter.specs.Turns.{may_give, StandsAsReplied};
+ghost use Rattle.vme_arbiter.specs.Masters.{may_give, StandsAsReplied};
 ghost use Rattle.vme_core.specs.declared.event.EventReply.{EventReply};
 ghost use Rattle.vme_core.specs.declared.event.EventReply.TheVariants as replies;
 ghost use Rattle.vme_core.specs.Calls.{Call, OnBoard, OnBus};
 ghost use Rattle.vme_core.specs.NextSteps.{NotStarted, Invokes, Returns};
 ghost use Rattle.vme_master.specs.declared.job.Job.{Job};
 ghost use Rattle.vme_master.specs.Jobs.{fits};
-ghost use Rattle.vme_master.specs.Tables.{Given};
+ghost use Rattle.vme_master.specs.Tables.{Inputs};
 ghost use Rattle.vme_shared.specs.declared.outcome.SharedOutcome.{SharedOutcome};
 ghost use Rattle.vme_shared.specs.declared.outcome.SharedOutcome.TheVariants.{Denied};
 ghost use Rattle.vme_shared.specs.declared.stage.Stage.{Stage};
-ghost use Rattle.vme_shared.specs.Mailboxes.{IsAsked, shared_refusal};
+ghost use Rattle.vme_shared.specs.Mailboxes.{HasMailbox, shared_refusal};
 ghost use Rattle.vme_shared.specs.Tables.{SharedJob, stage_job, shared_next, shared_reported};
 ghost use Rattle.vme_shared.specs.Machine.{shared_given, shared_to_do};
 
@@ -26,16 +26,16 @@ ghost use Rattle.vme_shared.specs.Machine.{shared_given, shared_to_do};
 /// what the table says. A reply that does not fit, is absent or comes before the first call is a
 /// denial. An outcome is final.
 pub fn shared_tasks_go_by_the_table()
-    ensures table { (s : SharedJob) (given : Given) →
+    ensures table { (s : SharedJob) (given : Inputs) →
         shared_to_do (shared_given s given) ≡ shared_next s given }
-    ensures misfit { (s : SharedJob) (given : Given) (call : Call) (reply : EventReply) →
+    ensures misfit { (s : SharedJob) (given : Inputs) (call : Call) (reply : EventReply) →
         shared_next s given ≡ Invokes call → fits call reply ≡ false →
         shared_next s (Some reply ∷ given) ≡ Returns Denied }
-    ensures absent { (s : SharedJob) (given : Given) (call : Call) →
+    ensures absent { (s : SharedJob) (given : Inputs) (call : Call) →
         shared_next s given ≡ Invokes call → shared_next s (None ∷ given) ≡ Returns Denied }
     ensures early { (s : SharedJob) (reply : EventReply) → shared_refusal s.request ≡ None →
         shared_next s (Some reply ∷ []) ≡ Returns Denied }
-    ensures end { (s : SharedJob) (given : Given) (end : SharedOutcome)
+    ensures end { (s : SharedJob) (given : Inputs) (end : SharedOutcome)
         (last : Option EventReply) → shared_next s given ≡ Returns end →
         shared_next s (last ∷ given) ≡ Returns end }
 {}
@@ -46,13 +46,13 @@ pub fn shared_tasks_are_refused_at_the_start()
     ensures rests { (s : SharedJob) → shared_refusal s.request ≡ None → shared_next s [] ≡ NotStarted }
     ensures asks { (s : SharedJob) → shared_refusal s.request ≡ None →
         shared_next s (None ∷ []) ≡ Invokes (OnBus (Ask s.slot s.level)) }
-    ensures later { (s : SharedJob) (stage : Stage) → IsAsked s.request →
+    ensures later { (s : SharedJob) (stage : Stage) → HasMailbox s.request →
         shared_refusal s.request ≡ None → (job : Job) × (stage_job s stage ≡ Ok job) }
 {}
 
 /// Each board that is called is one of the map.
 pub fn shared_tasks_call_boards_of_the_map()
-    ensures { (s : SharedJob) (given : Given) (board : ℕ) (command : Option Command) →
+    ensures { (s : SharedJob) (given : Inputs) (board : ℕ) (command : Option Command) →
         shared_next s given ≡ Invokes (OnBoard board command) → board < length s.map }
 {}
 
@@ -63,25 +63,25 @@ pub fn shared_tasks_call_boards_of_the_map()
 /// `Freed`, and the slot is free.
 pub fn shared_tasks_keep_their_tenure()
     ensures begin { (s : SharedJob) → shared_reported s (None ∷ []) ≡ None }
-    ensures turns { (s : SharedJob) (given : Given) (cmd : ArbCmd) → IsTrue (is_level s.level) →
+    ensures turns { (s : SharedJob) (given : Inputs) (cmd : ArbCmd) → IsTrue (is_level s.level) →
         shared_next s given ≡ Invokes (OnBus cmd) →
         IsTrue (may_give s.slot (shared_reported s given) cmd) }
-    ensures holds { (s : SharedJob) (given : Given) (board : ℕ) (command : Option Command) →
+    ensures holds { (s : SharedJob) (given : Inputs) (board : ℕ) (command : Option Command) →
         shared_next s given ≡ Invokes (OnBoard board command) →
-        shared_reported s given ≡ Some turned.Granted }
-    ensures turn { (s : SharedJob) (given : Given) (cmd : ArbCmd) (reply : ArbReply)
+        shared_reported s given ≡ Some arb_replies.Granted }
+    ensures turn { (s : SharedJob) (given : Inputs) (cmd : ArbCmd) (reply : ArbReply)
         (bus : Arbitration) (slot : ℕ) → shared_next s given ≡ Invokes (OnBus cmd) →
-        IsTrue (fits (OnBus cmd) (replies.Bus reply)) → replies.Bus reply ≢ replies.Bus turned.Denied →
+        IsTrue (fits (OnBus cmd) (replies.Bus reply)) → replies.Bus reply ≢ replies.Bus arb_replies.Denied →
         StandsAsReplied bus slot (Some reply) →
         StandsAsReplied bus slot (shared_reported s (Some (replies.Bus reply) ∷ given)) }
-    ensures datum { (s : SharedJob) (given : Given) (call : Call) (reply : Reply) →
+    ensures datum { (s : SharedJob) (given : Inputs) (call : Call) (reply : Reply) →
         shared_next s given ≡ Invokes call → IsTrue (fits call (replies.Board reply)) →
         shared_reported s (Some (replies.Board reply) ∷ given) ≡ shared_reported s given }
-    ensures granted { (s : SharedJob) (given : Given) (call : Call) (reply : EventReply) →
+    ensures granted { (s : SharedJob) (given : Inputs) (call : Call) (reply : EventReply) →
         shared_next s given ≡ Invokes call → IsTrue (fits call reply) →
-        reply ≢ replies.Bus turned.Denied → shared_next s (Some reply ∷ given) ≢ Returns Denied }
-    ensures freed { (s : SharedJob) (given : Given) (call : Call) (reply : EventReply)
+        reply ≢ replies.Bus arb_replies.Denied → shared_next s (Some reply ∷ given) ≢ Returns Denied }
+    ensures freed { (s : SharedJob) (given : Inputs) (call : Call) (reply : EventReply)
         (end : SharedOutcome) → shared_next s given ≡ Invokes call → IsTrue (fits call reply) →
-        reply ≢ replies.Bus turned.Denied → shared_next s (Some reply ∷ given) ≡ Returns end →
-        (reply ≡ replies.Bus turned.Freed) × (shared_reported s (Some reply ∷ given) ≡ None) }
+        reply ≢ replies.Bus arb_replies.Denied → shared_next s (Some reply ∷ given) ≡ Returns end →
+        (reply ≡ replies.Bus arb_replies.Freed) × (shared_reported s (Some reply ∷ given) ≡ None) }
 {}

@@ -6,7 +6,7 @@
 //! is a good one.
 #![tactic(auto)]
 
-mod asked;
+mod job;
 mod laws;
 mod lock;
 mod mailbox;
@@ -21,7 +21,7 @@ mod take;
 mod task;
 mod todo;
 mod word;
-mod work;
+mod current;
 
 pub use laws::{
     shared_tasks_are_refused_at_the_start, shared_tasks_call_boards_of_the_map,

@@ -18,7 +18,7 @@ pub enum SharedOutcome {
     /// The mailbox's count of words put is at its greatest value.
     Spent,
     /// A bus error of a board or of the bus timer:
-    /// IEEE 1014-1987, 2.3.3 (data transfer acknowledge and bus error).
+    /// IEEE 1014-1987, 2.3.3 (bus timer).
     Berr,
     /// The arbiter denied a command, or a reply did not fit, was absent or came too early.
     Denied,

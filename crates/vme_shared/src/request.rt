@@ -1,15 +1,17 @@
 ghost use Rattle.std.specs.Prelude.{◌≡◌, ◌≤◌, ℕ, List, Some};
 ghost use Rattle.vme_cycle.specs.Requests.{read_len};
-ghost use Rattle.vme_shared.specs.Mailboxes.{IsAsked, stage_request, refusal_in, shared_refusal};
+ghost use Rattle.vme_master.specs.Events.{outcome_in};
+ghost use Rattle.vme_master.specs.declared.outcome.Outcome.TheVariants as outcomes;
+ghost use Rattle.vme_shared.specs.Mailboxes.{HasMailbox, stage_request, refusal_in, shared_refusal};
 ghost use Rattle.vme_shared.specs.declared.request.SharedRequest.{SharedRequest as AnyRequest};
 ghost use Rattle.vme_shared.specs.Steps.{first_stage, has_top_bit, words_between, word_in, counted_stage, lock_step, unlock_step, mailbox_step, step_after};
 
 use crate::mailbox::{Mailbox, check_request, clear_lock, set_lock};
 use crate::outcome::SharedOutcome;
-use crate::stage::{Stage, Step};
+use crate::stage::{Stage, StageResult};
 use crate::word::word_in;
 use vme_cycle::{CycleFault, Request};
-use vme_master::Outcome;
+use vme_master::OutcomeRef;
 
 /// A request to a lock or a mailbox.
 #[derive(Clone, Copy, Debug, PartialEq, Eq)]
@@ -27,7 +29,7 @@ pub enum SharedRequest {
 impl SharedRequest {
     /// Returns the first refusal of the request's transfers.
     pub(crate) fn check(self) -> Result<(), CycleFault>
-        requires { IsAsked self }
+        requires { HasMailbox self }
         ensures { refusal_in result ≡ shared_refusal self }
     {
         match self {
@@ -50,7 +52,7 @@ impl SharedRequest {
 
     /// Returns the transfer of a stage.
     pub(crate) fn transfer(self, stage: Stage) -> Request
-        requires { IsAsked self }
+        requires { HasMailbox self }
         ensures value { result ≡ stage_request self stage }
         ensures capacity { read_len result ≤ 4 }
     {
@@ -64,8 +66,8 @@ impl SharedRequest {
     }
 
     /// Returns what follows the outcome of a stage's transfer.
-    pub(crate) fn step_after(self, stage: Stage, outcome: &Outcome) -> Step
-        ensures { result ≡ step_after self stage outcome.now }
+    pub(crate) fn step_after(self, stage: Stage, outcome: OutcomeRef<'_>) -> StageResult
+        ensures { result ≡ step_after self stage (outcome_in outcome.entry) }
     {
         match self {
             SharedRequest::Lock { .. } => lock_step(outcome),
@@ -77,45 +79,45 @@ impl SharedRequest {
     }
 
     /// Returns what follows the outcome of a transfer of a put or a take.
-    fn mailbox_step(self, stage: Stage, outcome: &Outcome) -> Step
-        ensures { result ≡ mailbox_step self stage outcome.now }
+    fn mailbox_step(self, stage: Stage, outcome: OutcomeRef<'_>) -> StageResult
+        ensures { result ≡ mailbox_step self stage (outcome_in outcome.entry) }
     {
         match (stage, outcome) {
-            (Stage::Locks, Outcome::Old(old)) => {
-                if has_top_bit(old.as_slice()) {
-                    Step::Finish(SharedOutcome::Busy)
+            (Stage::Locks, OutcomeRef::Old(old)) => {
+                if has_top_bit(old) {
+                    StageResult::Finish(SharedOutcome::Busy)
                 } else {
-                    Step::Continue(Stage::ReadsPutCount)
+                    StageResult::Continue(Stage::ReadsPutCount)
                 }
             }
-            (Stage::Locks, Outcome::Berr { .. }) => Step::Finish(SharedOutcome::Berr),
+            (Stage::Locks, OutcomeRef::Berr { .. }) => StageResult::Finish(SharedOutcome::Berr),
             (Stage::Unlocks { end }, outcome) => unlock_step(end, outcome),
-            (_, Outcome::Berr { .. }) => Step::Continue(Stage::Unlocks {
+            (_, OutcomeRef::Berr { .. }) => StageResult::Continue(Stage::Unlocks {
                 end: SharedOutcome::Berr,
             }),
-            (stage, Outcome::Read(bytes)) => match word_in(bytes.as_slice()) {
+            (stage, OutcomeRef::Read(bytes)) => match word_in(bytes) {
                 Some(word) => self.read_step(stage, word),
-                None => Step::Finish(SharedOutcome::Denied),
+                None => StageResult::Finish(SharedOutcome::Denied),
             },
-            (stage, Outcome::Done) => write_step(stage),
-            _ => Step::Finish(SharedOutcome::Denied),
+            (stage, OutcomeRef::Done) => write_step(stage),
+            _ => StageResult::Finish(SharedOutcome::Denied),
         }
     }
 
     /// Returns what follows a transfer of a put or a take that has read a count or a word.
-    fn read_step(self, stage: Stage, word: u32) -> Step
+    fn read_step(self, stage: Stage, word: u32) -> StageResult
         ensures { (bytes : List ℕ) → word_in bytes ≡ Some word →
-            result ≡ mailbox_step self stage (Outcome.Read (record { items = bytes })) }
+            result ≡ mailbox_step self stage (outcomes.Read (record { items = bytes })) }
     {
         match stage {
-            Stage::ReadsPutCount => Step::Continue(Stage::ReadsTakeCount { put_count: word }),
-            Stage::ReadsTakeCount { put_count } => Step::Continue(self.counted_stage(
+            Stage::ReadsPutCount => StageResult::Continue(Stage::ReadsTakeCount { put_count: word }),
+            Stage::ReadsTakeCount { put_count } => StageResult::Continue(self.counted_stage(
                 put_count, word,
             )),
             Stage::ReadsWord { take_count } => {
-                Step::Continue(Stage::RaisesTakeCount { take_count, word })
+                StageResult::Continue(Stage::RaisesTakeCount { take_count, word })
             }
-            _ => Step::Finish(SharedOutcome::Denied),
+            _ => StageResult::Finish(SharedOutcome::Denied),
         }
     }
 
@@ -146,41 +148,41 @@ impl SharedRequest {
 }
 
 /// Returns what follows a transfer of a put or a take that has written.
-fn write_step(stage: Stage) -> Step
-    ensures { (request : AnyRequest) → result ≡ mailbox_step request stage Outcome.Done }
+fn write_step(stage: Stage) -> StageResult
+    ensures { (request : AnyRequest) → result ≡ mailbox_step request stage outcomes.Done }
 {
     match stage {
-        Stage::WritesWord { put_count, .. } => Step::Continue(Stage::RaisesPutCount { put_count }),
-        Stage::RaisesPutCount { .. } => Step::Continue(Stage::Unlocks {
+        Stage::WritesWord { put_count, .. } => StageResult::Continue(Stage::RaisesPutCount { put_count }),
+        Stage::RaisesPutCount { .. } => StageResult::Continue(Stage::Unlocks {
             end: SharedOutcome::Put,
         }),
-        Stage::RaisesTakeCount { word, .. } => Step::Continue(Stage::Unlocks {
+        Stage::RaisesTakeCount { word, .. } => StageResult::Continue(Stage::Unlocks {
             end: SharedOutcome::Took(word),
         }),
-        Stage::Unlocks { end } => Step::Finish(end),
-        _ => Step::Finish(SharedOutcome::Denied),
+        Stage::Unlocks { end } => StageResult::Finish(end),
+        _ => StageResult::Finish(SharedOutcome::Denied),
     }
 }
 
 /// Returns what follows the outcome of a lock's transfer.
-fn lock_step(outcome: &Outcome) -> Step
-    ensures { result ≡ lock_step outcome.now }
+fn lock_step(outcome: OutcomeRef<'_>) -> StageResult
+    ensures { result ≡ lock_step (outcome_in outcome.entry) }
 {
-    Step::Finish(match outcome {
-        Outcome::Old(old) if has_top_bit(old.as_slice()) => SharedOutcome::Busy,
-        Outcome::Old(_) => SharedOutcome::Taken,
-        Outcome::Berr { .. } => SharedOutcome::Berr,
+    StageResult::Finish(match outcome {
+        OutcomeRef::Old(old) if has_top_bit(old) => SharedOutcome::Busy,
+        OutcomeRef::Old(_) => SharedOutcome::Taken,
+        OutcomeRef::Berr { .. } => SharedOutcome::Berr,
         _ => SharedOutcome::Denied,
     })
 }
 
 /// Returns what follows the outcome of an unlock's transfer, which ends the task with `end`.
-fn unlock_step(end: SharedOutcome, outcome: &Outcome) -> Step
-    ensures { result ≡ unlock_step end outcome.now }
+fn unlock_step(end: SharedOutcome, outcome: OutcomeRef<'_>) -> StageResult
+    ensures { result ≡ unlock_step end (outcome_in outcome.entry) }
 {
-    Step::Finish(match outcome {
-        Outcome::Done => end,
-        Outcome::Berr { .. } => SharedOutcome::Berr,
+    StageResult::Finish(match outcome {
+        OutcomeRef::Done => end,
+        OutcomeRef::Berr { .. } => SharedOutcome::Berr,
         _ => SharedOutcome::Denied,
     })
 }

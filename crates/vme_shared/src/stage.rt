@@ -23,7 +23,7 @@ pub enum Stage {
 
 /// What follows a transfer.
 #[derive(Clone, Copy, Debug, PartialEq, Eq)]
-pub enum Step {
+pub enum StageResult {
     /// The transfer of this stage.
     Continue(Stage),
     /// The end of the task.

@@ -2,15 +2,15 @@ ghost use Rattle.std.specs.Prelude.{◌≡◌, ◌≢◌};
 ghost use Rattle.std.specs.Option.{option_map, option_copied};
 ghost use Rattle.vme_core.specs.EventRefs.{call_asked};
 ghost use Rattle.vme_core.specs.NextSteps.{NotStarted, call_in, result_in};
-ghost use Rattle.vme_shared.specs.Mailboxes.{IsAsked};
+ghost use Rattle.vme_shared.specs.Mailboxes.{HasMailbox};
 ghost use Rattle.vme_shared.specs.Machine.{shared_fresh, shared_task, shared_advance, shared_to_do};
 ghost use Rattle.vme_shared.specs.Events.{next_in, IsNextOf};
 
-use crate::asked::Asked;
+use crate::job::Job;
 use crate::outcome::SharedOutcome;
 use crate::request::SharedRequest;
 use crate::todo::SharedTodo;
-use crate::work::Work;
+use crate::current::CurrentTransfer;
 use std::marker::Model;
 use vme_core::{EventRef, EventReply};
 use vme_cycle::CycleFault;
@@ -22,8 +22,8 @@ use vme_decode::AddressMap;
 /// task allocates nothing.
 #[derive(Debug, Drop)]
 pub struct SharedTask<'a> {
-    asked: Asked<'a>,
-    work: Work<'a>,
+    job: Job<'a>,
+    current: CurrentTransfer<'a>,
 }
 
 impl<'a> Model for SharedTask<'a> {
@@ -31,9 +31,9 @@ impl<'a> Model for SharedTask<'a> {
 
     ghost Value = { SharedView };
 
-    ghost view = { λ t. record { job = t.asked; work = t.work } };
+    ghost view = { λ t. record { job = t.job; current = t.current } };
 
-    ghost invariant = { λ t. IsGoing t.work };
+    ghost invariant = { λ t. IsGoing t.current };
 }
 
 impl<'a> SharedTask<'a> {
@@ -49,14 +49,14 @@ impl<'a> SharedTask<'a> {
         level: u8,
         request: SharedRequest,
     ) -> Result<SharedTask<'a>, CycleFault>
-        requires { IsAsked request }
+        requires { HasMailbox request }
         ensures { result
             ≡ shared_task (record { map = map.now; slot = slot; level = level; request = request }) }
     {
         request.check()?;
-        let asked = Asked::new(map, slot, level, request);
-        let work = asked.first_work();
-        Ok(SharedTask { asked, work })
+        let job = Job::new(map, slot, level, request);
+        let current = job.first_transfer();
+        Ok(SharedTask { job, current })
     }
 
     /// Returns what the task does next. `reply` is `None` at the first call, and then the reply to
@@ -75,8 +75,8 @@ impl<'a> SharedTask<'a> {
         ensures task { self.new ≡ shared_advance self.old (option_copied reply.entry) }
         ensures begun { shared_to_do self.new ≢ NotStarted }
     {
-        if let Some(step) = self.work.advance(self.asked.request(), reply) {
-            self.work = self.asked.stepped(step);
+        if let Some(step) = self.current.advance(self.job.request(), reply) {
+            self.current = self.job.stepped(step);
         }
     }
 
@@ -86,9 +86,9 @@ impl<'a> SharedTask<'a> {
     pub fn event_ref(&self) -> Option<EventRef<'_>>
         ensures { option_map call_asked result ≡ call_in (shared_to_do self.now) }
     {
-        match &self.work {
-            Work::Running { task, .. } => task.event_ref(),
-            Work::Finished(_) => None,
+        match &self.current {
+            CurrentTransfer::Running { task, .. } => task.event_ref(),
+            CurrentTransfer::Finished(_) => None,
         }
     }
 
@@ -96,9 +96,9 @@ impl<'a> SharedTask<'a> {
     pub fn outcome(&self) -> Option<SharedOutcome>
         ensures { result ≡ result_in (shared_to_do self.now) }
     {
-        match &self.work {
-            Work::Running { .. } => None,
-            Work::Finished(end) => Some(*end),
+        match &self.current {
+            CurrentTransfer::Running { .. } => None,
+            CurrentTransfer::Finished(end) => Some(*end),
         }
     }
 
@@ -106,7 +106,7 @@ impl<'a> SharedTask<'a> {
     pub fn restart(&mut self)
         ensures { self.new ≡ shared_fresh self.old.job }
     {
-        self.work = self.asked.first_work();
+        self.current = self.job.first_transfer();
     }
 
     fn todo(&self) -> SharedTodo

@@ -5,6 +5,7 @@ ghost use Rattle.vme_core.specs.Runs.{Machine};
 ghost use Rattle.vme_core.specs.Machines.{process_count};
 ghost use Rattle.vme_core.specs.NextSteps.{Returns, result_in};
 ghost use Rattle.vme_script.specs.Configurations.{Configuration};
+ghost use Rattle.vme_line_task.specs.declared.task.LineTask.{LineTask as AnyTask};
 ghost use Rattle.vme_line_task.specs.Machine.{line_to_do, IsLineBelow};
 ghost use Rattle.vme_stepper.specs.Steppers.{processor_turn, IsProcessorOf, StepsWithin};
 
@@ -122,7 +123,7 @@ impl<'a> Processor<'a> {
                 self.task = Some(task);
                 return;
             }
-            let answer = task.take_reply().unwrap();
+            let answer = task.into_reply().unwrap();
             put_answer(&mut self.lines, self.ended, answer);
             self.ended += 1;
         }
@@ -149,33 +150,27 @@ impl<'a> Processor<'a> {
         };
         task.advance_on(core, board);
         if task.is_finished() {
-            put_answer_of(&mut self.lines, self.ended, task);
+            end_line(&mut self.lines, self.ended, &mut self.task);
             self.ended += 1;
-            let_go(&mut self.task);
         }
     }
 }
 
-/// Drops the task of a line in its place.
+/// Records the reply of the line at work, which has ended, and drops its task. Out of line, to keep
+/// the stack frame of a turn small.
 #[inline(never)]
-fn let_go(task: &mut Option<LineTask<'_>>)
-    ensures { task.new ≡ None }
-{
-    *task = None;
-}
-
-/// Records the reply of a line that has ended. Out of line, to keep the stack frame of a turn
-/// small.
-#[inline(never)]
-#[tactic(auto, using(vme_core::proofs::lemmas::NextSteps::its_own))]
-fn put_answer_of(lines: &mut [(u16, LineReply)], place: usize, task: &mut LineTask<'_>)
+fn end_line(lines: &mut [(u16, LineReply)], place: usize, at_work: &mut Option<LineTask<'_>>)
     requires place { place < length lines.old }
-    requires over { is_some (result_in (line_to_do task.old)) ≡ true }
+    requires over { (task : AnyTask) → at_work.old ≡ Some task → is_some (result_in (line_to_do task)) ≡ true }
     ensures len { length lines.new ≡ length lines.old }
-    ensures put { (answer : LineReply) → line_to_do task.old ≡ Returns answer → lines.new
+    ensures idle { at_work.new ≡ None }
+    ensures put { (task : AnyTask) (answer : LineReply) → at_work.old ≡ Some task →
+        line_to_do task ≡ Returns answer → lines.new
         ≡ slice_set lines.old place ((slice_index_or lines.old place (0, answer)).0, answer) }
 {
-    put_answer(lines, place, task.take_reply().unwrap());
+    if let Some(task) = at_work.take() {
+        put_answer(lines, place, task.into_reply().unwrap());
+    }
 }
 
 /// Records the reply of the line at a place.

@@ -7,7 +7,7 @@ use Rattle.vme_cycle.specs.declared.fault.CycleFault.{CycleFault}
 use Rattle.vme_cycle.specs.declared.request.Request.{Request}
 use Rattle.vme_cycle.specs.Lawful.{Transfer as LawfulRequest, transfer_of}
 use Rattle.vme_decode.specs.declared.entry.Entry.{Entry}
-use Rattle.vme_core.specs.declared.event.Event.TheVariants as asked
+use Rattle.vme_core.specs.declared.event.Event.TheVariants as events
 use Rattle.vme_core.specs.declared.event.EventReply.{EventReply}
 use Rattle.vme_core.specs.declared.event.EventReply.TheVariants as event_replies
 use Rattle.vme_core.specs.Calls.{Call, call_of}
@@ -16,7 +16,7 @@ use Rattle.vme_core.specs.NextSteps.{NextStep, NotStarted, Invokes, Returns, cal
 use Rattle.vme_master.specs.declared.job.Job.{Job}
 use Rattle.vme_master.specs.declared.outcome.Outcome.{Outcome}
 use Rattle.vme_master.specs.Jobs.{bus_job, local_job}
-use Rattle.vme_master.specs.Tables.{Given, next_of}
+use Rattle.vme_master.specs.Tables.{Inputs, next_of}
 use Rattle.vme_master.specs.Machine.{TaskView, fresh_task, bus_task, advance, task_given, to_do}
 use Rattle.vme_master.proofs.lemmas.Stands.{by_the_table}
 use Rattle.vme_shared.specs.declared.reply.LineReply.{LineReply}
@@ -46,26 +46,26 @@ attempted_once (Invokes call) = refl
 attempted_once (Returns outcome) = refl
 
 -- the first attempt has all replies to the line
-all_given : (job : Job) (tries : ℕ) (given : Given) → (attempts_of (Transferring job) tries given).given ≡ given
+all_given : (job : Job) (tries : ℕ) (given : Inputs) → (attempts_of (Transferring job) tries given).given ≡ given
 all_given job tries [] = refl
 all_given job tries (last ∷ before) =
     rw (attempted_once (next_of job (last ∷ (attempts_of (Transferring job) tries before).given)))
-    (ap (λ (g : Given). last ∷ g) (all_given job tries before))
+    (ap (λ (g : Inputs). last ∷ g) (all_given job tries before))
 
 -- the line does next what its job does
 pub once_next : (config : Configuration) (board : ℕ) (line : Line) (job : Job) (replies : List EventReply)
     → line_attempt config board line ≡ Ok (Transferring job) → line_next config board line replies ≡ moves_next (next_of job (given_of replies))
 unfolding next_given
 once_next config board line job replies is =
-    rw is (ap (λ (g : Given). moves_next (next_of job g)) (all_given job config.tries (given_of replies)))
+    rw is (ap (λ (g : Inputs). moves_next (next_of job g)) (all_given job config.tries (given_of replies)))
 
 -- a command to the local port gets its reply by one call
 pub local_answered :
-    (cmd : BoardCmd) (reply : Reply) (outcome : Outcome) (d e : PassSet) → AddsTransitions (move d.who (asked.Board d.who cmd) (event_replies.Board reply) ∷ []) d e
+    (cmd : BoardCmd) (reply : Reply) (outcome : Outcome) (d e : PassSet) → AddsTransitions (move d.who (events.Board d.who cmd) (event_replies.Board reply) ∷ []) d e
     → ((board : ℕ) → next_of (local_job board cmd) (Some (event_replies.Board reply) ∷ None ∷ []) ≡ Returns outcome)
     → (config : Configuration) → IsAnsweredBy config (lines.Local cmd) (Transfer outcome) d e
 local_answered cmd reply outcome d e made ends = λ config. record {
-  run = move d.who (asked.Board d.who cmd) (event_replies.Board reply) ∷ [];
+  run = move d.who (events.Board d.who cmd) (event_replies.Board reply) ∷ [];
   made = made;
   trace = record {
     replies = event_replies.Board reply ∷ [];

@@ -12,7 +12,7 @@ use Rattle.vme_memory.specs.declared.reply.Reply.{Reply}
 use Rattle.vme_arbiter.specs.declared.command.ArbCmd.{ArbCmd}
 use Rattle.vme_arbiter.specs.declared.command.ArbReply.{ArbReply}
 use Rattle.vme_core.specs.declared.event.Event.{Event}
-use Rattle.vme_core.specs.declared.event.Event.TheVariants as asked
+use Rattle.vme_core.specs.declared.event.Event.TheVariants as events
 use Rattle.vme_core.specs.declared.event.EventReply.TheVariants as replies
 use Rattle.vme_core.specs.Runs.{Transition, move, IsReplyTo, board_entry, bus_entry, board_part, bus_part}
 use Rattle.vme_port.specs.Passes.{PassView}
@@ -83,21 +83,21 @@ fits_first config ports i w is = record {
 }
 
 -- the part of a board in its own event
-own_part : (board who : ℕ) (cmd : BoardCmd) (reply : Reply) → board_part board (move who (asked.Board board cmd) (replies.Board reply) ∷ []) ≡ entry who cmd reply ∷ []
+own_part : (board who : ℕ) (cmd : BoardCmd) (reply : Reply) → board_part board (move who (events.Board board cmd) (replies.Board reply) ∷ []) ≡ entry who cmd reply ∷ []
 own_part board who cmd reply = rw (eq-eqb board board refl) refl
 
 -- the part of another board in an event
 other_part :
-    (x board who : ℕ) (cmd : BoardCmd) (reply : Reply) → x ≢ board → board_part x (move who (asked.Board board cmd) (replies.Board reply) ∷ []) ≡ []
+    (x board who : ℕ) (cmd : BoardCmd) (reply : Reply) → x ≢ board → board_part x (move who (events.Board board cmd) (replies.Board reply) ∷ []) ≡ []
 other_part x board who cmd reply off = rw (ne_eqb board x (λ same. off (sym same))) refl
 
 -- an event of a board is a run of one transition
 pub made_on_board :
-    (d : PassSet) (board : ℕ) (cmd : BoardCmd) (reply : Reply) (event : Event) (p q : PassView BoardCmd Reply) (e : PassSet) → event ≡ asked.Board board cmd
+    (d : PassSet) (board : ℕ) (cmd : BoardCmd) (reply : Reply) (event : Event) (p q : PassView BoardCmd Reply) (e : PassSet) → event ≡ events.Board board cmd
     → board < length d.boards.items → p ≡ slice_index_or d.boards.items board p → p.who ≡ d.who → Makes (entry p.who cmd reply ∷ []) p q
     → e.who ≡ d.who → e.boards.items ≡ set d.boards.items board q → e.bus ≡ d.bus → AddsTransitions (move d.who event (replies.Board reply) ∷ []) d e
 made_on_board d board cmd reply event p q e is there at whose makes who boards bus =
-    let run = move d.who (asked.Board board cmd) (replies.Board reply) ∷ [] in
+    let run = move d.who (events.Board board cmd) (replies.Board reply) ∷ [] in
     let P = λ (x : ℕ) (p q : PassView BoardCmd Reply). Makes (board_part x run) p q in
     let its : Makes (board_part board run) p q =
     subst (λ (es : List (Entry BoardCmd Reply)). Makes es p q) (sym (own_part board d.who cmd reply))
@@ -105,9 +105,9 @@ made_on_board d board cmd reply event p q e is there at whose makes who boards b
     in
     subst (λ (ev : Event). AddsTransitions (move d.who ev (replies.Board reply) ∷ []) d e) (sym is) (record {
       who = who;
-      whose = All-cons (λ (m : Transition). m.who ≡ d.who) (move d.who (asked.Board board cmd) (replies.Board reply)) [] refl (All-nil (λ (m : Transition). m.who ≡ d.who));
+      whose = All-cons (λ (m : Transition). m.who ≡ d.who) (move d.who (events.Board board cmd) (replies.Board reply)) [] refl (All-nil (λ (m : Transition). m.who ≡ d.who));
       fitting =
-          All-cons (λ (m : Transition). IsReplyTo m.event m.reply) (move d.who (asked.Board board cmd) (replies.Board reply)) [] tt
+          All-cons (λ (m : Transition). IsReplyTo m.event m.reply) (move d.who (events.Board board cmd) (replies.Board reply)) [] tt
           (All-nil (λ (m : Transition). IsReplyTo m.event m.reply));
       boards =
           subst (AllAt P d.boards.items) (sym boards)
@@ -121,9 +121,9 @@ pub made_by_board :
     (ports : Ports) (d : PassSet) (board : ℕ) (cmd : BoardCmd) (result : Result Reply Spent) (o : BoardPort) (p q : PassView BoardCmd Reply) (e : PassSet)
     → MatchesPorts ports d → board < length d.boards.items → p ≡ slice_index_or d.boards.items board p
     → Makes (entries_of p.who cmd result) p q → e.who ≡ d.who → e.boards.items ≡ set d.boards.items board q → e.bus ≡ d.bus
-    → IfOk result (λ reply. AddsTransitions (move d.who (asked.Board board cmd) (replies.Board reply) ∷ []) d e)
+    → IfOk result (λ reply. AddsTransitions (move d.who (events.Board board cmd) (replies.Board reply) ∷ []) d e)
 made_by_board ports d board cmd (Ok reply) o p q e fits there at makes who boards bus =
     let own = fits.boards.each board o p (omega (arith, there, fits.boards.count)) in
     let whose = ap (λ (q : PassView BoardCmd Reply). q.who) at ∙ own.1 in
-    made_on_board d board cmd reply (asked.Board board cmd) p q e refl there at whose makes who boards bus
+    made_on_board d board cmd reply (events.Board board cmd) p q e refl there at whose makes who boards bus
 made_by_board ports d board cmd (Err spent) o p q e fits there at makes who boards bus = tt

@@ -4,7 +4,7 @@ use Rattle.vme_object.specs.declared.history.Entry.{Entry}
 use Rattle.vme_object.specs.History.{replay, IsLegal, own}
 use Rattle.vme_object.specs.Each.{Each, AllAt}
 use Rattle.vme_memory.specs.Locals.{board_step}
-use Rattle.vme_arbiter.specs.Arbitration.{Arbitration, opening_bus, turn_step}
+use Rattle.vme_arbiter.specs.Arbitration.{Arbitration, opening_bus, arbiter_step}
 use Rattle.vme_core.specs.Runs.{Transition, IsReplyTo, board_part, bus_part}
 use Rattle.vme_script.specs.declared.board.BoardConfig.{BoardConfig}
 use Rattle.vme_script.specs.Configurations.{Configuration, opening_memory}
@@ -49,7 +49,7 @@ pub record IsReportOf (config : Configuration) (report : Report) : Type 0 where
   pub boards : AllAt (IsEndOf runs) config.boards report.boards.items
   pub bus :
       (object : Arbitration)
-      × HasHistory turn_step (opening_bus config.arbiter) (map bus_part runs) object report.arbiter_steps
+      × HasHistory arbiter_step (opening_bus config.arbiter) (map bus_part runs) object report.arbiter_steps
       report.arbiter_made.items
 
 -- these are the finished workers, each by a run of its own

@@ -107,15 +107,14 @@ impl PassSet {
         ensures { IfOk result (λ answer. IsAnsweredBy config.now (lines.Bus request.now) answer self.old self.new) }
     {
         let (slot, level) = (config.slot(self.who), config.level(self.who));
-        let mut started = Task::start(config.map(), slot, level, request, buffer);
-        let task = match &mut started {
+        let mut task = match Task::start(config.map(), slot, level, request, buffer) {
             Ok(task) => task,
-            Err(fault) => return Ok(LineReply::Refused(*fault)),
+            Err(fault) => return Ok(LineReply::Refused(fault)),
         };
         task.advance(None);
         for _ in rt.forever() {
             if task.is_finished() {
-                return Ok(LineReply::Transfer(task.take_outcome().unwrap()));
+                return Ok(LineReply::Transfer(task.into_outcome().unwrap()));
             }
             if ports.stop.load(Ordering::SeqCst) {
                 return Err(Spent);

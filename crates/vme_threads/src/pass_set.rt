@@ -1,5 +1,5 @@
 ghost use Rattle.std.specs.Prelude.{◌≡◌, ◌<◌, ◌≤◌, ◌∷◌, [], length, slice_get, Some, IfOk};
-ghost use Rattle.vme_core.specs.declared.event.Event.TheVariants as asked;
+ghost use Rattle.vme_core.specs.declared.event.Event.TheVariants as events;
 ghost use Rattle.vme_core.specs.declared.event.EventReply.TheVariants as replies;
 ghost use Rattle.vme_core.specs.Runs.{move};
 ghost use Rattle.vme_grammar.specs.declared.line.Line.{Line};
@@ -50,7 +50,7 @@ impl PassSet {
     ) -> Result<ArbReply, Spent>
         requires { MatchesPorts ports.now self.old }
         ensures { IfOk result (λ reply.
-            AddsTransitions (move self.old.who (asked.Bus cmd.now) (replies.Bus reply) ∷ []) self.old self.new) }
+            AddsTransitions (move self.old.who (events.Bus cmd.now) (replies.Bus reply) ∷ []) self.old self.new) }
     {
         let releases = ports.waiters.releases();
         let reply = ports.bus.call(rt, &mut self.bus, cmd)?;
@@ -80,7 +80,7 @@ impl PassSet {
         requires fits { MatchesPorts ports.now self.old }
         requires there { board < length self.old.boards.items }
         ensures { IfOk result (λ reply.
-            AddsTransitions (move self.old.who (asked.Board board (A.command cmd.now)) (replies.Board reply) ∷ []) self.old self.new) }
+            AddsTransitions (move self.old.who (events.Board board (A.command cmd.now)) (replies.Board reply) ∷ []) self.old self.new) }
     {
         let port = &ports.boards[board].port;
         let pass = &mut self.boards[board];
@@ -147,7 +147,7 @@ impl PassSet {
         task.advance(None);
         for _ in rt.forever() {
             if task.is_finished() {
-                return Ok(task.take_reply().unwrap());
+                return Ok(task.into_reply().unwrap());
             }
             if ports.stop.load(Ordering::SeqCst) {
                 return Err(Spent);

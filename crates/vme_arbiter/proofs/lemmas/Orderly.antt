@@ -12,7 +12,7 @@ use Rattle.vme_arbiter.specs.declared.kind.ArbiterKind.{ArbiterKind}
 use Rattle.vme_arbiter.specs.declared.kind.ArbiterKind.TheVariants.{Priority, Rotating}
 use Rattle.vme_arbiter.specs.Levels.{level_order, first_after}
 use Rattle.vme_arbiter.specs.Requests.{BusRequest, bus_request, is_slot, is_level}
-use Rattle.vme_arbiter.specs.Arbitration.{Arbitration, opening_bus, holds, pends, can_ask, lawful_ask, bus_after_release, next_of, turn_step}
+use Rattle.vme_arbiter.specs.Arbitration.{Arbitration, opening_bus, holds, pends, can_ask, lawful_ask, bus_after_release, next_of, arbiter_step}
 use Rattle.vme_arbiter.specs.Orderly.{IsLawfulRequest, IsOrderly}
 use Rattle.vme_arbiter.proofs.Grants.{granted-pends, none-granted}
 use Rattle.vme_arbiter.proofs.Pending.{has_slot-with, has_slot-without_same, All-with, by_slot-with, by_slot-without}
@@ -108,7 +108,7 @@ handed-kind None bus = refl
 handed-kind (Some next) bus = refl
 
 -- each command leaves an orderly state
-pub orderly-step : (bus : Arbitration) (cmd : ArbCmd) → IsOrderly bus → IsOrderly (turn_step bus cmd).0
+pub orderly-step : (bus : Arbitration) (cmd : ArbCmd) → IsOrderly bus → IsOrderly (arbiter_step bus cmd).0
 orderly-step bus (Ask slot level) orderly =
     elim (cases_Bool (can_ask bus slot level)) [
       | inl can ↦ rw can (taken-orderly bus.holder bus slot level refl orderly (can_ask-facts bus slot level can))
@@ -122,9 +122,9 @@ orderly-step bus (Done slot) orderly =
     ]
 
 -- each history leaves an orderly state
-pub orderly-replay : (bus : Arbitration) (h : List (Entry ArbCmd ArbReply)) → IsOrderly bus → IsOrderly (replay turn_step bus h)
+pub orderly-replay : (bus : Arbitration) (h : List (Entry ArbCmd ArbReply)) → IsOrderly bus → IsOrderly (replay arbiter_step bus h)
 orderly-replay bus [] orderly = orderly
-orderly-replay bus (e ∷ h) orderly = orderly-replay (turn_step bus e.cmd).0 h (orderly-step bus e.cmd orderly)
+orderly-replay bus (e ∷ h) orderly = orderly-replay (arbiter_step bus e.cmd).0 h (orderly-step bus e.cmd orderly)
 
 -- an arbiter begins in an orderly state
 pub orderly-opening : (kind : ArbiterKind) → IsOrderly (opening_bus kind)
@@ -138,7 +138,7 @@ orderly-opening kind = record {
 }
 
 -- no command changes the kind
-pub kind-stays : (bus : Arbitration) (cmd : ArbCmd) → (turn_step bus cmd).0.kind ≡ bus.kind
+pub kind-stays : (bus : Arbitration) (cmd : ArbCmd) → (arbiter_step bus cmd).0.kind ≡ bus.kind
 kind-stays bus (Ask slot level) =
     elim (cases_Bool (can_ask bus slot level)) [
       | inl can ↦ rw can (taken-kind bus.holder bus (bus_request level slot))

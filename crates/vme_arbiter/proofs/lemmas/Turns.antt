@@ -13,9 +13,9 @@ use Rattle.vme_arbiter.specs.declared.command.ArbReply.TheVariants.{Granted, Wai
 use Rattle.vme_arbiter.specs.declared.kind.ArbiterKind.{ArbiterKind}
 use Rattle.vme_arbiter.specs.Levels.{level_order}
 use Rattle.vme_arbiter.specs.Requests.{BusRequest, bus_request, is_slot, with_request, is_level}
-use Rattle.vme_arbiter.specs.Arbitration.{Arbitration, opening_bus, holds, pends, can_ask, ask_step, lawful_ask, bus_after_release, next_of, turn_step}
+use Rattle.vme_arbiter.specs.Arbitration.{Arbitration, opening_bus, holds, pends, can_ask, ask_step, lawful_ask, bus_after_release, next_of, arbiter_step}
 use Rattle.vme_arbiter.specs.Orderly.{IsLawfulHolder, IsOrderly}
-use Rattle.vme_arbiter.specs.Turns.{slot_of, may_give, IsAsReplied, StandsAsReplied, GoesByReplies, TakeTurns}
+use Rattle.vme_arbiter.specs.Masters.{slot_of, may_give, IsAsReplied, StandsAsReplied, GoesByReplies, FollowReplies}
 use Rattle.vme_arbiter.proofs.Pending.{has_slot, has_slot-with, has_slot-without_other, granted-has_slot}
 use Rattle.vme_arbiter.proofs.lemmas.Orderly.{orderly-step, orderly-opening}
 
@@ -113,7 +113,7 @@ holder-not_pends (Some h) bus slot is lawful held =
 
 -- a check of a slot that holds or waits has the reply that matches
 look-fits : (bus : Arbitration) (slot : ℕ) → (holds bus slot ≡ true) ⊎ (pends bus slot ≡ true)
-    → StandsAsReplied (turn_step bus (Look slot)).0 slot (Some (turn_step bus (Look slot)).1)
+    → StandsAsReplied (arbiter_step bus (Look slot)).0 slot (Some (arbiter_step bus (Look slot)).1)
 look-fits bus slot fits =
     elim (cases_Bool (holds bus slot)) [
       | inl held ↦ rw held refl
@@ -126,13 +126,13 @@ look-fits bus slot fits =
 
 -- a slot that gives the bus back neither holds nor waits afterwards
 done-fits : (bus : Arbitration) (slot : ℕ) → IsOrderly bus → holds bus slot ≡ true
-    → StandsAsReplied (turn_step bus (Done slot)).0 slot (Some (turn_step bus (Done slot)).1)
+    → StandsAsReplied (arbiter_step bus (Done slot)).0 slot (Some (arbiter_step bus (Done slot)).1)
 done-fits bus slot orderly held =
     rw held (handed-nowhere bus slot (next_of bus) refl (holder-not_pends bus.holder bus slot refl orderly.holder held))
 
 -- a command that a slot may give leaves it as the reply states
 pub own-turn : (bus : Arbitration) (slot : ℕ) (last : Option ArbReply) (cmd : ArbCmd) → IsOrderly bus → is_slot slot ≡ true
-    → StandsAsReplied bus slot last → may_give slot last cmd ≡ true → StandsAsReplied (turn_step bus cmd).0 slot (Some (turn_step bus cmd).1)
+    → StandsAsReplied bus slot last → may_give slot last cmd ≡ true → StandsAsReplied (arbiter_step bus cmd).0 slot (Some (arbiter_step bus cmd).1)
 own-turn bus slot None (Ask s level) orderly slot_ok fits may =
     let parts = and_parts _ _ may in
     rw (eqb-true s slot parts.0) (ask-fits bus slot level slot_ok parts.1 fits.0 fits.1)
@@ -145,7 +145,7 @@ own-turn bus slot last cmd orderly slot_ok fits may = cc
 
 -- a command of another slot leaves a slot as its last reply states
 pub other-turn : (bus : Arbitration) (slot : ℕ) (last : Option ArbReply) (cmd : ArbCmd) → slot_of cmd ≢ slot → StandsAsReplied bus slot last
-    → StandsAsReplied (turn_step bus cmd).0 slot last
+    → StandsAsReplied (arbiter_step bus cmd).0 slot last
 other-turn bus slot last (Ask asks level) other fits =
     elim (cases_Bool (can_ask bus asks level)) [
       | inl can ↦ rw can (taken-other bus.holder bus asks level slot last refl other fits)
@@ -171,15 +171,15 @@ pub record AreMasters (k : ℕ) (slots : ℕ → ℕ) : Type 0 where
 
 -- after a command of one of them, each stands where its last reply says
 pub all_stand : (k : ℕ) (slots : ℕ → ℕ) (bus : Arbitration) (last : ℕ → Option ArbReply) (e : Entry ArbCmd ArbReply) → AreMasters k slots
-    → e.who < k → slot_of e.cmd ≡ slots e.who → StandsAsReplied (turn_step bus e.cmd).0 (slots e.who) (Some e.reply)
+    → e.who < k → slot_of e.cmd ≡ slots e.who → StandsAsReplied (arbiter_step bus e.cmd).0 (slots e.who) (Some e.reply)
     → ((who : ℕ) → who < k → StandsAsReplied bus (slots who) (last who))
-    → (who : ℕ) → who < k → StandsAsReplied (turn_step bus e.cmd).0 (slots who) (reported_last last e who)
+    → (who : ℕ) → who < k → StandsAsReplied (arbiter_step bus e.cmd).0 (slots who) (reported_last last e who)
 unfolding reported_last
 all_stand k slots bus last e masters within names stands each who below =
     elim (cases_Bool (eqb e.who who)) [
       | inl same ↦
           let at : e.who ≡ who = eqb-true e.who who same in
-          rw same (subst (λ (w : ℕ). StandsAsReplied (turn_step bus e.cmd).0 (slots w) (Some e.reply)) at stands)
+          rw same (subst (λ (w : ℕ). StandsAsReplied (arbiter_step bus e.cmd).0 (slots w) (Some e.reply)) at stands)
       | inr other ↦
           rw other (other-turn bus (slots who) (last who) e.cmd
           (λ one. eqb-false e.who who other (masters.apart e.who who within below (sym names ∙ one))) (each who below))
@@ -198,14 +198,14 @@ goes_own slot last e h goes = let same : eqb e.who e.who ≡ true = eq-eqb e.who
 
 -- each master matches its last reply after the next legal entry
 fit_after : (k : ℕ) (slots : ℕ → ℕ) (bus : Arbitration) (last : ℕ → Option ArbReply) (e : Entry ArbCmd ArbReply)
-    (h : List (Entry ArbCmd ArbReply)) → AreMasters k slots → IsOrderly bus → e.who < k → e.reply ≡ (turn_step bus e.cmd).1
+    (h : List (Entry ArbCmd ArbReply)) → AreMasters k slots → IsOrderly bus → e.who < k → e.reply ≡ (arbiter_step bus e.cmd).1
     → AreFit k slots bus last (e ∷ h)
-    → StandsAsReplied (turn_step bus e.cmd).0 (slots e.who) (Some e.reply) × AreFit k slots (turn_step bus e.cmd).0 (reported_last last e) h
+    → StandsAsReplied (arbiter_step bus e.cmd).0 (slots e.who) (Some e.reply) × AreFit k slots (arbiter_step bus e.cmd).0 (reported_last last e) h
 unfolding reported_last
 fit_after k slots bus last e h masters orderly within reply fit =
     let goes = goes_own (slots e.who) (last e.who) e h (fit.goes e.who within) in
     let names = may_give-slot (slots e.who) (last e.who) e.cmd goes.0 in
-    let own_fits : StandsAsReplied (turn_step bus e.cmd).0 (slots e.who) (Some e.reply) =
+    let own_fits : StandsAsReplied (arbiter_step bus e.cmd).0 (slots e.who) (Some e.reply) =
     rw reply (own-turn bus (slots e.who) (last e.who) e.cmd orderly (masters.in_range e.who within) (fit.fits e.who within) goes.0) in (
       own_fits,
       record {
@@ -221,20 +221,20 @@ fit_after k slots bus last e h masters orderly within reply fit =
 
 -- no reply of a legal history is Denied if the masters follow the replies
 none_denied : (k : ℕ) (slots : ℕ → ℕ) (bus : Arbitration) (last : ℕ → Option ArbReply) (h : List (Entry ArbCmd ArbReply))
-    → AreMasters k slots → IsOrderly bus → All (λ e. e.who < k) h → IsLegal turn_step bus h → AreFit k slots bus last h
+    → AreMasters k slots → IsOrderly bus → All (λ e. e.who < k) h → IsLegal arbiter_step bus h → AreFit k slots bus last h
     → All (λ e. e.reply ≢ Denied) h
 none_denied k slots bus last [] masters orderly known legal fit = All-nil (λ e. e.reply ≢ Denied)
 none_denied k slots bus last (e ∷ h) masters orderly known legal fit =
     let within = All-head (λ e. e.who < k) e h known in
     let after = fit_after k slots bus last e h masters orderly within legal.0 fit in
     All-cons (λ e. e.reply ≢ Denied) e h
-    (λ denied. subst (λ (r : ArbReply). StandsAsReplied (turn_step bus e.cmd).0 (slots e.who) (Some r)) denied after.0)
-    (none_denied k slots (turn_step bus e.cmd).0 (reported_last last e) h masters (orderly-step bus e.cmd orderly)
+    (λ denied. subst (λ (r : ArbReply). StandsAsReplied (arbiter_step bus e.cmd).0 (slots e.who) (Some r)) denied after.0)
+    (none_denied k slots (arbiter_step bus e.cmd).0 (reported_last last e) h masters (orderly-step bus e.cmd orderly)
     (All-tail (λ e. e.who < k) e h known) legal.1 after.1)
 
 -- no reply of a legal history from the start is Denied if the masters follow the replies
 pub turns_granted : (kind : ArbiterKind) (k : ℕ) (slots : ℕ → ℕ) (h : List (Entry ArbCmd ArbReply))
-    → IsLegal turn_step (opening_bus kind) h → TakeTurns k slots h → All (λ e. e.reply ≢ Denied) h
+    → IsLegal arbiter_step (opening_bus kind) h → FollowReplies k slots h → All (λ e. e.reply ≢ Denied) h
 turns_granted kind k slots h legal turns =
     none_denied k slots (opening_bus kind) (λ who. None) h
     (record { in_range = turns.in_range; apart = turns.apart }) (orderly-opening kind) turns.known legal

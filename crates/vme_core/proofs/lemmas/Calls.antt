@@ -11,9 +11,9 @@ use Rattle.vme_memory.specs.declared.command.BoardCmd.{BoardCmd}
 use Rattle.vme_memory.specs.Boards.{Board}
 use Rattle.vme_memory.specs.Locals.{command_given, answer_given, board_step}
 use Rattle.vme_arbiter.specs.declared.command.ArbCmd.{ArbCmd}
-use Rattle.vme_arbiter.specs.Arbitration.{turn_step}
+use Rattle.vme_arbiter.specs.Arbitration.{arbiter_step}
 use Rattle.vme_core.specs.declared.event.Event.{Event}
-use Rattle.vme_core.specs.declared.event.Event.TheVariants as asked
+use Rattle.vme_core.specs.declared.event.Event.TheVariants as events
 use Rattle.vme_core.specs.declared.event.EventReply.TheVariants as replies
 use Rattle.vme_memory.specs.declared.reply.Reply.{Reply}
 use Rattle.vme_core.specs.CountedStates.{CountedState, IsObjectRun}
@@ -42,11 +42,11 @@ counted_went step t who cmd = record {
 
 -- a command to a board that exists is a run of one transition
 did_board : (m : Machine) (who x : ℕ) (cmd : BoardCmd) (b : CountedState Board) → slice_get m.boards x ≡ Some b
-    → IsRun (move who (asked.Board x cmd) (board_after m who x (command_given cmd) (Some b)).1 ∷ []) m
+    → IsRun (move who (events.Board x cmd) (board_after m who x (command_given cmd) (Some b)).1 ∷ []) m
     (board_after m who x (command_given cmd) (Some b)).0
 unfolding answer_given
 did_board m who x cmd b there =
-    let run : List Transition = move who (asked.Board x cmd) (board_after m who x (command_given cmd) (Some b)).1 ∷ [] in
+    let run : List Transition = move who (events.Board x cmd) (board_after m who x (command_given cmd) (Some b)).1 ∷ [] in
     let within = slice_get_within m.boards x b there in
     let at : slice_index_or m.boards x b ≡ b = same_Some _ _ (sym (slice_get-get_or m.boards x b within) ∙ there) in
     let one : eqb x x ≡ true = eq-eqb x x refl in
@@ -55,31 +55,31 @@ did_board m who x cmd b there =
       boards = AllAt-set (λ k p q. IsObjectRun board_step (board_part k run) p q) m.boards x b _ within
           (rw at (rw one (counted_went board_step b who cmd)))
           (λ k p off. let none : eqb x k ≡ false = ne_eqb x k (λ same. off (sym same)) in rw none (went_nil board_step p));
-      bus = went_nil turn_step m.bus;
+      bus = went_nil arbiter_step m.bus;
     }
 
 -- a command to the arbiter is a run of one transition
 did_bus : (m : Machine) (who : ℕ) (cmd : ArbCmd)
-    → IsRun (move who (asked.Bus cmd) (bus_after m who cmd).1 ∷ []) m (bus_after m who cmd).0
+    → IsRun (move who (events.Bus cmd) (bus_after m who cmd).1 ∷ []) m (bus_after m who cmd).0
 did_bus m who cmd = record {
   fitting = All-cons (λ m. IsReplyTo m.event m.reply) _ [] tt (All-nil (λ m. IsReplyTo m.event m.reply));
   boards = AllAt-same (λ x b a. IsObjectRun board_step [] b a) m.boards (λ x b. went_nil board_step b);
-  bus = counted_went turn_step m.bus who cmd;
+  bus = counted_went arbiter_step m.bus who cmd;
 }
 
 -- a call of an event is a run of one transition
 pub did_call : (m : Machine) (who : ℕ) (event : Event) → IsThere m (target_of event)
     → IsRun (move who event (machine_step m who (call_of event)).1 ∷ []) m (machine_step m who (call_of event)).0
-did_call m who (asked.Board x cmd) there =
+did_call m who (events.Board x cmd) there =
     elim (slice_get_cases m.boards x).1 [
       | inl at ↦ rw at.2 (did_board m who x cmd at.0 at.2)
       | inr past ↦ absurd (omega (arith, past.0))
     ]
-did_call m who (asked.Bus cmd) there = did_bus m who cmd
+did_call m who (events.Bus cmd) there = did_bus m who cmd
 
 -- a board that took a command is stored in its place again
 pub board_applied : (m self : Machine) (event : Event) (who x : ℕ) (cmd : BoardCmd) (b new : CountedState Board) (reply : Reply) → m ≡ self
-    → event ≡ asked.Board x cmd → IsThere self (target_of event) → b ≡ slice_index_or m.boards x b
+    → event ≡ events.Board x cmd → IsThere self (target_of event) → b ≡ slice_index_or m.boards x b
     → (new, reply) ≡ counted_step board_step b who cmd
     → (record { boards = set m.boards x new; bus = m.bus }, replies.Board reply) ≡ machine_step self who (call_of event)
 unfolding answer_given

@@ -8,7 +8,7 @@ use Rattle.vme_object.specs.Each.{AllAt}
 use Rattle.vme_object.proofs.lemmas.Eachs.{AllAt-same, AllAt-trans}
 use Rattle.vme_memory.specs.Boards.{Board}
 use Rattle.vme_memory.specs.Locals.{board_step}
-use Rattle.vme_arbiter.specs.Arbitration.{Arbitration, turn_step}
+use Rattle.vme_arbiter.specs.Arbitration.{Arbitration, arbiter_step}
 use Rattle.vme_core.specs.declared.event.Event.{Event}
 use Rattle.vme_core.specs.declared.event.EventReply.{EventReply}
 use Rattle.vme_core.specs.CountedStates.{IsObjectRun, IsCountedReplay, fresh_count}
@@ -22,7 +22,7 @@ pub did_nil : (m : Machine) → IsRun [] m m
 did_nil m = record {
   fitting = All-nil (λ m. IsReplyTo m.event m.reply);
   boards = AllAt-same (λ x b a. IsObjectRun board_step [] b a) m.boards (λ x b. went_nil board_step b);
-  bus = went_nil turn_step m.bus;
+  bus = went_nil arbiter_step m.bus;
 }
 
 -- consecutive runs are one run
@@ -32,7 +32,7 @@ did_trans r s a b c first then = record {
   boards = AllAt-trans _ _ (λ x p q. IsObjectRun board_step (board_part x (r ++ s)) p q) a.boards b.boards c.boards
       (λ x p q z one two. rw (filter_map-append (λ m. board_entry x m.who m.event m.reply) r s) (went_trans board_step (board_part x r) (board_part x s) p q z one two))
       first.boards then.boards;
-  bus = rw (filter_map-append (λ m. bus_entry m.who m.event m.reply) r s) (went_trans turn_step (bus_part r) (bus_part s) a.bus b.bus c.bus first.bus then.bus);
+  bus = rw (filter_map-append (λ m. bus_entry m.who m.event m.reply) r s) (went_trans arbiter_step (bus_part r) (bus_part s) a.bus b.bus c.bus first.bus then.bus);
 }
 
 -- no event was performed yet

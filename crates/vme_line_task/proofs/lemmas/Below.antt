@@ -4,20 +4,20 @@ use Rattle.std.proofs.lemmas.List.{length-map}
 use Rattle.vme_cycle.specs.declared.fault.CycleFault.{CycleFault}
 use Rattle.vme_cycle.specs.declared.request.Request.TheVariants as requests
 use Rattle.vme_cycle.specs.Lawful.{Transfer, transfer_of}
-use Rattle.vme_core.specs.declared.event.Event.TheVariants as asked
+use Rattle.vme_core.specs.declared.event.Event.TheVariants as events
 use Rattle.vme_core.specs.declared.event.EventReply.{EventReply}
 use Rattle.vme_core.specs.Calls.{Call, OnBoard, OnBus, machine_step}
 use Rattle.vme_core.specs.NextSteps.{NextStep, NotStarted, Invokes, Returns, call_in}
 use Rattle.vme_core.specs.Runs.{Machine}
 use Rattle.vme_core.specs.Advances.{advanced_on, AdvancesOn}
-use Rattle.vme_core.proofs.lemmas.NextSteps.{map_makes}
+use Rattle.vme_core.proofs.lemmas.NextSteps.{in_makes, map_makes}
 use Rattle.vme_master.specs.declared.outcome.Outcome.{Outcome}
 use Rattle.vme_shared.specs.declared.outcome.SharedOutcome.{SharedOutcome}
 use Rattle.vme_shared.specs.declared.reply.LineReply.{LineReply}
 use Rattle.vme_shared.specs.declared.reply.LineReply.TheVariants as answers
 use Rattle.vme_master.specs.declared.job.Job.{Job}
 use Rattle.vme_master.specs.Jobs.{bus_job}
-use Rattle.vme_master.specs.Tables.{Given, next_of}
+use Rattle.vme_master.specs.Tables.{Inputs, next_of}
 use Rattle.vme_master.specs.Laws.{IsBelow}
 use Rattle.vme_master.proofs.lemmas.Locals.{bus_below, calls_below as job_calls_below}
 use Rattle.vme_shared.specs.declared.request.SharedRequest.{SharedRequest}
@@ -30,13 +30,13 @@ use Rattle.vme_grammar.specs.declared.line.Line.TheVariants as lines
 use Rattle.vme_script.specs.Boards.{entries_of}
 use Rattle.vme_script.specs.Configurations.{Configuration}
 use Rattle.vme_line_task.specs.declared.task.LineTask.{LineTask}
-use Rattle.vme_line_task.specs.declared.task.LineTask.TheVariants.{Refused, Running, Finished}
+use Rattle.vme_line_task.specs.declared.task.LineTask.TheVariants.{Refused, Running}
 use Rattle.vme_line_task.specs.declared.todo.LineTodo.{LineTodo}
 use Rattle.vme_line_task.specs.declared.todo.LineTodo.TheVariants as todos
 use Rattle.vme_line_task.specs.Scripts.{Attempt, Transferring, Awaiting, Sharing, slot_at, level_at, mailbox_at, transfer_job, request_attempt, unless_refused, shared_job, shared_attempt, line_attempt}
 use Rattle.vme_line_task.specs.Tables.{moves_next, await_reply, waits_next, shares_next, attempts_of, lawful_next, next_given}
-use Rattle.vme_line_task.specs.Machine.{line_started, line_advance, line_to_do, line_taken, attempt_to_do, attempts_taken, line_advanced, IsLineBelow}
-use Rattle.vme_line_task.specs.Events.{next_in, IsCallBelow, IsTodoBelow}
+use Rattle.vme_line_task.specs.Machine.{line_started, line_advance, line_to_do, line_advanced, IsLineBelow}
+use Rattle.vme_line_task.specs.Events.{call_of_todo, IsCallBelow, IsTodoBelow}
 use Rattle.vme_line_task.proofs.lemmas.Lines.{by_the_given}
 
 -- the boards of an attempt are among the first n
@@ -92,11 +92,11 @@ pub shares_makes : (next : NextStep SharedOutcome) (call : Call) → shares_next
 shares_makes next call made = map_makes answers.Shared next call made
 
 -- each board that a job calls is among the first n
-job_below : (n : ℕ) (job : Job) (given : Given) (call : Call) → IsBelow n job → next_of job given ≡ Invokes call → IsCallBelow n call
+job_below : (n : ℕ) (job : Job) (given : Inputs) (call : Call) → IsBelow n job → next_of job given ≡ Invokes call → IsCallBelow n call
 job_below n job given (OnBoard board command) below made = job_calls_below n job given board command below made
 job_below n job given (OnBus cmd) below made = tt
 
-lawful_below : (n tries : ℕ) (attempt : Result Attempt CycleFault) (given : Given) (call : Call) → IsAttemptBelow n attempt
+lawful_below : (n tries : ℕ) (attempt : Result Attempt CycleFault) (given : Inputs) (call : Call) → IsAttemptBelow n attempt
     → lawful_next tries attempt given ≡ Invokes call → IsCallBelow n call
 lawful_below n tries (Ok (Transferring job)) given call below made =
     let g = (attempts_of (Transferring job) tries given).given in
@@ -111,7 +111,7 @@ lawful_below n tries (Ok (Sharing s)) given (OnBus cmd) below made = tt
 lawful_below n tries (Err fault) given call below made = absurd cc
 
 -- each board that a line calls is one of the configuration
-pub next_below : (config : Configuration) (board : ℕ) (line : Line) (given : Given) (call : Call) → board < length config.boards
+pub next_below : (config : Configuration) (board : ℕ) (line : Line) (given : Inputs) (call : Call) → board < length config.boards
     → next_given config board line given ≡ Invokes call → IsCallBelow (length config.boards) call
 unfolding next_given
 next_below config board line given call there made =
@@ -125,7 +125,7 @@ started_below config board line there = λ given call made.
     next_below config board line given call there (sym (by_the_given config board line given) ∙ made)
 
 -- and stays so
-after_all : (task : LineTask) (last : Option EventReply) (given : Given)
+after_all : (task : LineTask) (last : Option EventReply) (given : Inputs)
     → line_advanced (line_advance task last) given ≡ line_advanced task (given ++ last ∷ [])
 after_all task last [] = refl
 after_all task last (next ∷ given) = ap (λ (t : LineTask). line_advance t next) (after_all task last given)
@@ -152,28 +152,10 @@ pub calls_below : (n : ℕ) (task : LineTask) (call : Call) → IsLineBelow n ta
 unfolding IsLineBelow
 calls_below n task call below next = below [] call next
 
--- what a line states as next goes to the arbiter or to one of the first n boards
-pub todo_below : (n : ℕ) (task : LineTask) (todo : LineTodo) → IsLineBelow n task → next_in todo ≡ line_to_do task → IsTodoBelow n todo
-todo_below n task (todos.Call (asked.Board board cmd)) below next = calls_below n task (OnBoard board _) below (sym next)
-todo_below n task (todos.Call (asked.Bus cmd)) below next = tt
-todo_below n task (todos.Ended answer) below next = tt
-
--- a line whose reply was taken stays finished
-over_given : (given : Given) → line_advanced Finished given ≡ Finished
-over_given [] = refl
-over_given (last ∷ before) = ap (λ (t : LineTask). line_advance t last) (over_given before)
-
-over_below : (n : ℕ) → IsLineBelow n Finished
-unfolding IsLineBelow
-over_below n = λ given call made. absurd (cc (sym (ap line_to_do (over_given given)) ∙ made))
-
--- a line whose reply was taken calls boards among the first n alone
-pub taken_below : (n : ℕ) (task : LineTask) → IsLineBelow n task → IsLineBelow n (line_taken task)
-taken_below n (Refused fault) below = below
-taken_below n (Running a) below = by_next (attempt_to_do a.attempt)
-  where
-    by_next : (next : NextStep LineReply) → IsLineBelow n (attempts_taken a next)
-    by_next NotStarted = below
-    by_next (Invokes call) = below
-    by_next (Returns answer) = over_below n
-taken_below n Finished below = below
+-- the event that a line states as next goes to the arbiter or to one of the first n boards
+pub todo_below : (n : ℕ) (task : LineTask) (todo : LineTodo) → IsLineBelow n task → call_of_todo todo ≡ call_in (line_to_do task)
+    → IsTodoBelow n todo
+todo_below n task (todos.Call (events.Board board cmd)) below next =
+    calls_below n task (OnBoard board _) below (in_makes (line_to_do task) (OnBoard board _) next)
+todo_below n task (todos.Call (events.Bus cmd)) below next = tt
+todo_below n task todos.Ended below next = tt

@@ -10,21 +10,11 @@ use Rattle.vme_master.specs.declared.outcome.Outcome.{Outcome}
 use Rattle.vme_master.specs.Machine.{TaskView, advance, to_do}
 use Rattle.vme_shared.specs.declared.reply.LineReply.{LineReply}
 use Rattle.vme_shared.specs.declared.reply.LineReply.TheVariants as answers
-use Rattle.vme_line_task.specs.declared.task.LineTask.TheVariants.{Running, Finished}
+use Rattle.vme_line_task.specs.declared.task.LineTask.TheVariants.{Running}
 use Rattle.vme_line_task.specs.declared.attempt.Attempts.{Attempts}
 use Rattle.vme_line_task.specs.declared.attempt.AttemptTask.TheVariants.{Transfer}
 use Rattle.vme_line_task.specs.Tables.{moves_next, next_wants_retry}
-use Rattle.vme_line_task.specs.Machine.{line_advance, line_to_do, line_taken, attempt_to_do, attempts_taken, attempts_advance, attempts_to_do}
-
--- attempts that have ended are finished once their reply is taken
-attempts_end : (a : Attempts) (next : NextStep LineReply) → is_some (result_in next) ≡ true → attempts_taken a next ≡ Finished
-attempts_end a NotStarted is = absurd cc
-attempts_end a (Invokes call) is = absurd cc
-attempts_end a (Returns answer) is = refl
-
--- a line whose attempts have ended is finished once its reply is taken
-pub is_taken : (a : Attempts) → is_some (result_in (attempt_to_do a.attempt)) ≡ true → Finished ≡ line_taken (Running a)
-is_taken a is = sym (attempts_end a (attempt_to_do a.attempt) is)
+use Rattle.vme_line_task.specs.Machine.{line_advance, line_to_do, attempts_advance, attempts_to_do}
 
 -- a transfer or a local command is attempted once
 moves_once : (next : NextStep Outcome) → next_wants_retry (moves_next next) ≡ false

@@ -12,16 +12,16 @@ use Rattle.vme_memory.specs.declared.reply.Reply.{Reply}
 use Rattle.vme_memory.specs.Steps.{Command}
 use Rattle.vme_arbiter.specs.declared.command.ArbCmd.{ArbCmd}
 use Rattle.vme_arbiter.specs.declared.command.ArbReply.{ArbReply}
-use Rattle.vme_arbiter.specs.declared.command.ArbReply.TheVariants as turned
+use Rattle.vme_arbiter.specs.declared.command.ArbReply.TheVariants as arb_replies
 use Rattle.vme_arbiter.specs.Requests.{is_level}
 use Rattle.vme_arbiter.specs.Arbitration.{Arbitration}
-use Rattle.vme_arbiter.specs.Turns.{may_give, StandsAsReplied}
+use Rattle.vme_arbiter.specs.Masters.{may_give, StandsAsReplied}
 use Rattle.vme_core.specs.declared.event.EventReply.{EventReply}
 use Rattle.vme_core.specs.declared.event.EventReply.TheVariants as event_replies
 use Rattle.vme_core.specs.Calls.{Call, OnBoard, OnBus}
 use Rattle.vme_core.specs.NextSteps.{NextStep, NotStarted, Invokes, Returns}
 use Rattle.vme_master.specs.Jobs.{local_job}
-use Rattle.vme_master.specs.Tables.{Given, next_of}
+use Rattle.vme_master.specs.Tables.{Inputs, next_of}
 use Rattle.vme_master.proofs.lemmas.Locals.{local_calls}
 use Rattle.vme_shared.specs.declared.reply.LineReply.{LineReply}
 use Rattle.vme_shared.specs.declared.reply.LineReply.TheVariants as replies
@@ -125,7 +125,7 @@ unfolding next_given
 line_first config board line answer ends = lawful_first config.tries (line_attempt config board line) answer ends
 
 -- the arbiter's last reply to an attempt allows each command to the arbiter
-lawful_turns : (slot level tries : ℕ) (attempt : Result Attempt CycleFault) (given : Given) (cmd : ArbCmd) → IsOwn slot level attempt
+lawful_turns : (slot level tries : ℕ) (attempt : Result Attempt CycleFault) (given : Inputs) (cmd : ArbCmd) → IsOwn slot level attempt
     → is_level level ≡ true → lawful_next tries attempt given ≡ Invokes (OnBus cmd) → may_give slot (lawful_reported tries attempt given) cmd ≡ true
 lawful_turns slot level tries (Ok a) given cmd own lawful made =
     attempt_turns slot level a (attempts_of a tries given).given cmd own lawful made
@@ -141,29 +141,29 @@ line_turns config board line replies cmd lawful made =
     (line_own config board line) lawful made
 
 -- data of a transfer go to a board only while the arbiter's last reply is `Granted`
-lawful_holds : (tries : ℕ) (a : Attempt) (given : Given) (b : ℕ) (command : Option Command) → IsTransfer a
-    → lawful_next tries (Ok a) given ≡ Invokes (OnBoard b command) → lawful_reported tries (Ok a) given ≡ Some turned.Granted
+lawful_holds : (tries : ℕ) (a : Attempt) (given : Inputs) (b : ℕ) (command : Option Command) → IsTransfer a
+    → lawful_next tries (Ok a) given ≡ Invokes (OnBoard b command) → lawful_reported tries (Ok a) given ≡ Some arb_replies.Granted
 lawful_holds tries a given b command transfer made = attempt_holds a (attempts_of a tries given).given b command transfer made
 
-request_holds : (tries : ℕ) (attempt : Transfer → Attempt) (transfer : Result Transfer CycleFault) (given : Given) (b : ℕ) (command : Option Command)
+request_holds : (tries : ℕ) (attempt : Transfer → Attempt) (transfer : Result Transfer CycleFault) (given : Inputs) (b : ℕ) (command : Option Command)
     → ((t : Transfer) → IsTransfer (attempt t)) → lawful_next tries (request_attempt attempt transfer) given ≡ Invokes (OnBoard b command)
-    → lawful_reported tries (request_attempt attempt transfer) given ≡ Some turned.Granted
+    → lawful_reported tries (request_attempt attempt transfer) given ≡ Some arb_replies.Granted
 request_holds tries attempt (Ok t) given b command each made = lawful_holds tries (attempt t) given b command (each t) made
 request_holds tries attempt (Err fault) given b command each made = absurd cc
 
-shared_holds : (config : Configuration) (board : ℕ) (request : SharedRequest) (given : Given) (b : ℕ) (command : Option Command)
+shared_holds : (config : Configuration) (board : ℕ) (request : SharedRequest) (given : Inputs) (b : ℕ) (command : Option Command)
     → lawful_next config.tries (shared_attempt config board request) given ≡ Invokes (OnBoard b command)
-    → lawful_reported config.tries (shared_attempt config board request) given ≡ Some turned.Granted
+    → lawful_reported config.tries (shared_attempt config board request) given ≡ Some arb_replies.Granted
 shared_holds config board request given b command made = by_refusal (shared_refusal request) made
   where
     by_refusal : (refusal : Option CycleFault)
         → lawful_next config.tries (unless_refused (Sharing (shared_job config board request)) refusal) given ≡ Invokes (OnBoard b command)
-        → lawful_reported config.tries (unless_refused (Sharing (shared_job config board request)) refusal) given ≡ Some turned.Granted
+        → lawful_reported config.tries (unless_refused (Sharing (shared_job config board request)) refusal) given ≡ Some arb_replies.Granted
     by_refusal None made = lawful_holds config.tries (Sharing (shared_job config board request)) given b command tt made
     by_refusal (Some fault) made = absurd cc
 
 -- the commands of a local port are its own
-own_local : (board b : ℕ) (cmd : BoardCmd) (g : Given) (command : Option Command) → IsOwnLine (lines.Local cmd)
+own_local : (board b : ℕ) (cmd : BoardCmd) (g : Inputs) (command : Option Command) → IsOwnLine (lines.Local cmd)
     → next_of (local_job board cmd) g ≡ Invokes (OnBoard b command) → IsLocal command
 own_local board b cmd g command own made =
     let one : OnBoard b command ≡ OnBoard board (command_given cmd) = local_calls (record { board = board; cmd = cmd }) g (OnBoard b command) made in
@@ -176,9 +176,9 @@ own_local board b cmd g command own made =
     by_command (given_cmd.LocalModify offset n f) own = tt
     by_command (given_cmd.Cycle signals at f) own = absurd own
 
-line_holds_by : (config : Configuration) (board : ℕ) (line : Line) (given : Given) (b : ℕ) (command : Option Command) → IsOwnLine line
+line_holds_by : (config : Configuration) (board : ℕ) (line : Line) (given : Inputs) (b : ℕ) (command : Option Command) → IsOwnLine line
     → lawful_next config.tries (line_attempt config board line) given ≡ Invokes (OnBoard b command)
-    → IsLocal command ⊎ (lawful_reported config.tries (line_attempt config board line) given ≡ Some turned.Granted)
+    → IsLocal command ⊎ (lawful_reported config.tries (line_attempt config board line) given ≡ Some arb_replies.Granted)
 line_holds_by config board (lines.Bus request) given b command own made =
     inr (request_holds config.tries (λ t. Transferring (transfer_job config board t)) (transfer_of request) given b command (λ t. tt) made)
 line_holds_by config board (lines.Local cmd) given b command own made =
@@ -199,12 +199,12 @@ line_holds_by config board (lines.Take box) given b command own made =
 -- a line's data are a local port's, or go to a board only while the arbiter's last reply is `Granted`
 pub line_holds : (config : Configuration) (board : ℕ) (line : Line) (replies : List EventReply) (b : ℕ) (command : Option Command)
     → IsOwnLine line → line_next config board line replies ≡ Invokes (OnBoard b command)
-    → IsLocal command ⊎ (line_reported config board line replies ≡ Some turned.Granted)
+    → IsLocal command ⊎ (line_reported config board line replies ≡ Some arb_replies.Granted)
 unfolding next_given line_reported
 line_holds config board line replies b command own made = line_holds_by config board line (given_of replies) b command own made
 
 -- an attempt after a good reply of the arbiter
-lawful_turn : (tries : ℕ) (attempt : Result Attempt CycleFault) (given : Given) (cmd : ArbCmd) (reply : ArbReply) (bus : Arbitration)
+lawful_turn : (tries : ℕ) (attempt : Result Attempt CycleFault) (given : Inputs) (cmd : ArbCmd) (reply : ArbReply) (bus : Arbitration)
     (slot : ℕ) → lawful_next tries attempt given ≡ Invokes (OnBus cmd) → IsGood (OnBus cmd) (event_replies.Bus reply) → StandsAsReplied bus slot (Some reply)
     → StandsAsReplied bus slot (lawful_reported tries attempt (Some (event_replies.Bus reply) ∷ given))
 lawful_turn tries (Err fault) given cmd reply bus slot made good stands = absurd cc
@@ -229,7 +229,7 @@ line_turn config board line replies cmd reply bus slot made good stands =
     lawful_turn config.tries (line_attempt config board line) (given_of replies) cmd reply bus slot made good stands
 
 -- an attempt after a good reply of a board
-lawful_datum : (tries : ℕ) (attempt : Result Attempt CycleFault) (given : Given) (call : Call) (reply : Reply)
+lawful_datum : (tries : ℕ) (attempt : Result Attempt CycleFault) (given : Inputs) (call : Call) (reply : Reply)
     → lawful_next tries attempt given ≡ Invokes call → IsGood call (event_replies.Board reply)
     → lawful_reported tries attempt (Some (event_replies.Board reply) ∷ given) ≡ lawful_reported tries attempt given
 lawful_datum tries (Err fault) given call reply made good = absurd cc
@@ -256,7 +256,7 @@ pub record IsWellEnded (answer : LineReply) (last : Option ArbReply) : Type 0 wh
   pub granted : IsGranted answer
   pub free : (bus : Arbitration) (slot : ℕ) → StandsAsReplied bus slot last → StandsAsReplied bus slot None
 
-lawful_ends : (tries : ℕ) (attempt : Result Attempt CycleFault) (given : Given) (call : Call) (reply : EventReply) (answer : LineReply)
+lawful_ends : (tries : ℕ) (attempt : Result Attempt CycleFault) (given : Inputs) (call : Call) (reply : EventReply) (answer : LineReply)
     → lawful_next tries attempt given ≡ Invokes call → IsGood call reply → lawful_next tries attempt (Some reply ∷ given) ≡ Returns answer
     → IsWellEnded answer (lawful_reported tries attempt (Some reply ∷ given))
 lawful_ends tries (Err fault) given call reply answer made good ends = absurd cc

@@ -7,7 +7,7 @@ use Rattle.vme_core.specs.declared.event.EventReply.{EventReply}
 use Rattle.vme_core.specs.NextSteps.{NextStep}
 use Rattle.vme_shared.specs.declared.reply.LineReply.{LineReply}
 use Rattle.vme_master.specs.declared.job.Job.{Job}
-use Rattle.vme_master.specs.Tables.{Given}
+use Rattle.vme_master.specs.Tables.{Inputs}
 use Rattle.vme_master.specs.Machine.{fresh_task, task_given}
 use Rattle.vme_master.proofs.lemmas.Stands.{by_the_table, given_job}
 use Rattle.vme_shared.specs.Tables.{SharedJob}
@@ -26,7 +26,7 @@ use Rattle.vme_line_task.specs.Tables.{moves_next, waits_next, shares_next, atte
 use Rattle.vme_line_task.specs.Machine.{attempt_fresh, attempt_anew, attempt_advance, attempt_to_do, attempts_again, attempts_advance, line_fresh, line_started, line_advance, line_to_do, line_advanced, line_given, line_after}
 
 -- the task of an attempt after all that it was given
-abbrev attempt_task : Attempt → Given → AttemptTask
+abbrev attempt_task : Attempt → Inputs → AttemptTask
 attempt_task (Transferring job) given = tries.Transfer (task_given job given)
 attempt_task (Awaiting job want) given = tries.Await (record { task = task_given job given; want = record { items = want } })
 attempt_task (Sharing s) given = tries.Shared (shared_given s given)
@@ -36,20 +36,20 @@ task_fresh (Transferring job) = refl
 task_fresh (Awaiting job want) = refl
 task_fresh (Sharing s) = refl
 
-task_advance : (a : Attempt) (given : Given) (last : Option EventReply)
+task_advance : (a : Attempt) (given : Inputs) (last : Option EventReply)
     → attempt_advance (attempt_task a given) last ≡ attempt_task a (last ∷ given)
 task_advance (Transferring job) given last = refl
 task_advance (Awaiting job want) given last = refl
 task_advance (Sharing s) given last = refl
 
-task_anew : (a : Attempt) (given : Given) → attempt_anew (attempt_task a given) ≡ attempt_task a []
+task_anew : (a : Attempt) (given : Inputs) → attempt_anew (attempt_task a given) ≡ attempt_task a []
 task_anew (Transferring job) given = ap (λ (one : Job). tries.Transfer (fresh_task one)) (given_job job given)
 task_anew (Awaiting job want) given =
     ap (λ (one : Job). tries.Await (record { task = fresh_task one; want = record { items = want } })) (given_job job given)
 task_anew (Sharing s) given = ap (λ (one : SharedJob). tries.Shared (shared_fresh one)) (shared_given_job s given)
 
 -- an attempt does what its table says
-task_next : (a : Attempt) (given : Given) → attempt_to_do (attempt_task a given) ≡ attempt_next a given
+task_next : (a : Attempt) (given : Inputs) → attempt_to_do (attempt_task a given) ≡ attempt_next a given
 task_next (Transferring job) given = ap moves_next (by_the_table job given)
 task_next (Awaiting job want) given = ap (waits_next want) (by_the_table job given)
 task_next (Sharing s) given = ap shares_next (by_the_steps s given)
@@ -68,7 +68,7 @@ same_again a made next =
     ]
 
 -- the attempts of machine and table agree after each reply
-same_attempts : (a : Attempt) (tries : ℕ) (given : Given) (last : Option EventReply)
+same_attempts : (a : Attempt) (tries : ℕ) (given : Inputs) (last : Option EventReply)
     → attempts_advance (tasks_of a (attempts_of a tries given)) last ≡ tasks_of a (attempts_of a tries (last ∷ given))
 same_attempts a tries given last =
     let made = attempts_of a tries given in
@@ -78,23 +78,23 @@ same_attempts a tries given last =
     ∙ ap (attempts_again (tasks_of a now)) (task_next a now.given) ∙ same_again a now (attempt_next a now.given)
 
 -- the machine's line, by its attempt
-attempts_given : (a : Attempt) (tries : ℕ) (given : Given)
+attempts_given : (a : Attempt) (tries : ℕ) (given : Inputs)
     → line_advanced (line_fresh tries (Ok a)) given ≡ Running (tasks_of a (attempts_of a tries given))
 attempts_given a tries [] = ap (λ (t : AttemptTask). Running (record { attempt = t; left = tries })) (task_fresh a)
 attempts_given a tries (last ∷ before) =
     ap (λ (t : LineTask). line_advance t last) (attempts_given a tries before) ∙ ap Running (same_attempts a tries before last)
 
-refused_given : (tries : ℕ) (fault : CycleFault) (given : Given) → line_advanced (line_fresh tries (Err fault)) given ≡ Refused fault
+refused_given : (tries : ℕ) (fault : CycleFault) (given : Inputs) → line_advanced (line_fresh tries (Err fault)) given ≡ Refused fault
 refused_given tries fault [] = refl
 refused_given tries fault (last ∷ before) = ap (λ (t : LineTask). line_advance t last) (refused_given tries fault before)
 
-by_attempt : (tries : ℕ) (attempt : Result Attempt CycleFault) (given : Given)
+by_attempt : (tries : ℕ) (attempt : Result Attempt CycleFault) (given : Inputs)
     → line_to_do (line_advanced (line_fresh tries attempt) given) ≡ lawful_next tries attempt given
 by_attempt tries (Ok a) given = ap line_to_do (attempts_given a tries given) ∙ task_next a (attempts_of a tries given).given
 by_attempt tries (Err fault) given = ap line_to_do (refused_given tries fault given)
 
 -- a line does next what the table says, by all that it was given
-pub by_the_given : (config : Configuration) (board : ℕ) (line : Line) (given : Given)
+pub by_the_given : (config : Configuration) (board : ℕ) (line : Line) (given : Inputs)
     → line_to_do (line_given config board line given) ≡ next_given config board line given
 unfolding line_started next_given
 by_the_given config board line given = by_attempt config.tries (line_attempt config board line) given
@@ -105,7 +105,7 @@ pub by_the_replies : (config : Configuration) (board : ℕ) (line : Line) (repli
 by_the_replies config board line replies = by_the_given config board line (given_of replies)
 
 -- a line does next what the table says after one reply more
-pub next_by_the_given : (config : Configuration) (board : ℕ) (line : Line) (before : Given) (t : LineTask) (last : Option EventReply)
+pub next_by_the_given : (config : Configuration) (board : ℕ) (line : Line) (before : Inputs) (t : LineTask) (last : Option EventReply)
     → t ≡ line_given config board line before → line_to_do (line_advance t last) ≡ next_given config board line (last ∷ before)
 next_by_the_given config board line before t last same =
     ap (λ (u : LineTask). line_to_do (line_advance u last)) same ∙ by_the_given config board line (last ∷ before)

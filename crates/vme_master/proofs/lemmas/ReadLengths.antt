@@ -1,6 +1,6 @@
 -- The buffer's capacity is enough for what is read, and each datum lies where its address is.
 use Rattle.std.proofs.Common.{◌≡◌, ℕ, zero, suc, ◌+◌, ◌*◌, ◌%◌, ◌<◌, ◌≤◌, true, List, ◌++◌, length, Option, Some, None, refl, arith, inl, inr, length-append}
-use Rattle.std.specs.Prelude.{◌==◌, nat_lt, unwrap_or}
+use Rattle.std.specs.Prelude.{nat_lt, unwrap_or}
 use Rattle.std.proofs.Math.Nat.{mul-le-mul_left}
 use Rattle.std.proofs.lemmas.Bool.{cases_Bool, ltb-true, eqb-true}
 use Rattle.vme_cycle.specs.declared.request.Request.{Request}
@@ -14,7 +14,7 @@ use Rattle.vme_master.specs.declared.job.Job.{Job}
 use Rattle.vme_master.specs.declared.job.Job.TheVariants.{Bus, Local}
 use Rattle.vme_master.specs.declared.phase.Phase.TheVariants.{Transferring}
 use Rattle.vme_master.specs.Jobs.{request_expected}
-use Rattle.vme_master.specs.Machine.{job_expected, expected_len, bytes_of, phase_at, datum_phase, phase_broken, phase_replied, IsPlaced, HasRead, IsEnough, IsSound, call_count, most_bytes, job_read_len}
+use Rattle.vme_master.specs.Machine.{job_expected, expected_len, bytes_of, phase_at, datum_phase, phase_broken, phase_replied, IsPlaced, HasRead, IsSound, call_count, most_bytes, job_read_len}
 
 -- one datum more of at most r bytes stays within n data
 pub one_more : (r i n : ℕ) → i < n → r * i + r ≤ r * n
@@ -122,23 +122,6 @@ buffer_after job i read reply less had more =
     let whole = all_bytes job in
     replied_buffer job i (read ++ bytes_of reply) reply less (omega (arith, all, split)) (omega (arith, all, next, whole))
 
--- the capacity stays enough at a datum
-datum_enough : (job : BusJob) (place : Option (ℕ × ℕ)) (i capacity : ℕ) → job_read_len (Bus job) ≤ capacity → IsEnough (Bus job) (datum_phase job place i) capacity
-datum_enough job None i capacity enough = enough
-datum_enough job (Some place) i capacity enough =
-    elim (cases_Bool (nat_lt i (count_of job.transfer.request))) [ inl less ↦ rw less enough | inr past ↦ rw past enough ]
-
--- the capacity stays enough at each call
-pub enough_at : (job : Job) (i capacity : ℕ) → job_read_len job ≤ capacity → IsEnough job (phase_at job i) capacity
-enough_at (Bus job) i capacity enough = datum_enough job job.place i capacity enough
-enough_at (Local job) i capacity enough = elim (cases_Bool (i == 0)) [ inl first ↦ rw first enough | inr past ↦ rw past tt ]
-
-enough_after : (job : Job) (i capacity : ℕ) (reply : Reply) → job_read_len job ≤ capacity → IsEnough job (phase_replied job i reply) capacity
-enough_after job i capacity (Bytes datum) enough = enough_at job (i + 1) capacity enough
-enough_after job i capacity Done enough = enough_at job (i + 1) capacity enough
-enough_after (Bus job) i capacity Berr enough = enough
-enough_after (Local job) i capacity Berr enough = tt
-
 -- a task is sound after a board's reply
 pub sound_after : (job : Job) (i capacity : ℕ) (read : List ℕ) (reply : Reply) → IsPlaced job → HasRead job (Transferring i) read
     → has_form (expected_len (job_expected job)) reply ≡ true → length (bytes_of reply) ≤ 8 → job_read_len job ≤ capacity
@@ -146,5 +129,5 @@ pub sound_after : (job : Job) (i capacity : ℕ) (read : List ℕ) (reply : Repl
 sound_after job i capacity read reply placed had form small enough = record {
   placed = placed;
   read = buffer_after job i read reply had.0 had.1 (replied_within job reply form small);
-  enough = enough_after job i capacity reply enough;
+  enough = enough;
 }

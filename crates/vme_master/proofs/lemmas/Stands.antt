@@ -8,7 +8,7 @@ use Rattle.vme_memory.specs.declared.reply.Reply.{Reply}
 use Rattle.vme_memory.specs.declared.reply.Reply.TheVariants.{Bytes, Done, Berr}
 use Rattle.vme_memory.specs.Data.{has_form}
 use Rattle.vme_arbiter.specs.declared.command.ArbReply.{ArbReply}
-use Rattle.vme_arbiter.specs.declared.command.ArbReply.TheVariants as turned
+use Rattle.vme_arbiter.specs.declared.command.ArbReply.TheVariants as arb_replies
 use Rattle.vme_core.specs.declared.event.EventReply.{EventReply}
 use Rattle.vme_core.specs.declared.event.EventReply.TheVariants as replies
 use Rattle.vme_core.specs.NextSteps.{Invokes, Returns}
@@ -20,18 +20,18 @@ use Rattle.vme_master.specs.declared.phase.Phase.{Phase}
 use Rattle.vme_master.specs.declared.phase.Phase.TheVariants.{New, Requesting, Polling, Transferring, Releasing, Finished, Denied}
 use Rattle.vme_master.specs.declared.outcome.Outcome.TheVariants as outcomes
 use Rattle.vme_master.specs.Jobs.{ask_call, look_call, done_call, datum_call, local_call, fits, request_expected, expected_outcome, error_outcome}
-use Rattle.vme_master.specs.Tables.{Given, data_in, bytes_in, datum_or_done, outcome_by, next_of}
+use Rattle.vme_master.specs.Tables.{Inputs, data_in, bytes_in, datum_or_done, outcome_by, next_of}
 use Rattle.vme_master.specs.Machine.{TaskView, job_expected, expected_len, end_outcome, datum_phase, phase_answered, phase_replied, bytes_of, task_after, task_given, job_next, to_do}
 use Rattle.vme_master.proofs.lemmas.Expected.{datum_len_wanted, local_len_wanted}
 
 -- no datum was answered yet
-record Idle (read : List ℕ) (given : Given) : Type 0 where
+record Idle (read : List ℕ) (given : Inputs) : Type 0 where
   none : data_in given ≡ 0
   empty : read ≡ []
   bytes : bytes_in given ≡ []
 
 -- the fields of a transfer fit what it was given
-abbrev BusFacts : BusJob → Phase → List ℕ → Given → Type 0
+abbrev BusFacts : BusJob → Phase → List ℕ → Inputs → Type 0
 BusFacts j New read g = (g ≡ []) × (read ≡ [])
 BusFacts j Requesting read g = (next_of (Bus j) g ≡ Invokes (ask_call j)) × Idle read g
 BusFacts j Polling read g = (next_of (Bus j) g ≡ Invokes (look_call j)) × Idle read g
@@ -43,14 +43,14 @@ BusFacts j (Finished berr) read g = next_of (Bus j) g ≡ Returns (end_outcome (
 BusFacts j Denied read g = next_of (Bus j) g ≡ Returns outcomes.Denied
 
 -- the fields of a local command fit what it was given
-abbrev LocalFacts : LocalJob → Phase → List ℕ → Given → Type 0
+abbrev LocalFacts : LocalJob → Phase → List ℕ → Inputs → Type 0
 LocalFacts j New read g = (g ≡ []) × (read ≡ [])
 LocalFacts j (Transferring i) read g = (next_of (Local j) g ≡ Invokes (local_call j)) × (i ≡ 0) × (read ≡ [])
 LocalFacts j (Finished berr) read g = next_of (Local j) g ≡ Returns (end_outcome (job_expected (Local j)) berr read)
 LocalFacts j Denied read g = next_of (Local j) g ≡ Returns outcomes.Denied
 LocalFacts j phase read g = ⊥
 
-abbrev Facts : Job → Phase → List ℕ → Given → Type 0
+abbrev Facts : Job → Phase → List ℕ → Inputs → Type 0
 Facts (Bus j) phase read g = BusFacts j phase read g
 Facts (Local j) phase read g = LocalFacts j phase read g
 
@@ -59,14 +59,14 @@ abbrev task : Job → Phase → List ℕ → TaskView
 task job phase read = record { job = job; phase = phase; read = read }
 
 -- what was given leads to datum i
-record LeadsOn (j : BusJob) (i : ℕ) (read : List ℕ) (g : Given) : Type 0 where
+record LeadsOn (j : BusJob) (i : ℕ) (read : List ℕ) (g : Inputs) : Type 0 where
   next : next_of (Bus j) g ≡ Invokes (datum_or_done j i)
   count : i ≡ data_in g
   bytes : read ≡ bytes_in g
   whole : (p : ℕ × ℕ) → outcome_by j (Some p) g ≡ expected_outcome (request_expected j.transfer.request) (bytes_in g)
 
 -- the phase at datum i fits if a board is selected
-leads_there : (j : BusJob) (p : ℕ × ℕ) (i : ℕ) (read : List ℕ) (g : Given) → j.place ≡ Some p → LeadsOn j i read g
+leads_there : (j : BusJob) (p : ℕ × ℕ) (i : ℕ) (read : List ℕ) (g : Inputs) → j.place ≡ Some p → LeadsOn j i read g
     → BusFacts j (datum_phase j (Some p) i) read g
 leads_there j p i read g placed leads =
     elim (cases_Bool (nat_lt i (count_of j.transfer.request))) [
@@ -82,7 +82,7 @@ leads_there j p i read g placed leads =
     ]
 
 -- the phase fits if no board is selected
-leads_nowhere : (j : BusJob) (i : ℕ) (read : List ℕ) (g : Given) → j.place ≡ None → read ≡ [] → LeadsOn j i read g
+leads_nowhere : (j : BusJob) (i : ℕ) (read : List ℕ) (g : Inputs) → j.place ≡ None → read ≡ [] → LeadsOn j i read g
     → BusFacts j (datum_phase j None i) read g
 leads_nowhere j i read g placed empty leads =
     let here : next_of (Bus j) g ≡ Invokes (done_call j) =
@@ -90,32 +90,32 @@ leads_nowhere j i read g placed empty leads =
     (here, rw (placed, empty) refl)
 
 -- the phase at datum i fits, with or without a board
-leads_on : (j : BusJob) (place : Option (ℕ × ℕ)) (i : ℕ) (read : List ℕ) (g : Given) → j.place ≡ place
+leads_on : (j : BusJob) (place : Option (ℕ × ℕ)) (i : ℕ) (read : List ℕ) (g : Inputs) → j.place ≡ place
     → (is_some place ≡ true) ⊎ (read ≡ []) → LeadsOn j i read g → BusFacts j (datum_phase j place i) read g
 leads_on j (Some p) i read g placed why leads = leads_there j p i read g placed leads
 leads_on j None i read g placed (inl some) leads = absurd cc
 leads_on j None i read g placed (inr empty) leads = leads_nowhere j i read g placed empty leads
 
 -- the phase after a grant fits
-granted : (j : BusJob) (read : List ℕ) (g : Given) → Idle read g
-    → next_of (Bus j) (Some (replies.Bus turned.Granted) ∷ g) ≡ Invokes (datum_or_done j 0)
-    → BusFacts j (datum_phase j j.place 0) read (Some (replies.Bus turned.Granted) ∷ g)
+granted : (j : BusJob) (read : List ℕ) (g : Inputs) → Idle read g
+    → next_of (Bus j) (Some (replies.Bus arb_replies.Granted) ∷ g) ≡ Invokes (datum_or_done j 0)
+    → BusFacts j (datum_phase j j.place 0) read (Some (replies.Bus arb_replies.Granted) ∷ g)
 granted j read g idle next =
-    leads_on j j.place 0 read (Some (replies.Bus turned.Granted) ∷ g) refl (inr idle.empty)
+    leads_on j j.place 0 read (Some (replies.Bus arb_replies.Granted) ∷ g) refl (inr idle.empty)
     (record { next = next; count = sym idle.none; bytes = idle.empty ∙ sym idle.bytes; whole = λ p. refl })
 
 -- the phase after the arbiter's reply to a request or a poll fits
-bus_reported : (j : BusJob) (read : List ℕ) (g : Given) (reply : ArbReply) → Idle read g
+bus_reported : (j : BusJob) (read : List ℕ) (g : Inputs) (reply : ArbReply) → Idle read g
     → ((next_of (Bus j) g ≡ Invokes (ask_call j)) ⊎ (next_of (Bus j) g ≡ Invokes (look_call j)))
     → BusFacts j (phase_answered (Bus j) reply) read (Some (replies.Bus reply) ∷ g)
-bus_reported j read g turned.Granted idle (inl asks) = granted j read g idle (rw asks refl)
-bus_reported j read g turned.Granted idle (inr looks) = granted j read g idle (rw looks refl)
-bus_reported j read g turned.Waiting idle (inl asks) = (rw asks refl, record { none = idle.none; empty = idle.empty; bytes = idle.bytes })
-bus_reported j read g turned.Waiting idle (inr looks) = (rw looks refl, record { none = idle.none; empty = idle.empty; bytes = idle.bytes })
-bus_reported j read g turned.Freed idle (inl asks) = rw asks refl
-bus_reported j read g turned.Freed idle (inr looks) = rw looks refl
-bus_reported j read g turned.Denied idle (inl asks) = rw asks refl
-bus_reported j read g turned.Denied idle (inr looks) = rw looks refl
+bus_reported j read g arb_replies.Granted idle (inl asks) = granted j read g idle (rw asks refl)
+bus_reported j read g arb_replies.Granted idle (inr looks) = granted j read g idle (rw looks refl)
+bus_reported j read g arb_replies.Waiting idle (inl asks) = (rw asks refl, record { none = idle.none; empty = idle.empty; bytes = idle.bytes })
+bus_reported j read g arb_replies.Waiting idle (inr looks) = (rw looks refl, record { none = idle.none; empty = idle.empty; bytes = idle.bytes })
+bus_reported j read g arb_replies.Freed idle (inl asks) = rw asks refl
+bus_reported j read g arb_replies.Freed idle (inr looks) = rw looks refl
+bus_reported j read g arb_replies.Denied idle (inl asks) = rw asks refl
+bus_reported j read g arb_replies.Denied idle (inr looks) = rw looks refl
 
 -- a board's reply fits a datum's call by its form alone
 datum_fits : (j : BusJob) (place : Option (ℕ × ℕ)) (i : ℕ) (reply : Reply) → is_some place ≡ true
@@ -130,13 +130,13 @@ datum_unreported j None i reply some = absurd cc
 datum_unreported j (Some p) i reply some = refl
 
 -- the phase after a bus error fits
-broken : (j : BusJob) (place : Option (ℕ × ℕ)) (i : ℕ) (read : List ℕ) (g : Given) → is_some place ≡ true → i ≡ data_in g
+broken : (j : BusJob) (place : Option (ℕ × ℕ)) (i : ℕ) (read : List ℕ) (g : Inputs) → is_some place ≡ true → i ≡ data_in g
     → read ≡ bytes_in g → error_outcome i read ≡ outcome_by j place (Some (replies.Board Berr) ∷ g)
 broken j None i read g some count bytes = absurd cc
 broken j (Some p) i read g some count bytes = rw (count, bytes) refl
 
 -- the phase after a board's reply that fits
-bus_replied : (j : BusJob) (i : ℕ) (read : List ℕ) (g : Given) (reply : Reply) → BusFacts j (Transferring i) read g
+bus_replied : (j : BusJob) (i : ℕ) (read : List ℕ) (g : Inputs) (reply : Reply) → BusFacts j (Transferring i) read g
     → has_form (expected_len (job_expected (Bus j))) reply ≡ true
     → BusFacts j (phase_replied (Bus j) i reply) (read ++ bytes_of reply) (Some (replies.Board reply) ∷ g)
 bus_replied j i read g (Bytes datum) facts form =
@@ -162,7 +162,7 @@ bus_replied j i read g Berr facts form =
     (rw (facts.0, fit) refl, broken j j.place i (read ++ []) g facts.1 facts.2 (append-nil read ∙ facts.3))
 
 -- the phase after any reply of a board
-bus_answered : (j : BusJob) (i : ℕ) (read : List ℕ) (g : Given) (reply : Reply) → BusFacts j (Transferring i) read g
+bus_answered : (j : BusJob) (i : ℕ) (read : List ℕ) (g : Inputs) (reply : Reply) → BusFacts j (Transferring i) read g
     → BusFacts j (task_after (task (Bus j) (Transferring i) read) (Transferring i) (Some (replies.Board reply))).phase
     (task_after (task (Bus j) (Transferring i) read) (Transferring i) (Some (replies.Board reply))).read (Some (replies.Board reply) ∷ g)
 bus_answered j i read g reply facts =
@@ -174,7 +174,7 @@ bus_answered j i read g reply facts =
     ]
 
 -- the fields of a transfer fit after one reply more
-bus_step : (j : BusJob) (phase : Phase) (read : List ℕ) (g : Given) (last : Option EventReply) → BusFacts j phase read g
+bus_step : (j : BusJob) (phase : Phase) (read : List ℕ) (g : Inputs) (last : Option EventReply) → BusFacts j phase read g
     → BusFacts j (task_after (task (Bus j) phase read) phase last).phase (task_after (task (Bus j) phase read) phase last).read (last ∷ g)
 bus_step j New read g None facts = (rw facts.0 refl, record { none = ap data_in facts.0; empty = facts.1; bytes = ap bytes_in facts.0 })
 bus_step j New read g (Some reply) facts = rw facts.0 refl
@@ -190,16 +190,16 @@ bus_step j (Transferring i) read g (Some (replies.Bus reply)) facts =
     rw (facts.0, unfit) refl
 bus_step j (Transferring i) read g (Some (replies.Board reply)) facts = bus_answered j i read g reply facts
 bus_step j (Releasing berr) read g None facts = rw facts.0 refl
-bus_step j (Releasing berr) read g (Some (replies.Bus turned.Freed)) facts = rw facts.0 (ap Returns (sym facts.1))
-bus_step j (Releasing berr) read g (Some (replies.Bus turned.Granted)) facts = rw facts.0 refl
-bus_step j (Releasing berr) read g (Some (replies.Bus turned.Waiting)) facts = rw facts.0 refl
-bus_step j (Releasing berr) read g (Some (replies.Bus turned.Denied)) facts = rw facts.0 refl
+bus_step j (Releasing berr) read g (Some (replies.Bus arb_replies.Freed)) facts = rw facts.0 (ap Returns (sym facts.1))
+bus_step j (Releasing berr) read g (Some (replies.Bus arb_replies.Granted)) facts = rw facts.0 refl
+bus_step j (Releasing berr) read g (Some (replies.Bus arb_replies.Waiting)) facts = rw facts.0 refl
+bus_step j (Releasing berr) read g (Some (replies.Bus arb_replies.Denied)) facts = rw facts.0 refl
 bus_step j (Releasing berr) read g (Some (replies.Board reply)) facts = rw facts.0 refl
 bus_step j (Finished berr) read g last facts = rw facts refl
 bus_step j Denied read g last facts = rw facts refl
 
 -- the fields of a local command fit after a board's reply of the expected form
-local_replied : (j : LocalJob) (read : List ℕ) (g : Given) (reply : Reply) → LocalFacts j (Transferring 0) read g
+local_replied : (j : LocalJob) (read : List ℕ) (g : Inputs) (reply : Reply) → LocalFacts j (Transferring 0) read g
     → has_form (expected_len (job_expected (Local j))) reply ≡ true
     → LocalFacts j (phase_replied (Local j) 0 reply) (read ++ bytes_of reply) (Some (replies.Board reply) ∷ g)
 local_replied j read g (Bytes datum) facts form =
@@ -210,7 +210,7 @@ local_replied j read g Done facts form =
     rw (facts.0, fit) (ap (λ bytes. Returns (expected_outcome (job_expected (Local j)) (bytes ++ []))) (sym facts.2))
 local_replied j read g Berr facts form = rw facts.0 (ap (λ bytes. Returns (error_outcome 0 (bytes ++ []))) (sym facts.2))
 
-local_answered : (j : LocalJob) (read : List ℕ) (g : Given) (reply : Reply) → LocalFacts j (Transferring 0) read g
+local_answered : (j : LocalJob) (read : List ℕ) (g : Inputs) (reply : Reply) → LocalFacts j (Transferring 0) read g
     → LocalFacts j (task_after (task (Local j) (Transferring 0) read) (Transferring 0) (Some (replies.Board reply))).phase
     (task_after (task (Local j) (Transferring 0) read) (Transferring 0) (Some (replies.Board reply))).read (Some (replies.Board reply) ∷ g)
 local_answered j read g reply facts =
@@ -222,7 +222,7 @@ local_answered j read g reply facts =
     ]
 
 -- the fields of a local command fit after one reply more
-local_step : (j : LocalJob) (phase : Phase) (read : List ℕ) (g : Given) (last : Option EventReply) → LocalFacts j phase read g
+local_step : (j : LocalJob) (phase : Phase) (read : List ℕ) (g : Inputs) (last : Option EventReply) → LocalFacts j phase read g
     → LocalFacts j (task_after (task (Local j) phase read) phase last).phase (task_after (task (Local j) phase read) phase last).read (last ∷ g)
 local_step j New read g None facts = (rw facts.0 refl, refl, facts.1)
 local_step j New read g (Some reply) facts = rw facts.0 refl
@@ -241,17 +241,17 @@ job_stays t Requesting (Some (replies.Bus reply)) = refl
 job_stays t Polling (Some (replies.Bus reply)) = refl
 job_stays t (Transferring i) (Some (replies.Board reply)) =
     elim (cases_Bool (has_form (expected_len (job_expected t.job)) reply)) [ inl form ↦ rw form refl | inr misfit ↦ rw misfit refl ]
-job_stays t (Releasing berr) (Some (replies.Bus turned.Freed)) = refl
+job_stays t (Releasing berr) (Some (replies.Bus arb_replies.Freed)) = refl
 job_stays t (Finished berr) last = refl
 job_stays t phase last = refl
 
 -- a task keeps its job after any replies
-pub given_job : (job : Job) (g : Given) → (task_given job g).job ≡ job
+pub given_job : (job : Job) (g : Inputs) → (task_given job g).job ≡ job
 given_job job [] = refl
 given_job job (last ∷ g) = job_stays (task_given job g) (task_given job g).phase last ∙ given_job job g
 
 -- the fields of a job fit after one reply more
-step_facts : (job : Job) (phase : Phase) (read : List ℕ) (g : Given) (last : Option EventReply) → Facts job phase read g
+step_facts : (job : Job) (phase : Phase) (read : List ℕ) (g : Inputs) (last : Option EventReply) → Facts job phase read g
     → Facts job (task_after (task job phase read) phase last).phase (task_after (task job phase read) phase last).read (last ∷ g)
 step_facts (Bus j) phase read g last facts = bus_step j phase read g last facts
 step_facts (Local j) phase read g last facts = local_step j phase read g last facts
@@ -262,7 +262,7 @@ fresh_facts (Bus j) = (refl, refl)
 fresh_facts (Local j) = (refl, refl)
 
 -- the fields fit after any replies
-given_facts : (job : Job) (g : Given) → Facts job (task_given job g).phase (task_given job g).read g
+given_facts : (job : Job) (g : Inputs) → Facts job (task_given job g).phase (task_given job g).read g
 given_facts job [] = fresh_facts job
 given_facts job (last ∷ g) =
     let t = task_given job g in
@@ -271,7 +271,7 @@ given_facts job (last ∷ g) =
     rw same at facts
 
 -- fields that fit give what the table says
-facts_next : (job : Job) (phase : Phase) (read : List ℕ) (g : Given) → Facts job phase read g → job_next job phase read ≡ next_of job g
+facts_next : (job : Job) (phase : Phase) (read : List ℕ) (g : Inputs) → Facts job phase read g → job_next job phase read ≡ next_of job g
 facts_next (Bus j) New read g facts = rw facts.0 refl
 facts_next (Bus j) Requesting read g facts = sym facts.0
 facts_next (Bus j) Polling read g facts = sym facts.0
@@ -286,12 +286,12 @@ facts_next (Local j) Denied read g facts = sym facts
 facts_next (Local j) phase read g facts = absurd facts
 
 -- a task does next what the table says
-pub by_the_table : (job : Job) (g : Given) → to_do (task_given job g) ≡ next_of job g
+pub by_the_table : (job : Job) (g : Inputs) → to_do (task_given job g) ≡ next_of job g
 by_the_table job g =
     let t = task_given job g in
     ap (λ (one : Job). job_next one t.phase t.read) (given_job job g) ∙ facts_next job t.phase t.read g (given_facts job g)
 
 -- a task does next what the table says after one reply more
-pub next_by_the_table : (job : Job) (g : Given) (t : TaskView) (last : Option EventReply) → t ≡ task_given job g
+pub next_by_the_table : (job : Job) (g : Inputs) (t : TaskView) (last : Option EventReply) → t ≡ task_given job g
     → to_do (task_after t t.phase last) ≡ next_of job (last ∷ g)
 next_by_the_table job g t last same = ap (λ (u : TaskView). to_do (task_after u u.phase last)) same ∙ by_the_table job (last ∷ g)

@@ -7,7 +7,7 @@ use Rattle.vme_master.specs.declared.expected.ExpectedReply.TheVariants as expec
 use Rattle.vme_master.specs.declared.job.BusJob.{BusJob}
 use Rattle.vme_master.specs.declared.outcome.Outcome.TheVariants as outcomes
 use Rattle.vme_master.specs.Jobs.{expected_outcome}
-use Rattle.vme_master.specs.Tables.{Given, outcome_by}
+use Rattle.vme_master.specs.Tables.{Inputs, outcome_by}
 
 -- bytes that a datum wants end no transfer as denied
 pub expected_granted : (expected : ExpectedReply) (bytes : List ℕ) → expected_outcome expected bytes ≢ outcomes.Denied
@@ -16,7 +16,7 @@ expected_granted (expected_replies.Modify n) bytes = λ same. absurd cc
 expected_granted expected_replies.Write bytes = λ same. absurd cc
 
 -- and neither does what comes of a transfer's last reply
-pub outcome_granted : (j : BusJob) (place : Option (ℕ × ℕ)) (g : Given) → outcome_by j place g ≢ outcomes.Denied
+pub outcome_granted : (j : BusJob) (place : Option (ℕ × ℕ)) (g : Inputs) → outcome_by j place g ≢ outcomes.Denied
 outcome_granted j None g = λ same. absurd cc
 outcome_granted j (Some place) [] = expected_granted _ _
 outcome_granted j (Some place) (None ∷ before) = expected_granted _ _

@@ -10,10 +10,10 @@ use Rattle.vme_memory.specs.declared.reply.Reply.{Reply}
 use Rattle.vme_memory.specs.Steps.{Command}
 use Rattle.vme_arbiter.specs.declared.command.ArbCmd.{ArbCmd}
 use Rattle.vme_arbiter.specs.declared.command.ArbReply.{ArbReply}
-use Rattle.vme_arbiter.specs.declared.command.ArbReply.TheVariants as turned
+use Rattle.vme_arbiter.specs.declared.command.ArbReply.TheVariants as arb_replies
 use Rattle.vme_arbiter.specs.Requests.{is_level}
 use Rattle.vme_arbiter.specs.Arbitration.{Arbitration}
-use Rattle.vme_arbiter.specs.Turns.{may_give, StandsAsReplied}
+use Rattle.vme_arbiter.specs.Masters.{may_give, StandsAsReplied}
 use Rattle.vme_core.specs.declared.event.EventReply.{EventReply}
 use Rattle.vme_core.specs.declared.event.EventReply.TheVariants as replies
 use Rattle.vme_core.specs.Calls.{Call, OnBoard, OnBus}
@@ -25,8 +25,8 @@ use Rattle.vme_master.specs.declared.job.Job.TheVariants.{Bus}
 use Rattle.vme_master.specs.declared.outcome.Outcome.{Outcome}
 use Rattle.vme_master.specs.declared.outcome.Outcome.TheVariants as outcomes
 use Rattle.vme_master.specs.Jobs.{bus_job, fits, request_expected}
-use Rattle.vme_master.specs.Tables.{Given, next_of}
-use Rattle.vme_master.specs.Laws.{last_turn, IsBelow}
+use Rattle.vme_master.specs.Tables.{Inputs, next_of}
+use Rattle.vme_master.specs.Laws.{last_arb_reply, IsBelow}
 use Rattle.vme_master.proofs.lemmas.Tenures as transfers
 use Rattle.vme_master.proofs.lemmas.Locals as locals
 use Rattle.vme_shared.specs.declared.mailbox.Mailbox.{Mailbox}
@@ -36,8 +36,8 @@ use Rattle.vme_shared.specs.declared.request.SharedRequest.{SharedRequest}
 use Rattle.vme_shared.specs.declared.request.SharedRequest.TheVariants.{Lock, Unlock, Put, Take}
 use Rattle.vme_shared.specs.declared.stage.Stage.{Stage}
 use Rattle.vme_shared.specs.declared.stage.Stage.TheVariants as stages
-use Rattle.vme_shared.specs.declared.stage.Step.{Step}
-use Rattle.vme_shared.specs.declared.stage.Step.TheVariants.{Continue, Finish}
+use Rattle.vme_shared.specs.declared.stage.StageResult.{StageResult}
+use Rattle.vme_shared.specs.declared.stage.StageResult.TheVariants.{Continue, Finish}
 use Rattle.vme_shared.specs.Mailboxes.{mailbox_request, stage_request}
 use Rattle.vme_shared.specs.Steps.{first_stage, step_after}
 use Rattle.vme_shared.specs.Tables.{SharedJob, Progress, At, Over, transfer_job, stage_job, stage_begun, step_begun, progress_by, progress_given, progress_of, task_shown, next_at, shared_next, reported_at, shared_reported}
@@ -45,7 +45,7 @@ use Rattle.vme_shared.proofs.Transfers.{IsFormed, good_end, ends_formed}
 use Rattle.vme_shared.proofs.Steps.{IsSound, IsGood, GoesSound, first_sound, step_goes, step_good}
 
 -- a stage at work has its own bus job, which has not ended
-record AtWork (s : SharedJob) (stage : Stage) (job : Job) (given : Given) : Type 0 where
+record AtWork (s : SharedJob) (stage : Stage) (job : Job) (given : Inputs) : Type 0 where
   own : stage_job s stage ≡ Ok job
   sound : IsSound stage
   going : (outcome : Outcome) → next_of job given ≢ Returns outcome
@@ -64,11 +64,11 @@ called_standing : (s : SharedJob) (stage : Stage) (job : Result Job CycleFault) 
 called_standing s stage (Ok job) own sound = record { own = own; sound = sound; going = λ outcome ends. absurd cc }
 called_standing s stage (Err fault) own sound = tt
 
-step_standing : (s : SharedJob) (step : Step) → GoesSound step → Standing s (step_begun s step)
+step_standing : (s : SharedJob) (step : StageResult) → GoesSound step → Standing s (step_begun s step)
 step_standing s (Continue stage) sound = called_standing s stage (stage_job s stage) refl sound
 step_standing s (Finish end) sound = tt
 
-by_standing : (s : SharedJob) (stage : Stage) (job : Job) (given : Given) (next : NextStep Outcome) → next_of job given ≡ next
+by_standing : (s : SharedJob) (stage : Stage) (job : Job) (given : Inputs) (next : NextStep Outcome) → next_of job given ≡ next
     → stage_job s stage ≡ Ok job → IsSound stage → Standing s (progress_by s stage job given next)
 by_standing s stage job given NotStarted is own sound =
     record { own = own; sound = sound; going = λ outcome ends. let same : NotStarted ≡ Returns outcome = sym is ∙ ends in absurd cc }
@@ -85,7 +85,7 @@ given_standing s (At stage job given) last at =
     by_standing s stage job (last ∷ given) (next_of job (last ∷ given)) refl at.own at.sound
 given_standing s (Over end) last at = tt
 
-standing : (s : SharedJob) (g : Given) → Standing s (progress_of s g)
+standing : (s : SharedJob) (g : Inputs) → Standing s (progress_of s g)
 standing s [] = fresh_standing s (first_stage s.request) (stage_job s (first_stage s.request)) refl (first_sound s.request)
 standing s (last ∷ g) = given_standing s (progress_of s g) last (standing s g)
 
@@ -144,18 +144,18 @@ turns_at s (At stage job given) cmd at lawful made =
     let own = own_task s stage job at.own in
     let task : next_of (Bus own.bus) given ≡ Invokes (OnBus cmd) =
     subst (λ (one : Job). next_of one given ≡ Invokes (OnBus cmd)) own.is (shown_makes (next_of job given) (OnBus cmd) made) in
-    subst (λ (slot : ℕ). may_give slot (last_turn given) cmd ≡ true) own.slot
+    subst (λ (slot : ℕ). may_give slot (last_arb_reply given) cmd ≡ true) own.slot
     (transfers.turns_go_by own.bus given cmd (ap is_level own.level ∙ lawful) task)
 turns_at s (Over end) cmd at lawful made = absurd cc
 
 -- the arbiter's last reply allows each command to the arbiter
-pub turns_go_by : (s : SharedJob) (g : Given) (cmd : ArbCmd) → is_level s.level ≡ true → shared_next s g ≡ Invokes (OnBus cmd)
+pub turns_go_by : (s : SharedJob) (g : Inputs) (cmd : ArbCmd) → is_level s.level ≡ true → shared_next s g ≡ Invokes (OnBus cmd)
     → may_give s.slot (shared_reported s g) cmd ≡ true
 turns_go_by s g cmd lawful made = turns_at s (progress_of s g) cmd (standing s g) lawful made
 
 -- at each progress data go to a board only while the arbiter's last reply is `Granted`
 holds_at : (s : SharedJob) (p : Progress) (board : ℕ) (command : Option Command) → Standing s p
-    → next_at p ≡ Invokes (OnBoard board command) → reported_at p ≡ Some turned.Granted
+    → next_at p ≡ Invokes (OnBoard board command) → reported_at p ≡ Some arb_replies.Granted
 holds_at s (At stage job given) board command at made =
     let own = own_task s stage job at.own in
     transfers.holds_for_data own.bus given board command
@@ -164,8 +164,8 @@ holds_at s (At stage job given) board command at made =
 holds_at s (Over end) board command at made = absurd cc
 
 -- data go to a board only while the arbiter's last reply is `Granted`
-pub holds_for_data : (s : SharedJob) (g : Given) (board : ℕ) (command : Option Command)
-    → shared_next s g ≡ Invokes (OnBoard board command) → shared_reported s g ≡ Some turned.Granted
+pub holds_for_data : (s : SharedJob) (g : Inputs) (board : ℕ) (command : Option Command)
+    → shared_next s g ≡ Invokes (OnBoard board command) → shared_reported s g ≡ Some arb_replies.Granted
 holds_for_data s g board command made = holds_at s (progress_of s g) board command (standing s g) made
 
 -- at each progress the board that is called is one of the map
@@ -179,7 +179,7 @@ below_at s (At stage job given) board command at made =
 below_at s (Over end) board command at made = absurd cc
 
 -- each board that is called is one of the map
-pub calls_below : (s : SharedJob) (g : Given) (board : ℕ) (command : Option Command)
+pub calls_below : (s : SharedJob) (g : Inputs) (board : ℕ) (command : Option Command)
     → shared_next s g ≡ Invokes (OnBoard board command) → board < length s.map
 calls_below s g board command made = below_at s (progress_of s g) board command (standing s g) made
 
@@ -198,17 +198,17 @@ called_reported : (stage : Stage) (job : Result Job CycleFault) → reported_at 
 called_reported stage (Ok job) = refl
 called_reported stage (Err fault) = refl
 
-step_reported : (s : SharedJob) (step : Step) → reported_at (step_begun s step) ≡ None
+step_reported : (s : SharedJob) (step : StageResult) → reported_at (step_begun s step) ≡ None
 step_reported s (Continue stage) = called_reported stage (stage_job s stage)
 step_reported s (Finish end) = refl
 
 -- a transfer that ends with a good reply: the bus is free, and what follows is good
 record EndsWell (s : SharedJob) (stage : Stage) (reply : EventReply) (outcome : Outcome) : Type 0 where
-  freed : reply ≡ replies.Bus turned.Freed
+  freed : reply ≡ replies.Bus arb_replies.Freed
   good : IsGood (step_after s.request stage outcome)
 
-task_ends : (s : SharedJob) (stage : Stage) (job : Job) (given : Given) (call : Call) (reply : EventReply) (outcome : Outcome)
-    → AtWork s stage job given → next_of job given ≡ Invokes call → fits call reply ≡ true → reply ≢ replies.Bus turned.Denied
+task_ends : (s : SharedJob) (stage : Stage) (job : Job) (given : Inputs) (call : Call) (reply : EventReply) (outcome : Outcome)
+    → AtWork s stage job given → next_of job given ≡ Invokes call → fits call reply ≡ true → reply ≢ replies.Bus arb_replies.Denied
     → next_of job (Some reply ∷ given) ≡ Returns outcome → EndsWell s stage reply outcome
 task_ends s stage job given call reply outcome at made fit good ends =
     let own = own_task s stage job at.own in
@@ -226,18 +226,18 @@ task_ends s stage job given call reply outcome at made fit good ends =
     }
 
 -- after a good reply of the arbiter the slot stands as it states, or the transfer has ended and the slot is free
-turn_by : (s : SharedJob) (stage : Stage) (job : Job) (given : Given) (reply : ArbReply) (bus : Arbitration) (slot : ℕ) (next : NextStep Outcome)
-    → ((outcome : Outcome) → next ≡ Returns outcome → replies.Bus reply ≡ replies.Bus turned.Freed) → StandsAsReplied bus slot (Some reply)
+turn_by : (s : SharedJob) (stage : Stage) (job : Job) (given : Inputs) (reply : ArbReply) (bus : Arbitration) (slot : ℕ) (next : NextStep Outcome)
+    → ((outcome : Outcome) → next ≡ Returns outcome → replies.Bus reply ≡ replies.Bus arb_replies.Freed) → StandsAsReplied bus slot (Some reply)
     → StandsAsReplied bus slot (reported_at (progress_by s stage job (Some (replies.Bus reply) ∷ given) next))
 turn_by s stage job given reply bus slot NotStarted freed stands = stands
 turn_by s stage job given reply bus slot (Invokes call) freed stands = stands
 turn_by s stage job given reply bus slot (Returns outcome) freed stands =
-    let free : reply ≡ turned.Freed = let one = freed outcome refl in cc in
+    let free : reply ≡ arb_replies.Freed = let one = freed outcome refl in cc in
     subst (StandsAsReplied bus slot) (sym (step_reported s (step_after s.request stage outcome)))
     (subst (λ (r : ArbReply). StandsAsReplied bus slot (Some r)) free stands)
 
 turn_at : (s : SharedJob) (p : Progress) (cmd : ArbCmd) (reply : ArbReply) (bus : Arbitration) (slot : ℕ) → Standing s p
-    → next_at p ≡ Invokes (OnBus cmd) → fits (OnBus cmd) (replies.Bus reply) ≡ true → replies.Bus reply ≢ replies.Bus turned.Denied
+    → next_at p ≡ Invokes (OnBus cmd) → fits (OnBus cmd) (replies.Bus reply) ≡ true → replies.Bus reply ≢ replies.Bus arb_replies.Denied
     → StandsAsReplied bus slot (Some reply) → StandsAsReplied bus slot (reported_at (progress_given s (Some (replies.Bus reply)) p))
 turn_at s (At stage job given) cmd reply bus slot at made fit good stands =
     turn_by s stage job given reply bus slot (next_of job (Some (replies.Bus reply) ∷ given))
@@ -248,15 +248,15 @@ turn_at s (At stage job given) cmd reply bus slot at made fit good stands =
 turn_at s (Over end) cmd reply bus slot at made fit good stands = absurd cc
 
 -- after a good reply of the arbiter the slot stands as the last reply states
-pub turn_reported : (s : SharedJob) (g : Given) (cmd : ArbCmd) (reply : ArbReply) (bus : Arbitration) (slot : ℕ)
-    → shared_next s g ≡ Invokes (OnBus cmd) → fits (OnBus cmd) (replies.Bus reply) ≡ true → replies.Bus reply ≢ replies.Bus turned.Denied
+pub turn_reported : (s : SharedJob) (g : Inputs) (cmd : ArbCmd) (reply : ArbReply) (bus : Arbitration) (slot : ℕ)
+    → shared_next s g ≡ Invokes (OnBus cmd) → fits (OnBus cmd) (replies.Bus reply) ≡ true → replies.Bus reply ≢ replies.Bus arb_replies.Denied
     → StandsAsReplied bus slot (Some reply) → StandsAsReplied bus slot (shared_reported s (Some (replies.Bus reply) ∷ g))
 turn_reported s g cmd reply bus slot made fit good stands = turn_at s (progress_of s g) cmd reply bus slot (standing s g) made fit good stands
 
 -- a good reply of a board leaves the arbiter's last reply the same, at each stage
-datum_by : (s : SharedJob) (stage : Stage) (job : Job) (given : Given) (reply : Reply) (next : NextStep Outcome)
-    → ((outcome : Outcome) → next ≡ Returns outcome → replies.Board reply ≡ replies.Bus turned.Freed)
-    → reported_at (progress_by s stage job (Some (replies.Board reply) ∷ given) next) ≡ last_turn given
+datum_by : (s : SharedJob) (stage : Stage) (job : Job) (given : Inputs) (reply : Reply) (next : NextStep Outcome)
+    → ((outcome : Outcome) → next ≡ Returns outcome → replies.Board reply ≡ replies.Bus arb_replies.Freed)
+    → reported_at (progress_by s stage job (Some (replies.Board reply) ∷ given) next) ≡ last_arb_reply given
 datum_by s stage job given reply NotStarted freed = refl
 datum_by s stage job given reply (Invokes call) freed = refl
 datum_by s stage job given reply (Returns outcome) freed = let one = freed outcome refl in absurd cc
@@ -271,14 +271,14 @@ datum_at s (At stage job given) call reply at made fit =
 datum_at s (Over end) call reply at made fit = absurd cc
 
 -- a board's reply that fits leaves the arbiter's last reply the same
-pub datum_reported : (s : SharedJob) (g : Given) (call : Call) (reply : Reply) → shared_next s g ≡ Invokes call
+pub datum_reported : (s : SharedJob) (g : Inputs) (call : Call) (reply : Reply) → shared_next s g ≡ Invokes call
     → fits call (replies.Board reply) ≡ true → shared_reported s (Some (replies.Board reply) ∷ g) ≡ shared_reported s g
 datum_reported s g call reply made fit = datum_at s (progress_of s g) call reply (standing s g) made fit
 
 -- an end after a good reply: it is no denial, the bus is free, and no reply of the arbiter is left
 pub record GoodEnd (reply : EventReply) (end : SharedOutcome) (last : Option ArbReply) : Type 0 where
   pub granted : end ≢ shared.Denied
-  pub freed : reply ≡ replies.Bus turned.Freed
+  pub freed : reply ≡ replies.Bus arb_replies.Freed
   pub nothing : last ≡ None
 
 called_ends : (stage : Stage) (job : Result Job CycleFault) (end : SharedOutcome) → next_at (stage_begun stage (None ∷ []) job) ≡ Returns end
@@ -286,12 +286,12 @@ called_ends : (stage : Stage) (job : Result Job CycleFault) (end : SharedOutcome
 called_ends stage (Ok job) end ends = absurd cc
 called_ends stage (Err fault) end ends = cc
 
-step_ends : (s : SharedJob) (step : Step) (end : SharedOutcome) → IsGood step → next_at (step_begun s step) ≡ Returns end
+step_ends : (s : SharedJob) (step : StageResult) (end : SharedOutcome) → IsGood step → next_at (step_begun s step) ≡ Returns end
     → end ≢ shared.Denied
 step_ends s (Continue stage) end good ends = λ denied. let berr = called_ends stage (stage_job s stage) end ends in absurd cc
 step_ends s (Finish stop) end good ends = λ denied. let same : stop ≡ end = cc in good (same ∙ denied)
 
-ends_by : (s : SharedJob) (stage : Stage) (job : Job) (given : Given) (reply : EventReply) (end : SharedOutcome) (next : NextStep Outcome)
+ends_by : (s : SharedJob) (stage : Stage) (job : Job) (given : Inputs) (reply : EventReply) (end : SharedOutcome) (next : NextStep Outcome)
     → next_of job (Some reply ∷ given) ≡ next → ((outcome : Outcome) → next ≡ Returns outcome → EndsWell s stage reply outcome)
     → next_at (progress_by s stage job (Some reply ∷ given) next) ≡ Returns end
     → GoodEnd reply end (reported_at (progress_by s stage job (Some reply ∷ given) next))
@@ -308,7 +308,7 @@ ends_by s stage job given reply end (Returns outcome) is well ends =
     }
 
 ends_at : (s : SharedJob) (p : Progress) (call : Call) (reply : EventReply) (end : SharedOutcome) → Standing s p → next_at p ≡ Invokes call
-    → fits call reply ≡ true → reply ≢ replies.Bus turned.Denied → next_at (progress_given s (Some reply) p) ≡ Returns end
+    → fits call reply ≡ true → reply ≢ replies.Bus arb_replies.Denied → next_at (progress_given s (Some reply) p) ≡ Returns end
     → GoodEnd reply end (reported_at (progress_given s (Some reply) p))
 ends_at s (At stage job given) call reply end at made fit good ends =
     ends_by s stage job given reply end (next_of job (Some reply ∷ given)) refl
@@ -316,8 +316,8 @@ ends_at s (At stage job given) call reply end at made fit good ends =
 ends_at s (Over stop) call reply end at made fit good ends = absurd cc
 
 -- an end after a good reply is no denial, and the bus is free
-pub ends_well : (s : SharedJob) (g : Given) (call : Call) (reply : EventReply) (end : SharedOutcome) → shared_next s g ≡ Invokes call
-    → fits call reply ≡ true → reply ≢ replies.Bus turned.Denied → shared_next s (Some reply ∷ g) ≡ Returns end
+pub ends_well : (s : SharedJob) (g : Inputs) (call : Call) (reply : EventReply) (end : SharedOutcome) → shared_next s g ≡ Invokes call
+    → fits call reply ≡ true → reply ≢ replies.Bus arb_replies.Denied → shared_next s (Some reply ∷ g) ≡ Returns end
     → GoodEnd reply end (shared_reported s (Some reply ∷ g))
 ends_well s g call reply end made fit good ends = ends_at s (progress_of s g) call reply end (standing s g) made fit good ends
 
@@ -333,6 +333,6 @@ stays_at s (At stage job given) end last at ends = absurd (never (next_of job gi
 stays_at s (Over stop) end last at ends = ends
 
 -- an end is final
-pub end_stays : (s : SharedJob) (g : Given) (end : SharedOutcome) (last : Option EventReply) → shared_next s g ≡ Returns end
+pub end_stays : (s : SharedJob) (g : Inputs) (end : SharedOutcome) (last : Option EventReply) → shared_next s g ≡ Returns end
     → shared_next s (last ∷ g) ≡ Returns end
 end_stays s g end last ends = stays_at s (progress_of s g) end last (standing s g) ends

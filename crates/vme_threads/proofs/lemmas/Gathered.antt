@@ -11,7 +11,7 @@ use Rattle.vme_memory.specs.Boards.{Board}
 use Rattle.vme_memory.specs.Locals.{board_step}
 use Rattle.vme_arbiter.specs.declared.command.ArbCmd.{ArbCmd}
 use Rattle.vme_arbiter.specs.declared.command.ArbReply.{ArbReply}
-use Rattle.vme_arbiter.specs.Arbitration.{Arbitration, opening_bus, turn_step}
+use Rattle.vme_arbiter.specs.Arbitration.{Arbitration, opening_bus, arbiter_step}
 use Rattle.vme_core.specs.Runs.{Transition, IsReplyTo, board_part, bus_part}
 use Rattle.vme_shared.specs.declared.reply.LineReply.{LineReply}
 use Rattle.vme_port.specs.Passes.{PassView}
@@ -195,14 +195,14 @@ module _ (config : Configuration) (ports : Ports) (rans : List Ran) (can : CanGa
       (report : Report) (columns : List Column) (object : Arbitration) → length config.boards ≤ length columns → AreDealt rans columns
       → AreClosed ports.boards.items columns report.boards.items
       → report.lines.items ≡ map (λ (r : Ran). r.lines) rans
-      → Settles turn_step (opening ports.bus) (passes_of ports.bus) (map (λ (r : Ran). r.pass_set.bus) rans) object report.arbiter_steps
+      → Settles arbiter_step (opening ports.bus) (passes_of ports.bus) (map (λ (r : Ran). r.pass_set.bus) rans) object report.arbiter_steps
       → report.arbiter_made.items ≡ map (λ (p : PassView ArbCmd ArbReply). p.made) (map (λ (r : Ran). r.pass_set.bus) rans) → IsReportOf config report
   report_of report columns object wide dealt closed lines settled made =
       let runs = can.runs.runs in
       let passes = map (λ (r : Ran). r.pass_set.bus) rans in
-      let free : Settles turn_step (opening_bus config.arbiter) (length config.boards) passes object report.arbiter_steps =
-      subst (λ (s : Arbitration). Settles turn_step s (length config.boards) passes object report.arbiter_steps) can.built.bus
-      (subst (λ k. Settles turn_step (opening ports.bus) k passes object report.arbiter_steps) can.built.passes settled)
+      let free : Settles arbiter_step (opening_bus config.arbiter) (length config.boards) passes object report.arbiter_steps =
+      subst (λ (s : Arbitration). Settles arbiter_step s (length config.boards) passes object report.arbiter_steps) can.built.bus
+      (subst (λ k. Settles arbiter_step (opening ports.bus) k passes object report.arbiter_steps) can.built.passes settled)
       in
       record {
         runs = runs;
@@ -221,7 +221,7 @@ module _ (config : Configuration) (ports : Ports) (rans : List Ran) (can : CanGa
         boards = record { count = closed.count ∙ can.built.boards.count; each = end_of_board columns report.boards.items wide dealt closed };
         bus = (
           object,
-          shared_history turn_step (opening_bus config.arbiter) (length config.boards) passes (map bus_part runs) object report.arbiter_steps report.arbiter_made.items free
+          shared_history arbiter_step (opening_bus config.arbiter) (length config.boards) passes (map bus_part runs) object report.arbiter_steps report.arbiter_made.items free
               (same_count (λ (r : Ran). r.pass_set.bus) rans ∙ can.count) bus_shows made,
         );
       }

@@ -1,20 +1,10 @@
 use Rattle.std.proofs.Common.{length, ◌∙◌, arith}
-use Rattle.vme_cycle.specs.declared.request.Request.TheVariants.{Read}
-use Rattle.vme_cycle.specs.Lawful.{transfer_of}
-use Rattle.vme_script.specs.Boards.{entries_of}
-use Rattle.vme_line_task.specs.Scripts.{slot_at, level_at}
-use Rattle.vme_line_task.proofs.Waits.{reads_so_many, task_is_short, waits_so}
+use Rattle.vme_line_task.proofs.Waits.{reads_so_many, waits_so}
 use Rattle.vme_line_task.proofs.start.waits.Goals as goal
 
 pub short_transfer-requires-clause-capacity : goal.short_transfer-requires-clause-capacity
 short_transfer-requires-clause-capacity c = λ t is.
     omega (arith, reads_so_many c.args.am c.args.addr (length c.as_slice.result.now) t is, c.as_slice.ensures.fits)
-
-pub of-requires : goal.of-requires
-of-requires c =
-    task_is_short (entries_of c.args.config.now.boards) (slot_at c.args.config.now c.args.board) (level_at c.args.config.now c.args.board)
-    (transfer_of (Read c.args.am c.args.addr (length c.as_slice.result.now))) c.in_ok-task.task
-    (λ t is. omega (arith, reads_so_many c.args.am c.args.addr (length c.as_slice.result.now) t is, c.as_slice.ensures.fits)) c.in_ok-task.ensures
 
 pub returns : goal.returns
 returns c = waits_so c.args.config.now c.args.board c.args.am c.args.addr c.as_slice.result.now c.args.bytes.now.items c.in_ok-task.task c.of.result

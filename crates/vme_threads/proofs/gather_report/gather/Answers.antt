@@ -2,7 +2,7 @@ use Rattle.std.proofs.Common.{◌≡◌, ◌≤◌, List, length, map, sym, subs
 use Rattle.vme_object.specs.Each.{Each}
 use Rattle.vme_arbiter.specs.declared.command.ArbCmd.{ArbCmd}
 use Rattle.vme_arbiter.specs.declared.command.ArbReply.{ArbReply}
-use Rattle.vme_arbiter.specs.Arbitration.{turn_step}
+use Rattle.vme_arbiter.specs.Arbitration.{arbiter_step}
 use Rattle.vme_port.specs.Passes.{PassView}
 use Rattle.vme_port.specs.Ports.{port_id, opening, passes_of}
 use Rattle.vme_port.specs.Settlements.{Settles}
@@ -28,7 +28,7 @@ returns c config can =
     omega (arith, can.built.lawful.most, c.collect_passes.ensures.count, c.collect_passes.new.columns.ok.0)
     in
     let settled =
-    subst (λ (ps : List (PassView ArbCmd ArbReply)). Settles turn_step (opening ports.bus) (passes_of ports.bus) ps c.settle_port-arbiter.result.0 c.settle_port-arbiter.result.1)
+    subst (λ (ps : List (PassView ArbCmd ArbReply)). Settles arbiter_step (opening ports.bus) (passes_of ports.bus) ps c.settle_port-arbiter.result.0 c.settle_port-arbiter.result.1)
     c.collect_passes.ensures.bus c.settle_port-arbiter.ensures.settled
     in
     let made = c.settle_port-arbiter.ensures.made ∙ ap (λ (ps : List (PassView ArbCmd ArbReply)). map (λ (p : PassView ArbCmd ArbReply). p.made) ps) c.collect_passes.ensures.bus in

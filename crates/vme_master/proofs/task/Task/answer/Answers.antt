@@ -2,7 +2,7 @@ use Rattle.std.proofs.Common.{◌≡◌, true, ap, sym, ◌∙◌}
 use Rattle.vme_memory.specs.Data.{has_form}
 use Rattle.vme_master.specs.declared.expected.ExpectedReply.{ExpectedReply}
 use Rattle.vme_master.specs.declared.phase.Phase.TheVariants.{Transferring}
-use Rattle.vme_master.specs.Machine.{TaskView, job_expected, expected_len, HasRead, IsEnough}
+use Rattle.vme_master.specs.Machine.{TaskView, job_expected, expected_len, HasRead}
 use Rattle.vme_master.proofs.lemmas.ReadLengths.{buffer_before, sound_after}
 use Rattle.vme_master.proofs.task.Task.answer.Goals as goal
 use Rattle.vme_master.proofs.task.Task.answer.Goals.{After-accepts}
@@ -21,19 +21,17 @@ pub append-requires : goal.append-requires
 append-requires c =
     let at = (goal.at.append-requires c).After-accepts in
     let had : HasRead c.self.inside.job (Transferring c.in-Transferring.i) c.self.inside.read.items = rw (moves at) at c.self.invariant.sound.read in
-    let enough : IsEnough c.self.inside.job (Transferring c.in-Transferring.i) c.self.inside.read.capacity = rw (moves at) at c.self.invariant.sound.enough in
     buffer_before c.self.inside.job c.in-Transferring.i c.self.inside.read.capacity c.self.inside.read.items c.args.reply.now had (form at c.if-accepts.true)
-    c.accepts.ensures.small enough
+    c.accepts.ensures.small c.self.invariant.sound.enough
 
 -- the task keeps its invariant
 pub invariant_of-self : goal.invariant_of-self
 invariant_of-self c =
     let at = (goal.at.invariant_of-self c).After-accepts in
     let had : HasRead c.self.inside.job (Transferring c.in-Transferring.i) c.self.inside.read.items = rw (moves at) at c.self.invariant.sound.read in
-    let enough : IsEnough c.self.inside.job (Transferring c.in-Transferring.i) c.self.inside.read.capacity = rw (moves at) at c.self.invariant.sound.enough in
     rw (c.phase_replied-self-inside.ensures, c.append.ensures) (record {
       sound = sound_after c.self.inside.job c.in-Transferring.i c.self.inside.read.capacity c.self.inside.read.items c.args.reply.now
-          c.self.invariant.sound.placed had (form at c.if-accepts.true) c.accepts.ensures.small enough;
+          c.self.invariant.sound.placed had (form at c.if-accepts.true) c.accepts.ensures.small c.self.invariant.sound.enough;
       of_expected = c.self.invariant.of_expected;
       of_count = c.self.invariant.of_count;
     })

@@ -1,4 +1,4 @@
-use Rattle.std.proofs.Common.{◌≡◌, ℕ, List, length, Option, sym, ◌∙◌, ap, slice_set, slice_index_or}
+use Rattle.std.proofs.Common.{◌≡◌, ℕ, List, length, Option, refl, sym, ◌∙◌, ap, slice_set, slice_index_or}
 use Rattle.std.specs.Vec.{with_items}
 use Rattle.std.proofs.lemmas.List.{with_items_is}
 use Rattle.vme_core.specs.Calls.{machine_step}
@@ -59,12 +59,12 @@ returns-then-is_finished-clause-turn c =
     made_by c.args.board c.args.core.now c.advance_on.new.core c.in-Some.task c.advance_on.new.self call.0 call.1 c.advance_on.ensures.step in
     let step = ap (λ (r : Machine × LineTask). (r.0, reply)) made in
     let given = ap (λ (r : Machine × LineTask). r.1) made in
-    let put : c.put_answer_of.new.lines ≡ slice_set c.self.inside.lines.items c.self.inside.ended
+    let put : c.end_line.new.lines ≡ slice_set c.self.inside.lines.items c.self.inside.ended
     ((slice_index_or c.self.inside.lines.items c.self.inside.ended (0, end.0)).0, end.0)
-    = rw c.deref_mut.ensures.value at c.put_answer_of.ensures.put end.0 (sym end.1) in
-    let lines : (with_items c.self.inside.lines c.put_answer_of.new.lines).items ≡ c.put_answer_of.new.lines
-    = with_items_is c.self.inside.lines c.put_answer_of.new.lines (c.put_answer_of.ensures.len ∙ c.deref_mut.ensures.len) in
+    = rw c.deref_mut.ensures.value at c.end_line.ensures.put c.advance_on.new.self end.0 refl (sym end.1) in
+    let lines : (with_items c.self.inside.lines c.end_line.new.lines).items ≡ c.end_line.new.lines
+    = with_items_is c.self.inside.lines c.end_line.new.lines (c.end_line.ensures.len ∙ c.deref_mut.ensures.len) in
     λ config processor over.
-    rw (lines, put, c.let_go.ensures)
+    rw (lines, put, c.end_line.ensures.idle)
     (turn_ends config c.args.board c.args.core.now c.advance_on.new.core c.args.self.now c.self.inside.script.now c.self.inside.lines.items c.self.inside.ended c.in-Some.task
     c.advance_on.new.self call.0 end.0 reply is processor.lines sound.0 (sym call.1) step given end.1)

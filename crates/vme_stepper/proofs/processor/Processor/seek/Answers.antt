@@ -64,6 +64,6 @@ loop-self-preserved c =
           rw (lines, put)
           (turn_passes c.args.config.now c.args.board machine s.script.now s.lines.items s.ended c.start-task.result
           c.advance.new.self answer within c.start-task.ensures.line c.advance.ensures.task
-          (ends_so (line_to_do c.advance.new.self) answer (rw c.unwrap-answer.ensures at c.take_reply.ensures.answer))
+          (ends_so (line_to_do c.advance.new.self) answer (rw c.unwrap-answer.ensures at c.into_reply.ensures))
           ∙ c.loop-self.invariant.turn machine);
     }

@@ -41,4 +41,4 @@ loop-preserved-then-attempts_left-attempts g c =
 pub returns-then-is_finished : goal.returns-then-is_finished
 returns-then-is_finished g c =
     at_end c.args.config.now c.args.line c.args.self.now c.loop.self c.loop.task c.unwrap.result c.loop.invariant
-    (rw c.unwrap.ensures at c.take_reply.ensures.answer)
+    (rw c.unwrap.ensures at c.into_reply.ensures)

@@ -38,4 +38,4 @@ loop-preserved g c =
 pub returns-then-is_finished : goal.returns-then-is_finished
 returns-then-is_finished g c =
     moving_end c.args.config.now c.args.request.now c.args.self.now c.loop.self c.loop.task c.unwrap.result c.loop.invariant
-    (rw c.unwrap.ensures at c.take_outcome.ensures.outcome)
+    (rw c.unwrap.ensures at c.into_outcome.ensures)

@@ -1,24 +1,24 @@
 ghost use Rattle.std.specs.Prelude.{◌≡◌, ◌≢◌, None, option_copied};
 ghost use Rattle.vme_core.specs.NextSteps.{NotStarted};
 ghost use Rattle.vme_shared.specs.Tables.{SharedJob};
-ghost use Rattle.vme_shared.specs.Machine.{work_after, work_or, work_to_do, IsGoing};
+ghost use Rattle.vme_shared.specs.Machine.{current_after, current_or, current_to_do, IsGoing};
 
 use crate::outcome::SharedOutcome;
 use crate::request::SharedRequest;
-use crate::stage::{Stage, Step};
+use crate::stage::{Stage, StageResult};
 use vme_core::EventReply;
 use vme_master::Task;
 
 /// The transfer at work, or the end.
 #[derive(Debug, Drop)]
-pub enum Work<'a> {
+pub enum CurrentTransfer<'a> {
     /// The bus task of this stage.
     Running { stage: Stage, task: Task<'a> },
     /// The task has ended with this outcome.
     Finished(SharedOutcome),
 }
 
-impl Work<'_> {
+impl CurrentTransfer<'_> {
     /// Gives the transfer at work the reply to its event, or nothing. Returns what follows it, if
     /// it has ended.
     #[tactic(auto, using(crate::proofs::lemmas::Stands::by_outcome))]
@@ -26,24 +26,23 @@ impl Work<'_> {
         &mut self,
         request: SharedRequest,
         reply: Option<&EventReply>,
-    ) -> Option<Step>
-        ensures work { (s : SharedJob) → s.request ≡ request →
-            work_after s self.old (option_copied reply.entry) ≡ work_or s self.new result }
+    ) -> Option<StageResult>
+        ensures current { (s : SharedJob) → s.request ≡ request →
+            current_after s self.old (option_copied reply.entry) ≡ current_or s self.new result }
         ensures going { result ≡ None → IsGoing self.old → IsGoing self.new }
-        ensures begun { result ≡ None → work_to_do self.new ≢ NotStarted }
+        ensures begun { result ≡ None → current_to_do self.new ≢ NotStarted }
     {
-        let Work::Running { stage, .. } = self else {
+        let CurrentTransfer::Running { stage, .. } = self else {
             return None;
         };
         let stage = *stage;
-        let Work::Running { task, .. } = self else {
+        let CurrentTransfer::Running { task, .. } = self else {
             return None;
         };
         task.advance(reply);
         if !task.is_finished() {
             return None;
         }
-        let outcome = task.take_outcome()?;
-        Some(request.step_after(stage, &outcome))
+        Some(request.step_after(stage, task.outcome()?))
     }
 }

@@ -1,5 +1,5 @@
 use Rattle.vme_arbiter.proofs.lemmas.Turns.{own-turn, other-turn, holds-holder}
-use Rattle.vme_arbiter.proofs.laws.a_turn_leaves_each_where_it_was.Goals as goal
+use Rattle.vme_arbiter.proofs.laws.replies_show_who_waits.Goals as goal
 
 pub returns-clause-own : goal.returns-clause-own
 returns-clause-own c = λ bus slot last cmd orderly slot_ok stands may. own-turn bus slot last cmd orderly slot_ok stands may

@@ -58,7 +58,7 @@ GoesByReplies slot last [] = Unit {0}
 GoesByReplies slot last (e ∷ h) = IsTrue (may_give slot last e.cmd) × GoesByReplies slot (Some e.reply) h
 
 -- the callers 0 to k - 1 are masters, each with a slot of its own, and each follows its replies
-pub record TakeTurns (k : ℕ) (slots : ℕ → ℕ) (h : List (Entry ArbCmd ArbReply)) : Type 0 where
+pub record FollowReplies (k : ℕ) (slots : ℕ → ℕ) (h : List (Entry ArbCmd ArbReply)) : Type 0 where
   pub in_range : (who : ℕ) → who < k → IsTrue (is_slot (slots who))
   pub apart : (v w : ℕ) → v < k → w < k → slots v ≡ slots w → v ≡ w
   pub known : All (λ e. e.who < k) h
