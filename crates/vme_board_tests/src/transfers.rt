@@ -7,9 +7,9 @@ use std::test::Fail;
 use vme_am::Space;
 use vme_arbiter::ArbCmd;
 use vme_core::Event;
-use vme_cycle::{Block, BlockBuffer, CycleFault, Modify, Plan, Request};
+use vme_cycle::{BlockBuffer, CycleFault, Modify, Plan, Request};
 use vme_decode::{AddressMap, Entry};
-use vme_master::{Outcome, Task, Todo};
+use vme_master::{Outcome, OutcomeRef, Task, Todo};
 use vme_memory::BoardCmd;
 
 /// One board of 64 bytes from address 1000 hex up.
@@ -38,7 +38,7 @@ fn step_of(todo: &Todo) -> Step {
             BoardCmd::Cycle { at, .. } => Step::Cycle(*board, *at),
             _ => Step::Local(*board),
         },
-        Todo::Finished(_) => Step::End,
+        Todo::Finished => Step::End,
     }
 }
 
@@ -51,38 +51,40 @@ const DONE: Step = Step::Bus(support::DONE);
 /// The replies that a task receives, each with the step to which it leads.
 type Course = &'static [(Given, Step)];
 
-/// Leads a task through replies and steps, and calls it once more after its end. Returns its
-/// outcome. The end stays, and the bytes are returned once.
-fn outcome(rt: &impl Abort, task: &mut Task<'_>, course: Course) -> Outcome {
-    let mut end = None;
+/// Leads a task through replies and steps, and returns its outcome.
+fn outcome(rt: &impl Abort, mut task: Task<'_>, course: Course) -> Outcome {
     for (given, wanted) in course {
+        assert_eq!(rt; task.outcome(), None);
         let todo = task.next(replied(*given));
         assert_eq!(rt; step_of(&todo), *wanted, "{given:?}");
-        if let Todo::Finished(outcome) = todo {
-            end = Some(outcome);
-        }
     }
-    let Some(outcome) = end else {
+    let Some(outcome) = kept_outcome(rt, task) else {
         panic!(rt; "not ended")
     };
-    let Todo::Finished(again) = task.next(replied(GRANTED)) else {
-        panic!(rt; "not ended")
-    };
-    assert_eq!(rt; again, emptied(&outcome));
     outcome
 }
 
-/// The outcome without its bytes.
-fn emptied(outcome: &Outcome) -> Outcome {
+/// Returns the outcome of a task that has ended. The task lends it before and after one call more.
+fn kept_outcome(rt: &impl Abort, mut task: Task<'_>) -> Option<Outcome> {
+    let lent = owned(task.outcome()?);
+    assert!(rt; matches!(task.next(replied(GRANTED)), Todo::Finished));
+    assert_eq!(rt; owned(task.outcome()?), lent);
+    let outcome = task.into_outcome()?;
+    assert_eq!(rt; outcome, lent);
+    Some(outcome)
+}
+
+/// The outcome that is borrowed.
+fn owned(outcome: OutcomeRef<'_>) -> Outcome {
     match outcome {
-        Outcome::Read(_) => Outcome::Read(Block::new()),
-        Outcome::Done => Outcome::Done,
-        Outcome::Old(_) => Outcome::Old(datum(&[])),
-        Outcome::Berr { count, .. } => Outcome::Berr {
-            count: *count,
-            bytes: Block::new(),
+        OutcomeRef::Read(bytes) => Outcome::Read(block(bytes)),
+        OutcomeRef::Done => Outcome::Done,
+        OutcomeRef::Old(bytes) => Outcome::Old(datum(bytes)),
+        OutcomeRef::Berr { count, bytes } => Outcome::Berr {
+            count,
+            bytes: block(bytes),
         },
-        Outcome::Denied => Outcome::Denied,
+        OutcomeRef::Denied => Outcome::Denied,
     }
 }
 
@@ -101,8 +103,8 @@ fn run(
     request: &Request,
     course: Course,
 ) -> Result<Outcome, Fail> {
-    let mut task = start(alloc, map, request)?;
-    Ok(outcome(rt, &mut task, course))
+    let task = start(alloc, map, request)?;
+    Ok(outcome(rt, task, course))
 }
 
 static TWO_READ: [(Given, Step); 6] = [
@@ -257,10 +259,8 @@ fn a_fill_of_256_data_calls_the_board_256_times(rt: HostRuntime) -> Result<(), F
     }
     assert_eq!(&rt; calls, 256);
     assert_eq!(&rt; step_of(&task.next(replied(Given::Done))), DONE);
-    let Todo::Finished(outcome) = task.next(replied(FREED)) else {
-        panic!(&rt; "not ended")
-    };
-    assert_eq!(&rt; outcome, Outcome::Done);
+    assert!(&rt; matches!(task.next(replied(FREED)), Todo::Finished));
+    assert_eq!(&rt; task.into_outcome(), Some(Outcome::Done));
     Ok(())
 }
 
@@ -276,32 +276,30 @@ static LOCAL_BERR: [(Given, Step); 2] = [
 
 #[test]
 fn a_local_command_is_one_call(rt: HostRuntime) {
-    let mut task = Task::local(3, BoardCmd::LocalRead { offset: 1, n: 2 });
+    let task = Task::local(3, BoardCmd::LocalRead { offset: 1, n: 2 });
     assert_eq!(&rt;
-        outcome(&rt, &mut task, &LOCAL_READ),
+        outcome(&rt, task, &LOCAL_READ),
         Outcome::Read(block(&[1, 2]))
     );
-    let mut task = Task::local(3, BoardCmd::LocalRead { offset: 1, n: 2 });
+    let task = Task::local(3, BoardCmd::LocalRead { offset: 1, n: 2 });
     let berr = Outcome::Berr {
         count: 0,
         bytes: block(&[]),
     };
-    assert_eq!(&rt; outcome(&rt, &mut task, &LOCAL_BERR), berr);
+    assert_eq!(&rt; outcome(&rt, task, &LOCAL_BERR), berr);
 }
 
 #[test]
-fn a_task_is_done_once_more_after_its_bytes_were_given_out(rt: HostRuntime) {
+fn a_task_runs_again_after_its_end(rt: HostRuntime) {
     let mut task = Task::local(3, BoardCmd::LocalRead { offset: 1, n: 2 });
     task.advance(None);
-    task.advance(replied(Given::Bytes(&[1, 2])).as_ref());
+    task.advance(replied(Given::Bytes(&[7, 8])).as_ref());
     assert!(&rt; task.is_finished());
-    assert_eq!(&rt; task.read(), Some(&[1, 2][..]));
-    assert_eq!(&rt; task.take_outcome(), Some(Outcome::Read(block(&[1, 2]))));
-    assert_eq!(&rt; task.read(), Some(&[][..]));
+    assert_eq!(&rt; task.outcome(), Some(OutcomeRef::Read(&[7, 8])));
     task.restart();
-    assert_eq!(&rt; task.take_outcome(), None);
+    assert!(&rt; !task.is_finished());
     assert_eq!(&rt;
-        outcome(&rt, &mut task, &LOCAL_READ),
+        outcome(&rt, task, &LOCAL_READ),
         Outcome::Read(block(&[1, 2]))
     );
 }
@@ -328,9 +326,9 @@ fn a_request_of_its_own_goes_the_same_way(rt: HostRuntime) -> Result<(), Fail> {
         n: 1,
         f: Modify::Set,
     };
-    let mut task = Task::start_owned(&map, 2, 3, request)?;
+    let task = Task::start_owned(&map, 2, 3, request)?;
     assert_eq!(&rt;
-        outcome(&rt, &mut task, &MODIFIED),
+        outcome(&rt, task, &MODIFIED),
         Outcome::Old(datum(&[0x7f]))
     );
     Ok(())

@@ -198,7 +198,7 @@ fn local_task() -> Option<Outcome> {
     let mut task = Task::local(0, BoardCmd::LocalRead { offset: 0, n: 1 });
     let _: Todo = task.next(None);
     match task.next(Some(EventReply::Board(Reply::Berr))) {
-        Todo::Finished(outcome) => Some(outcome),
+        Todo::Finished => task.into_outcome(),
         Todo::Call(_) => None,
     }
 }

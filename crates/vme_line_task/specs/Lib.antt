@@ -1,6 +1,5 @@
 pub mod Scripts
 pub mod ReadBuffers
-pub mod Waits
 pub mod Tables
 pub mod Machine
 pub mod Events

@@ -4,7 +4,8 @@ ghost use Rattle.vme_core.specs.EventRefs.{call_asked};
 ghost use Rattle.vme_core.specs.Machines.{process_count};
 ghost use Rattle.vme_core.specs.NextSteps.{NotStarted, call_in, result_in};
 ghost use Rattle.vme_core.specs.Advances.{CanMake, AdvancesOn};
-ghost use Rattle.vme_line_task.specs.Tables.{next_wants_retry};
+ghost use Rattle.vme_shared.specs.Machine.{shared_to_do};
+ghost use Rattle.vme_line_task.specs.Tables.{next_wants_retry, shares_next};
 ghost use Rattle.vme_line_task.specs.Events.{reply_in};
 ghost use Rattle.vme_line_task.specs.Machine.{attempt_anew, attempt_advance, attempt_to_do, attempts_advance, attempts_to_do};
 
@@ -136,7 +137,7 @@ impl AttemptTask<'_> {
         match self {
             AttemptTask::Transfer(task) => Some(LineReply::Transfer(task.into_outcome()?)),
             AttemptTask::Await(wait) => wait.into_reply(),
-            AttemptTask::Shared(task) => Some(LineReply::Shared(task.outcome()?)),
+            AttemptTask::Shared(task) => shared_reply(&task),
         }
     }
 
@@ -166,4 +167,11 @@ impl AttemptTask<'_> {
             AttemptTask::Shared(task) => task.restart(),
         }
     }
+}
+
+/// Returns the reply of a line to a lock or a mailbox, if its task has ended.
+fn shared_reply(task: &SharedTask<'_>) -> Option<LineReply>
+    ensures { result ≡ result_in (shares_next (shared_to_do task.now)) }
+{
+    Some(LineReply::Shared(task.outcome()?))
 }

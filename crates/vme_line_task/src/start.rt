@@ -6,7 +6,7 @@ ghost use Rattle.vme_cycle.specs.Requests.{read_len};
 ghost use Rattle.vme_cycle.specs.Lawful.{Transfer as LawfulRequest, transfer_of};
 ghost use Rattle.vme_script.specs.Boards.{entries_of};
 ghost use Rattle.vme_master.specs.Machine.{bus_task};
-ghost use Rattle.vme_shared.specs.Mailboxes.{HasMailbox};
+ghost use Rattle.vme_shared.specs.Mailboxes.{IsWellFormed};
 ghost use Rattle.vme_line_task.specs.Scripts.{slot_at, level_at, mailbox_at, HasMailbox, HasItsMailbox, Awaiting, transfer_job, request_attempt, shared_attempt, line_attempt};
 ghost use Rattle.vme_line_task.specs.ReadBuffers.{request_read_len, line_read_len};
 ghost use Rattle.vme_line_task.specs.Machine.{fresh_of};
@@ -136,7 +136,7 @@ fn shares<'a>(
     request: SharedRequest,
 ) -> Result<AttemptTask<'a>, CycleFault>
     requires board { board < length config.now.boards }
-    requires request { HasMailbox request }
+    requires request { IsWellFormed request }
     ensures { result ≡ fresh_of (shared_attempt config.now board request) }
 {
     let slot = config.slot(board);

@@ -8,7 +8,6 @@ ghost use Rattle.vme_line_task.specs.Tables.{waits_next, next_wants_retry};
 ghost use Rattle.vme_line_task.specs.Events.{reply_in};
 
 use crate::reply::LineReplyRef;
-use std::marker::Model;
 use vme_core::{EventRef, EventReply};
 use vme_lanes::Datum;
 use vme_master::{Outcome, OutcomeRef, Task};
@@ -19,14 +18,6 @@ use vme_shared::LineReply;
 pub struct AwaitTask<'a> {
     task: Task<'a>,
     want: Datum,
-}
-
-impl<'a> Model for AwaitTask<'a> {
-    ghost use Rattle.vme_line_task.specs.Waits.{AwaitView};
-
-    ghost Value = { AwaitView };
-
-    ghost view = { λ w. record { task = w.task; want = w.want } };
 }
 
 impl<'a> AwaitTask<'a> {
@@ -87,10 +78,10 @@ impl<'a> AwaitTask<'a> {
     pub(crate) fn into_reply(self) -> Option<LineReply>
         ensures { result ≡ result_in (waits_next self.entry.want.items (to_do self.entry.task)) }
     {
-        let AwaitTask { task, want } = self;
-        Some(match task.into_outcome()? {
-            Outcome::Read(bytes) if bytes.as_slice() == want.as_slice() => LineReply::Met,
-            Outcome::Read(_) => LineReply::Timeout,
+        let wants_retry = self.wants_retry();
+        Some(match self.task.into_outcome()? {
+            Outcome::Read(_) if wants_retry => LineReply::Timeout,
+            Outcome::Read(_) => LineReply::Met,
             outcome => LineReply::Transfer(outcome),
         })
     }

@@ -30,7 +30,7 @@ use Rattle.vme_shared.specs.declared.stage.Stage.TheVariants.{Locks}
 use Rattle.vme_shared.specs.declared.stage.Stage.TheVariants as stages
 use Rattle.vme_shared.specs.declared.stage.StageResult.{StageResult}
 use Rattle.vme_shared.specs.declared.stage.StageResult.TheVariants.{Continue, Finish}
-use Rattle.vme_shared.specs.Mailboxes.{HasMailbox}
+use Rattle.vme_shared.specs.Mailboxes.{IsWellFormed}
 use Rattle.vme_shared.proofs.lemmas.Starts.{all_lawful}
 use Rattle.vme_shared.specs.Steps.{first_stage, step_after}
 use Rattle.vme_shared.specs.Tables.{SharedJob, Progress, At, Over, stage_job, stage_begun, step_begun, progress_by, progress_given, progress_of, task_shown, next_at}
@@ -75,7 +75,7 @@ unmoved m board request progress at after put taken same stands =
     (subst (λ ts. Stands m board request progress at put ts) (sym (ap (λ ws. taken ++ ws) (no_taken at) ∙ append-nil taken)) stands))
 
 -- a mailbox of a put or a take has a slot
-asked_slot : (request : SharedRequest) (mailbox : Mailbox) → mailbox_in request ≡ Some mailbox → HasMailbox request → 1 ≤ mailbox.slots
+asked_slot : (request : SharedRequest) (mailbox : Mailbox) → mailbox_in request ≡ Some mailbox → IsWellFormed request → 1 ≤ mailbox.slots
 asked_slot (events.Lock am addr) mailbox is formed = absurd cc
 asked_slot (events.Unlock am addr) mailbox is formed = absurd cc
 asked_slot (events.Put own word) mailbox is formed = let same : own ≡ mailbox = cc in subst (λ (o : Mailbox). 1 ≤ o.slots) same formed.some_slot

@@ -21,7 +21,7 @@ use Rattle.vme_shared.specs.declared.outcome.SharedOutcome.{SharedOutcome}
 use Rattle.vme_shared.specs.declared.outcome.SharedOutcome.TheVariants as shared
 use Rattle.vme_shared.specs.declared.request.SharedRequest.{SharedRequest}
 use Rattle.vme_shared.specs.declared.request.SharedRequest.TheVariants as events
-use Rattle.vme_shared.specs.Mailboxes.{HasMailbox, shared_refusal}
+use Rattle.vme_shared.specs.Mailboxes.{IsWellFormed, shared_refusal}
 use Rattle.vme_shared.specs.Tables.{SharedJob, shared_next}
 
 -- the mailbox of a put or a take
@@ -43,7 +43,7 @@ pub record UsesMailbox (s : SharedJob) (board : ℕ) (m : BoardMailbox) : Type 0
   pub mailbox : Mailbox
   pub asked : mailbox_in s.request ≡ Some mailbox
   pub lies : LiesAt s.map mailbox board m
-  pub formed : HasMailbox s.request
+  pub formed : IsWellFormed s.request
   pub started : shared_refusal s.request ≡ None
 
 -- a reply is good for the step before it: none before the first call; then it fits the call, and is neither a bus error

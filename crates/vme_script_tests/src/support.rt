@@ -1,13 +1,14 @@
 //! What the tests of scripts share: what a file is refused for, and lines led by replies that are
 //! given by hand.
+use arrayvec::ArrayVec;
 use std::alloc::{AllocError, Global};
 use std::process::Abort;
 use vme_arbiter::{ArbCmd, ArbReply};
 use vme_core::{Event, EventReply};
-use vme_cycle::{BlockBuffer, INLINE_LEN};
+use vme_cycle::{Block, BlockBuffer, INLINE_LEN};
 use vme_lanes::Datum;
-use vme_line_task::{LineTask, LineTodo, line_count, line_read_len};
-use vme_master::Outcome;
+use vme_line_task::{LineReplyRef, LineTask, LineTodo, line_count, line_read_len};
+use vme_master::{Outcome, OutcomeRef};
 use vme_memory::{BoardCmd, Reply};
 use vme_script::Config;
 use vme_shared::LineReply;
@@ -62,7 +63,7 @@ fn step_of(todo: &LineTodo) -> Step {
             BoardCmd::Cycle { at, .. } => Step::Cycle(*board, *at),
             _ => Step::Local(*board),
         },
-        LineTodo::Ended(_) => Step::End,
+        LineTodo::Ended => Step::End,
     }
 }
 
@@ -115,8 +116,7 @@ pub fn course_of(alloc: Global, cycles: &[(u32, Given)]) -> Result<Vec<(Given, S
     Ok(course)
 }
 
-/// Gives a line of the first board the listed replies, and calls it twice more after its end.
-/// Returns the line's reply, which it gives once unless it is a refusal.
+/// Gives a line of the first board the listed replies, and returns the line's reply.
 pub fn answer(
     rt: &impl Abort,
     config: &Config,
@@ -131,26 +131,53 @@ pub fn answer(
         panic!(rt; "a long line");
     }
     let mut task = LineTask::start(config, 0, line, buffer);
-    let mut end = None;
     for (given, wanted) in course {
         let todo = task.next(reply(*given));
         assert_eq!(rt; step_of(&todo), *wanted, "{given:?}");
-        if let LineTodo::Ended(answer) = todo {
-            end = Some(answer);
-        }
     }
-    let Some(first) = end else {
+    let Some(answer) = kept_answer(rt, task) else {
         panic!(rt; "not ended")
     };
-    let wanted = match &first {
-        LineReply::Refused(fault) => LineReply::Refused(*fault),
-        _ => LineReply::Transfer(Outcome::Denied),
-    };
+    answer
+}
+
+/// Returns the reply of a line that has ended. The line lends it before and after two calls more.
+fn kept_answer(rt: &impl Abort, mut task: LineTask<'_>) -> Option<LineReply> {
+    let lent = owned(task.reply()?);
     for given in [Given::Nothing, GRANTED] {
-        let LineTodo::Ended(again) = task.next(reply(given)) else {
-            panic!(rt; "not ended")
-        };
-        assert_eq!(rt; again, wanted);
+        assert!(rt; matches!(task.next(reply(given)), LineTodo::Ended));
+        assert_eq!(rt; owned(task.reply()?), lent);
     }
-    first
+    let answer = task.into_reply()?;
+    assert_eq!(rt; answer, lent);
+    Some(answer)
+}
+
+/// The reply that is borrowed.
+fn owned(answer: LineReplyRef<'_>) -> LineReply {
+    match answer {
+        LineReplyRef::Transfer(outcome) => LineReply::Transfer(owned_outcome(outcome)),
+        LineReplyRef::Refused(fault) => LineReply::Refused(fault),
+        LineReplyRef::Met => LineReply::Met,
+        LineReplyRef::Timeout => LineReply::Timeout,
+        LineReplyRef::Shared(outcome) => LineReply::Shared(outcome),
+    }
+}
+
+/// The outcome that is borrowed.
+fn owned_outcome(outcome: OutcomeRef<'_>) -> Outcome {
+    match outcome {
+        OutcomeRef::Read(bytes) => Outcome::Read(block(bytes)),
+        OutcomeRef::Done => Outcome::Done,
+        OutcomeRef::Old(bytes) => Outcome::Old(Datum::try_from(bytes).unwrap_or_default()),
+        OutcomeRef::Berr { count, bytes } => Outcome::Berr {
+            count,
+            bytes: block(bytes),
+        },
+        OutcomeRef::Denied => Outcome::Denied,
+    }
+}
+
+fn block(bytes: &[u8]) -> Block {
+    Block::from_short_slice(ArrayVec::try_from(bytes).unwrap_or_default())
 }

@@ -42,11 +42,11 @@ pub record IsMailbox (m : Mailbox) : Type 0 where
   pub within : mailbox_end m ≤ 2 ^ 32
 
 -- the mailbox of a put or a take is one
-abbrev pub HasMailbox : SharedRequest → Type 0
-HasMailbox (Lock am addr) = Unit {0}
-HasMailbox (Unlock am addr) = Unit {0}
-HasMailbox (Put mailbox word) = IsMailbox mailbox
-HasMailbox (Take mailbox) = IsMailbox mailbox
+abbrev pub IsWellFormed : SharedRequest → Type 0
+IsWellFormed (Lock am addr) = Unit {0}
+IsWellFormed (Unlock am addr) = Unit {0}
+IsWellFormed (Put mailbox word) = IsMailbox mailbox
+IsWellFormed (Take mailbox) = IsMailbox mailbox
 
 -- a lock is taken by one read-modify-write of its byte, which sets bit 7
 abbrev pub set_lock : ℕ → ℕ → Request

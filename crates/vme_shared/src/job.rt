@@ -3,10 +3,10 @@ ghost use Rattle.vme_core.specs.NextSteps.{NotStarted};
 ghost use Rattle.vme_shared.specs.Tables.{stage_job};
 ghost use Rattle.vme_shared.specs.Machine.{stage_task, stage_called, current_stepped, first_transfer, current_to_do, IsGoing};
 
+use crate::current::CurrentTransfer;
 use crate::outcome::SharedOutcome;
 use crate::request::SharedRequest;
 use crate::stage::{Stage, StageResult};
-use crate::current::CurrentTransfer;
 use std::marker::Model;
 use vme_cycle::CycleFault;
 use vme_decode::AddressMap;
@@ -22,26 +22,21 @@ pub(crate) struct Job<'a> {
 }
 
 impl<'a> Model for Job<'a> {
-    ghost use Rattle.vme_shared.specs.Mailboxes.{HasMailbox};
+    ghost use Rattle.vme_shared.specs.Mailboxes.{IsWellFormed};
     ghost use Rattle.vme_shared.specs.Tables.{SharedJob};
 
     ghost Value = { SharedJob };
 
     ghost view = { λ a. record { map = a.map.now; slot = a.slot; level = a.level; request = a.request } };
 
-    ghost invariant = { λ a. HasMailbox a.request };
+    ghost invariant = { λ a. IsWellFormed a.request };
 }
 
 impl<'a> Job<'a> {
-    ghost use Rattle.vme_shared.specs.Mailboxes.{HasMailbox};
+    ghost use Rattle.vme_shared.specs.Mailboxes.{IsWellFormed};
 
-    pub(crate) fn new(
-        map: &'a AddressMap,
-        slot: u16,
-        level: u8,
-        request: SharedRequest,
-    ) -> Job<'a>
-        requires { HasMailbox request }
+    pub(crate) fn new(map: &'a AddressMap, slot: u16, level: u8, request: SharedRequest) -> Job<'a>
+        requires { IsWellFormed request }
         ensures { result ≡ record { map = map.now; slot = slot; level = level; request = request } }
     {
         Job {
@@ -54,7 +49,7 @@ impl<'a> Job<'a> {
 
     pub(crate) fn request(&self) -> SharedRequest
         ensures value { result ≡ self.now.request }
-        ensures job { HasMailbox result }
+        ensures job { IsWellFormed result }
     {
         self.request
     }

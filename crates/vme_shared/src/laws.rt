@@ -18,7 +18,7 @@ ghost use Rattle.vme_master.specs.Tables.{Inputs};
 ghost use Rattle.vme_shared.specs.declared.outcome.SharedOutcome.{SharedOutcome};
 ghost use Rattle.vme_shared.specs.declared.outcome.SharedOutcome.TheVariants.{Denied};
 ghost use Rattle.vme_shared.specs.declared.stage.Stage.{Stage};
-ghost use Rattle.vme_shared.specs.Mailboxes.{HasMailbox, shared_refusal};
+ghost use Rattle.vme_shared.specs.Mailboxes.{IsWellFormed, shared_refusal};
 ghost use Rattle.vme_shared.specs.Tables.{SharedJob, stage_job, shared_next, shared_reported};
 ghost use Rattle.vme_shared.specs.Machine.{shared_given, shared_to_do};
 
@@ -46,7 +46,7 @@ pub fn shared_tasks_are_refused_at_the_start()
     ensures rests { (s : SharedJob) → shared_refusal s.request ≡ None → shared_next s [] ≡ NotStarted }
     ensures asks { (s : SharedJob) → shared_refusal s.request ≡ None →
         shared_next s (None ∷ []) ≡ Invokes (OnBus (Ask s.slot s.level)) }
-    ensures later { (s : SharedJob) (stage : Stage) → HasMailbox s.request →
+    ensures later { (s : SharedJob) (stage : Stage) → IsWellFormed s.request →
         shared_refusal s.request ≡ None → (job : Job) × (stage_job s stage ≡ Ok job) }
 {}
 

@@ -6,6 +6,7 @@
 //! is a good one.
 #![tactic(auto)]
 
+mod current;
 mod job;
 mod laws;
 mod lock;
@@ -21,7 +22,6 @@ mod take;
 mod task;
 mod todo;
 mod word;
-mod current;
 
 pub use laws::{
     shared_tasks_are_refused_at_the_start, shared_tasks_call_boards_of_the_map,

@@ -2,7 +2,7 @@ ghost use Rattle.std.specs.Prelude.{◌≡◌, ◌≤◌, ℕ, List, Some};
 ghost use Rattle.vme_cycle.specs.Requests.{read_len};
 ghost use Rattle.vme_master.specs.Events.{outcome_in};
 ghost use Rattle.vme_master.specs.declared.outcome.Outcome.TheVariants as outcomes;
-ghost use Rattle.vme_shared.specs.Mailboxes.{HasMailbox, stage_request, refusal_in, shared_refusal};
+ghost use Rattle.vme_shared.specs.Mailboxes.{IsWellFormed, stage_request, refusal_in, shared_refusal};
 ghost use Rattle.vme_shared.specs.declared.request.SharedRequest.{SharedRequest as AnyRequest};
 ghost use Rattle.vme_shared.specs.Steps.{first_stage, has_top_bit, words_between, word_in, counted_stage, lock_step, unlock_step, mailbox_step, step_after};
 
@@ -29,7 +29,7 @@ pub enum SharedRequest {
 impl SharedRequest {
     /// Returns the first refusal of the request's transfers.
     pub(crate) fn check(self) -> Result<(), CycleFault>
-        requires { HasMailbox self }
+        requires { IsWellFormed self }
         ensures { refusal_in result ≡ shared_refusal self }
     {
         match self {
@@ -52,7 +52,7 @@ impl SharedRequest {
 
     /// Returns the transfer of a stage.
     pub(crate) fn transfer(self, stage: Stage) -> Request
-        requires { HasMailbox self }
+        requires { IsWellFormed self }
         ensures value { result ≡ stage_request self stage }
         ensures capacity { read_len result ≤ 4 }
     {
@@ -110,7 +110,9 @@ impl SharedRequest {
             result ≡ mailbox_step self stage (outcomes.Read (record { items = bytes })) }
     {
         match stage {
-            Stage::ReadsPutCount => StageResult::Continue(Stage::ReadsTakeCount { put_count: word }),
+            Stage::ReadsPutCount => StageResult::Continue(Stage::ReadsTakeCount {
+                put_count: word,
+            }),
             Stage::ReadsTakeCount { put_count } => StageResult::Continue(self.counted_stage(
                 put_count, word,
             )),
@@ -152,7 +154,9 @@ fn write_step(stage: Stage) -> StageResult
     ensures { (request : AnyRequest) → result ≡ mailbox_step request stage outcomes.Done }
 {
     match stage {
-        Stage::WritesWord { put_count, .. } => StageResult::Continue(Stage::RaisesPutCount { put_count }),
+        Stage::WritesWord { put_count, .. } => StageResult::Continue(Stage::RaisesPutCount {
+            put_count,
+        }),
         Stage::RaisesPutCount { .. } => StageResult::Continue(Stage::Unlocks {
             end: SharedOutcome::Put,
         }),

@@ -2,15 +2,15 @@ ghost use Rattle.std.specs.Prelude.{◌≡◌, ◌≢◌};
 ghost use Rattle.std.specs.Option.{option_map, option_copied};
 ghost use Rattle.vme_core.specs.EventRefs.{call_asked};
 ghost use Rattle.vme_core.specs.NextSteps.{NotStarted, call_in, result_in};
-ghost use Rattle.vme_shared.specs.Mailboxes.{HasMailbox};
+ghost use Rattle.vme_shared.specs.Mailboxes.{IsWellFormed};
 ghost use Rattle.vme_shared.specs.Machine.{shared_fresh, shared_task, shared_advance, shared_to_do};
 ghost use Rattle.vme_shared.specs.Events.{next_in, IsNextOf};
 
+use crate::current::CurrentTransfer;
 use crate::job::Job;
 use crate::outcome::SharedOutcome;
 use crate::request::SharedRequest;
 use crate::todo::SharedTodo;
-use crate::current::CurrentTransfer;
 use std::marker::Model;
 use vme_core::{EventRef, EventReply};
 use vme_cycle::CycleFault;
@@ -49,7 +49,7 @@ impl<'a> SharedTask<'a> {
         level: u8,
         request: SharedRequest,
     ) -> Result<SharedTask<'a>, CycleFault>
-        requires { HasMailbox request }
+        requires { IsWellFormed request }
         ensures { result
             ≡ shared_task (record { map = map.now; slot = slot; level = level; request = request }) }
     {

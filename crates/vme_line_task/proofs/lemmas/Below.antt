@@ -7,13 +7,12 @@ use Rattle.vme_cycle.specs.Lawful.{Transfer, transfer_of}
 use Rattle.vme_core.specs.declared.event.Event.TheVariants as events
 use Rattle.vme_core.specs.declared.event.EventReply.{EventReply}
 use Rattle.vme_core.specs.Calls.{Call, OnBoard, OnBus, machine_step}
-use Rattle.vme_core.specs.NextSteps.{NextStep, NotStarted, Invokes, Returns, call_in}
+use Rattle.vme_core.specs.NextSteps.{NextStep, Invokes, call_in}
 use Rattle.vme_core.specs.Runs.{Machine}
 use Rattle.vme_core.specs.Advances.{advanced_on, AdvancesOn}
 use Rattle.vme_core.proofs.lemmas.NextSteps.{in_makes, map_makes}
 use Rattle.vme_master.specs.declared.outcome.Outcome.{Outcome}
 use Rattle.vme_shared.specs.declared.outcome.SharedOutcome.{SharedOutcome}
-use Rattle.vme_shared.specs.declared.reply.LineReply.{LineReply}
 use Rattle.vme_shared.specs.declared.reply.LineReply.TheVariants as answers
 use Rattle.vme_master.specs.declared.job.Job.{Job}
 use Rattle.vme_master.specs.Jobs.{bus_job}
@@ -30,7 +29,6 @@ use Rattle.vme_grammar.specs.declared.line.Line.TheVariants as lines
 use Rattle.vme_script.specs.Boards.{entries_of}
 use Rattle.vme_script.specs.Configurations.{Configuration}
 use Rattle.vme_line_task.specs.declared.task.LineTask.{LineTask}
-use Rattle.vme_line_task.specs.declared.task.LineTask.TheVariants.{Refused, Running}
 use Rattle.vme_line_task.specs.declared.todo.LineTodo.{LineTodo}
 use Rattle.vme_line_task.specs.declared.todo.LineTodo.TheVariants as todos
 use Rattle.vme_line_task.specs.Scripts.{Attempt, Transferring, Awaiting, Sharing, slot_at, level_at, mailbox_at, transfer_job, request_attempt, unless_refused, shared_job, shared_attempt, line_attempt}

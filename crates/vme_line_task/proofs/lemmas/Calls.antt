@@ -1,14 +1,13 @@
 -- What a line does next, by its event and its reply.
-use Rattle.std.proofs.Common.{◌≡◌, ℕ, false, true, is_some, Option, refl, sym}
+use Rattle.std.proofs.Common.{◌≡◌, ℕ, false, Option, refl}
 use Rattle.vme_core.specs.declared.event.EventReply.{EventReply}
 use Rattle.vme_core.specs.Runs.{Machine}
-use Rattle.vme_core.specs.NextSteps.{NextStep, NotStarted, Invokes, Returns, result_in}
+use Rattle.vme_core.specs.NextSteps.{NextStep, NotStarted, Invokes, Returns}
 use Rattle.vme_core.specs.Advances.{AdvancesOn}
 use Rattle.vme_core.proofs.lemmas.NextSteps.{map_same}
 use Rattle.vme_core.proofs.lemmas.Advances.{part_advances}
 use Rattle.vme_master.specs.declared.outcome.Outcome.{Outcome}
 use Rattle.vme_master.specs.Machine.{TaskView, advance, to_do}
-use Rattle.vme_shared.specs.declared.reply.LineReply.{LineReply}
 use Rattle.vme_shared.specs.declared.reply.LineReply.TheVariants as answers
 use Rattle.vme_line_task.specs.declared.task.LineTask.TheVariants.{Running}
 use Rattle.vme_line_task.specs.declared.attempt.Attempts.{Attempts}

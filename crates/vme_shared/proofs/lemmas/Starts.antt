@@ -25,7 +25,7 @@ use Rattle.vme_shared.specs.declared.request.SharedRequest.{SharedRequest}
 use Rattle.vme_shared.specs.declared.request.SharedRequest.TheVariants.{Lock, Unlock, Put, Take}
 use Rattle.vme_shared.specs.declared.stage.Stage.{Stage}
 use Rattle.vme_shared.specs.declared.stage.Stage.TheVariants as stages
-use Rattle.vme_shared.specs.Mailboxes.{put_count_at, take_count_at, word_at, raised, IsMailbox, HasMailbox, set_lock, clear_lock, read_word, write_word, mailbox_request, stage_request, refusal_in, mailbox_refusal, shared_refusal}
+use Rattle.vme_shared.specs.Mailboxes.{put_count_at, take_count_at, word_at, raised, IsMailbox, IsWellFormed, set_lock, clear_lock, read_word, write_word, mailbox_request, stage_request, refusal_in, mailbox_refusal, shared_refusal}
 use Rattle.vme_shared.specs.Steps.{first_stage}
 use Rattle.vme_shared.specs.Tables.{SharedJob, transfer_job, stage_job, stage_begun, next_at, progress_given, shared_next}
 
@@ -123,7 +123,7 @@ mailbox_lawful m (stages.RaisesTakeCount t word) is looked at =
 mailbox_lawful m (stages.Unlocks end) is looked at = clear_lawful m at is.aligned
 
 -- no transfer of an accepted request is refused
-pub stage_lawful : (request : SharedRequest) (stage : Stage) → HasMailbox request → shared_refusal request ≡ None
+pub stage_lawful : (request : SharedRequest) (stage : Stage) → IsWellFormed request → shared_refusal request ≡ None
     → IsLawfulRequest (stage_request request stage)
 stage_lawful (Lock am addr) stage is none = no_refusal (set_lock am addr) _ refl none
 stage_lawful (Unlock am addr) stage is none = no_refusal (clear_lock am addr) _ refl none
@@ -133,7 +133,7 @@ stage_lawful (Take mailbox) stage is none =
     let look = looked mailbox none in mailbox_lawful mailbox stage is look (placed mailbox is look)
 
 -- each stage of an accepted request has its bus job
-pub all_lawful : (s : SharedJob) (stage : Stage) → HasMailbox s.request → shared_refusal s.request ≡ None
+pub all_lawful : (s : SharedJob) (stage : Stage) → IsWellFormed s.request → shared_refusal s.request ≡ None
     → (job : Job) × (stage_job s stage ≡ Ok job)
 all_lawful s stage is none = let one = stage_lawful s.request stage is none in (_, ap (transfer_job s) one.1)
 
