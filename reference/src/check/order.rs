@@ -41,6 +41,9 @@ impl Nodes {
 const START: usize = 0;
 const END: usize = 1;
 
+/// The nodes by processor, line and datum, numbered in this order.
+type Places = BTreeMap<(usize, usize, usize), usize>;
+
 /// The access of a node to a byte.
 struct Visit {
     node: usize,
@@ -62,13 +65,7 @@ impl Order {
         let places = places(configuration, supplies);
         let count = places.len() + 2;
         let mut order = Order { before: vec![Nodes::none(count); count], needed: Vec::new(), is_possible: true };
-        for (number, (who, _, _)) in places.keys().enumerate() {
-            order.add(START, number + 2);
-            order.add(number + 2, END);
-            if number > 0 && places.keys().nth(number - 1).is_some_and(|it| it.0 == *who) {
-                order.add(number + 1, number + 2);
-            }
-        }
+        order.add_scripts(&places);
         let visits: Vec<Vec<Visit>> =
             supplies.bytes.iter().map(|(at, it)| visits(report, &places, *at, it)).collect();
         let queues: Vec<Queue> =
@@ -83,6 +80,19 @@ impl Order {
         order
     }
 
+    /// Adds the order of each script, between the start and the end.
+    fn add_scripts(&mut self, places: &Places) {
+        let nodes: Vec<(usize, usize)> = places.iter().map(|(place, node)| (place.0, *node)).collect();
+        for (_, node) in &nodes {
+            self.add(START, *node);
+            self.add(*node, END);
+        }
+        for pair in nodes.windows(2).filter(|it| it[0].0 == it[1].0) {
+            self.add(pair[0].1, pair[1].1);
+        }
+    }
+
+    /// Whether the report's values force no cycle.
     pub fn is_possible(&self) -> bool {
         self.is_possible
     }
@@ -188,7 +198,7 @@ impl Order {
         is_new && self.is_possible
     }
 
-    fn note_needed(&mut self, configuration: &Configuration, places: &BTreeMap<(usize, usize, usize), usize>) {
+    fn note_needed(&mut self, configuration: &Configuration, places: &Places) {
         self.needed = configuration.boards.iter().map(|it| vec![Vec::new(); it.script.len()]).collect();
         for ((who, line, _), node) in places {
             // Of each other processor the last line before this one.
@@ -202,8 +212,8 @@ impl Order {
     }
 }
 
-/// The nodes by processor, line and datum, numbered in this order.
-fn places(configuration: &Configuration, supplies: &Supplies) -> BTreeMap<(usize, usize, usize), usize> {
+/// The lines that access a byte of several processors or a mailbox, as nodes.
+fn places(configuration: &Configuration, supplies: &Supplies) -> Places {
     let mut all = BTreeSet::new();
     for ((board, _), byte) in &supplies.bytes {
         for (who, accesses) in &byte.accesses {
@@ -226,12 +236,7 @@ struct Queue {
     left: Vec<usize>,
 }
 
-fn queue(
-    configuration: &Configuration,
-    report: &Report,
-    places: &BTreeMap<(usize, usize, usize), usize>,
-    number: usize,
-) -> Queue {
+fn queue(configuration: &Configuration, report: &Report, places: &Places, number: usize) -> Queue {
     let (mut puts, mut takes) = (Vec::new(), Vec::new());
     for (who, entry) in configuration.boards.iter().enumerate() {
         for (line, ((_, it), reply)) in entry.script.iter().zip(&report.replies[who]).enumerate() {
@@ -259,12 +264,7 @@ fn place(configuration: &Configuration, board: usize, who: usize, access: &Acces
     (who, access.line, if board != who && has_local { access.datum } else { 0 })
 }
 
-fn visits(
-    report: &Report,
-    places: &BTreeMap<(usize, usize, usize), usize>,
-    at: (usize, u64),
-    byte: &Byte,
-) -> Vec<Visit> {
+fn visits(report: &Report, places: &Places, at: (usize, u64), byte: &Byte) -> Vec<Visit> {
     let last = report.memories[at.0][at.1 as usize];
     let mut visits = vec![
         Visit { node: START, read: None, left: Left::Value(0) },
