@@ -17,6 +17,10 @@ mod maps;
 #[cfg(test)]
 mod memories;
 #[cfg(test)]
+mod properties;
+#[cfg(test)]
+mod random_commands;
+#[cfg(test)]
 mod shared_course;
 #[cfg(test)]
 mod shared_tasks;

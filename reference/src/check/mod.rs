@@ -2,8 +2,10 @@
 
 mod judge;
 mod needs;
+mod order;
 mod search;
 mod state;
+mod supplies;
 #[cfg(test)]
 mod tests;
 

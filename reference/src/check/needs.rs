@@ -228,7 +228,7 @@ fn need(configuration: &Configuration, report: &Report, who: usize, line: &Line,
 }
 
 /// The commands of a line's first transfer or local access, with their boards, up to the first bus error.
-fn steps(configuration: &Configuration, who: usize, line: &Line) -> Vec<(usize, Command)> {
+pub fn steps(configuration: &Configuration, who: usize, line: &Line) -> Vec<(usize, Command)> {
     let lock;
     let asked: &Asked = match line {
         Line::Local(command) => return vec![(who, command.clone())],
@@ -261,7 +261,7 @@ fn data(configuration: &Configuration, plan: &Plan) -> Vec<(usize, Command)> {
     data
 }
 
-fn answers(configuration: &Configuration, board: usize, command: &Command) -> bool {
+pub fn answers(configuration: &Configuration, board: usize, command: &Command) -> bool {
     let entry = &configuration.boards[board];
     Board::new(entry.range.size, entry.class).answers(command)
 }

@@ -1,6 +1,6 @@
 //! Faults that make a lawful configuration one that is refused, each refusal in several ways.
 
-use super::draft::{get, set, Draft, Table};
+use super::draft::{get, set, Board, Draft, Table};
 use super::lines::{self, Aim, Aims};
 use crate::codes::Space;
 use crate::random::Random;
@@ -322,19 +322,55 @@ fn long_script(random: &mut Random, draft: &mut Draft) {
     script(random, draft).resize(count, line.into());
 }
 
-/// A line on the bytes of a mailbox.
+/// A line on the bytes of a mailbox, or on those beside it.
 fn mailbox_bytes(random: &mut Random, draft: &mut Draft) {
-    let addr = get(mailbox(random, draft), "addr").and_then(|it| it.parse::<u32>().ok()).unwrap_or(0);
-    let at = addr.wrapping_add(random.below(24) as u32);
-    let code = random.pick(&["09", "39", "29", "0d", "3d", "2d"]);
-    let line = match random.below(6) {
-        0 => format!("r {code} {at:08x} 1"),
-        1 => format!("w {code} {at:08x} 00"),
-        2 => format!("lock {code} {at:08x}"),
-        3 => format!("await {code} {at:08x} 00"),
-        4 => format!("br 0b {:08x} 1 {}", at.wrapping_sub(4), random.from_to(1, 8)),
-        _ => format!("lr {:08x} {}", random.below(40), random.pick(&[1, 2, 4])),
+    let keys = mailbox(random, draft).clone();
+    let (first, slots) = (number(&keys, "addr"), number(&keys, "slots"));
+    let end = first.wrapping_add(16).wrapping_add(slots.wrapping_mul(4));
+    let length = random.pick(&[1, 2, 4]);
+    // Its last byte is the one before the mailbox, or the first byte of it; or its first byte is the last byte of the
+    // mailbox, or the one after it.
+    let edges = [first.wrapping_sub(length), first.wrapping_sub(length - 1), end.wrapping_sub(1), end];
+    let inside = first.wrapping_add(random.below(24) as u32);
+    let at = if random.one_in(3) { inside } else { random.pick(&edges) };
+    let holds = |it: &Board| at.wrapping_sub(number(&it.keys, "base")) < number(&it.keys, "size");
+    let own = draft.boards.iter().position(holds);
+    let line = match own.filter(|_| random.one_in(2)) {
+        Some(own) => local_line(random, at.wrapping_sub(number(&draft.boards[own].keys, "base")), length),
+        None => bus_line(random, at, length),
     };
-    let script = script(random, draft);
+    let script = match own.filter(|_| line.starts_with('l')) {
+        Some(own) => &mut draft.boards[own].script,
+        None => script(random, draft),
+    };
     script.insert(random.below(script.len() + 1), line.into());
+}
+
+fn number(keys: &Table, key: &str) -> u32 {
+    get(keys, key).and_then(|it| it.parse().ok()).unwrap_or(0)
+}
+
+fn local_line(random: &mut Random, offset: u32, length: u32) -> String {
+    let bytes = "01".repeat(length as usize);
+    match random.below(3) {
+        0 => format!("lr {offset:08x} {length}"),
+        1 => format!("lw {offset:08x} {bytes}"),
+        _ => format!("lm {offset:08x} {length} add {bytes}"),
+    }
+}
+
+fn bus_line(random: &mut Random, address: u32, length: u32) -> String {
+    let code = random.pick(&["09", "39", "29", "0d", "3d", "2d"]);
+    let bytes = "01".repeat(length as usize);
+    match random.below(9) {
+        0 => format!("r {code} {address:08x} {length}"),
+        1 => format!("w {code} {address:08x} {bytes}"),
+        2 => format!("m {code} {address:08x} {length} xchg {bytes}"),
+        3 => format!("lock {code} {address:08x}"),
+        4 => format!("unlock {code} {address:08x}"),
+        5 => format!("await {code} {address:08x} {bytes}"),
+        6 => format!("br 0b {:08x} 1 {}", address.wrapping_sub(4), random.from_to(1, 8)),
+        7 => format!("bf 0b {:08x} 1 {} 01", address.wrapping_sub(4), random.from_to(1, 8)),
+        _ => format!("bw 0b {address:08x} {length} {bytes}{bytes}"),
+    }
 }
