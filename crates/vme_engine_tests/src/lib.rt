@@ -13,6 +13,8 @@ mod faults;
 #[cfg(test)]
 mod files;
 #[cfg(test)]
+mod holds;
+#[cfg(test)]
 mod lines;
 #[cfg(test)]
 mod memory;
