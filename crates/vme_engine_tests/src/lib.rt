@@ -32,3 +32,5 @@ mod step_wide;
 mod support;
 #[cfg(test)]
 mod surface;
+#[cfg(test)]
+mod words;
