@@ -3,6 +3,7 @@
 //! processor from asking, so no proof about the bus depends on it.
 #![tactic(auto)]
 
+mod counts;
 mod sleeper;
 #[cfg(test)]
 mod tests;

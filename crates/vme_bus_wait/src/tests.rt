@@ -1,12 +1,13 @@
-//! Tests: three processors that wait for each other in rotation, and one that waits long.
+//! Tests: three processors that wait for each other in rotation, one that waits long, and one that
+//! another wakes.
 use crate::wait_state::WaitState;
 use crate::waiters::BusWaiters;
 use std::sync::Wait;
 use std::sync::atomic::{AtomicBool, AtomicU64, Ordering};
 use std::test::Fail;
-use std::thread;
 use std::thread::{Threads, join};
-use std::time::{Clock, Duration};
+use std::time::{Clock, Duration, Instant};
+use std::{io, thread};
 
 /// The number of times that each processor proceeds.
 const TURNS: u64 = 1000;
@@ -101,6 +102,106 @@ fn who_waits_long_sleeps(rt: HostRuntime) -> Result<(), Fail> {
         let sign = AtomicBool::new(false);
         let rounds = rounds_while_held(&rt, &waiters, &sign);
         assert!(&rt; rounds < 1000, "{rounds} rounds, for {count} processors");
+    }
+    Ok(())
+}
+
+/// How a processor that uses the bus, or waits for it, wakes one that sleeps.
+#[derive(Clone, Copy)]
+enum Waking {
+    /// It releases the bus.
+    Release,
+    /// It waits for as many rounds without a release as the sleepers are first woken after.
+    StillRounds,
+}
+
+/// The number of rounds without a release after which the sleepers are first woken.
+const STILL_ROUNDS: u64 = 8;
+
+/// The longest sleep, in milliseconds. A sleep takes as long if no other processor ends it.
+const LONGEST: u64 = 10;
+
+/// The number of sleeps. A busy machine may prolong some of them.
+const SLEEPS: u64 = 20;
+
+/// Waits for a flag, and returns how long the last round took.
+fn last_round<R: Wait + Clock>(
+    rt: &R,
+    waiters: &BusWaiters,
+    sign: &AtomicBool,
+) -> io::Result<Duration> {
+    let mut wait_state = WaitState::new();
+    let mut last = Duration::from_millis(LONGEST);
+    for _ in rt.forever() {
+        let seen = waiters.releases();
+        if sign.load(Ordering::SeqCst) {
+            break;
+        }
+        let start = Instant::now(rt)?;
+        waiters.wait(rt, 0, seen, &mut wait_state);
+        last = start.elapsed(rt)?;
+    }
+    waiters.leave(&mut wait_state);
+    Ok(last)
+}
+
+/// Lets the other processor sleep for a millisecond, sets the flag, and wakes it.
+fn wake<R: Wait + Clock>(rt: &R, waiters: &BusWaiters, sign: &AtomicBool, waking: Waking) {
+    for _ in rt.forever() {
+        if waiters.counts.asleep() > 0 && waiters.counts.awake() == 0 {
+            break;
+        }
+        thread::yield_now();
+    }
+    thread::sleep(rt, Duration::from_millis(1));
+    sign.store(true, Ordering::SeqCst);
+    let mut wait_state = WaitState::new();
+    match waking {
+        Waking::Release => waiters.release(&mut wait_state),
+        Waking::StillRounds => {
+            for _ in 0..STILL_ROUNDS {
+                waiters.wait(rt, 1, waiters.releases(), &mut wait_state);
+            }
+            waiters.leave(&mut wait_state);
+        }
+    }
+}
+
+/// Lets one processor sleep and another wake it. Returns how long the sleeper's last round took.
+fn woken_after<R: Threads + Wait + Clock + Sync>(
+    rt: &R,
+    waiters: &BusWaiters,
+    waking: Waking,
+) -> io::Result<Duration> {
+    let sign = AtomicBool::new(false);
+    join(
+        rt,
+        || last_round(rt, waiters, &sign),
+        || wake(rt, waiters, &sign, waking),
+    )
+    .0
+}
+
+/// If no other processor wakes the sleeper, each of its sleeps takes at least `LONGEST`
+/// milliseconds.
+#[test]
+fn who_sleeps_is_woken(rt: HostRuntime) -> Result<(), Fail> {
+    for (count, waking) in [
+        (2, Waking::Release),
+        (3, Waking::Release),
+        (3, Waking::StillRounds),
+    ] {
+        let waiters = BusWaiters::new(rt.alloc(), count)?;
+        let mut short = 0_u64;
+        for _ in 0..SLEEPS {
+            if woken_after(&rt, &waiters, waking)? < Duration::from_millis(LONGEST) {
+                short = short.wrapping_add(1);
+            }
+        }
+        assert!(&rt;
+            short > SLEEPS / 2,
+            "{short} of {SLEEPS}, for {count} processors"
+        );
     }
     Ok(())
 }

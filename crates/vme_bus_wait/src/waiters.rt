@@ -1,9 +1,19 @@
+ghost use Rattle.std.specs.Prelude.{◌≡◌, ◌<◌, ◌⊎◌, nat_lt, IfOk, IfSome};
+ghost use Rattle.vme_bus_wait.specs.Waits.{
+  granted,
+  has_waited,
+  one_more,
+  processors_of,
+  released,
+  rounds_of,
+  still_rounds_of,
+};
+
+use crate::counts::Counts;
 use crate::sleeper::Sleeper;
 use crate::wait_state::WaitState;
-use crossbeam_utils::CachePadded;
 use std::alloc::{AllocError, Global};
 use std::sync::Wait;
-use std::sync::atomic::{AtomicBool, AtomicU64, Ordering};
 use std::{hint, thread};
 
 /// The number of times that a processor polls for a release before it yields its thread.
@@ -20,19 +30,6 @@ const LOOKS_ASIDE: u32 = 16;
 /// line transfer.
 const PAUSES_ASIDE: u32 = 32;
 
-/// The values that all waiting processors share.
-#[derive(Drop)]
-struct Counts {
-    /// The number of releases of the bus.
-    releases: AtomicU64,
-    /// The number of processors that wait awake, if more than one may wait at a time.
-    awake: AtomicU64,
-    /// The number of processors that sleep or are about to sleep.
-    asleep: AtomicU64,
-    /// Whether one of two processors defers to the other.
-    aside: AtomicBool,
-}
-
 /// The state that the processors of one bus share while they wait for it. A waiting processor polls
 /// this state before it asks the arbiter again, so that it does not contend with the processors
 /// that use the bus.
@@ -42,7 +39,7 @@ struct Counts {
 /// of them may have got the bus. If no release follows for long, the last one sleeps too.
 #[derive(Drop)]
 pub struct BusWaiters {
-    counts: CachePadded<Counts>,
+    pub(crate) counts: Counts,
     sleepers: Vec<Sleeper>,
 }
 
@@ -51,19 +48,15 @@ impl BusWaiters {
     ///
     /// # Errors
     /// `AllocError` if an allocation fails.
-    pub fn new(alloc: Global, count: usize) -> Result<BusWaiters, AllocError> {
+    pub fn new(alloc: Global, count: usize) -> Result<BusWaiters, AllocError>
+        ensures { IfOk result (λ waiters. processors_of waiters ≡ count) }
+    {
         let mut sleepers = Vec::with_capacity(alloc, count)?;
         for _ in 0..count {
-            sleepers.push(Sleeper::new())?;
+            sleepers.push_reserved(Sleeper::new());
         }
-        let counts = Counts {
-            releases: AtomicU64::new(0),
-            awake: AtomicU64::new(0),
-            asleep: AtomicU64::new(0),
-            aside: AtomicBool::new(false),
-        };
         Ok(BusWaiters {
-            counts: CachePadded::new(counts),
+            counts: Counts::new(),
             sleepers,
         })
     }
@@ -71,21 +64,21 @@ impl BusWaiters {
     /// Returns the number of releases so far. Read it before asking the arbiter, so that no release
     /// after the arbiter's reply is missed.
     pub fn releases(&self) -> u64 {
-        self.counts.releases.load(Ordering::SeqCst)
+        self.counts.releases()
     }
 
     /// Records that the processor released the bus. If processors wait and all of them sleep, it
     /// wakes one of them. If there are two processors and this one had to wait for the bus, it
     /// defers to the other for a while.
     #[inline(always)]
-    pub fn release(&self, wait_state: &mut WaitState) {
+    pub fn release(&self, wait_state: &mut WaitState)
+        ensures { wait_state.new ≡ released (processors_of self.now) wait_state.old }
+    {
         if self.sleepers.len() < ALONE {
             return;
         }
-        self.counts.releases.fetch_add(1, Ordering::SeqCst);
-        if self.counts.asleep.load(Ordering::SeqCst) > 0
-            && self.counts.awake.load(Ordering::SeqCst) == 0
-        {
+        self.counts.add_release();
+        if self.counts.asleep() > 0 && self.counts.awake() == 0 {
             self.wake_first();
         }
         if wait_state.take_has_waited() && !self.counts_awake() {
@@ -98,7 +91,12 @@ impl BusWaiters {
     /// processors.
     #[cold]
     #[inline(never)]
-    pub fn wait<R: Wait>(&self, rt: &R, who: usize, seen: u64, wait_state: &mut WaitState) {
+    pub fn wait<R: Wait>(&self, rt: &R, who: usize, seen: u64, wait_state: &mut WaitState)
+        ensures rounds { rounds_of wait_state.new ≡ one_more (rounds_of wait_state.old) }
+        ensures still { (still_rounds_of wait_state.new ≡ 0)
+            ⊎ (still_rounds_of wait_state.new ≡ one_more (still_rounds_of wait_state.old)) }
+        ensures waited { has_waited wait_state.new ≡ has_waited wait_state.old }
+    {
         if !wait_state.has_begun() {
             self.come_awake();
         }
@@ -115,7 +113,9 @@ impl BusWaiters {
 
     /// Records that the processor got the bus, so it no longer waits.
     #[inline(always)]
-    pub fn leave(&self, wait_state: &mut WaitState) {
+    pub fn leave(&self, wait_state: &mut WaitState)
+        ensures { wait_state.new ≡ granted wait_state.old }
+    {
         if wait_state.has_begun() {
             self.leave_awake();
             wait_state.end();
@@ -128,7 +128,7 @@ impl BusWaiters {
     #[cold]
     #[inline(never)]
     fn stand_aside(&self) {
-        if self.counts.aside.swap(true, Ordering::SeqCst) {
+        if self.counts.step_aside() {
             return;
         }
         let mut seen = self.releases();
@@ -142,26 +142,28 @@ impl BusWaiters {
             }
             seen = releases;
         }
-        self.counts.aside.store(false, Ordering::SeqCst);
+        self.counts.step_back();
     }
 
     /// Whether more than one processor may wait at a time, so that awake processors are counted.
     #[inline(always)]
-    fn counts_awake(&self) -> bool {
+    fn counts_awake(&self) -> bool
+        ensures { result ≡ nat_lt 2 (processors_of self.now) }
+    {
         self.sleepers.len() > ALONE
     }
 
     /// Counts one more processor that waits awake.
     fn come_awake(&self) {
         if self.counts_awake() {
-            self.counts.awake.fetch_add(1, Ordering::SeqCst);
+            self.counts.come_awake();
         }
     }
 
     /// Counts one processor fewer that waits awake. Returns whether another one remains.
     #[inline(always)]
     fn leave_awake(&self) -> bool {
-        self.counts_awake() && self.counts.awake.fetch_sub(1, Ordering::SeqCst) > 1
+        self.counts_awake() && self.counts.leave_awake()
     }
 
     /// Polls until the number of releases differs from `seen`. After `PAUSES` polls it yields the
@@ -184,26 +186,32 @@ impl BusWaiters {
             return;
         };
         sleeper.lie_down();
-        self.counts.asleep.fetch_add(1, Ordering::SeqCst);
+        self.counts.fall_asleep();
         let may_sleep = self.leave_awake() || as_last;
         if may_sleep && self.releases() == seen {
             sleeper.sleep(rt);
         }
         self.come_awake();
-        self.counts.asleep.fetch_sub(1, Ordering::SeqCst);
+        self.counts.leave_asleep();
         sleeper.get_up();
     }
 
+    /// Wakes the first processor, in order of slots, that sleeps or is about to sleep. Returns its
+    /// place among the processors.
     #[cold]
     #[inline(never)]
-    fn wake_first(&self) {
-        for sleeper in &self.sleepers {
-            if sleeper.wake() {
-                return;
+    fn wake_first(&self) -> Option<usize>
+        ensures { IfSome result (λ who. who < processors_of self.now) }
+    {
+        for who in 0..self.sleepers.len() {
+            if self.sleepers[who].wake() {
+                return Some(who);
             }
         }
+        None
     }
 
+    /// Wakes every processor that sleeps or is about to sleep.
     fn wake_all(&self) {
         for sleeper in &self.sleepers {
             sleeper.wake();

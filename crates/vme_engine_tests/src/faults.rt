@@ -6,6 +6,7 @@ use std::sync::Wait;
 use std::test::Fail;
 use std::thread::Threads;
 use vme_engines::{FILE_LIMIT, INPUT_LIMIT, ProgramFault, Status, exit_status};
+use vme_runner::RunFault;
 use vme_script::ConfigFault;
 
 /// Runs an engine over so many line ends: it ends so, and writes nothing.
@@ -54,6 +55,22 @@ fn reports_faults(rt: HostRuntime) -> Result<(), Fail> {
     for (fault, text, status) in &FAULTS {
         assert_eq!(rt; fault.to_string(rt.alloc())?.as_str(), *text);
         assert_eq!(rt; exit_status(&Err(*fault)), *status);
+    }
+    Ok(())
+}
+
+/// The faults of a run of scripts, each with its text.
+static RUN_FAULTS: [(RunFault, &str); 4] = [
+    (RunFault::Thread, "U1"),
+    (RunFault::Memory, "U2"),
+    (RunFault::Spent, "U3"),
+    (RunFault::Write, "U4"),
+];
+
+#[test]
+fn reports_faults_of_runs(rt: HostRuntime) -> Result<(), Fail> {
+    for (fault, text) in &RUN_FAULTS {
+        assert_eq!(rt; fault.to_string(rt.alloc())?.as_str(), *text);
     }
     Ok(())
 }

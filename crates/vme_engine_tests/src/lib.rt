@@ -13,6 +13,8 @@ mod faults;
 #[cfg(test)]
 mod files;
 #[cfg(test)]
+mod holds;
+#[cfg(test)]
 mod lines;
 #[cfg(test)]
 mod memory;
@@ -30,3 +32,5 @@ mod step_wide;
 mod support;
 #[cfg(test)]
 mod surface;
+#[cfg(test)]
+mod words;

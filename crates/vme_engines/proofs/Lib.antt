@@ -2,3 +2,6 @@ pub mod Runs
 pub mod Texts
 pub mod Data
 pub mod InputFaults
+pub mod CommandWords
+pub mod SubcommandFaults
+pub mod CommandForms

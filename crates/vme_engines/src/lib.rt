@@ -1,5 +1,6 @@
 //! The engines of the program: `vme cycles` makes the cycles of request lines, `vme step` runs the
-//! scripts of a configuration on one thread, and `vme run` runs them on threads.
+//! scripts of a configuration on one thread, and `vme run` runs them on threads. Its command line is
+//! read by [`read_words`].
 //!
 //! Each engine reads a source of bytes, writes to a sink, and returns a status or a fault.
 #![tactic(auto)]
@@ -14,6 +15,7 @@ mod request;
 mod run;
 mod step;
 mod text;
+mod words;
 
 pub use cycles::{INPUT_LIMIT, cycles_engine};
 pub use fault::{ProgramFault, exit_status};
@@ -23,3 +25,4 @@ pub use run::run_engine;
 pub use step::step_engine;
 pub use text::report_text;
 pub use vme_shared::Status;
+pub use words::{Form, WordsFault, read_words};

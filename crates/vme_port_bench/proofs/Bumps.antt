@@ -1,6 +1,6 @@
 -- The number of a counter that is only incremented.
-use Rattle.std.proofs.Common.{ℕ, ◌≡◌, ◌+◌, ◌%◌, ◌^◌, ◌<◌, List, [], ◌∷◌, length, All, Result, Ok, Err, refl, ap, ◌∙◌, arith}
-use Rattle.std.proofs.lemmas.List.Elements.{All-nil, All-cons, All-head, All-tail}
+use Rattle.std.proofs.Common.{ℕ, ◌≡◌, ◌+◌, ◌%◌, ◌^◌, ◌<◌, List, [], ◌∷◌, length, slice_index_or, All, Contains, Result, Ok, Err, refl, ap, ◌∙◌, arith}
+use Rattle.std.proofs.lemmas.List.Elements.{All-nil, All-cons, All-head, All-tail, All-contains, Contains-get_or}
 use Rattle.vme_object.specs.declared.history.Entry.{Entry}
 use Rattle.vme_object.specs.declared.counter.Counter.{Counter}
 use Rattle.vme_object.specs.declared.counter.CounterCmd.{CounterCmd}
@@ -10,7 +10,6 @@ use Rattle.vme_object.specs.History.{replay, entry}
 use Rattle.vme_port.specs.Calls.{entries_of}
 use Rattle.vme_port.specs.Passes.{PassView}
 use Rattle.vme_port.specs.Settlements.{Settles}
-use Rattle.vme_port.proofs.lemmas.OneHistory.{all_made}
 
 -- the entries that a call adds have its command
 pub all_of_call : {C R F : Type 0} (who : ℕ) (cmd : C) (result : Result R F) → All (λ e. e.cmd ≡ cmd) (entries_of who cmd result)
@@ -29,10 +28,22 @@ bumped c (e ∷ h) all fits =
     let later = bumped (count_step c e.cmd).0 h rest (omega arith) in
     omega arith
 
--- passes that only increment settle on a counter that grew by one for each of their entries
-pub settled_number : (start : Counter) (k : ℕ) (passes : List (PassView CounterCmd ℕ)) (c : Counter) (n : ℕ) → Settles count_step start k passes c n
+-- a property of all entries that the passes made holds for a history that has no others
+all_of_history :
+    {C R : Type 0} (P : Entry C R → Type 0) (passes : List (PassView C R)) (h : List (Entry C R))
+    → ((e : Entry C R) → Contains h e → (p : PassView C R) × Contains passes p × Contains p.mine e) → All (λ p. All P p.mine) passes
+    → All P h
+all_of_history {C} {R} P passes h no_others each i d less =
+    let e : Entry C R = slice_index_or h i d in
+    let maker = no_others e (Contains-get_or h i d less) in
+    All-contains P maker.0.mine e (All-contains (λ (p : PassView C R). All P p.mine) passes maker.0 each maker.1) maker.2
+
+-- passes that only increment settle on a counter that grew by one for each entry of their history, which has no others
+pub settled_number :
+    (start : Counter) (k : ℕ) (passes : List (PassView CounterCmd ℕ)) (c : Counter) (n : ℕ) (reported : Settles count_step start k passes c n)
+    → ((e : Entry CounterCmd ℕ) → Contains reported.history e → (p : PassView CounterCmd ℕ) × Contains passes p × Contains p.mine e)
     → All (λ p. All (λ e. e.cmd ≡ Bump) p.mine) passes → start.number + n < 2 ^ 64 → c.number ≡ start.number + n
-settled_number start k passes c n reported each fits =
-    let all = all_made count_step start k passes c n reported (λ (e : Entry CounterCmd ℕ). e.cmd ≡ Bump) each in
+settled_number start k passes c n reported no_others each fits =
+    let all = all_of_history (λ (e : Entry CounterCmd ℕ). e.cmd ≡ Bump) passes reported.history no_others each in
     let up = bumped start reported.history all (omega (arith, reported.counted)) in
     omega (arith, reported.counted, up, ap (λ (c : Counter). c.number) reported.replayed)

@@ -11,7 +11,7 @@ use std::sync::Wait;
 use std::thread;
 use std::thread::{PromisedHandle, Scope, Threads};
 use vme_object::Counter;
-use vme_port::{Pass, Port, PortFault};
+use vme_port::{Pass, Port, PortFault, calls_make_one_history};
 
 /// The result of a run.
 #[derive(Clone, Copy)]
@@ -54,10 +54,11 @@ pub fn run<R: Threads + Wait + Sync>(
 {
     let (port, passes) = open(alloc, arguments.threads)?;
     let passes = call_all(rt, alloc, &port, passes, arguments.calls)?;
-    match port.settle(passes) {
-        Ok((counter, steps)) => Ok(Outcome::of(counter, steps)),
-        Err(_) => unreachable!(),
-    }
+    let Ok((counter, steps)) = port.settle(passes) else {
+        unreachable!()
+    };
+    calls_make_one_history::<Counter>();
+    Ok(Outcome::of(counter, steps))
 }
 
 /// Opens a port of a counter at 0, with its passes.

@@ -1,12 +1,10 @@
-//! Tests of scripts on threads: processors that wait for each other, that are held at a line, that
-//! read blocks, that add to one word, and that share locks and mailboxes. They are a crate of their
-//! own so that `vme_threads` is not proved twice.
+//! Tests of scripts on threads: processors that wait for each other, that read blocks, that add to
+//! one word, and that share locks and mailboxes. They are a crate of their own so that `vme_threads`
+//! is not proved twice.
 #![tactic(auto)]
 
 #[cfg(test)]
 mod blocks;
-#[cfg(test)]
-mod holds;
 #[cfg(test)]
 mod locks;
 #[cfg(test)]

@@ -1,9 +1,15 @@
-//! One processor is held before or after a line until the other has finished its script.
-use crate::support::{configured, replies_of, report_of, seen};
+//! One processor is held before or after a line until the other has finished its script. The report
+//! is the same at each of these points.
+use crossbeam_utils::Backoff;
+use std::alloc::{AllocError, Global};
 use std::process::Abort;
+use std::sync::Wait;
 use std::sync::atomic::{AtomicBool, Ordering};
 use std::test::Fail;
-use vme_threads::{Gate, Report};
+use std::thread::Threads;
+use vme_io::RoomSink;
+use vme_runner::{Gate, RunFault, Status, report_text, run_threads};
+use vme_script::Config;
 
 /// Both processors write to the first board.
 static TWO_BOARDS: &str = "[[board]]
@@ -24,14 +30,17 @@ w 09 00000005 04
 \"\"\"
 ";
 
-static REPLIES: &str = "1:1 done
+static REPORT: &str = "1:1 done
 1:2 done
 2:1 done
 2:2 done
+board 1 steps 4 made 2 2
+board 2 steps 0 made 0 0
+mem 1 00000000 01020000030400000000000000000000
 ";
 
-/// The first bytes of the first board's memory after a run.
-static BYTES: [u8; 6] = [1, 2, 0, 0, 3, 4];
+/// How often the held processor looks for the end of the other one's script.
+const LOOKS: u32 = 10_000_000;
 
 /// The number of the last line of both scripts.
 const LAST_LINE: u16 = 2;
@@ -62,9 +71,14 @@ impl Hold {
         if slot != self.slot || line != self.line || after != self.after {
             return;
         }
-        if !seen(&self.through) {
-            self.missed.store(true, Ordering::SeqCst);
+        let backoff = Backoff::new();
+        for _ in 0..LOOKS {
+            if self.through.load(Ordering::SeqCst) {
+                return;
+            }
+            backoff.snooze();
         }
+        self.missed.store(true, Ordering::SeqCst);
     }
 }
 
@@ -81,31 +95,33 @@ impl Gate for Hold {
     }
 }
 
-/// Checks that both processors made two steps on the first board and none on the second.
-fn expect_steps(rt: &impl Abort, report: &Report) {
-    let [first, second] = report.boards.as_slice() else {
-        panic!(rt; "two boards")
+/// Runs both processors with this gate, and returns the report's text.
+fn report_at<R: Threads + Wait + Abort + Sync>(
+    rt: &R,
+    alloc: Global,
+    config: &Config,
+    gate: &Hold,
+) -> Result<RoomSink, AllocError> {
+    let mut sink = RoomSink::new(alloc, usize::MAX, REPORT.len())?;
+    let Ok(report) = run_threads(rt, alloc, config, gate) else {
+        panic!(rt; "no report")
     };
-    assert_eq!(rt; first.steps, 4);
-    assert_eq!(rt; first.made.as_slice(), [2, 2].as_slice());
-    assert_eq!(rt; second.steps, 0);
-    for (offset, byte) in (0..).zip(BYTES.iter()) {
-        assert_eq!(rt; first.memory.byte(offset), Some(*byte));
-    }
+    assert_eq!(rt; report.lines.len(), report.boards.len());
+    let end: Result<Status, RunFault> = report_text(alloc, &report, &mut sink);
+    assert_eq!(rt; end, Ok(Status::Clean));
+    Ok(sink)
 }
 
 #[test]
 fn each_hold_comes_to_the_same(rt: HostRuntime) -> Result<(), Fail> {
-    let config = configured(&rt, rt.alloc(), TWO_BOARDS);
+    let config = Config::read(rt.alloc(), TWO_BOARDS.as_bytes())?;
     for slot in [1, 2] {
         for line in [1, LAST_LINE] {
             for after in [false, true] {
                 let gate = Hold::at(slot, line, after);
-                let report = report_of(&rt, rt.alloc(), &config, &gate);
+                let sink = report_at(&rt, rt.alloc(), &config, &gate)?;
                 assert!(&rt; !gate.missed.load(Ordering::SeqCst));
-                let text = replies_of(rt.alloc(), &report)?;
-                assert_eq!(&rt; text.as_slice(), REPLIES.as_bytes());
-                expect_steps(&rt, &report);
+                assert_eq!(&rt; sink.bytes(), REPORT.as_bytes());
             }
         }
     }
