@@ -1,5 +1,5 @@
-//! Tests of configuration files and of the scripts in them, apart from `vme_script` so that its
-//! proofs are not repeated.
+//! Tests of configuration files, of the scripts in them and of reports, apart from `vme_script` and
+//! `vme_report` so that their proofs are not repeated.
 #![tactic(auto)]
 
 #[cfg(test)]
@@ -17,6 +17,10 @@ mod mailboxes;
 #[cfg(test)]
 mod readers;
 #[cfg(test)]
+mod replies;
+#[cfg(test)]
+mod reports;
+#[cfg(test)]
 mod rows;
 #[cfg(test)]
 mod scripts;
@@ -24,3 +28,5 @@ mod scripts;
 mod shared_lines;
 #[cfg(test)]
 mod support;
+#[cfg(test)]
+mod turns;

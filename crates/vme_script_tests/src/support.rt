@@ -1,17 +1,19 @@
-//! What the tests of scripts share: what a file is refused for, and lines led by replies that are
-//! given by hand.
+//! What the tests share: what a file is rejected for, lines led by listed replies, and how a run
+//! ends with what it has written by then.
 use arrayvec::ArrayVec;
 use std::alloc::{AllocError, Global};
 use std::process::Abort;
 use vme_arbiter::{ArbCmd, ArbReply};
 use vme_core::{Event, EventReply};
 use vme_cycle::{Block, BlockBuffer, INLINE_LEN};
+use vme_io::RoomSink;
 use vme_lanes::Datum;
 use vme_line_task::{LineReplyRef, LineTask, LineTodo, line_count, line_read_len};
 use vme_master::{Outcome, OutcomeRef};
 use vme_memory::{BoardCmd, Reply};
+use vme_report::RunFault;
 use vme_script::Config;
-use vme_shared::LineReply;
+use vme_shared::{LineReply, Status};
 
 /// Reads a file: it is lawful, or this is its first refusal.
 pub fn check(
@@ -180,4 +182,44 @@ fn owned_outcome(outcome: OutcomeRef<'_>) -> Outcome {
 
 fn block(bytes: &[u8]) -> Block {
     Block::from_short_slice(ArrayVec::try_from(bytes).unwrap_or_default())
+}
+
+/// A run that ended well has written the whole text.
+pub fn expect_text(
+    rt: &impl Abort,
+    end: Result<Status, RunFault>,
+    status: Status,
+    sink: &RoomSink,
+    text: &str,
+) {
+    assert_eq!(rt; end, Ok(status));
+    assert_eq!(rt; sink.bytes(), text.as_bytes());
+}
+
+/// A run into a sink that fails after so many bytes has written just these.
+pub fn expect_prefix(
+    rt: &impl Abort,
+    end: Result<Status, RunFault>,
+    sink: &RoomSink,
+    text: &str,
+    capacity: usize,
+) {
+    assert_eq!(rt; end, Err(RunFault::Write));
+    assert_eq!(rt; Some(sink.bytes()), text.as_bytes().get(..capacity));
+}
+
+/// A run has written the whole text, or it was refused memory and has written a prefix of it.
+pub fn expect_text_or_refusal(
+    rt: &impl Abort,
+    end: Result<Status, RunFault>,
+    status: Status,
+    sink: &RoomSink,
+    text: &str,
+) {
+    if let Err(fault) = end {
+        assert_eq!(rt; fault, RunFault::Memory);
+        assert!(rt; text.as_bytes().starts_with(sink.bytes()));
+    } else {
+        expect_text(rt, end, status, sink, text);
+    }
 }

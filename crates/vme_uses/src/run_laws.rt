@@ -1,0 +1,24 @@
+//! A use of `vme_run_laws`.
+ghost use Rattle.std.specs.Prelude.{IfOk};
+ghost use Rattle.vme_object.specs.Each.{Each};
+ghost use Rattle.vme_run_laws.specs.Finished.{AreFinished};
+
+use std::alloc::Global;
+use std::sync::Wait;
+use std::thread::Threads;
+use vme_run_laws::each_line_comes_to_its_end;
+use vme_runner::{Gate, Report, RunFault, run_threads};
+use vme_script::Config;
+
+/// Runs the scripts on threads. In the report, every line has its reply.
+pub fn run_to_the_end<R: Threads + Wait + Sync, G: Gate + Sync>(
+    rt: &R,
+    alloc: Global,
+    config: &Config,
+    gate: &G,
+) -> Result<Report, RunFault>
+    ensures { IfOk result (λ report. Each (λ who lines. AreFinished lines.items) report.lines.items) }
+{
+    each_line_comes_to_its_end();
+    run_threads(rt, alloc, config, gate)
+}

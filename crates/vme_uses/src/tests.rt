@@ -1,0 +1,162 @@
+//! Each use, run once.
+use crate::{
+    am, arbiter, bus_wait, config_toml, cores, cycle, decode, devices, engines, grammar, lanes,
+    lexer, line_task, mailbox_laws, master, memory, object, port, report, run_laws, runner, script,
+    shared, stepper, threads,
+};
+use std::test::Fail;
+use vme_am::{Am, Space};
+use vme_arbiter::{ArbReply, Arbiter};
+use vme_bus_wait::{BusWaiters, WaitState};
+use vme_core::Core;
+use vme_cycle::Request;
+use vme_decode::{AddressMap, Entry};
+use vme_io::RoomSink;
+use vme_memory::BoardCmd;
+use vme_object::{Counter, Object};
+use vme_port::Port;
+use vme_runner::{Gate, Status};
+use vme_script::{Config, Line};
+use vme_shared::SharedTodo;
+
+static FILE: &str = "[[board]]
+slot = 2
+base = 0
+size = 16
+script = '''
+# a comment has no line in the report
+lw 00000004 aabbccdd
+r 0d 00000004 4
+'''
+";
+
+struct Open;
+
+impl Gate for Open {
+    fn before(&self, _slot: u16, _line: u16) {}
+
+    fn after(&self, _slot: u16, _line: u16) {}
+}
+
+const BOARD: Entry = Entry {
+    space: Space::A32,
+    base: 0x100,
+    size: 16,
+    supervisory: false,
+};
+
+#[test]
+fn tables_of_the_bus(rt: HostRuntime) -> Result<(), Fail> {
+    assert_eq!(&rt; am::reach(0x3d), Ok(1 << 24));
+    let datum = lanes::over_the_lanes(5, &[0xa1, 0xa2]).unwrap_or_default();
+    assert_eq!(&rt; datum.as_slice(), [0xa1, 0xa2].as_slice());
+    let request = Request::Read {
+        am: 0x0d,
+        addr: 0x104,
+        n: 4,
+    };
+    let Ok(Some(signals)) = cycle::signals_of(&request, 0) else {
+        panic!(&rt; "no signals")
+    };
+    assert_eq!(&rt; signals.addr(), 0x104);
+    assert_eq!(&rt;
+        cycle::signals_of(&request, 1).map(|found| found.is_some()),
+        Ok(false)
+    );
+    let am: Am = signals.am();
+    assert_eq!(&rt;
+        decode::offset_on(rt.alloc(), BOARD, am, 0x104),
+        Ok(Some(4))
+    );
+    Ok(())
+}
+
+#[test]
+fn objects_and_ports(rt: HostRuntime) -> Result<(), Fail> {
+    let mut latch = object::Latch { is_set: false };
+    assert!(&rt; !latch.apply(&()));
+    assert!(&rt; latch.apply(&()));
+    assert_eq!(&rt;
+        arbiter::two_requests(),
+        (ArbReply::Granted, ArbReply::Waiting)
+    );
+    let Ok((port, mut passes)) = Port::new(rt.alloc(), Counter { number: 7 }, 1) else {
+        panic!(&rt; "no port")
+    };
+    let Some(mut pass) = passes.pop() else {
+        panic!(&rt; "no pass")
+    };
+    assert_eq!(&rt; port::bump(&rt, &port, &mut pass).ok(), Some(7));
+    let all = Vec::from_array(rt.alloc(), [pass])?;
+    assert_eq!(&rt; port::total(port, all), Some(1));
+    Ok(())
+}
+
+#[test]
+fn a_core_and_its_tasks(rt: HostRuntime) -> Result<(), Fail> {
+    let alloc = rt.alloc();
+    let Ok(board) = memory::full_board(alloc, 16) else {
+        panic!(&rt; "no memory")
+    };
+    let Ok(mut core) = Core::new(alloc, Vec::from_array(alloc, [board])?, 1) else {
+        panic!(&rt; "no memory")
+    };
+    assert_eq!(&rt; cores::request_bus(&mut core, 2), Ok(1));
+    let read = BoardCmd::LocalRead { offset: 0, n: 4 };
+    assert!(&rt; master::perform_local(&mut core, read));
+    let map = AddressMap::new(alloc, &[BOARD])?;
+    let Ok(SharedTodo::Call(_)) = shared::lock(&map, 2, 0x104) else {
+        panic!(&rt; "no event")
+    };
+    Ok(())
+}
+
+#[test]
+fn texts_and_lines(rt: HostRuntime) -> Result<(), Fail> {
+    assert_eq!(&rt; lexer::second_number(b"lr 0000001f 1"), Some(0x1f));
+    let mut text = Vec::new(rt.alloc());
+    assert!(&rt; grammar::is_request(b"take 1", &mut text)?);
+    assert!(&rt; !grammar::is_request(b"give 1", &mut text)?);
+    report::two_replies(&mut text)?;
+    assert_eq!(&rt;
+        text.as_slice(),
+        b"line refused S2\n2:1 met\n2:2 timeout\n".as_slice()
+    );
+    let mut sink = RoomSink::new(rt.alloc(), 3, 16)?;
+    assert!(&rt; devices::write_done(&mut sink).is_ok());
+    assert_eq!(&rt; sink.bytes(), b"done\n".as_slice());
+    Ok(())
+}
+
+#[test]
+fn files_and_their_runs(rt: HostRuntime) -> Result<(), Fail> {
+    let alloc = rt.alloc();
+    assert_eq!(&rt;
+        config_toml::first_size(alloc, FILE.as_bytes()).ok(),
+        Some(Some(16))
+    );
+    let config = Config::read(alloc, FILE.as_bytes())?;
+    if config.boards() == 0 {
+        panic!(&rt; "no board")
+    }
+    assert_eq!(&rt; script::slot_and_lines(&config, 0), (2, 2));
+    assert!(&rt; line_task::buffer_for(alloc, &Line::Take { mailbox: 1 }).is_ok());
+    assert_eq!(&rt; stepper::three_turns(alloc, &config), Ok(Status::Marked));
+    let mut sink = RoomSink::new(alloc, usize::MAX, 4096)?;
+    assert_eq!(&rt;
+        runner::two_turns(alloc, &config, &mut sink),
+        Ok(Status::Marked)
+    );
+    assert!(&rt; threads::run(&rt, alloc, &config).is_ok());
+    assert!(&rt; run_laws::run_to_the_end(&rt, alloc, &config, &Open).is_ok());
+    mailbox_laws::no_entry_no_word();
+    let mut cycles = RoomSink::new(alloc, usize::MAX, 4096)?;
+    assert_eq!(&rt;
+        engines::cycles_of(alloc, b"r 0d 00000000 1", &mut cycles).ok(),
+        Some(Status::Clean)
+    );
+    let waiters = BusWaiters::new(alloc, 1)?;
+    let mut state = WaitState::new();
+    bus_wait::poll(&rt, &waiters, &mut state, &mut Arbiter::new());
+    Ok(())
+}
