@@ -8,7 +8,7 @@ use Rattle.vme_threads.proofs.pass_set.PassSet.run_transfer.Goals as goal
 pub returns-in-Err : goal.returns-in-Err
 returns-in-Err g c =
     refused_answered c.args.config.now c.map.result.now c.slot-slot.result c.level-level.result c.args.request.now c.in-Err.fault c.args.self.now
-    (rw c.in-Err.is at c.start-started.ensures)
+    (rw c.in-Err.is at c.start.ensures)
 
 pub loop-init : goal.loop-init
 loop-init g c =
@@ -17,7 +17,7 @@ loop-init g c =
     c.advance.new.self c.map.ensures
     (get_or_from_slice_get (map (λ board. board.slot) boards) c.args.self.now.who c.slot-slot.result 0 c.slot-slot.ensures)
     (get_or_from_slice_get (map (λ board. board.level) boards) c.args.self.now.who c.level-level.result 0 c.level-level.ensures)
-    (rw c.in-Ok.is at c.start-started.ensures) c.advance.ensures.task c.advance.ensures.begun
+    (rw c.in-Ok.is at c.start.ensures) c.advance.ensures.task c.advance.ensures.begun
 
 pub call_event-requires-clause-fits : goal.call_event-requires-clause-fits
 call_event-requires-clause-fits g c = fits_after c.args.ports.now _ _ _ c.loop.invariant.made c.requires.fits
