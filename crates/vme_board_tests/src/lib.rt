@@ -1,5 +1,6 @@
 //! Tests of counters, memories, address maps, the arbiter, the core and tasks, through their public
-//! functions. They are a crate of their own, so that no crate with tests is proved twice.
+//! functions: tables of cases, properties of all codes, strobe patterns and byte locations, and
+//! random commands. They are a crate of their own, so that no crate with tests is proved twice.
 #![tactic(auto)]
 
 #[cfg(test)]

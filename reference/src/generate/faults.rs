@@ -36,9 +36,9 @@ const FAULTS: [Fault; 33] = [
     bad_line,
     bad_line,
     bad_line,
-    bad_line,
-    bad_line,
-    bad_line,
+    mailbox_bytes,
+    mailbox_bytes,
+    mailbox_bytes,
     mailbox_bytes,
     mailbox_bytes,
 ];
@@ -327,15 +327,15 @@ fn mailbox_bytes(random: &mut Random, draft: &mut Draft) {
     let keys = mailbox(random, draft).clone();
     let (first, slots) = (number(&keys, "addr"), number(&keys, "slots"));
     let end = first.wrapping_add(16).wrapping_add(slots.wrapping_mul(4));
-    let length = random.pick(&[1, 2, 4]);
-    // Its last byte is the one before the mailbox, or the first byte of it; or its first byte is the last byte of the
-    // mailbox, or the one after it.
-    let edges = [first.wrapping_sub(length), first.wrapping_sub(length - 1), end.wrapping_sub(1), end];
+    let length = random.pick(&[1, 2, 2, 4, 4]);
+    // Its last byte is the first byte of the mailbox, or its first byte the last one; or it lies beside the mailbox.
+    let (on_first, on_last) = (first.wrapping_sub(length - 1), end.wrapping_sub(1));
+    let edges = [on_first, on_first, on_last, on_last, first.wrapping_sub(length), end];
     let inside = first.wrapping_add(random.below(24) as u32);
-    let at = if random.one_in(3) { inside } else { random.pick(&edges) };
+    let at = if random.one_in(5) { inside } else { random.pick(&edges) };
     let holds = |it: &Board| at.wrapping_sub(number(&it.keys, "base")) < number(&it.keys, "size");
     let own = draft.boards.iter().position(holds);
-    let line = match own.filter(|_| random.one_in(2)) {
+    let line = match own.filter(|_| !random.one_in(3)) {
         Some(own) => local_line(random, at.wrapping_sub(number(&draft.boards[own].keys, "base")), length),
         None => bus_line(random, at, length),
     };
