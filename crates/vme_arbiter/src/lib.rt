@@ -14,7 +14,7 @@ pub use arbiter::{Arbiter, SLOTS};
 pub use command::{ArbCmd, ArbReply};
 pub use kind::ArbiterKind;
 pub use laws::{
-    replies_show_who_waits, at_most_three_go_before, first_level_then_lowest_slot,
-    no_command_is_denied, one_slot_has_the_bus, pending_requests_are_a_set, replies_show_the_holder,
-    states_are_orderly,
+    at_most_three_go_before, first_level_then_lowest_slot, no_command_is_denied,
+    one_slot_has_the_bus, pending_requests_are_a_set, replies_show_the_holder,
+    replies_show_who_waits, states_are_orderly,
 };

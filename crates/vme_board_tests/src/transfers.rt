@@ -327,9 +327,6 @@ fn a_request_of_its_own_goes_the_same_way(rt: HostRuntime) -> Result<(), Fail> {
         f: Modify::Set,
     };
     let task = Task::start_owned(&map, 2, 3, request)?;
-    assert_eq!(&rt;
-        outcome(&rt, task, &MODIFIED),
-        Outcome::Old(datum(&[0x7f]))
-    );
+    assert_eq!(&rt; outcome(&rt, task, &MODIFIED), Outcome::Old(datum(&[0x7f])));
     Ok(())
 }
