@@ -101,9 +101,9 @@ fn a_core_and_its_tasks(rt: HostRuntime) -> Result<(), Fail> {
     let Ok(mut core) = Core::new(alloc, Vec::from_array(alloc, [board])?, 1) else {
         panic!(&rt; "no memory")
     };
-    assert_eq!(&rt; cores::request_bus(&mut core, 2), Ok(1));
     let read = BoardCmd::LocalRead { offset: 0, n: 4 };
     assert!(&rt; master::perform_local(&mut core, read));
+    assert_eq!(&rt; cores::request_bus(&mut core, 2), Ok(1));
     let map = AddressMap::new(alloc, &[BOARD])?;
     let Ok(SharedTodo::Call(_)) = shared::lock(&map, 2, 0x104) else {
         panic!(&rt; "no event")
