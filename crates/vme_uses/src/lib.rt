@@ -4,6 +4,7 @@
 
 pub mod am;
 pub mod arbiter;
+pub mod bus_objects;
 pub mod bus_wait;
 pub mod config_toml;
 pub mod cores;
@@ -24,6 +25,7 @@ pub mod report;
 pub mod run_laws;
 pub mod runner;
 pub mod script;
+pub mod sequential;
 pub mod shared;
 pub mod stepper;
 #[cfg(test)]
