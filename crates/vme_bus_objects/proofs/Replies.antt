@@ -16,14 +16,13 @@ use Rattle.vme_port_array.specs.declared.indexed.Indexed.{Indexed}
 use Rattle.vme_port_array.specs.Parts.{indexed, part}
 use Rattle.vme_port.specs.Passes.{PassView}
 use Rattle.vme_port_array.specs.Calls.{Adds}
-use Rattle.vme_port_array.proofs.lemmas.Parts.{part-append}
+use Rattle.vme_port_array.proofs.lemmas.Parts.{part-append, part_first}
 use Rattle.vme_bus_objects.specs.declared.object.BusObject.{BusObject}
 use Rattle.vme_bus_objects.specs.declared.object.BusObject.TheVariants as objects
 use Rattle.vme_bus_objects.specs.declared.command.BusCommand.{BusCommand}
 use Rattle.vme_bus_objects.specs.declared.command.BusCommand.TheVariants as commands
 use Rattle.vme_bus_objects.specs.Objects.{bus_object_step}
 use Rattle.vme_bus_objects.specs.Runs.{IsBoardReply, IsArbiterReply}
-use Rattle.vme_bus_objects.proofs.lemmas.Histories.{part_here}
 
 -- the arbiter stays an arbiter over one command
 arbiter_stays : (cmd : BusCommand) (bus : Arbitration) → (b : Arbitration) × ((bus_object_step (objects.Arbiter bus) cmd).0 ≡ objects.Arbiter b)
@@ -58,7 +57,7 @@ module _ (starts : List BusObject) (who index : ℕ) (cmd : BusCommand) (reply :
   reply_is start there =
       let whole : part index q.seen ≡ before ++ entry who cmd reply ∷ [] =
       ap (part index) added.seen ∙ part-append index (p.seen ++ added.others) (entry who (indexed index cmd) reply ∷ [])
-      ∙ ap (λ l. before ++ l) (part_here who index cmd reply []) in
+      ∙ ap (λ l. before ++ l) (part_first (entry who (indexed index cmd) reply) []) in
       reply_at bus_object_step start (part index q.seen) before [] (entry who cmd reply) (added.legal index start there) whole
 
 -- the reply to a board's command is that of a board

@@ -14,15 +14,12 @@ use Rattle.vme_core.specs.declared.event.EventReply.{EventReply}
 use Rattle.vme_core.specs.declared.event.EventReply.TheVariants as replies
 use Rattle.vme_core.specs.Runs.{Transition, board_part, bus_part}
 use Rattle.vme_port_array.specs.Parts.{indexed, part}
+use Rattle.vme_port_array.proofs.lemmas.Parts.{part_first}
 use Rattle.vme_bus_objects.specs.declared.object.BusObject.TheVariants as objects
 use Rattle.vme_bus_objects.specs.declared.command.BusCommand.{BusCommand}
 use Rattle.vme_bus_objects.specs.declared.command.BusCommand.TheVariants as commands
 use Rattle.vme_bus_objects.specs.Objects.{bus_object_step}
 use Rattle.vme_bus_objects.specs.Runs.{BusEntry, transition_of, run_of, transitions_of, MatchesKindAt, MatchesKind, IsBoardHistory, IsArbiterHistory}
-
--- an entry of the object at an index is the first of that object's part
-pub part_here : (who x : ℕ) (cmd : BusCommand) (reply : EventReply) (h : List BusEntry) → part x (entry who (indexed x cmd) reply ∷ h) ≡ entry who cmd reply ∷ part x h
-part_here who x cmd reply h = rw (eq-eqb x x refl) refl
 
 -- an entry of another object is not in the part of the object
 part_there : (who x y : ℕ) (cmd : BusCommand) (reply : EventReply) (h : List BusEntry) → y ≢ x → part x (entry who (indexed y cmd) reply ∷ h) ≡ part x h
@@ -51,8 +48,7 @@ same_board x memory h h' part_is run_is linked = record {
 next_board : (who x : ℕ) (cmd : BoardCmd) (reply : Reply) (memory : Board) (h : List BusEntry) → replies.Board reply ≡ replies.Board (board_step memory cmd).1
     → IsBoardHistory x (board_step memory cmd).0 h → IsBoardHistory x memory (entry who (indexed x (commands.Board cmd)) (replies.Board reply) ∷ h)
 next_board who x cmd reply memory h answer linked =
-    let e : BusEntry = entry who (indexed x (commands.Board cmd)) (replies.Board reply) in
-    let part_is = part_here who x (commands.Board cmd) (replies.Board reply) h in
+    let part_is = part_first (entry who (indexed x (commands.Board cmd)) (replies.Board reply)) h in
     let run_is = run_here who x cmd reply h in
     let same : reply ≡ (board_step memory cmd).1 = cc answer in record {
       legal = subst (IsLegal board_step memory) (sym run_is) (same, linked.legal);
@@ -75,7 +71,7 @@ board_history n x memory (e ∷ h) below kinds legal =
           → IsBoardHistory x memory (entry who (indexed index (commands.Board cmd)) (replies.Board reply) ∷ h)) same
           (λ legal.
           let first : IsLegal bus_object_step (objects.Board memory) (entry who (commands.Board cmd) (replies.Board reply) ∷ part x h) =
-          subst (IsLegal bus_object_step (objects.Board memory)) (part_here who x (commands.Board cmd) (replies.Board reply) h) legal in
+          subst (IsLegal bus_object_step (objects.Board memory)) (part_first (entry who (indexed x (commands.Board cmd)) (replies.Board reply)) h) legal in
           next_board who x cmd reply memory h first.0 (again (board_step memory cmd).0 first.1))
           legal
       | inr other ↦
@@ -105,7 +101,7 @@ same_arbiter n bus h h' part_is run_is linked = record {
 next_arbiter : (who n : ℕ) (cmd : ArbCmd) (reply : ArbReply) (bus : Arbitration) (h : List BusEntry) → replies.Bus reply ≡ replies.Bus (arbiter_step bus cmd).1
     → IsArbiterHistory n (arbiter_step bus cmd).0 h → IsArbiterHistory n bus (entry who (indexed n (commands.Arbiter cmd)) (replies.Bus reply) ∷ h)
 next_arbiter who n cmd reply bus h answer linked =
-    let part_is = part_here who n (commands.Arbiter cmd) (replies.Bus reply) h in
+    let part_is = part_first (entry who (indexed n (commands.Arbiter cmd)) (replies.Bus reply)) h in
     let same : reply ≡ (arbiter_step bus cmd).1 = cc answer in record {
       legal = (same, linked.legal);
       object = ap (replay bus_object_step (objects.Arbiter bus)) part_is ∙ linked.object;
@@ -133,7 +129,7 @@ arbiter_history n bus (e ∷ h) kinds legal =
         → IsArbiterHistory n bus (entry who (indexed index (commands.Arbiter cmd)) (replies.Bus reply) ∷ h)) (sym kinds)
         (λ legal.
         let first : IsLegal bus_object_step (objects.Arbiter bus) (entry who (commands.Arbiter cmd) (replies.Bus reply) ∷ part n h) =
-        subst (IsLegal bus_object_step (objects.Arbiter bus)) (part_here who n (commands.Arbiter cmd) (replies.Bus reply) h) legal in
+        subst (IsLegal bus_object_step (objects.Arbiter bus)) (part_first (entry who (indexed n (commands.Arbiter cmd)) (replies.Bus reply)) h) legal in
         next_arbiter who n cmd reply bus h first.0 (again (arbiter_step bus cmd).0 first.1))
         legal
 
