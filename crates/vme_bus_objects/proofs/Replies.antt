@@ -1,9 +1,9 @@
 -- An object keeps its kind, so the reply to a command of that kind has the kind, whatever calls others made.
-use Rattle.std.proofs.Common.{◌≡◌, ℕ, List, [], ◌∷◌, ◌++◌, refl, ap, sym, ◌∙◌}
+use Rattle.std.proofs.Common.{◌≡◌, ℕ, List, [], ◌∷◌, ◌++◌, refl, ap, ◌∙◌}
 use mathlib.Core.Option.{some}
 use lib.ListN.{get_elem?}
 use Rattle.vme_object.specs.declared.history.Entry.{Entry}
-use Rattle.vme_object.specs.History.{replay, IsLegal, entry}
+use Rattle.vme_object.specs.History.{replay, entry}
 use Rattle.vme_object.proofs.lemmas.Histories.{reply_at}
 use Rattle.vme_memory.specs.declared.command.BoardCmd.{BoardCmd}
 use Rattle.vme_memory.specs.Boards.{Board}
@@ -11,7 +11,6 @@ use Rattle.vme_memory.specs.Locals.{board_step}
 use Rattle.vme_arbiter.specs.declared.command.ArbCmd.{ArbCmd}
 use Rattle.vme_arbiter.specs.Arbitration.{Arbitration, arbiter_step}
 use Rattle.vme_core.specs.declared.event.EventReply.{EventReply}
-use Rattle.vme_core.specs.declared.event.EventReply.TheVariants as replies
 use Rattle.vme_port_array.specs.declared.indexed.Indexed.{Indexed}
 use Rattle.vme_port_array.specs.Parts.{indexed, part}
 use Rattle.vme_port.specs.Passes.{PassView}

@@ -15,7 +15,6 @@ use Rattle.vme_core.specs.declared.event.EventReply.TheVariants as replies
 use Rattle.vme_core.specs.Runs.{Transition, move, board_part, bus_part}
 use Rattle.vme_port_array.specs.declared.indexed.Indexed.{Indexed}
 use Rattle.vme_port_array.specs.Parts.{part}
-use Rattle.vme_bus_objects.specs.declared.object.BusObject.{BusObject}
 use Rattle.vme_bus_objects.specs.declared.object.BusObject.TheVariants as objects
 use Rattle.vme_bus_objects.specs.declared.command.BusCommand.{BusCommand}
 use Rattle.vme_bus_objects.specs.declared.command.BusCommand.TheVariants as commands

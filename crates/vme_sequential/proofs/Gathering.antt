@@ -1,33 +1,24 @@
 -- A report that is gathered from a settled port array is a report of one order.
-use Rattle.std.proofs.Common.{◌≡◌, ℕ, zero, suc, ◌<◌, List, [], ◌∷◌, length, slice_index_or, All, refl, ap, sym, subst, ◌∙◌, arith}
-use Rattle.std.specs.Prelude.{slice_get}
-use Rattle.std.specs.Global.{Vec}
+use Rattle.std.proofs.Common.{◌≡◌, ℕ, ◌<◌, List, [], ◌∷◌, length, slice_index_or, refl, ap, sym, subst, ◌∙◌, arith}
 use Rattle.std.proofs.lemmas.Option.{slice_get-get_or}
-use Rattle.vme_object.specs.Each.{AllAt}
 use Rattle.vme_object.specs.History.{replay, own}
 use Rattle.vme_memory.specs.Boards.{Board}
-use Rattle.vme_memory.specs.Locals.{board_step}
-use Rattle.vme_arbiter.specs.Arbitration.{Arbitration, opening_bus, arbiter_step}
-use Rattle.vme_core.specs.declared.event.EventReply.{EventReply}
+use Rattle.vme_arbiter.specs.Arbitration.{opening_bus, arbiter_step}
 use Rattle.vme_core.specs.Runs.{Transition, board_entry, bus_entry, board_part, bus_part}
-use Rattle.vme_shared.specs.declared.reply.LineReply.{LineReply}
 use Rattle.vme_script.specs.declared.board.BoardConfig.{BoardConfig}
-use Rattle.vme_script.specs.Configurations.{Configuration, opening_memory}
+use Rattle.vme_script.specs.Configurations.{Configuration}
 use Rattle.vme_line_task.specs.Scripts.{lines_at}
 use Rattle.vme_line_task.specs.Traces.{IsTrace}
-use Rattle.vme_port_array.specs.declared.indexed.Indexed.{Indexed}
 use Rattle.vme_port.specs.declared.home.Home.{Home}
-use Rattle.vme_port.specs.Passes.{PassView}
 use Rattle.vme_bus_objects.specs.declared.object.BusObject.{BusObject}
 use Rattle.vme_bus_objects.specs.declared.object.BusObject.TheVariants as objects
-use Rattle.vme_bus_objects.specs.declared.command.BusCommand.{BusCommand}
 use Rattle.vme_bus_objects.specs.Runs.{run_of, transitions_of}
 use Rattle.vme_threads.specs.declared.report.BoardReport.{BoardReport}
 use Rattle.vme_threads.specs.declared.report.Report.{Report}
 use Rattle.vme_threads.specs.Rans.{answers_in}
-use Rattle.vme_sequential.specs.Reports.{LeadsTo, IsEntryOfBoard, IsReportOfOneOrder}
+use Rattle.vme_sequential.specs.Reports.{IsEntryOfBoard, IsReportOfOneOrder}
 use Rattle.vme_sequential.specs.Settlements.{BusPass, IsRunOfArray}
-use Rattle.vme_sequential.specs.Gatherings.{IsGatheredBoard, IsGathered}
+use Rattle.vme_sequential.specs.Gatherings.{IsGathered}
 use Rattle.vme_sequential.proofs.Histories.{part_of, board_whose, bus_whose}
 use Rattle.vme_sequential.proofs.Settlements.{run_of_array}
 

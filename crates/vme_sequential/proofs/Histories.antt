@@ -1,5 +1,5 @@
 -- A report of one order is a report with one history for each object.
-use Rattle.std.proofs.Common.{◌≡◌, ◌≢◌, ℕ, zero, suc, ◌+◌, ◌<◌, ◌==◌, List, [], ◌∷◌, length, map, slice_index_or, Option, Some, None, All, refl, ap, sym, subst, ◌∙◌, arith, inl, inr, eq-eqb, ne_eqb}
+use Rattle.std.proofs.Common.{◌≡◌, ◌≢◌, ℕ, ◌<◌, List, [], ◌∷◌, length, map, Option, Some, None, All, refl, ap, sym, subst, ◌∙◌, arith, inl, inr, eq-eqb, ne_eqb}
 use Rattle.std.specs.Prelude.{filter_map}
 use Rattle.std.specs.Global.{Vec}
 use Rattle.std.proofs.lemmas.Bool.{cases_eq}
@@ -7,7 +7,6 @@ use Rattle.std.proofs.lemmas.List.Elements.{All-nil, All-cons, All-head, All-tai
 use Rattle.vme_object.specs.declared.history.Entry.{Entry}
 use Rattle.vme_object.specs.History.{own, entry}
 use Rattle.std.proofs.lemmas.Option.{same_Some}
-use Rattle.vme_object.specs.Each.{Each, AllAt}
 use Rattle.vme_memory.specs.declared.command.BoardCmd.{BoardCmd}
 use Rattle.vme_memory.specs.declared.reply.Reply.{Reply}
 use Rattle.vme_memory.specs.Locals.{board_step}
@@ -18,17 +17,17 @@ use Rattle.vme_core.specs.declared.event.Event.{Event}
 use Rattle.vme_core.specs.declared.event.Event.TheVariants as events
 use Rattle.vme_core.specs.declared.event.EventReply.{EventReply}
 use Rattle.vme_core.specs.declared.event.EventReply.TheVariants as replies
-use Rattle.vme_core.specs.Runs.{Transition, IsReplyTo, board_entry, bus_entry, board_part, bus_part}
+use Rattle.vme_core.specs.Runs.{Transition, IsReplyTo, board_entry, bus_entry}
 use Rattle.vme_shared.specs.declared.reply.LineReply.{LineReply}
 use Rattle.vme_script.specs.declared.board.BoardConfig.{BoardConfig}
-use Rattle.vme_script.specs.Configurations.{Configuration, opening_memory}
-use Rattle.vme_line_task.specs.Scripts.{script_at, lines_at}
+use Rattle.vme_script.specs.Configurations.{Configuration}
+use Rattle.vme_line_task.specs.Scripts.{lines_at}
 use Rattle.vme_line_task.specs.Traces.{IsTrace}
 use Rattle.vme_bus_objects.specs.Runs.{transitions_of}
 use Rattle.vme_threads.specs.declared.report.Report.{Report}
 use Rattle.vme_threads.specs.Rans.{answers_in}
-use Rattle.vme_threads.specs.Reports.{HasHistory, IsEndOf, IsReportOf}
-use Rattle.vme_sequential.specs.Reports.{LeadsTo, IsEntryOfBoard, IsReportOfOneOrder}
+use Rattle.vme_threads.specs.Reports.{HasHistory, IsReportOf}
+use Rattle.vme_sequential.specs.Reports.{LeadsTo, IsReportOfOneOrder}
 use Rattle.vme_sequential.proofs.Lists.{values, values_count, values_map, each_value, all_values, value_pairs}
 
 -- the transitions of a processor are its own

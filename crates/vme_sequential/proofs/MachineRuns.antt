@@ -1,8 +1,7 @@
 -- The machine performs each run in which the part of each object is legal.
-use Rattle.std.proofs.Common.{◌≡◌, ◌≢◌, ℕ, zero, suc, ◌<◌, List, [], ◌∷◌, ◌++◌, length, Some, All, refl, ap, sym, subst, ◌∙◌, arith, inl, inr, eq-eqb, ne_eqb}
+use Rattle.std.proofs.Common.{◌≡◌, ◌≢◌, ℕ, ◌<◌, List, [], ◌∷◌, length, Some, All, refl, ap, sym, subst, ◌∙◌, arith, inl, inr, eq-eqb, ne_eqb}
 use Rattle.std.specs.Prelude.{slice_get, slice_set}
 use Rattle.std.proofs.lemmas.Bool.{cases_eq}
-use Rattle.std.proofs.lemmas.List.{length-set}
 use Rattle.std.proofs.lemmas.List.Elements.{All-head, All-tail}
 use Rattle.std.proofs.lemmas.Option.{same_Some, slice_get_cases}
 use Rattle.vme_object.specs.History.{IsLegal, entry}
@@ -10,8 +9,6 @@ use Rattle.vme_memory.specs.declared.command.BoardCmd.{BoardCmd}
 use Rattle.vme_memory.specs.declared.reply.Reply.{Reply}
 use Rattle.vme_memory.specs.Boards.{Board}
 use Rattle.vme_memory.specs.Locals.{board_step, answer_given, command_given}
-use Rattle.vme_arbiter.specs.declared.command.ArbCmd.{ArbCmd}
-use Rattle.vme_arbiter.specs.declared.command.ArbReply.{ArbReply}
 use Rattle.vme_arbiter.specs.Arbitration.{arbiter_step}
 use Rattle.vme_core.specs.declared.event.Event.{Event}
 use Rattle.vme_core.specs.declared.event.Event.TheVariants as events
@@ -19,7 +16,7 @@ use Rattle.vme_core.specs.declared.event.EventReply.{EventReply}
 use Rattle.vme_core.specs.declared.event.EventReply.TheVariants as replies
 use Rattle.vme_core.specs.CountedStates.{CountedState}
 use Rattle.vme_core.specs.Runs.{Machine, Transition, IsRun, IsReplyTo, move, target_of, board_part, bus_part}
-use Rattle.vme_core.specs.Calls.{call_of, counted_step, command_step, board_after, machine_step}
+use Rattle.vme_core.specs.Calls.{call_of, counted_step, command_step, machine_step}
 use Rattle.vme_core.specs.Machines.{IsThere}
 use Rattle.vme_core.proofs.lemmas.Calls.{did_call}
 use Rattle.vme_core.proofs.lemmas.Dones.{did_nil, did_trans}

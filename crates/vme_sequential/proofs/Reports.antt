@@ -1,18 +1,14 @@
 -- A report of one order has the entries of the report of some turns.
-use Rattle.std.proofs.Common.{◌≡◌, ℕ, zero, suc, ◌+◌, ◌<◌, List, [], ◌∷◌, length, map, replicate, slice_index_or, Option, Some, refl, ap, sym, subst, ◌∙◌, arith}
+use Rattle.std.proofs.Common.{◌≡◌, ℕ, zero, suc, ◌<◌, List, [], ◌∷◌, length, map, replicate, slice_index_or, Some, refl, ap, sym, subst, ◌∙◌, arith}
 use Rattle.std.specs.Prelude.{slice_get}
 use Rattle.std.specs.Global.{Vec}
 use Rattle.std.proofs.lemmas.List.{length-map, length-replicate, get_or-replicate, ext_get_or}
 use Rattle.std.proofs.lemmas.Option.{same_Some, slice_get_within, get_or_from_slice_get}
-use Rattle.vme_object.specs.declared.history.Entry.{Entry}
-use Rattle.vme_object.specs.History.{IsLegal, replay, own}
-use Rattle.vme_object.specs.Each.{Each, AllAt}
+use Rattle.vme_object.specs.History.{IsLegal, own}
 use Rattle.vme_memory.specs.Boards.{Board}
 use Rattle.vme_memory.specs.Locals.{board_step}
-use Rattle.vme_arbiter.specs.Arbitration.{Arbitration, opening_bus, arbiter_step}
 use Rattle.vme_core.specs.CountedStates.{CountedState, IsObjectRun, fresh_count}
-use Rattle.vme_core.specs.Runs.{Machine, Transition, board_part, bus_part}
-use Rattle.vme_core.specs.Machines.{opening}
+use Rattle.vme_core.specs.Runs.{Machine, board_part}
 use Rattle.vme_shared.specs.declared.reply.LineReply.{LineReply}
 use Rattle.vme_report.specs.Boards.{BoardText}
 use Rattle.vme_script.specs.declared.board.BoardConfig.{BoardConfig}
@@ -21,7 +17,7 @@ use Rattle.vme_script.specs.Configurations.{Configuration, opening_memory}
 use Rattle.vme_script.specs.Lawful.{IsLawful}
 use Rattle.vme_line_task.specs.Scripts.{script_at, lines_at}
 use Rattle.vme_line_task.specs.Traces.{ScriptState, IsTrace}
-use Rattle.vme_stepper.specs.Turns.{SystemState, script_state, initial_state, state_after}
+use Rattle.vme_stepper.specs.Turns.{script_state, initial_state, state_after}
 use Rattle.vme_stepper.specs.Reports.{reported_lines, reported_board, reported_boards, reported_system}
 use Rattle.vme_bus_objects.specs.Runs.{transitions_of}
 use Rattle.vme_threads.specs.declared.report.BoardReport.{BoardReport}
@@ -29,7 +25,7 @@ use Rattle.vme_threads.specs.declared.report.Report.{Report}
 use Rattle.vme_threads.specs.Rans.{numbers_in, answers_in}
 use Rattle.vme_engines.specs.RunTexts.{ends_reported, reported_report}
 use Rattle.vme_sequential.specs.Orders.{IsOneOrder, ended_state}
-use Rattle.vme_sequential.specs.Reports.{LeadsTo, IsEntryOfBoard, IsReportOfOneOrder}
+use Rattle.vme_sequential.specs.Reports.{IsEntryOfBoard, IsReportOfOneOrder}
 use Rattle.vme_sequential.proofs.Lists.{element_at, map_at, same_elements, related_at}
 use Rattle.vme_sequential.proofs.Turns.{one_order}
 use Rattle.vme_sequential.proofs.MachineRuns.{Legal, performed, IsPerformed, is_performed}

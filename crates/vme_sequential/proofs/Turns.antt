@@ -1,5 +1,5 @@
 -- One order of the transitions of all processors is an order of turns.
-use Rattle.std.proofs.Common.{◌≡◌, ◌≢◌, ℕ, zero, suc, ◌+◌, ◌<◌, ◌≤◌, ◌==◌, List, [], ◌∷◌, ◌++◌, length, map, Option, Some, None, All, refl, ap, sym, subst, ◌∙◌, arith, inl, inr, eq-eqb, ne_eqb, length-set}
+use Rattle.std.proofs.Common.{◌≡◌, ◌≢◌, ℕ, zero, suc, ◌+◌, ◌<◌, ◌≤◌, ◌==◌, List, [], ◌∷◌, ◌++◌, length, map, Some, All, refl, ap, sym, subst, ◌∙◌, arith, inl, inr, eq-eqb, ne_eqb, length-set}
 use Rattle.std.specs.Prelude.{slice_get, slice_set, slice_index_or, nat_lt, true}
 use Rattle.std.proofs.lemmas.Bool.{cases_eq, lt-ltb}
 use Rattle.std.proofs.lemmas.List.{length-map}
@@ -15,7 +15,7 @@ use Rattle.vme_script.specs.declared.script.ScriptLine.{ScriptLine}
 use Rattle.vme_script.specs.Configurations.{Configuration}
 use Rattle.vme_script.specs.Lawful.{IsLawful}
 use Rattle.vme_line_task.specs.Scripts.{slot_at, lines_at}
-use Rattle.vme_line_task.specs.Traces.{ScriptState, IsTrace}
+use Rattle.vme_line_task.specs.Traces.{ScriptState}
 use Rattle.vme_stepper.specs.Turns.{SystemState, script_state, script_state_turn, lines_left, turn_in, turn_at, board_in_slot, turn, run as take_turns, initial_state, state_after}
 use Rattle.vme_bus_objects.specs.Runs.{transitions_of}
 use Rattle.vme_sequential.specs.Orders.{Performs, IsOneOrder, ended_state}

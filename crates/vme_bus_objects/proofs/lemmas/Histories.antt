@@ -12,7 +12,7 @@ use Rattle.vme_arbiter.specs.declared.command.ArbReply.{ArbReply}
 use Rattle.vme_arbiter.specs.Arbitration.{Arbitration, arbiter_step}
 use Rattle.vme_core.specs.declared.event.EventReply.{EventReply}
 use Rattle.vme_core.specs.declared.event.EventReply.TheVariants as replies
-use Rattle.vme_core.specs.Runs.{Transition, board_part, bus_part}
+use Rattle.vme_core.specs.Runs.{board_part, bus_part}
 use Rattle.vme_port_array.specs.Parts.{indexed, part}
 use Rattle.vme_port_array.proofs.lemmas.Parts.{part_first}
 use Rattle.vme_bus_objects.specs.declared.object.BusObject.TheVariants as objects
