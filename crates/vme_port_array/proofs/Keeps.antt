@@ -202,8 +202,8 @@ module _ {S C R : Type 0} (step : S → C → S × R) (starts : List S) where
                 starts = starts;
                 passes = k;
                 opens = opens;
-                others = others;
                 home = home.home;
+                others = others;
                 after = refl;
                 sound = fits.sound;
                 apart = apart r.history a fits;

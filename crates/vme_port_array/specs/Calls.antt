@@ -1,5 +1,5 @@
 -- Defines what a call of one object does to the pass that makes it.
-use Rattle.std.specs.Prelude.{ℕ, ◌≡◌, ◌+◌, List, [], ◌∷◌, ◌++◌, length, All, Result, Ok, Err}
+use Rattle.std.specs.Prelude.{ℕ, ◌≡◌, ◌<◌, ◌+◌, ◌-◌, ◌^◌, List, [], ◌∷◌, ◌++◌, length, All, Result, Ok, Err}
 use Rattle.vme_object.specs.declared.history.Entry.{Entry}
 use Rattle.vme_object.specs.History.{own, entry}
 use Rattle.vme_port.specs.Passes.{PassView}
@@ -27,6 +27,11 @@ pub record Adds {S C R : Type 0} (step : S → C → S × R) (starts : List S) (
   pub mine : q.mine ≡ p.mine ++ es
   pub sound : own p.who q.seen ≡ q.mine
   pub made : q.made ≡ p.made + length es
+
+-- after a call that may wait, the number n of entries of the object's part fits 64 bits; it is 2^64 - 1 if the call was `Spent`
+abbrev pub HasCount : {R F : Type 0} → Result R F → ℕ → Type 0
+HasCount (Ok reply) n = n < 2 ^ 64
+HasCount (Err spent) n = n ≡ 2 ^ 64 - 1
 
 -- an array was rejected because of its number of passes or of objects
 abbrev pub IsBadCount : {A : Type 0} → Result A ArrayFault → Type 0

@@ -1,9 +1,9 @@
 //! Calls of the objects of an array, each made through a pass.
-ghost use Rattle.std.specs.Prelude.{◌≡◌, ◌-◌, ◌^◌, ◌<◌, ◌≤◌, length, IfOk, IfErr};
+ghost use Rattle.std.specs.Prelude.{◌≡◌, ◌-◌, ◌^◌, ◌<◌, ◌≤◌, length, IfOk};
 ghost use Rattle.vme_port.specs.Calls.{UnlessBusy, IfBusy, IfSpent};
 ghost use Rattle.vme_port_array.specs.Parts.{part};
 ghost use Rattle.vme_port_array.specs.Arrays.{IsPassOf, opening, passes_of, objects_of};
-ghost use Rattle.vme_port_array.specs.Calls.{entries_of, Adds};
+ghost use Rattle.vme_port_array.specs.Calls.{entries_of, Adds, HasCount};
 
 use crate::pass::Pass;
 use crate::port_array::PortArray;
@@ -73,34 +73,6 @@ impl<O: Object> PortArray<O> {
         self.attempt(pass, index, &CommandRef { cmd }, Taking::Alone)
     }
 
-    /// Parks until the object may be free and then tries, until a try is not `Busy`. A try that
-    /// takes the object marks its word as wanted, so that its put wakes the next waiting call.
-    fn call_parked<R: Wait, A: Operation<O>>(
-        &self,
-        rt: &R,
-        pass: &mut Pass<O>,
-        index: usize,
-        asked: &A,
-    ) -> Result<O::Reply, Spent>
-        requires array { IsPassOf self.now pass.old }
-        requires index { index < objects_of self.now }
-        ensures adds { Adds O.step (opening self.now) (entries_of pass.old.who index (A.command asked.now) result) pass.old pass.new }
-        ensures full { IfErr result (λ _. length (part index pass.new.seen) ≡ 2 ^ 64 - 1) }
-        ensures counted { IfOk result (λ _. length (part index pass.new.seen) < 2 ^ 64) }
-    {
-        for _ in rt.forever() {
-            if self.mark(pass, index) != FREE {
-                self.table.shared.park(rt, index * STRIDE, WANTED as u32);
-            }
-            match self.attempt(pass, index, asked, Taking::Wanted) {
-                Ok(reply) => return Ok(reply),
-                Err(TryFault::Spent) => return Err(Spent),
-                Err(TryFault::Busy) => {}
-            }
-        }
-        unreachable!()
-    }
-
     /// Marks the word of the object as wanted if the object is taken, and returns the value of the
     /// word before.
     fn mark(&self, pass: &mut Pass<O>, index: usize) -> u64
@@ -129,8 +101,7 @@ impl<O: Object> PortArray<O> {
         requires array { IsPassOf self.now pass.old }
         requires index { index < objects_of self.now }
         ensures adds { Adds O.step (opening self.now) (entries_of pass.old.who index cmd.now result) pass.old pass.new }
-        ensures full { IfErr result (λ _. length (part index pass.new.seen) ≡ 2 ^ 64 - 1) }
-        ensures counted { IfOk result (λ _. length (part index pass.new.seen) < 2 ^ 64) }
+        ensures counted { HasCount result (length (part index pass.new.seen)) }
     {
         self.call_operation(rt, pass, index, &CommandRef { cmd })
     }
@@ -151,32 +122,34 @@ impl<O: Object> PortArray<O> {
         requires array { IsPassOf self.now pass.old }
         requires index { index < objects_of self.now }
         ensures adds { Adds O.step (opening self.now) (entries_of pass.old.who index (A.command asked.now) result) pass.old pass.new }
-        ensures full { IfErr result (λ _. length (part index pass.new.seen) ≡ 2 ^ 64 - 1) }
-        ensures counted { IfOk result (λ _. length (part index pass.new.seen) < 2 ^ 64) }
+        ensures counted { HasCount result (length (part index pass.new.seen)) }
     {
         match self.attempt(pass, index, asked, Taking::Alone) {
             Ok(reply) => Ok(reply),
             Err(TryFault::Spent) => Err(Spent),
-            Err(TryFault::Busy) => self.call_again(rt, pass, index, asked),
+            Err(TryFault::Busy) => self.call_again(rt, index, asked, pass),
         }
     }
 
-    /// Makes the remaining tries, each after a longer pause, and then parks. It is `cold`, like
-    /// `wake` and `put_unchanged`, so that it stays out of the code of a call that does not wait.
+    /// Makes the remaining tries, each after a longer pause. Then it parks until the object may be
+    /// free and tries, until a try is not `Busy`. A try that takes the object after parking marks
+    /// its word as wanted, so that its put wakes the next waiting call.
+    ///
+    /// It is `cold`, like `wake` and `put_unchanged`, so that it stays out of the code of a call
+    /// that does not wait.
     #[cold]
     #[inline(never)]
     fn call_again<R: Wait, A: Operation<O>>(
         &self,
         rt: &R,
-        pass: &mut Pass<O>,
         index: usize,
         asked: &A,
+        pass: &mut Pass<O>,
     ) -> Result<O::Reply, Spent>
         requires array { IsPassOf self.now pass.old }
         requires index { index < objects_of self.now }
         ensures adds { Adds O.step (opening self.now) (entries_of pass.old.who index (A.command asked.now) result) pass.old pass.new }
-        ensures full { IfErr result (λ _. length (part index pass.new.seen) ≡ 2 ^ 64 - 1) }
-        ensures counted { IfOk result (λ _. length (part index pass.new.seen) < 2 ^ 64) }
+        ensures counted { HasCount result (length (part index pass.new.seen)) }
     {
         let backoff = Backoff::new();
         backoff.snooze();
@@ -187,6 +160,16 @@ impl<O: Object> PortArray<O> {
                 Err(TryFault::Busy) => backoff.snooze(),
             }
         }
-        self.call_parked(rt, pass, index, asked)
+        for _ in rt.forever() {
+            if self.mark(pass, index) != FREE {
+                self.table.shared.park(rt, index * STRIDE, WANTED as u32);
+            }
+            match self.attempt(pass, index, asked, Taking::Wanted) {
+                Ok(reply) => return Ok(reply),
+                Err(TryFault::Spent) => return Err(Spent),
+                Err(TryFault::Busy) => {}
+            }
+        }
+        unreachable!()
     }
 }

@@ -1,9 +1,9 @@
 //! The rule of an array, over a word and a slot for each object and the views of all seats, with
 //! the kinds of step that keep it. The program never constructs these views: only proofs use them.
 //!
-//! A take states what the array was opened with, and so does a put, which also states the entries
-//! that it adds. For each of these facts a kind of step has a type parameter, whose trait has one
-//! ghost member that the proof of the caller chooses, as in `vme_port`.
+//! A take and a put state what the array was opened with, and a put also states the entries that it
+//! adds. For each of these facts a kind of step has a type parameter, whose trait has one ghost
+//! member that the proof of the caller chooses, as in `vme_port`.
 use crate::indexed::Indexed;
 use crate::opening::Opening;
 use atomic_table::{Join, Play, Split, TableRule};

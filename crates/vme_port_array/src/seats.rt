@@ -102,9 +102,9 @@ impl<O: Object> PortArray<O> {
         seat: &mut Seat<Home<O>, ArrayView<Indexed<O::Cmd>, O::Reply>>,
         index: usize,
     )
+        requires opened { W.opened (opening self.now) (passes_of self.now) }
         requires array { seat.old.table_id ≡ array_id self.now }
         requires index { index < objects_of self.now }
-        requires opened { W.opened (opening self.now) (passes_of self.now) }
         requires out { MayPut O.step (opening self.now) index [] seat.old.me }
         ensures array { seat.new.table_id ≡ seat.old.table_id }
         ensures reported { HasPut O.step W.opened index [] seat.old.me seat.new.me }

@@ -64,13 +64,13 @@ impl<O: Object> PortArray<O> {
         let Some(last) = passes.pop() else {
             unreachable!()
         };
-        let mut all = last.into_seat();
+        let mut joined = last.into_seat();
         while let Some(pass) = passes.pop() {
             let seat = pass.into_seat();
-            self.table.shared.join_seat::<JoinStep>(&mut all, seat);
+            self.table.shared.join_seat::<JoinStep>(&mut joined, seat);
         }
         passes.destroy_empty();
-        all
+        joined
     }
 
     /// Closes the array with a seat that stands for all its passes.

@@ -1,5 +1,5 @@
 -- The entries that passes make have their places in the one history that the port settles on.
-use Rattle.std.proofs.Common.{ℕ, ◌≡◌, List, [], ◌++◌, length, take, All, Contains, refl, ap, sym, ◌∙◌, arith, append_assoc, length-append}
+use Rattle.std.proofs.Common.{ℕ, ◌≡◌, ◌+◌, List, [], ◌++◌, length, take, All, Contains, refl, ap, sym, ◌∙◌, arith, append_assoc, length-append}
 use Rattle.std.proofs.lemmas.List.{append-nil}
 use Rattle.std.specs.List.{sum_by}
 use Rattle.vme_object.specs.declared.history.Entry.{Entry}
@@ -40,18 +40,23 @@ module _ {C R : Type 0} where
     made = omega (arith, first.made, then.made, length-append a b);
   }
 
+  -- a pass makes the entries that it adds behind entries of others
+  pub makes_added : (es : List (Entry C R)) (p q : PassView C R) → q.port ≡ p.port → q.who ≡ p.who → (others : List (Entry C R)) → own p.who others ≡ []
+      → q.seen ≡ p.seen ++ others ++ es → All (λ e. e.who ≡ p.who) es → q.mine ≡ p.mine ++ es → q.made ≡ p.made + length es → Makes es p q
+  makes_added es p q port who others apart seen whose mine made = record {
+    port = port;
+    who = who;
+    since = others ++ es;
+    seen = seen ∙ append_assoc p.seen others es;
+    its = own-append p.who others es ∙ (λ i. apart i ++ own_all p.who es whose i);
+    mine = mine;
+    made = made;
+  }
+
 module _ {S C R : Type 0} (step : S → C → S × R) (start : S) where
   -- a pass makes, over one call, the entries that the call adds
   pub makes_one : (es : List (Entry C R)) (p q : PassView C R) → Adds step start es p q → Makes es p q
-  makes_one es p q added = record {
-    port = added.port;
-    who = added.who;
-    since = added.others ++ es;
-    seen = added.seen ∙ append_assoc p.seen added.others es;
-    its = own-append p.who added.others es ∙ (λ i. added.apart i ++ own_all p.who es added.whose i);
-    mine = added.mine;
-    made = added.made;
-  }
+  makes_one es p q added = makes_added es p q added.port added.who added.others added.apart added.seen added.whose added.mine added.made
 
   module _ (k : ℕ) (passes : List (PassView C R)) (object : S) (n : ℕ) (reported : Settles step start k passes object n) where
     -- the passes of a settled port share its history

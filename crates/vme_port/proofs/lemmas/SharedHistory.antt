@@ -13,23 +13,23 @@ use Rattle.vme_port.proofs.lemmas.Shares.{mine_owned, named_passes, owned_once}
 use Rattle.vme_port.proofs.lemmas.Places.{IsPlaceOf, place_of, same_place, own_contains, pass_of_who}
 use Rattle.atomic_table.specs.Seated.{TableId}
 
+-- passes, one for each number below k, share a history: each has seen a prefix of it, and made and seen all its own entries there
+pub record IsShared {C R : Type 0} (k : ℕ) (h : List (Entry C R)) (passes : List (PassView C R)) : Type 0 where
+  pub known : All (λ e. e.who < k) h
+  pub each_who : (who : ℕ) → who < k → count_by (λ p. p.who == who) passes ≡ 1
+  pub seen : All (λ p. IsPrefix p.seen h) passes
+  pub sound : All (λ p. own p.who p.seen ≡ p.mine) passes
+  pub mine : All (λ p. own p.who h ≡ p.mine) passes
+
+-- an entry has its place in a history: behind all that its caller had seen, after exactly the entries `mine` of its caller
+pub record IsOwnPlace {C R : Type 0} (h seen mine : List (Entry C R)) (e : Entry C R) : Type 0 where
+  pub before : List (Entry C R)
+  pub after : List (Entry C R)
+  pub place : h ≡ before ++ e ∷ after
+  pub behind : IsPrefix seen before
+  pub only : own e.who before ≡ mine
+
 module _ {C R : Type 0} where
-  -- passes, one for each number below k, share a history: each has seen a prefix of it, and made and seen all its own entries there
-  pub record IsShared (k : ℕ) (h : List (Entry C R)) (passes : List (PassView C R)) : Type 0 where
-    pub known : All (λ e. e.who < k) h
-    pub each_who : (who : ℕ) → who < k → count_by (λ p. p.who == who) passes ≡ 1
-    pub seen : All (λ p. IsPrefix p.seen h) passes
-    pub sound : All (λ p. own p.who p.seen ≡ p.mine) passes
-    pub mine : All (λ p. own p.who h ≡ p.mine) passes
-
-  -- an entry has its place in a history: behind all that its caller had seen, after exactly the entries `mine` of its caller
-  pub record IsOwnPlace (h seen mine : List (Entry C R)) (e : Entry C R) : Type 0 where
-    pub before : List (Entry C R)
-    pub after : List (Entry C R)
-    pub place : h ≡ before ++ e ∷ after
-    pub behind : IsPrefix seen before
-    pub only : own e.who before ≡ mine
-
   module _ (k : ℕ) (h : List (Entry C R)) (passes : List (PassView C R)) (shared : IsShared k h passes) where
     module _ (es : List (Entry C R)) (p q : PassView C R) (there : Contains passes q) (made : Makes es p q) where
       begins : IsPrefix q.seen h

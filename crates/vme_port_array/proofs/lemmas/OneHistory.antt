@@ -1,16 +1,15 @@
 -- The entries that passes make have their places in the one history that the array settles on.
-use Rattle.std.proofs.Common.{ℕ, ◌≡◌, List, ◌∷◌, ◌++◌, take, Contains, Some, refl, ap, sym, ◌∙◌, append_assoc, eq-eqb, length-append}
-use Rattle.std.specs.Prelude.{length}
+use Rattle.std.proofs.Common.{ℕ, ◌≡◌, List, ◌∷◌, ◌++◌, take, Contains, ap, ◌∙◌}
 use mathlib.Core.Option.{some}
 use lib.ListN.{get_elem?}
 use Rattle.vme_object.specs.declared.history.Entry.{Entry}
 use Rattle.vme_object.specs.History.{replay, entry}
 use Rattle.vme_object.specs.Each.{Each}
-use Rattle.vme_object.proofs.lemmas.Histories.{own-append, reply_at}
+use Rattle.vme_object.proofs.lemmas.Histories.{reply_at}
 use Rattle.vme_port.specs.declared.home.Home.{Home}
 use Rattle.vme_port.specs.Passes.{PassView}
 use Rattle.vme_port.specs.Calls.{Makes}
-use Rattle.vme_port.proofs.lemmas.Accounts.{own_all}
+use Rattle.vme_port.proofs.lemmas.OneHistory.{makes_added}
 use Rattle.vme_port.proofs.lemmas.SharedHistory as Shared
 use Rattle.vme_port_array.specs.declared.indexed.Indexed.{Indexed}
 use Rattle.vme_port_array.specs.Parts.{part, AreLegal}
@@ -21,15 +20,7 @@ use Rattle.vme_port_array.proofs.lemmas.Parts.{part-append, part_first}
 module _ {S C R : Type 0} (step : S → C → S × R) (starts : List S) where
   -- a pass makes, over one call, the entries that the call adds
   pub makes_one : (es : List (Entry (Indexed C) R)) (p q : PassView (Indexed C) R) → Adds step starts es p q → Makes es p q
-  makes_one es p q added = record {
-    port = added.port;
-    who = added.who;
-    since = added.others ++ es;
-    seen = added.seen ∙ append_assoc p.seen added.others es;
-    its = own-append p.who added.others es ∙ (λ i. added.apart i ++ own_all p.who es added.whose i);
-    mine = added.mine;
-    made = added.made;
-  }
+  makes_one es p q added = makes_added es p q added.port added.who added.others added.apart added.seen added.whose added.mine added.made
 
   -- the reply of an entry of a history with legal parts is that of its object's step
   reply_in : (h before after : List (Entry (Indexed C) R)) (e : Entry (Indexed C) R) → AreLegal step starts h → h ≡ before ++ e ∷ after

@@ -67,14 +67,14 @@ invariant_of-pass-2 g c =
     let rest = c.pass.invariant in
     rests_one _ _ _ _ _ _ _ rest (c.if-not-take.ensures.reported rest.only rest.alone) _ _ _ _ c.in-Some.ensures.done c.put_entry.ensures.reported
 
-pub returns-clause-adds : goal.returns-clause-adds
-returns-clause-adds g c =
-    let rest = c.pass.invariant in
-    let same = c.put_entry.ensures.array ∙ c.in-Some.ensures.array ∙ c.if-not-take.ensures.array in
-    rw (← c.pass.view_is) (adds_one _ _ _ _ _ _ _ rest (c.if-not-take.ensures.reported rest.only rest.alone) _ _ _ _ c.in-Some.ensures.done c.put_entry.ensures.reported _ _ same)
-
 pub returns-clause-counted : goal.returns-clause-counted
 returns-clause-counted g c =
     let rest = c.pass.invariant in
     let start = start_of c.args.self.now c.args.index c.requires.index in
     counted_one _ _ _ _ _ _ _ rest (c.if-not-take.ensures.reported rest.only rest.alone) _ _ _ _ c.in-Some.ensures.done c.put_entry.ensures.reported start.0 start.1
+
+pub returns-clause-adds : goal.returns-clause-adds
+returns-clause-adds g c =
+    let rest = c.pass.invariant in
+    let same = c.put_entry.ensures.array ∙ c.in-Some.ensures.array ∙ c.if-not-take.ensures.array in
+    rw (← c.pass.view_is) (adds_one _ _ _ _ _ _ _ rest (c.if-not-take.ensures.reported rest.only rest.alone) _ _ _ _ c.in-Some.ensures.done c.put_entry.ensures.reported _ _ same)

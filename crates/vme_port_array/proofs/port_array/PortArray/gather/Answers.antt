@@ -13,7 +13,7 @@ join_seat-requires g c =
       c.into_seat-seat.ensures.array ∙ ours.1,
       ap (λ m. m.1) c.into_seat-seat.ensures.alone,
       omega (arith, array.words, array.some_objects),
-      gathers _ _ _ _ _ _ _ (ap (λ m. m.0.out) c.loop-pass.invariant.2.joined) (ap (λ m. m.0.out) c.into_seat-seat.ensures.alone),
+      gathers g.O.Object.step _ _ _ _ _ _ (ap (λ m. m.0.out) c.loop-pass.invariant.2.joined) (ap (λ m. m.0.out) c.into_seat-seat.ensures.alone),
     )
 
 pub loop-pass-preserved : goal.loop-pass-preserved

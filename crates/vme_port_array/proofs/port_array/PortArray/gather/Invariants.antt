@@ -5,7 +5,7 @@ use Rattle.vme_port_array.proofs.port_array.PortArray.gather.Given as goal
 
 -- the passes that are not left are joined
 abbrev pub invariant-loop-pass : goal.invariant-loop-pass
-invariant-loop-pass g l = (l.all.table_id ≡ array_id l.self) × All (IsPassOf l.self) l.passes.items × IsGathered l.fn.passes.items l.passes.items l.all.me
+invariant-loop-pass g l = (l.joined.table_id ≡ array_id l.self) × All (IsPassOf l.self) l.passes.items × IsGathered l.fn.passes.items l.passes.items l.joined.me
 
 abbrev pub decreases-loop-pass : goal.decreases-loop-pass
 decreases-loop-pass g l = vec_len l.passes

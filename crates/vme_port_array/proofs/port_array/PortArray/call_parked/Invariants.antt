@@ -1,6 +1,0 @@
-use Rattle.std.proofs.Common.{◌≡◌}
-use Rattle.vme_port_array.proofs.port_array.PortArray.call_parked.Given as goal
-
--- no try has changed the pass yet
-abbrev pub invariant-loop : goal.invariant-loop
-invariant-loop g l = (l.pass ≡ l.initial.pass) × (goal.iterator-loop g).can_next l.iterator' × (goal.iterator-loop g).is_finite l.iterator'
