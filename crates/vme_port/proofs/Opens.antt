@@ -1,10 +1,8 @@
 -- Opening a port and splitting its accounts keep the rule.
-use Rattle.std.proofs.Common.{ℕ, zero, suc, ◌≡◌, ◌+◌, ◌<◌, ◌≤◌, ◌==◌, inl, inr, Bool, true, false, cond, ltb, List, [], ◌∷◌, ◌++◌, length, set, take, drop, All, refl, ap, sym, ◌∙◌, subst, arith, length-append, eq-eqb, ne_eqb}
+use Rattle.std.proofs.Common.{ℕ, zero, suc, ◌≡◌, ◌+◌, ◌<◌, ◌==◌, inl, inr, Bool, true, false, cond, ltb, List, [], ◌∷◌, ◌++◌, set, All, refl, ap, sym, ◌∙◌, subst, arith, length-append}
 use Rattle.std.specs.List.{sum_by}
 use Rattle.std.proofs.lemmas.List.Sums.{sum_by-append, sum_by_push}
-use Rattle.std.proofs.lemmas.List.Elements.{All-nil, All-cons, All-append, All-take, All-drop}
-use Rattle.std.proofs.lemmas.Bool.{cases_eq}
-use borrow.Author.Tests.{ltb-true, ltb-false}
+use Rattle.std.proofs.lemmas.List.Elements.{All-nil, All-append, All-take, All-drop}
 use mathlib.Core.Option.{some, some-injective, some-ne-none}
 use lib.ListN.{get_elem?}
 use Rattle.atomic_table.specs.Table.{State, Me, Splits, Joins, opening}
@@ -13,7 +11,7 @@ use Rattle.vme_object.specs.declared.history.Entry.{Entry}
 use Rattle.vme_port.specs.declared.rule.Account.{Account}
 use Rattle.vme_port.specs.declared.rule.SeatView.{SeatView}
 use Rattle.vme_port.specs.declared.home.Home.{Home}
-use Rattle.vme_port.specs.Views.{account, view, fresh_accounts, newcomer, StandsFor, weight, names_among, names, holders}
+use Rattle.vme_port.specs.Views.{account, view, fresh_accounts, newcomer, StandsFor, weight, names, holders}
 use Rattle.vme_port.specs.Rule.{IsConsistent, Kept}
 use Rattle.vme_port.specs.Steps.{all_but_first, first_alone, joint_view, empty_view}
 use Rattle.vme_port.proofs.lemmas.Totals.{sum_set}

@@ -1,10 +1,8 @@
 -- A port that is closed with a seat of all its passes determines the whole history.
-use Rattle.std.proofs.Common.{ℕ, ◌≡◌, ◌+◌, ◌<◌, ◌≤◌, ◌==◌, ◌⊎◌, inl, inr, Bool, false, cond, ltb, List, [], ◌∷◌, length, map, All, refl, ap, sym, ◌∙◌, subst, arith, eq-eqb, ne_eqb}
-use Rattle.std.specs.List.{sum_by, count_by}
-use Rattle.std.proofs.lemmas.Bool.{lt-ltb, cases_eq}
+use Rattle.std.proofs.Common.{ℕ, ◌≡◌, ◌<◌, ◌≤◌, ◌⊎◌, inl, inr, Bool, false, cond, ltb, List, [], ◌∷◌, length, map, All, refl, ap, sym, ◌∙◌, subst, arith}
+use Rattle.std.proofs.lemmas.Bool.{lt-ltb}
 use Rattle.std.proofs.lemmas.List.{length-map}
-use Rattle.std.proofs.lemmas.List.Sums.{sum_by-cons, count_by-le-length}
-use Rattle.std.proofs.lemmas.List.Elements.{All-head, All-tail, All-nil, All-cons, All-weaker}
+use Rattle.std.proofs.lemmas.List.Elements.{All-weaker}
 use mathlib.Core.Option.{some, some-injective}
 use lib.ListN.{get_elem?}
 use Rattle.atomic_table.specs.Table.{State, Me, Final, Seen}

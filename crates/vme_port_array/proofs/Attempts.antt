@@ -1,5 +1,5 @@
 -- The effect of one try on a pass: the take, the command and the put, in order.
-use Rattle.std.proofs.Common.{ℕ, ◌≡◌, ◌+◌, ◌-◌, ◌^◌, ◌<◌, ◌≤◌, List, [], ◌∷◌, ◌++◌, length, All, Some, None, refl, ap, sym, ◌∙◌, subst, arith, length-append, append_assoc, eq-eqb}
+use Rattle.std.proofs.Common.{ℕ, ◌≡◌, ◌+◌, ◌-◌, ◌^◌, ◌<◌, ◌≤◌, List, [], ◌∷◌, ◌++◌, length, All, refl, ap, sym, ◌∙◌, subst, arith, length-append, append_assoc, eq-eqb}
 use Rattle.std.proofs.lemmas.List.{append-nil}
 use Rattle.std.proofs.lemmas.List.Elements.{All-nil, All-cons}
 use mathlib.Core.Option.{some}
@@ -15,7 +15,6 @@ use Rattle.vme_port_array.specs.declared.rule.ArrayView.{ArrayView}
 use Rattle.vme_port.specs.declared.home.Home.{Home}
 use Rattle.vme_port_array.specs.Parts.{indexed, part, AreLegal}
 use Rattle.vme_port.specs.Views.{account}
-use Rattle.vme_port_array.specs.Views.{view}
 use Rattle.vme_port.specs.Steps.{IsOut, IsFull, HasPerformed}
 use Rattle.vme_port_array.specs.Steps.{HasTaken, HasLost, MayPut, IsPut, HasPut}
 use Rattle.vme_port.specs.Passes.{PassView, seen_by, made_by}

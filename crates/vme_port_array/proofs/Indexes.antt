@@ -1,5 +1,5 @@
 -- The indexes of an array.
-use Rattle.std.proofs.Common.{ℕ, ◌≡◌, ◌<◌, ◌*◌, length, arith}
+use Rattle.std.proofs.Common.{ℕ, ◌≡◌, ◌<◌, length, arith}
 use mathlib.Core.Option.{some}
 use lib.ListN.{get_elem?}
 use Rattle.vme_port_array.specs.declared.port_array.PortArray.{PortArray}

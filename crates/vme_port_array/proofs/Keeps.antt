@@ -11,7 +11,7 @@ use prog.Atomic.{either}
 use Rattle.atomic_table.specs.Table.{State, Me, Act, keeps, takes, Allows, Valid, carried_after, stepped, step as table_step}
 use Rattle.atomic_table.proofs.Lists.{at_set, set_again, set_here, set_else, exchanged}
 use Rattle.vme_object.specs.declared.history.Entry.{Entry}
-use Rattle.vme_object.specs.History.{replay, IsLegal, own}
+use Rattle.vme_object.specs.History.{replay, own}
 use Rattle.vme_port_array.specs.declared.indexed.Indexed.{Indexed}
 use Rattle.vme_port.specs.declared.rule.Account.{Account}
 use Rattle.vme_port_array.specs.declared.rule.ArrayView.{ArrayView}

@@ -1,8 +1,8 @@
 -- Opening an array and splitting its accounts keep the rule.
-use Rattle.std.proofs.Common.{ℕ, zero, suc, ◌≡◌, ◌+◌, ◌*◌, ◌<◌, ◌≤◌, ◌==◌, inl, inr, Bool, true, false, Option, None, Some, cond, ltb, List, [], ◌∷◌, ◌++◌, length, map, replicate, slice_index, slice_index_or, set, take, drop, All, refl, ap, sym, ◌∙◌, subst, arith, length-append, eq-eqb, ne_eqb, append_assoc}
+use Rattle.std.proofs.Common.{ℕ, zero, suc, ◌≡◌, ◌+◌, ◌*◌, ◌<◌, ◌==◌, inl, inr, Option, None, Some, cond, ltb, List, [], ◌∷◌, ◌++◌, length, replicate, set, All, refl, ap, sym, ◌∙◌, subst, arith, length-append, append_assoc}
 use Rattle.std.specs.List.{sum_by}
 use Rattle.std.proofs.lemmas.List.Sums.{sum_by-append, sum_by_push}
-use Rattle.std.proofs.lemmas.List.Elements.{All-nil, All-cons, All-append, All-take, All-drop}
+use Rattle.std.proofs.lemmas.List.Elements.{All-nil, All-append, All-take, All-drop}
 use Rattle.std.proofs.lemmas.List.{length-replicate, get_or-replicate, append-nil}
 use mathlib.Core.Option.{some, some-injective, some-ne-none}
 use lib.ListN.{get_elem?}
@@ -11,16 +11,15 @@ use Rattle.atomic_table.proofs.Lists.{at_set, at_snoc, set_else}
 use Rattle.vme_object.specs.declared.history.Entry.{Entry}
 use Rattle.vme_object.specs.Each.{AllAt}
 use Rattle.vme_object.proofs.lemmas.Eachs.{AllAt-push}
-use Rattle.vme_object.specs.History.{replay}
 use Rattle.vme_port_array.specs.declared.indexed.Indexed.{Indexed}
 use Rattle.vme_port.specs.declared.rule.Account.{Account}
 use Rattle.vme_port_array.specs.declared.rule.ArrayView.{ArrayView}
 use Rattle.vme_port.specs.declared.home.Home.{Home}
-use Rattle.vme_port.specs.Views.{account, fresh_accounts, names_among}
+use Rattle.vme_port.specs.Views.{account, fresh_accounts}
 use Rattle.vme_port_array.specs.Views.{view, newcomer, StandsFor, weight, names, holders, is_out}
-use Rattle.vme_port_array.specs.Parts.{word_of, part, AreLegal}
+use Rattle.vme_port_array.specs.Parts.{word_of}
 use Rattle.vme_port.specs.Rule.{IsConsistent}
-use Rattle.vme_port_array.specs.Rule.{AtHome, Away, Kept}
+use Rattle.vme_port_array.specs.Rule.{Kept}
 use Rattle.vme_port_array.specs.Steps.{all_but_first, first_alone, joint_view, empty_view}
 use Rattle.vme_port.proofs.lemmas.Totals.{sum_set}
 use Rattle.vme_port.proofs.lemmas.Fresh.{fresh_length, fresh_shared, fresh_fits, cut_length, cut_named}

@@ -1,10 +1,8 @@
 -- An array that is closed with a seat of all its passes determines the whole history.
-use Rattle.std.proofs.Common.{ℕ, ◌≡◌, ◌+◌, ◌<◌, ◌≤◌, ◌==◌, ◌⊎◌, inl, inr, Bool, true, false, Option, None, Some, cond, ltb, List, [], ◌∷◌, ◌++◌, length, map, set, slice_index_or, All, refl, ap, sym, ◌∙◌, subst, arith, eq-eqb, ne_eqb}
-use Rattle.std.specs.List.{sum_by, count_by}
-use Rattle.std.proofs.lemmas.Bool.{lt-ltb, cases_eq}
+use Rattle.std.proofs.Common.{ℕ, ◌≡◌, ◌<◌, ◌≤◌, ◌⊎◌, inl, inr, Bool, None, cond, ltb, List, [], length, map, refl, ap, sym, ◌∙◌, arith}
+use Rattle.std.proofs.lemmas.Bool.{lt-ltb}
 use Rattle.std.proofs.lemmas.List.{length-map}
-use Rattle.std.proofs.lemmas.List.Sums.{sum_by-cons, count_by-le-length}
-use Rattle.std.proofs.lemmas.List.Elements.{All-head, All-tail, All-nil, All-cons, All-weaker}
+use Rattle.std.proofs.lemmas.List.Elements.{All-weaker}
 use mathlib.Core.Option.{some, some-injective}
 use lib.ListN.{get_elem?}
 use Rattle.atomic_table.specs.Table.{State, Me, Final, Seen}
@@ -16,11 +14,11 @@ use Rattle.vme_port_array.specs.declared.rule.ArrayView.{ArrayView}
 use Rattle.vme_port.specs.declared.home.Home.{Home}
 use Rattle.vme_port.specs.Views.{names_among}
 use Rattle.vme_port_array.specs.Views.{view, weight, names, is_out}
-use Rattle.vme_port_array.specs.Parts.{part, AreLegal}
+use Rattle.vme_port_array.specs.Parts.{part}
 use Rattle.vme_port.specs.Rule.{IsConsistent}
 use Rattle.vme_port_array.specs.Rule.{AtHome, Away, Kept}
 use Rattle.vme_port.specs.Passes.{PassView, account_of}
-use Rattle.vme_port_array.specs.Settlements.{AreEnds, Closes, Settles}
+use Rattle.vme_port_array.specs.Settlements.{Closes, Settles}
 use Rattle.vme_port.proofs.lemmas.Totals.{sum_at, sum_over}
 use Rattle.vme_port.proofs.lemmas.Shares.{names_within, named_passes, fits_passes}
 use Rattle.vme_port_array.proofs.Keeps.{out_weighs}

@@ -92,7 +92,7 @@ module _ {S C R : Type 0} (step : S → C → S × R) (start : S) where
     all_made = Shared.all_made k reported.history passes shared
 
   -- where an entry of a settled port stands
-  own_place : (h seen mine : List (Entry C R)) (e : Entry C R) → StandsIn step start h seen mine e → Shared.IsOwnPlace h seen mine e
+  abbrev own_place : (h seen mine : List (Entry C R)) (e : Entry C R) → StandsIn step start h seen mine e → Shared.IsOwnPlace h seen mine e
   own_place h seen mine e at = record { before = at.before; after = at.after; place = at.place; behind = at.behind; only = at.only }
 
   -- two entries of one caller that follow as many of its own entries have one place

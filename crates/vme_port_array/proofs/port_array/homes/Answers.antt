@@ -1,5 +1,5 @@
-use Rattle.std.proofs.Common.{rules, ◌≡◌, ◌+◌, ◌≤◌, ◌∙◌, ◌++◌, ◌∷◌, [], List, sym, subst, arith, length, ap, length-append, vec_capacity}
-use Rattle.std.specs.Vec.Iter.{into_iter_items, into_iter_len}
+use Rattle.std.proofs.Common.{◌≡◌, ◌+◌, ◌∙◌, ◌++◌, ◌∷◌, [], List, sym, subst, arith, length, ap, length-append}
+use Rattle.std.specs.Vec.Iter.{into_iter_items}
 use Rattle.vme_port.specs.declared.home.Home.{Home}
 use Rattle.vme_port_array.proofs.Opens.{Housing, housing_more, housing_all}
 use Rattle.vme_port_array.proofs.lemmas.Lists.{no_more}

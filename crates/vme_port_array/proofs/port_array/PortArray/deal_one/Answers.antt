@@ -1,4 +1,4 @@
-use Rattle.std.proofs.Common.{rules, ◌+◌, ◌*◌, ◌<◌, arith, sym, subst}
+use Rattle.std.proofs.Common.{◌+◌, arith, sym, subst}
 use Rattle.vme_port_array.specs.Views.{StandsFor}
 use Rattle.vme_port_array.specs.Arrays.{passes_of}
 use Rattle.vme_port_array.proofs.Opens.{deals, dealt}

@@ -1,4 +1,4 @@
-use Rattle.std.proofs.Common.{rules, ◌*◌, ◌<◌, ◌∙◌, ap, Some, arith}
+use Rattle.std.proofs.Common.{◌∙◌, ap, Some, arith}
 use Rattle.std.proofs.lemmas.List.Elements.{All-pop}
 use Rattle.vme_port_array.specs.Arrays.{IsPassOf}
 use Rattle.vme_port_array.proofs.Opens.{gathers}

@@ -1,7 +1,4 @@
-use Rattle.std.proofs.Common.{◌≡◌, ◌*◌, ◌∙◌, arith, rules, List, ℕ, replicate, length, ap, sym, subst}
-use Rattle.atomic_table.specs.Table.{opening}
-use Rattle.vme_port_array.specs.Rule.{Kept}
-use Rattle.vme_port_array.specs.Views.{newcomer}
+use Rattle.std.proofs.Common.{◌≡◌, ◌*◌, ◌∙◌, arith, rules, ℕ, replicate, length, ap}
 use Rattle.vme_port_array.proofs.Opens.{opens}
 use Rattle.vme_port_array.proofs.port_array.PortArray.open.Goals as goal
 
