@@ -21,6 +21,7 @@ pub mod master;
 pub mod memory;
 pub mod object;
 pub mod port;
+pub mod port_array;
 pub mod report;
 pub mod run_laws;
 pub mod runner;
