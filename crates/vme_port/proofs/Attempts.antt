@@ -14,7 +14,7 @@ use Rattle.vme_port.specs.Views.{account, view}
 use Rattle.vme_port.specs.Steps.{HasTaken, HasLost, MayPut, HasPut, IsOut, IsFull, HasPerformed}
 use Rattle.vme_port.specs.Passes.{PassView, IsAtRest, seen_by, made_by}
 use Rattle.vme_port.specs.Calls.{Adds}
-use Rattle.vme_port.proofs.Accounts.{own_all}
+use Rattle.vme_port.proofs.lemmas.Accounts.{own_all}
 
 -- the first of the objects that are held
 abbrev first_home : {S : Type 0} → Home S → List (ℕ × Home S) → Home S
@@ -31,7 +31,7 @@ module _ {S C R : Type 0} (step : S → C → S × R) (start : S) (k : ℕ) wher
   Opened object passes = (object ≡ start) × (passes ≡ k)
 
   -- after a take that won, the seat holds the object
-  pub out : (a : Account C R) (m : Me (Home S) (SeatView C R)) → HasTaken step Opened a m → IsOut m
+  pub out : (a : Account C R) (m : Me (Home S) (SeatView C R)) → HasTaken step Opened a m → IsOut 0 m
   out a m t = (t.home, ap (λ m. m.1) t.after)
 
   module _ (a : Account C R) (m1 : Me (Home S) (SeatView C R)) (t : HasTaken step Opened a m1) where
@@ -47,7 +47,7 @@ module _ {S C R : Type 0} (step : S → C → S × R) (start : S) (k : ℕ) wher
     same_home home there = ap (first_home home) (sym there ∙ ap (λ m. m.1) t.after)
 
     -- a put without an entry is allowed if the history is full
-    pub put_none : (m2 : Me (Home S) (SeatView C R)) → IsFull m1 m2 → MayPut step start [] m2
+    pub put_none : (m2 : Me (Home S) (SeatView C R)) → IsFull 0 m1 m2 → MayPut step start [] m2
     put_none m2 full =
         let nil = append-nil (a.seen ++ t.others) in record {
           holder = account a.who (a.seen ++ t.others) a.mine;
@@ -60,7 +60,7 @@ module _ {S C R : Type 0} (step : S → C → S × R) (start : S) (k : ℕ) wher
         }
 
     -- a put of one entry is allowed after a command
-    pub put_one : (who : ℕ) (cmd : C) (reply : R) (m2 : Me (Home S) (SeatView C R)) → a.who ≡ who → HasPerformed step cmd reply m1 m2
+    pub put_one : (who : ℕ) (cmd : C) (reply : R) (m2 : Me (Home S) (SeatView C R)) → a.who ≡ who → HasPerformed 0 step cmd reply m1 m2
         → MayPut step start (entry who cmd reply ∷ []) m2
     put_one who cmd reply m2 named p =
         let seen : List (Entry C R) = a.seen ++ t.others in
@@ -113,7 +113,7 @@ module _ {S C R : Type 0} (step : S → C → S × R) (start : S) (k : ℕ) wher
       begins_found = ap (λ m. seen_by m.0.accounts ++ t.others) (sym rest.alone)
 
       -- after the command, one more entry can be counted
-      pub made_fits : (cmd : C) (reply : R) (m2 : Me (Home S) (SeatView C R)) → HasPerformed step cmd reply m1 m2 → made + 1 < 2 ^ 64
+      pub made_fits : (cmd : C) (reply : R) (m2 : Me (Home S) (SeatView C R)) → HasPerformed 0 step cmd reply m1 m2 → made + 1 < 2 ^ 64
       made_fits cmd reply m2 p =
           let counted : p.home.count ≡ length found = ap (λ (h : Home S). h.count) (same_home rest.only m1 t p.home p.out) ∙ t.count in
           omega (arith, made_within rest.only m1 t, rest.counted, p.capacity)
@@ -153,7 +153,7 @@ module _ {S C R : Type 0} (step : S → C → S × R) (start : S) (k : ℕ) wher
           made = refl;
         }
 
-      module _ (m2 m3 : Me (Home S) (SeatView C R)) (full : IsFull m1 m2) (reported : HasPut [] m2 m3) where
+      module _ (m2 m3 : Me (Home S) (SeatView C R)) (full : IsFull 0 m1 m2) (reported : HasPut [] m2 m3) where
         same_full : m2.0 ≡ m1.0
         same_full = ap (λ m. m.0) full.same
 
@@ -176,7 +176,7 @@ module _ {S C R : Type 0} (step : S → C → S × R) (start : S) (k : ℕ) wher
         pub is_full : length (seen_by m3.0.accounts) ≡ 2 ^ 64 - 1
         is_full = ap length seen_full ∙ sym t.count ∙ ap (λ (h : Home S). h.count) (sym (same_home rest.only m1 t full.home full.out)) ∙ full.last
 
-      module _ (cmd : C) (reply : R) (m2 m3 : Me (Home S) (SeatView C R)) (p : HasPerformed step cmd reply m1 m2) (reported : HasPut (entry who cmd reply ∷ []) m2 m3) where
+      module _ (cmd : C) (reply : R) (m2 m3 : Me (Home S) (SeatView C R)) (p : HasPerformed 0 step cmd reply m1 m2) (reported : HasPut (entry who cmd reply ∷ []) m2 m3) where
         abbrev e : Entry C R
         e = entry who cmd reply
 

@@ -17,27 +17,13 @@ use Rattle.vme_port.specs.declared.home.Home.{Home}
 use Rattle.vme_port.specs.Views.{account, view, weight, names, holders}
 use Rattle.vme_port.specs.Rule.{IsConsistent, AtHome, Away, Kept}
 use Rattle.vme_port.specs.Steps.{HasTaken, take_effect, IsIdle}
-use Rattle.vme_port.proofs.Totals.{sum_at, sum_set, sum_over}
-use Rattle.vme_port.proofs.Accounts.{names_self, apart}
+use Rattle.vme_port.proofs.lemmas.Totals.{counts, sum_at, sum_set, sum_over}
+use Rattle.vme_port.proofs.lemmas.Accounts.{head_same, names_self, apart}
 
 -- a word that is written is read back
 pub word_set : (words : List ℕ) (new : ℕ) → length words ≡ 1 → slice_index (set words 0 new) 0 ≡ new
 word_set [] new one = absurd (omega arith)
 word_set (w ∷ words) new one = refl
-
--- one-element lists are equal only if their elements are
-pub head_same : {A : Type 0} (a b : A) → a ∷ [] ≡ b ∷ [] → a ≡ b
-head_same a b e = cc e
-
--- a test that counts for at least one holds
-pub counts : (b : Bool) → 1 ≤ cond b 1 0 → b ≡ true
-counts true one = refl
-counts false one = absurd (omega arith)
-
--- a test counts for at most one
-pub counts_once : (b : Bool) → cond b 1 0 ≤ 1
-counts_once true = omega arith
-counts_once false = omega arith
 
 module _ {C R : Type 0} where
   -- a view that holds the object stands for at least one pass

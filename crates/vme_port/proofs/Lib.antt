@@ -1,11 +1,7 @@
 pub mod lemmas
-pub mod Totals
-pub mod Accounts
 pub mod Keeps
 pub mod Puts
-pub mod Performs
 pub mod Attempts
 pub mod Opens
 pub mod Settles
 pub mod Gathers
-pub mod Places

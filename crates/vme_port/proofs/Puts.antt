@@ -15,9 +15,9 @@ use Rattle.vme_port.specs.declared.home.Home.{Home}
 use Rattle.vme_port.specs.Views.{account, view, weight, names_among, names}
 use Rattle.vme_port.specs.Rule.{IsConsistent, Away, Kept}
 use Rattle.vme_port.specs.Steps.{MayPut, put_effect}
-use Rattle.vme_port.proofs.Totals.{sum_set, sum_two}
-use Rattle.vme_port.proofs.Accounts.{own_all, fits_all, names_self}
-use Rattle.vme_port.proofs.Keeps.{word_set, head_same, out_counts, counts_once, who_below, is_away}
+use Rattle.vme_port.proofs.lemmas.Totals.{counts_once, sum_set, sum_two}
+use Rattle.vme_port.proofs.lemmas.Accounts.{head_same, own_all, fits_all, names_self}
+use Rattle.vme_port.proofs.Keeps.{word_set, out_counts, who_below, is_away}
 
 module _ {S C R : Type 0} (step : S → C → S × R) (start : S) (k : ℕ) where
   abbrev Rule : State (Home S) (SeatView C R) → Type 0

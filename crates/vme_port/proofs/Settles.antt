@@ -1,10 +1,8 @@
 -- A port that is closed with a seat of all its passes determines the whole history.
-use Rattle.std.proofs.Common.{ℕ, ◌≡◌, ◌+◌, ◌<◌, ◌≤◌, ◌==◌, ◌⊎◌, inl, inr, Bool, false, cond, ltb, List, [], ◌∷◌, length, map, All, refl, ap, sym, ◌∙◌, subst, arith, eq-eqb, ne_eqb}
-use Rattle.std.specs.List.{sum_by, count_by}
-use Rattle.std.proofs.lemmas.Bool.{lt-ltb, cases_eq}
+use Rattle.std.proofs.Common.{ℕ, ◌≡◌, ◌<◌, ◌≤◌, ◌⊎◌, inl, inr, Bool, false, cond, ltb, List, [], ◌∷◌, length, map, All, refl, ap, sym, ◌∙◌, subst, arith}
+use Rattle.std.proofs.lemmas.Bool.{lt-ltb}
 use Rattle.std.proofs.lemmas.List.{length-map}
-use Rattle.std.proofs.lemmas.List.Sums.{sum_by-cons, count_by-le-length}
-use Rattle.std.proofs.lemmas.List.Elements.{All-head, All-tail, All-nil, All-cons, All-weaker}
+use Rattle.std.proofs.lemmas.List.Elements.{All-weaker}
 use mathlib.Core.Option.{some, some-injective}
 use lib.ListN.{get_elem?}
 use Rattle.atomic_table.specs.Table.{State, Me, Final, Seen}
@@ -17,72 +15,9 @@ use Rattle.vme_port.specs.Views.{view, weight, names_among, names}
 use Rattle.vme_port.specs.Rule.{IsConsistent, AtHome, Away, Kept}
 use Rattle.vme_port.specs.Passes.{PassView, account_of, IsCounted}
 use Rattle.vme_port.specs.Settlements.{Closes, Settles}
-use Rattle.vme_port.proofs.Totals.{sum_at, sum_over}
-use Rattle.vme_port.proofs.Accounts.{named_more}
+use Rattle.vme_port.proofs.lemmas.Totals.{sum_at, sum_over, sum_same}
+use Rattle.vme_port.proofs.lemmas.Shares.{names_within, owned_once, mine_owned, named_passes, fits_passes}
 use Rattle.vme_port.proofs.Keeps.{out_weighs}
-
-module _ {C R : Type 0} where
-  -- a view has at most as many accounts of `who` as it has accounts
-  names_within : (who : ℕ) (l : List (Account C R)) → names_among who l ≤ length l
-  names_within who l = count_by-le-length (λ (a : Account C R). a.who == who) l
-
-  -- the number of own entries of `who` in a history with one more entry
-  own_more : (who : ℕ) (e : Entry C R) (h : List (Entry C R)) → length (own who (e ∷ h)) ≡ length (own who h) + cond (who == e.who) 1 0
-  own_more who e h = elim (cases_eq who e.who) [
-    | inl same ↦
-        let one : ◌≡◌ {A = ℕ} (cond (who == e.who) 1 0) 1 = ap (λ (b : Bool). cond b 1 0) (eq-eqb who e.who same) in
-        let its : own who (e ∷ h) ≡ e ∷ own who h = ap (λ (b : Bool). cond b (e ∷ own who h) (own who h)) (eq-eqb e.who who (sym same)) in
-        omega (arith, ap length its)
-    | inr other ↦
-        let none : ◌≡◌ {A = ℕ} (cond (who == e.who) 1 0) 0 = ap (λ (b : Bool). cond b 1 0) (ne_eqb who e.who other) in
-        let its : own who (e ∷ h) ≡ own who h = ap (λ (b : Bool). cond b (e ∷ own who h) (own who h)) (ne_eqb e.who who (λ same. other (sym same))) in
-        omega (arith, ap length its)
-  ]
-
-  -- the number of a history's entries that belong to these accounts
-  abbrev owned : List (Account C R) → List (Entry C R) → ℕ
-  owned l h = sum_by (λ a. length (own a.who h)) l
-
-  -- an empty history has no owned entries
-  owned_none : (l : List (Account C R)) → owned l [] ≡ 0
-  owned_none [] = refl
-  owned_none (a ∷ l) = omega (arith, sum_by-cons (λ (a : Account C R). length (own {C = C} {R = R} a.who [])) a l, owned_none l)
-
-  -- the number of owned entries, with one entry more
-  owned_more : (l : List (Account C R)) (e : Entry C R) (h : List (Entry C R)) → owned l (e ∷ h) ≡ owned l h + names_among e.who l
-  owned_more [] e h = refl
-  owned_more (a ∷ l) e h =
-      omega (arith, sum_by-cons (λ (a : Account C R). length (own a.who (e ∷ h))) a l, sum_by-cons (λ (a : Account C R). length (own a.who h)) a l, named_more e.who a l, own_more a.who e h, owned_more l e h)
-
-  -- if there is one account for each number, each entry is owned exactly once
-  owned_once : (k : ℕ) (l : List (Account C R)) (h : List (Entry C R)) → ((who : ℕ) → who < k → names_among who l ≡ 1) → All (λ e. e.who < k) h → owned l h ≡ length h
-  owned_once k l [] one known = owned_none l
-  owned_once k l (e ∷ h) one known =
-      let below : e.who < k = All-head (λ (e : Entry C R). e.who < k) e h known in
-      let rest = owned_once k l h one (All-tail (λ (e : Entry C R). e.who < k) e h known) in
-      omega (arith, owned_more l e h, one e.who below)
-
-  -- the passes together made exactly the entries that belong to their accounts
-  made_owned : (h : List (Entry C R)) (ps : List (PassView C R)) → All (IsConsistent h) (map account_of ps) → All IsCounted ps
-      → sum_by (λ p. p.made) ps ≡ owned (map account_of ps) h
-  made_owned h [] fits counted = refl
-  made_owned h (p ∷ ps) fits counted =
-      let fit : IsConsistent h (account_of p) = All-head (IsConsistent h) (account_of p) (map account_of ps) fits in
-      let count : length p.mine ≡ p.made = All-head IsCounted p ps counted in
-      let rest = made_owned h ps (All-tail (IsConsistent h) (account_of p) (map account_of ps) fits) (All-tail IsCounted p ps counted) in
-      omega (arith, sum_by-cons (λ (p : PassView C R). p.made) p ps, sum_by-cons (λ (a : Account C R). length (own a.who h)) (account_of p) (map account_of ps), ap length fit.whole)
-
-  -- there are as many passes of `who` as accounts of `who`
-  named_passes : (who : ℕ) (ps : List (PassView C R)) → count_by (λ p. p.who == who) ps ≡ names_among who (map account_of ps)
-  named_passes who [] = refl
-  named_passes who (p ∷ ps) =
-      omega (arith, sum_by-cons (λ (p : PassView C R). cond (p.who == who) 1 0) p ps, named_more who (account_of p) (map account_of ps), named_passes who ps)
-
-  -- each pass agrees with the history if its account does
-  fits_passes : (h : List (Entry C R)) (ps : List (PassView C R)) → All (IsConsistent h) (map account_of ps) → All (λ p. IsConsistent h (account_of p)) ps
-  fits_passes h [] fits = All-nil (λ (p : PassView C R). IsConsistent h (account_of p))
-  fits_passes h (p ∷ ps) fits =
-      All-cons (λ (p : PassView C R). IsConsistent h (account_of p)) p ps (All-head (IsConsistent h) (account_of p) (map account_of ps) fits) (fits_passes h ps (All-tail (IsConsistent h) (account_of p) (map account_of ps) fits))
 
 module _ {S C R : Type 0} (step : S → C → S × R) (start : S) (k : ℕ) where
   abbrev Rule : State (Home S) (SeatView C R) → Type 0
@@ -141,17 +76,25 @@ module _ {S C R : Type 0} (step : S → C → S × R) (start : S) (k : ℕ) wher
       → Settles step start k passes object n
   settled passes object n reported counted =
       let h : List (Entry C R) = reported.history in
-      let fits = fits_passes h passes reported.fits in record {
+      let fits = fits_passes h passes reported.fits in
+      let mine : All (λ p. own p.who h ≡ p.mine) passes =
+      All-weaker (λ (p : PassView C R). IsConsistent h (account_of p)) (λ (p : PassView C R). own p.who h ≡ p.mine) (λ p fit. fit.whole) passes fits in record {
         history = h;
         legal = reported.legal;
         replayed = reported.replayed;
         counted = reported.counted;
         known = reported.known;
-        summed = omega (arith, reported.counted, made_owned h passes reported.fits counted, owned_once k (map account_of passes) h reported.each_who reported.known);
+        summed = omega (
+          arith,
+          reported.counted,
+          mine_owned h passes mine,
+          owned_once k (map account_of passes) h reported.each_who reported.known,
+          sum_same (λ (p : PassView C R). length p.mine) (λ (p : PassView C R). p.made) passes counted,
+        );
         all = sym (length-map passes account_of) ∙ reported.all;
         each_who = λ who below. named_passes who passes ∙ reported.each_who who below;
         seen = All-weaker (λ (p : PassView C R). IsConsistent h (account_of p)) (λ (p : PassView C R). IsPrefix p.seen h) (λ p fit. fit.begins) passes fits;
         sound = All-weaker (λ (p : PassView C R). IsConsistent h (account_of p)) (λ (p : PassView C R). own p.who p.seen ≡ p.mine) (λ p fit. fit.sound) passes fits;
-        mine = All-weaker (λ (p : PassView C R). IsConsistent h (account_of p)) (λ (p : PassView C R). own p.who h ≡ p.mine) (λ p fit. fit.whole) passes fits;
+        mine = mine;
         made = counted;
       }

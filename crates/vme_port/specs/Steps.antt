@@ -89,24 +89,25 @@ module _ {S C R : Type 0} where
   abbrev pub IsIdle : Me (Home S) (SeatView C R) → Type 0
   IsIdle m = (a : Account C R) × (m ≡ (view (a ∷ []) false, []))
 
-  -- the seat holds the object
-  abbrev pub IsOut : Me (Home S) (SeatView C R) → Type 0
-  IsOut m = (home : Home S) × (m.1 ≡ (0, home) ∷ [])
+module _ {S V : Type 0} (i : ℕ) where
+  -- the seat holds the object of slot i, and no other
+  abbrev pub IsOut : Me (Home S) V → Type 0
+  IsOut m = (home : Home S) × (m.1 ≡ (i, home) ∷ [])
 
   -- the history of the object that the seat holds has 2^64 - 1 entries, and nothing changed
-  pub record IsFull (m m' : Me (Home S) (SeatView C R)) : Type 0 where
+  pub record IsFull (m m' : Me (Home S) V) : Type 0 where
     pub home : Home S
-    pub out : m.1 ≡ (0, home) ∷ []
+    pub out : m.1 ≡ (i, home) ∷ []
     pub last : home.count ≡ 2 ^ 64 - 1
     pub same : m' ≡ m
 
   -- the object that the seat holds performed a command, gave this reply, and counts one entry more
-  pub record HasPerformed (step : S → C → S × R) (cmd : C) (reply : R) (m m' : Me (Home S) (SeatView C R)) : Type 0 where
+  pub record HasPerformed {C R : Type 0} (step : S → C → S × R) (cmd : C) (reply : R) (m m' : Me (Home S) V) : Type 0 where
     pub home : Home S
-    pub out : m.1 ≡ (0, home) ∷ []
+    pub out : m.1 ≡ (i, home) ∷ []
     pub capacity : home.count < 2 ^ 64 - 1
     pub answer : reply ≡ (step home.object cmd).1
     pub next : Home S
     pub object : next.object ≡ (step home.object cmd).0
     pub count : next.count ≡ home.count + 1
-    pub after : m' ≡ (m.0, (0, next) ∷ [])
+    pub after : m' ≡ (m.0, (i, next) ∷ [])

@@ -7,7 +7,7 @@ use crate::fault::{Spent, TryFault};
 use crate::pass::Pass;
 use crate::port::Port;
 use crate::rule::MarkStep;
-use crate::seats::{FREE, TAKEN, Taking, WANTED};
+use crate::word::{FREE, TAKEN, Taking, WANTED};
 use crossbeam_utils::Backoff;
 use std::marker::Brand;
 use std::sync::Wait;

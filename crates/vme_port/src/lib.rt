@@ -12,9 +12,13 @@ mod port;
 mod rule;
 mod seats;
 mod settle;
+mod word;
 
 pub use fault::{PortFault, Spent, TryFault};
+pub use home::Home;
 pub use laws::{calls_compose, calls_make_one_history};
 pub use pass::Pass;
 pub use port::Port;
+pub use rule::Account;
 pub use settle::Unsettled;
+pub use word::{FREE, TAKEN, Taking, WANTED};

@@ -8,7 +8,7 @@ use crate::fault::PortFault;
 use crate::home::{Home, Opening};
 use crate::pass::Pass;
 use crate::rule::{PortRule, SeatView, SplitStep};
-use crate::seats::{FREE, WANTED};
+use crate::word::{FREE, WANTED};
 use atomic_table::{Seat, Table};
 use std::alloc::{AllocError, Global};
 use std::snapshot::Snapshot;

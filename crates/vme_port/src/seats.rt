@@ -8,39 +8,10 @@ ghost use Rattle.vme_port.specs.Ports.{port_id, opening, passes_of};
 use crate::home::Home;
 use crate::port::Port;
 use crate::rule::{EntryWitness, OpeningWitness, PutStep, SeatView, TakeStep};
+use crate::word::{FREE, Taking, WANTED};
 use atomic_table::Seat;
 use std::marker::Brand;
 use vme_object::{Object, Operation, next_count};
-
-/// The word while the object is in its slot.
-pub(crate) const FREE: u64 = 0;
-
-/// The word while a pass holds the object, and no call is known to wait for it.
-pub(crate) const TAKEN: u64 = 1;
-
-/// The word while a pass holds the object, and a call may wait for it.
-pub(crate) const WANTED: u64 = 2;
-
-/// How a call takes the object.
-#[derive(Clone, Copy)]
-pub(crate) enum Taking {
-    /// No call is known to wait for the object.
-    Alone,
-    /// A call may wait for the object, so the put wakes one.
-    Wanted,
-}
-
-impl Taking {
-    /// Returns the word to set while the object is taken.
-    fn word(self) -> u64
-        ensures { 0 < result }
-    {
-        match self {
-            Taking::Alone => TAKEN,
-            Taking::Wanted => WANTED,
-        }
-    }
-}
 
 impl<O: Object> Port<O> {
     /// Takes the object if it is in its slot, and returns whether it did.
@@ -68,9 +39,9 @@ impl<O: Object> Port<O> {
         asked: &A,
     ) -> Option<O::Reply>
         requires port { seat.old.table_id ≡ port_id self.now }
-        requires out { IsOut seat.old.me }
+        requires out { IsOut 0 seat.old.me }
         ensures port { seat.new.table_id ≡ seat.old.table_id }
-        ensures done { MatchOption result (IsFull seat.old.me seat.new.me) (λ r. HasPerformed O.step (A.command asked.now) r seat.old.me seat.new.me) }
+        ensures done { MatchOption result (IsFull 0 seat.old.me seat.new.me) (λ r. HasPerformed 0 O.step (A.command asked.now) r seat.old.me seat.new.me) }
     {
         let home = seat.slot_mut(&self.table.shared, 0);
         let Some(count) = next_count(home.count) else {

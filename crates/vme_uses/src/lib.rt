@@ -4,6 +4,7 @@
 
 pub mod am;
 pub mod arbiter;
+pub mod bus_objects;
 pub mod bus_wait;
 pub mod config_toml;
 pub mod cores;
@@ -20,10 +21,12 @@ pub mod master;
 pub mod memory;
 pub mod object;
 pub mod port;
+pub mod port_array;
 pub mod report;
 pub mod run_laws;
 pub mod runner;
 pub mod script;
+pub mod sequential;
 pub mod shared;
 pub mod stepper;
 #[cfg(test)]

@@ -1,14 +1,14 @@
-//! Each use, run once.
+//! Each use, run once, but for that of `vme_sequential`: no program has a report of one order yet.
 use crate::{
-    am, arbiter, bus_wait, config_toml, cores, cycle, decode, devices, engines, grammar, lanes,
-    lexer, line_task, mailbox_laws, master, memory, object, port, report, run_laws, runner, script,
-    shared, stepper, threads,
+    am, arbiter, bus_objects, bus_wait, config_toml, cores, cycle, decode, devices, engines,
+    grammar, lanes, lexer, line_task, mailbox_laws, master, memory, object, port, report, run_laws,
+    runner, script, shared, stepper, threads,
 };
 use std::test::Fail;
 use vme_am::{Am, Space};
 use vme_arbiter::{ArbReply, Arbiter};
 use vme_bus_wait::{BusWaiters, WaitState};
-use vme_core::Core;
+use vme_core::{Core, EventReply};
 use vme_cycle::Request;
 use vme_decode::{AddressMap, Entry};
 use vme_io::RoomSink;
@@ -80,6 +80,9 @@ fn objects_and_ports(rt: HostRuntime) -> Result<(), Fail> {
         arbiter::two_requests(),
         (ArbReply::Granted, ArbReply::Waiting)
     );
+    let EventReply::Bus(ArbReply::Granted) = bus_objects::first_request() else {
+        panic!(&rt; "not granted")
+    };
     let Ok((port, mut passes)) = Port::new(rt.alloc(), Counter { number: 7 }, 1) else {
         panic!(&rt; "no port")
     };

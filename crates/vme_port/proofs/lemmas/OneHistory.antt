@@ -1,18 +1,16 @@
 -- The entries that passes make have their places in the one history that the port settles on.
-use Rattle.std.proofs.Common.{ℕ, ◌≡◌, ◌<◌, List, [], ◌∷◌, ◌++◌, length, take, slice_index_or, All, Contains, refl, ap, sym, ◌∙◌, subst, arith, append_assoc, length-append}
-use Rattle.std.proofs.lemmas.List.{append-nil, append_cancel_right}
+use Rattle.std.proofs.Common.{ℕ, ◌≡◌, ◌+◌, List, [], ◌++◌, length, take, All, Contains, refl, ap, sym, ◌∙◌, arith, append_assoc, length-append}
+use Rattle.std.proofs.lemmas.List.{append-nil}
 use Rattle.std.specs.List.{sum_by}
-use Rattle.std.proofs.lemmas.List.Elements.{All-contains, Contains-get_or}
 use Rattle.vme_object.specs.declared.history.Entry.{Entry}
-use Rattle.vme_object.specs.History.{own, IsPrefix}
+use Rattle.vme_object.specs.History.{own}
 use Rattle.vme_object.specs.Each.{Each}
 use Rattle.vme_object.proofs.lemmas.Histories.{own-append, reply_at}
 use Rattle.vme_port.specs.Passes.{PassView, IsUnused}
 use Rattle.vme_port.specs.Calls.{Adds, Makes}
 use Rattle.vme_port.specs.Settlements.{Settles, StandsIn}
-use Rattle.vme_port.proofs.Accounts.{own_all}
-use Rattle.vme_port.proofs.Totals.{sum_same}
-use Rattle.vme_port.proofs.Places.{IsPlaceOf, place_of, same_place, own_contains, pass_of_who}
+use Rattle.vme_port.proofs.lemmas.Accounts.{own_all}
+use Rattle.vme_port.proofs.lemmas.SharedHistory as Shared
 use Rattle.atomic_table.specs.Seated.{TableId}
 
 module _ {C R : Type 0} where
@@ -42,86 +40,62 @@ module _ {C R : Type 0} where
     made = omega (arith, first.made, then.made, length-append a b);
   }
 
+  -- a pass makes the entries that it adds behind entries of others
+  pub makes_added : (es : List (Entry C R)) (p q : PassView C R) → q.port ≡ p.port → q.who ≡ p.who → (others : List (Entry C R)) → own p.who others ≡ []
+      → q.seen ≡ p.seen ++ others ++ es → All (λ e. e.who ≡ p.who) es → q.mine ≡ p.mine ++ es → q.made ≡ p.made + length es → Makes es p q
+  makes_added es p q port who others apart seen whose mine made = record {
+    port = port;
+    who = who;
+    since = others ++ es;
+    seen = seen ∙ append_assoc p.seen others es;
+    its = own-append p.who others es ∙ (λ i. apart i ++ own_all p.who es whose i);
+    mine = mine;
+    made = made;
+  }
+
 module _ {S C R : Type 0} (step : S → C → S × R) (start : S) where
   -- a pass makes, over one call, the entries that the call adds
   pub makes_one : (es : List (Entry C R)) (p q : PassView C R) → Adds step start es p q → Makes es p q
-  makes_one es p q added = record {
-    port = added.port;
-    who = added.who;
-    since = added.others ++ es;
-    seen = added.seen ∙ append_assoc p.seen added.others es;
-    its = own-append p.who added.others es ∙ (λ i. added.apart i ++ own_all p.who es added.whose i);
-    mine = added.mine;
-    made = added.made;
-  }
+  makes_one es p q added = makes_added es p q added.port added.who added.others added.apart added.seen added.whose added.mine added.made
 
   module _ (k : ℕ) (passes : List (PassView C R)) (object : S) (n : ℕ) (reported : Settles step start k passes object n) where
-    module _ (es : List (Entry C R)) (p q : PassView C R) (there : Contains passes q) (made : Makes es p q) where
-      begins : IsPrefix q.seen reported.history
-      begins = All-contains (λ (p : PassView C R). IsPrefix p.seen reported.history) passes q reported.seen there
+    -- the passes of a settled port share its history
+    shared : Shared.IsShared k reported.history passes
+    shared = record { known = reported.known; each_who = reported.each_who; seen = reported.seen; sound = reported.sound; mine = reported.mine }
 
-      -- the own entries in what the pass had seen are those that it had made
-      sound_before : own p.who p.seen ≡ p.mine
-      sound_before =
-          let sound : own q.who q.seen ≡ q.mine = All-contains (λ (p : PassView C R). own p.who p.seen ≡ p.mine) passes q reported.sound there in
-          let both : own p.who p.seen ++ es ≡ p.mine ++ es =
-          ap (λ l. own p.who p.seen ++ l) (sym made.its) ∙ sym (own-append p.who p.seen made.since) ∙ ap (own p.who) (sym made.seen)
-          ∙ ap (λ w. own w q.seen) (sym made.who) ∙ sound ∙ made.mine in
-          append_cancel_right (own p.who p.seen) p.mine es both
+    -- each entry that a pass made since has its place in the history
+    pub placed : (es : List (Entry C R)) (p q : PassView C R) → Contains passes q → Makes es p q → Each (λ i e. StandsIn step start reported.history p.seen (p.mine ++ take i es) e) es
+    placed es p q there made i d less =
+        let at = Shared.own_places k reported.history passes shared es p q there made i d less in record {
+          before = at.before;
+          after = at.after;
+          place = at.place;
+          behind = at.behind;
+          only = at.only;
+          reply = reply_at step start reported.history at.before at.after _ reported.legal at.place;
+        }
 
-      -- an entry with a place in what the pass has seen since has its place in the history
-      stands : (mine : List (Entry C R)) (e : Entry C R) → IsPlaceOf p.who made.since mine e → StandsIn step start reported.history p.seen (p.mine ++ mine) e
-      stands mine e at =
-          let before : List (Entry C R) = p.seen ++ at.before in
-          let after : List (Entry C R) = at.after ++ begins.0 in
-          let place : reported.history ≡ before ++ e ∷ after =
-          begins.1 ∙ ap (λ l. l ++ begins.0) (made.seen ∙ ap (λ l. p.seen ++ l) at.place ∙ sym (append_assoc p.seen at.before (e ∷ at.after)))
-          ∙ append_assoc before (e ∷ at.after) begins.0 in record {
-            before = before;
-            after = after;
-            place = place;
-            behind = (at.before, refl);
-            only = ap (λ w. own w before) at.whose ∙ own-append p.who p.seen at.before ∙ (λ i. sound_before i ++ at.only i);
-            reply = reply_at step start reported.history before after e reported.legal place;
-          }
-
-      -- each entry that a pass made since has its place in the history
-      pub placed : Each (λ i e. StandsIn step start reported.history p.seen (p.mine ++ take i es) e) es
-      placed i d less =
-          subst (λ l. i < length l → StandsIn step start reported.history p.seen (p.mine ++ take i l) (slice_index_or l i d)) made.its
-          (λ within. stands (take i (own p.who made.since)) (slice_index_or (own p.who made.since) i d) (place_of p.who made.since i d within)) less
-
-      -- an unused pass makes exactly its caller's part of the history
-      pub part_of_unused : (port : TableId) (who : ℕ) → IsUnused port who p → own who reported.history ≡ es
-      part_of_unused port who unused =
-          ap (λ w. own w reported.history) (sym unused.who ∙ sym made.who)
-          ∙ All-contains (λ (p : PassView C R). own p.who reported.history ≡ p.mine) passes q reported.mine there
-          ∙ made.mine ∙ ap (λ l. l ++ es) unused.mine
+    -- an unused pass makes exactly its caller's part of the history
+    pub part_of_unused : (es : List (Entry C R)) (p q : PassView C R) → Contains passes q → Makes es p q → (port : TableId) (who : ℕ) → IsUnused port who p → own who reported.history ≡ es
+    part_of_unused = Shared.part_of_unused k reported.history passes shared
 
     -- the history has as many entries as the passes made together
     pub entries_counted : length reported.history ≡ sum_by (λ p. length p.mine) passes
-    entries_counted = sym reported.counted ∙ reported.summed ∙ sym (sum_same (λ (p : PassView C R). length p.mine) (λ (p : PassView C R). p.made) passes reported.made)
+    entries_counted = Shared.entries_counted k reported.history passes shared
 
     -- each entry of the history was made by some pass
     pub maker_of : (e : Entry C R) → Contains reported.history e → (p : PassView C R) × Contains passes p × Contains p.mine e
-    maker_of e there =
-        let below : e.who < k = All-contains (λ (e : Entry C R). e.who < k) reported.history e reported.known there in
-        let found = pass_of_who e.who passes (reported.each_who e.who below) in
-        let p : PassView C R = found.0 in
-        let mine : own p.who reported.history ≡ p.mine = All-contains (λ (p : PassView C R). own p.who reported.history ≡ p.mine) passes p reported.mine found.1 in
-        let its : own e.who reported.history ≡ p.mine = ap (λ w. own w reported.history) (sym found.2) ∙ mine in
-        (p, found.1, subst (λ l. Contains l e) its (own_contains reported.history e there))
+    maker_of = Shared.maker_of k reported.history passes shared
 
     -- a property of all entries that passes made holds for the whole history
     pub all_made : (P : Entry C R → Type 0) → All (λ p. All P p.mine) passes → All P reported.history
-    all_made P each i d less =
-        let e : Entry C R = slice_index_or reported.history i d in
-        let maker = maker_of e (Contains-get_or reported.history i d less) in
-        All-contains P maker.0.mine e (All-contains (λ (p : PassView C R). All P p.mine) passes maker.0 each maker.1) maker.2
+    all_made = Shared.all_made k reported.history passes shared
+
+  -- where an entry of a settled port stands
+  abbrev own_place : (h seen mine : List (Entry C R)) (e : Entry C R) → StandsIn step start h seen mine e → Shared.IsOwnPlace h seen mine e
+  own_place h seen mine e at = record { before = at.before; after = at.after; place = at.place; behind = at.behind; only = at.only }
 
   -- two entries of one caller that follow as many of its own entries have one place
   pub one_place : (h seen seen' mine : List (Entry C R)) (e f : Entry C R) → e.who ≡ f.who → (a : StandsIn step start h seen mine e) → (b : StandsIn step start h seen' mine f)
       → a.before ≡ b.before
-  one_place h seen seen' mine e f same a b =
-      same_place e.who a.before b.before e f a.after b.after (sym a.place ∙ b.place) refl (sym same)
-      (a.only ∙ sym b.only ∙ ap (λ w. own w b.before) (sym same))
+  one_place h seen seen' mine e f same a b = Shared.one_place h seen seen' mine e f same (own_place h seen mine e a) (own_place h seen' mine f b)

@@ -7,6 +7,14 @@ use Rattle.vme_object.specs.declared.history.Entry.{Entry}
 use Rattle.vme_object.specs.History.{own}
 use Rattle.vme_port.specs.Passes.{PassView}
 
+-- a place in a history of an entry of `who`, after exactly the entries `mine` of `who`
+pub record IsPlaceOf {C R : Type 0} (who : ℕ) (h mine : List (Entry C R)) (e : Entry C R) : Type 0 where
+  pub before : List (Entry C R)
+  pub after : List (Entry C R)
+  pub place : h ≡ before ++ e ∷ after
+  pub whose : e.who ≡ who
+  pub only : own who before ≡ mine
+
 module _ {C R : Type 0} where
   -- the own entries of `who` in a history that begins with an entry of `who`
   own_first : (who : ℕ) (e : Entry C R) (h : List (Entry C R)) → e.who ≡ who → own who (e ∷ h) ≡ e ∷ own who h
@@ -15,14 +23,6 @@ module _ {C R : Type 0} where
   -- the own entries of `who` in a history that begins with an entry of another caller
   own_later : (who : ℕ) (e : Entry C R) (h : List (Entry C R)) → e.who ≢ who → own who (e ∷ h) ≡ own who h
   own_later who e h other = ap (λ (b : Bool). cond b (e ∷ own who h) (own who h)) (ne_eqb e.who who other)
-
-  -- a place in a history of an entry of `who`, after exactly the entries `mine` of `who`
-  pub record IsPlaceOf (who : ℕ) (h mine : List (Entry C R)) (e : Entry C R) : Type 0 where
-    pub before : List (Entry C R)
-    pub after : List (Entry C R)
-    pub place : h ≡ before ++ e ∷ after
-    pub whose : e.who ≡ who
-    pub only : own who before ≡ mine
 
   -- the place after one more entry of `who`
   place_behind_own : (who : ℕ) (g e : Entry C R) (h mine : List (Entry C R)) → g.who ≡ who → IsPlaceOf who h mine e → IsPlaceOf who (g ∷ h) (g ∷ mine) e

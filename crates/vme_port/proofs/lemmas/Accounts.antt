@@ -10,6 +10,10 @@ use Rattle.vme_port.specs.declared.rule.Account.{Account}
 use Rattle.vme_port.specs.Views.{names_among}
 use Rattle.vme_port.specs.Rule.{IsConsistent}
 
+-- one-element lists are equal only if their elements are
+pub head_same : {A : Type 0} (a b : A) → a ∷ [] ≡ b ∷ [] → a ≡ b
+head_same a b e = cc e
+
 -- if `xs ++ ys` is `xs`, `ys` is empty
 pub append_same : {A : Type 0} (xs ys : List A) → xs ++ ys ≡ xs → ys ≡ []
 append_same [] ys e = e

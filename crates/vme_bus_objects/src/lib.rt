@@ -1,0 +1,13 @@
+//! The objects of one backplane as one type: the memories of its boards and the arbiter of their
+//! bus, so that one port array can hold all of them.
+#![tactic(auto)]
+
+mod command;
+mod laws;
+mod object;
+mod operation;
+
+pub use command::BusCommand;
+pub use laws::{histories_are_runs, replies_have_their_kind};
+pub use object::BusObject;
+pub use operation::BoardOperation;

@@ -1,0 +1,29 @@
+-- Passes are joined from the last to the first.
+use Rattle.std.proofs.Common.{◌≡◌, None, List, [], ◌∷◌, ◌++◌, map, ap, ◌∙◌, append_assoc}
+use Rattle.atomic_table.specs.Table.{Me}
+use Rattle.vme_port_array.specs.declared.rule.ArrayView.{ArrayView}
+use Rattle.vme_port.specs.declared.home.Home.{Home}
+use Rattle.vme_port_array.specs.Views.{view}
+use Rattle.vme_port_array.specs.Steps.{joint_view}
+use Rattle.vme_port.specs.Passes.{PassView, account_of}
+
+module _ {S C R : Type 0} where
+  -- the seat has the accounts of all passes that are not left
+  pub record IsGathered (all left : List (PassView C R)) (m : Me (Home S) (ArrayView C R)) : Type 0 where
+    pub done : List (PassView C R)
+    pub split : all ≡ left ++ done
+    pub joined : m ≡ (view (map account_of done) None, [])
+
+  -- the seat of the last pass
+  pub first_joined : (all left : List (PassView C R)) (p : PassView C R) (m : Me (Home S) (ArrayView C R)) → all ≡ left ++ p ∷ []
+      → m ≡ (view (account_of p ∷ []) None, []) → IsGathered all left m
+  first_joined all left p m split alone = record { done = p ∷ []; split = split; joined = alone }
+
+  -- one more pass is joined
+  pub next_joined : (all rest left : List (PassView C R)) (p : PassView C R) (m n m' : Me (Home S) (ArrayView C R)) → IsGathered all rest m → rest ≡ left ++ p ∷ []
+      → n ≡ (view (account_of p ∷ []) None, []) → m' ≡ (joint_view m.0 n.0, m.1) → IsGathered all left m'
+  next_joined all rest left p m n m' was split alone after = record {
+    done = p ∷ was.done;
+    split = was.split ∙ ap (λ l. l ++ was.done) split ∙ append_assoc left (p ∷ []) was.done;
+    joined = after ∙ λ i. (joint_view (was.joined i).0 (alone i).0, (was.joined i).1);
+  }

@@ -1,0 +1,4 @@
+pub mod Orders
+pub mod Reports
+pub mod Settlements
+pub mod Gatherings

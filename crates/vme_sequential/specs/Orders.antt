@@ -1,0 +1,31 @@
+-- One order of the transitions of all processors.
+use Rattle.std.specs.Prelude.{ℕ, ◌≡◌, ◌<◌, List, [], ◌∷◌, length, map, slice_get, Some, All}
+use Rattle.vme_core.specs.Runs.{Machine, Transition}
+use Rattle.vme_core.specs.Calls.{call_of, machine_step}
+use Rattle.vme_shared.specs.declared.reply.LineReply.{LineReply}
+use Rattle.vme_script.specs.Configurations.{Configuration}
+use Rattle.vme_line_task.specs.Scripts.{lines_at}
+use Rattle.vme_line_task.specs.Traces.{IsTrace}
+use Rattle.vme_stepper.specs.Turns.{SystemState, script_state, initial_state}
+use Rattle.vme_bus_objects.specs.Runs.{transitions_of}
+
+-- the machine makes these transitions, one after another: each reply is that of the machine at its place
+abbrev pub Performs : Machine → List Transition → Machine → Type 0
+Performs machine [] after = machine ≡ after
+Performs machine (m ∷ run) after =
+    (m.reply ≡ (machine_step machine m.who (call_of m.event)).1)
+    × Performs (machine_step machine m.who (call_of m.event)).0 run after
+
+-- the transitions of all processors are one run of the machine from its initial state; those of each processor are the
+-- trace of its script, with these replies to its lines
+pub record IsOneOrder (config : Configuration) (run : List Transition) (answers : List (List LineReply)) (machine : Machine) : Type 0 where
+  pub known : All (λ m. m.who < length config.boards) run
+  pub performed : Performs (initial_state config).machine run machine
+  pub count : length answers ≡ length config.boards
+  pub traces :
+      (b : ℕ) (own : List LineReply) → slice_get answers b ≡ Some own
+      → IsTrace config b (lines_at config b) (transitions_of b run) own
+
+-- the state of a system in which each line has its reply
+abbrev pub ended_state : Machine → List (List LineReply) → SystemState
+ended_state machine answers = record { machine = machine; script_states = map (λ own. script_state own []) answers }

@@ -1,0 +1,56 @@
+//! Laws of runs whose transitions have one order.
+ghost use Rattle.std.specs.Prelude.{◌≡◌, ℕ, List};
+ghost use Rattle.vme_core.specs.Runs.{Machine, Transition};
+ghost use Rattle.vme_shared.specs.declared.reply.LineReply.{LineReply};
+ghost use Rattle.vme_script.specs.Configurations.{Configuration};
+ghost use Rattle.vme_script.specs.Lawful.{IsLawful};
+ghost use Rattle.vme_stepper.specs.Turns.{state_after};
+ghost use Rattle.vme_stepper.specs.Reports.{reported_system};
+ghost use Rattle.vme_port.specs.declared.home.Home.{Home};
+ghost use Rattle.vme_bus_objects.specs.declared.object.BusObject.{BusObject};
+ghost use Rattle.vme_bus_objects.specs.Runs.{run_of};
+ghost use Rattle.vme_threads.specs.declared.report.Report.{Report};
+ghost use Rattle.vme_threads.specs.Reports.{IsReportOf};
+ghost use Rattle.vme_engines.specs.RunTexts.{reported_report};
+ghost use Rattle.vme_sequential.specs.Orders.{IsOneOrder, ended_state};
+ghost use Rattle.vme_sequential.specs.Reports.{IsReportOfOneOrder};
+ghost use Rattle.vme_sequential.specs.Settlements.{BusPass, IsSettled, IsRunOfArray};
+ghost use Rattle.vme_sequential.specs.Gatherings.{IsGathered};
+
+/// One order of the transitions of all processors is the order of some turns: after these turns of
+/// slots on one thread, the machine and the replies to all lines are the same.
+pub fn one_order_is_a_run_of_turns()
+    ensures { (config : Configuration) (run : List Transition) (answers : List (List LineReply))
+        (machine : Machine) → IsLawful config → IsOneOrder config run answers machine →
+        (slots : List ℕ) × (state_after config slots ≡ ended_state machine answers) }
+{}
+
+/// A report of one order has the entries of a report of some turns on one thread. Which turns they
+/// are is not stated, and they may be more than a file's schedule can have.
+pub fn a_run_of_threads_is_a_run_of_turns()
+    ensures { (config : Configuration) (report : Report) →
+        IsLawful config → IsReportOfOneOrder config report →
+        (slots : List ℕ) × (reported_report report ≡ reported_system config (state_after config slots)) }
+{}
+
+/// A report of one order is a report with one history for each object, so that each law of these
+/// reports holds for it.
+pub fn one_order_is_a_history_of_each()
+    ensures { (config : Configuration) (report : Report) →
+        IsReportOfOneOrder config report → IsReportOf config report }
+{}
+
+/// The one history of a settled port array of boards and their arbiter is a run of transitions of
+/// the processors that made the calls.
+pub fn a_settled_array_is_a_run()
+    ensures { (config : Configuration) (passes : List BusPass) (homes : List (Home BusObject)) →
+        (s : IsSettled config passes homes) →
+        IsRunOfArray config passes homes (run_of s.settles.history) }
+{}
+
+/// A report that is gathered from a settled port array is a report of one order.
+pub fn what_is_gathered_is_one_order()
+    ensures { (config : Configuration) (passes : List BusPass) (homes : List (Home BusObject))
+        (report : Report) → IsGathered config passes homes report →
+        IsReportOfOneOrder config report }
+{}

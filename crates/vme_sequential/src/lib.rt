@@ -1,0 +1,10 @@
+//! Laws of one order: if the calls that threads make on all boards and their arbiter have one order,
+//! then their report is that of some turns on one thread. A law is a function without a body.
+#![tactic(auto)]
+
+mod laws;
+
+pub use laws::{
+    a_run_of_threads_is_a_run_of_turns, a_settled_array_is_a_run, one_order_is_a_history_of_each,
+    one_order_is_a_run_of_turns, what_is_gathered_is_one_order,
+};

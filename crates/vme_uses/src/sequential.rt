@@ -1,0 +1,21 @@
+//! A use of `vme_sequential`.
+ghost use Rattle.std.specs.Prelude.{◌≡◌, ℕ, List};
+ghost use Rattle.vme_script.specs.Lawful.{IsLawful};
+ghost use Rattle.vme_stepper.specs.Turns.{state_after};
+ghost use Rattle.vme_stepper.specs.Reports.{reported_system};
+ghost use Rattle.vme_engines.specs.RunTexts.{reported_report};
+ghost use Rattle.vme_sequential.specs.Reports.{IsReportOfOneOrder};
+
+use vme_runner::Report;
+use vme_script::Config;
+use vme_sequential::a_run_of_threads_is_a_run_of_turns;
+
+/// Returns the arbiter's steps in a report of one order. Some turns have the same report.
+pub fn arbiter_steps(config: &Config, report: &Report) -> u64
+    requires lawful { IsLawful config.now }
+    requires order { IsReportOfOneOrder config.now report.now }
+    ensures { (slots : List ℕ) × (reported_report report.now ≡ reported_system config.now (state_after config.now slots)) }
+{
+    a_run_of_threads_is_a_run_of_turns();
+    report.arbiter_steps
+}
