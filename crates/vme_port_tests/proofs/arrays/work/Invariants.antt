@@ -1,0 +1,6 @@
+use Rattle.vme_port_array.specs.Arrays.{IsPassOf}
+use Rattle.vme_port_tests.proofs.arrays.work.Given as goal
+
+-- the pass stays a pass of the array
+abbrev pub invariant-loop : goal.invariant-loop
+invariant-loop g l = IsPassOf l.array l.pass
