@@ -157,11 +157,13 @@ fn work_both<R: Threads + Wait + Sync>(
     let (one, two) = join(
         rt,
         move || -> Option<Pass<Counter>>
-            requires { IsPassOf array.now first }
+            requires pass { IsPassOf array.now first }
+            requires three { 2 < objects_of array.now }
             ensures { IfSome result (λ p. IsPassOf array.entry.now p) }
         { work(rt, array, first, 0) },
         move || -> Option<Pass<Counter>>
-            requires { IsPassOf array.now second }
+            requires pass { IsPassOf array.now second }
+            requires three { 2 < objects_of array.now }
             ensures { IfSome result (λ p. IsPassOf array.entry.now p) }
         { work(rt, array, second, 1) },
     );
