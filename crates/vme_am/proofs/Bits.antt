@@ -12,6 +12,7 @@ abbrev AllBelow : (ℕ → Type 0) → ℕ → Type 0
 AllBelow P zero = Unit {0}
 AllBelow P (suc n) = P n × AllBelow P n
 
+-- a property of each number below n holds of one of them
 at_below : (P : ℕ → Type 0) (n k : ℕ) → AllBelow P n → k < n → P k
 at_below P zero k all lt = absurd (omega arith)
 at_below P (suc n) k all lt =
@@ -21,6 +22,7 @@ at_below P (suc n) k all lt =
 abbrev row_with : ℕ → Space → Kind → CodeRow
 row_with code space kind = row code space kind (not (nat_eq (bit_and code 4) 0)) (nat_eq (bit_and code 11) 8)
 
+-- the row that the bits of a code select, if any
 abbrev row_from_bits : ℕ → Option CodeRow
 row_from_bits code = option_and_then (λ space. option_map (row_with code space) (kind_by_bits space code)) (space_by_bits code)
 

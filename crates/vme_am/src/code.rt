@@ -143,7 +143,7 @@ impl Am {
     ghost use Rattle.std.specs.Prelude.{Some};
     ghost use Rattle.vme_am.specs.Codes.{row_at, read_code};
 
-    /// Reads a code of the address modifier table: IEEE 1014-1987, 2.2.2 (address modifier lines).
+    /// Returns the row of an address modifier code: IEEE 1014-1987, 2.2.2 (address modifier lines).
     ///
     /// AM5 and AM4 select the space, or make the code user-defined. AM3 is high in each row, AM2
     /// states the privilege, and AM1 and AM0 select the kind of access. Where both are low, the

@@ -9,6 +9,10 @@ use crate::source::Failed;
 pub const WRITE_SIZE: usize = 65_536;
 
 /// Writes the gathered text and clears the buffer, if the text has `WRITE_SIZE` bytes or more.
+///
+/// # Errors
+///
+/// The device failed. A prefix of the text is written, and the mark is set.
 pub fn flush_if_full<W: Sink>(text: &mut Vec<u8>, writer: &mut W) -> Result<(), Failed>
     ensures gathers { OnOk result (Gathers (W.contents writer.old) (W.contents writer.new)
         text.old.items text.new.items []) }

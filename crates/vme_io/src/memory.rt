@@ -56,7 +56,7 @@ impl Source for SliceSource<'_> {
         ensures unmarked { OnOk result (is_marked_source self.new ≡ is_marked_source self.old) }
         ensures marked { OnErr result (is_marked_source self.new ≡ true) }
 
-        // It fails exactly when it has returned all bytes before its failure.
+        // It fails exactly when it has returned `fails_after` bytes.
         ensures most { IfOk result (λ n. n ≤ most_given self.old) }
         ensures left { IfOk result (λ n. left_to_give self.new + n ≡ left_to_give self.old) }
         ensures gives { 0 < left_to_give self.old → IsOk result }

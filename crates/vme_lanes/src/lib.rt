@@ -1,6 +1,7 @@
 //! Byte locations: which strobes select which bytes of a group of four, and which data lanes carry
-//! them (ANSI/IEEE Std 1014-1987, section 2.2.1). The code computes the strobes from the first byte
-//! and the length, and the reverse. A datum of eight bytes uses all eight lanes.
+//! them (ANSI/IEEE Std 1014-1987, section 2.2.1). [`Strobes::of`] computes the strobes from the
+//! first byte and the length of a location. [`Location::sense`] returns the location of some
+//! strobes. A datum of eight bytes uses all eight lanes.
 #![tactic(auto)]
 
 mod lines;

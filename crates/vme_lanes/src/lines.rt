@@ -6,7 +6,7 @@ ghost use Rattle.vme_lanes.specs.Lanes.{lanes_with, wide_lanes, carries, carries
 use crate::location::Location;
 use arrayvec::ArrayVec;
 
-/// The bytes of one cycle, in order of address: at most eight.
+/// The bytes of one cycle, or of one datum of a block, in order of address: at most eight.
 pub type Datum = ArrayVec<u8, 8>;
 
 /// Returns a copy of the bytes. It allocates nothing.
@@ -69,7 +69,7 @@ pub fn place(location: Location, bytes: &[u8]) -> DataLines
     }
 }
 
-/// The four data lanes with these bytes. The address lines carry nothing.
+/// The lanes with these bytes on D31 to D00. The address lines carry nothing.
 fn narrow(first: Option<u8>, second: Option<u8>, third: Option<u8>, last: Option<u8>) -> DataLines
     ensures { result.lanes ≡ None ∷ None ∷ None ∷ None ∷ first ∷ second ∷ third ∷ last ∷ [] }
 {
@@ -80,7 +80,7 @@ fn narrow(first: Option<u8>, second: Option<u8>, third: Option<u8>, last: Option
 
 /// Returns the lanes with a datum of eight bytes on all of them: the lowest address is on the most
 /// significant lane.
-// Not inlined: `place`, which has at most four bytes, would carry this code too.
+// No `inline` attribute: a caller that places at most four bytes would carry this code too.
 pub fn place_wide(bytes: &[u8]) -> DataLines
     requires { length bytes.now ≡ 8 }
     ensures { result.lanes ≡ wide_lanes bytes.now }

@@ -5,7 +5,7 @@ use Rattle.std.specs.Io.KnownBytes.{Appends}
 use Rattle.vme_io.specs.Prefixes.{AppendsPrefix, Gathers}
 use Rattle.vme_io.proofs.lemmas.Appending.{Appends-none, Appends-more, AppendsPrefix-more}
 
--- a text was printed, and then nothing was gathered after it
+-- a text that was printed after the gathered bytes, and then perhaps written, was gathered after them
 pub printed_gathers :
     (old new : Option (List ℕ)) (before text printed after : List ℕ) → Gathers old new printed after [] → printed ≡ before ++ text
     → Gathers old new before after text
@@ -15,7 +15,7 @@ printed_gathers old new before text printed after passed as_reported = record {
   split = sym as_reported ∙ sym (append-nil printed) ∙ passed.split;
 }
 
--- a text was printed, and a prefix of what is gathered was written
+-- if a text was printed after the gathered bytes and a write failed, a prefix of both together was written
 pub printed_prefix :
     (old new : Option (List ℕ)) (before text printed : List ℕ) → AppendsPrefix old new printed → printed ≡ before ++ text
     → AppendsPrefix old new (before ++ text)
@@ -26,7 +26,7 @@ printed_prefix old new before text printed failed as_reported = record {
   appends = failed.appends;
 }
 
--- nothing was written
+-- a byte model that is unchanged appends a prefix of any bytes
 pub nothing_prefix : (reported : Option (List ℕ)) (all : List ℕ) → AppendsPrefix reported reported all
 nothing_prefix reported all = record { prefix = []; rest = all; split = refl; appends = Appends-none reported }
 
@@ -40,6 +40,7 @@ pub record SoFar (old new : Option (List ℕ)) (gathered left whole : List ℕ) 
 pub so_far_none : (reported : Option (List ℕ)) (gathered whole : List ℕ) → gathered ≡ [] → SoFar reported reported gathered whole whole
 so_far_none reported gathered whole none = record { prefix = []; appends = Appends-none reported; split = ap (λ t. t ++ whole) none }
 
+-- four texts in a row, grouped in another way
 regrouped : (prefix before text left : List ℕ) → (prefix ++ (before ++ text)) ++ left ≡ (prefix ++ before) ++ (text ++ left)
 regrouped prefix before text left = simp append_assoc
 
@@ -54,7 +55,7 @@ so_far_more old mid new before after text left rest whole so_far first next = re
       ∙ regrouped so_far.prefix before text rest ∙ ap (λ t. (so_far.prefix ++ before) ++ t) (sym first) ∙ so_far.split;
 }
 
--- the sink failed while one text more was gathered
+-- if the sink failed while one text more was gathered, a prefix of the whole was written
 pub so_far_fails :
     (old mid new : Option (List ℕ)) (before text left rest whole : List ℕ) → SoFar old mid before left whole → left ≡ text ++ rest
     → AppendsPrefix mid new (before ++ text) → AppendsPrefix old new whole
@@ -62,13 +63,13 @@ so_far_fails old mid new before text left rest whole so_far first failed =
     AppendsPrefix-more old mid new so_far.prefix (before ++ text) rest whole so_far.appends failed
     (regrouped so_far.prefix before text rest ∙ ap (λ t. (so_far.prefix ++ before) ++ t) (sym first) ∙ so_far.split)
 
--- what is gathered is written, and nothing is left
+-- if nothing is left and the gathered text is written, the whole was written
 pub so_far_written :
     (old mid new : Option (List ℕ)) (gathered whole : List ℕ) → SoFar old mid gathered [] whole → Appends mid new gathered → Appends old new whole
 so_far_written old mid new gathered whole so_far written =
     rw (sym so_far.split ∙ append-nil (so_far.prefix ++ gathered)) (Appends-more old mid new so_far.prefix gathered so_far.appends written)
 
--- nothing is left, and the sink fails
+-- if nothing is left and the sink fails, a prefix of the whole was written
 pub so_far_unwritten :
     (old mid new : Option (List ℕ)) (gathered whole : List ℕ) → SoFar old mid gathered [] whole → AppendsPrefix mid new gathered
     → AppendsPrefix old new whole

@@ -5,6 +5,7 @@ use Rattle.vme_lanes.specs.declared.location.Location.TheVariants.{Byte0, Byte1,
 use Rattle.vme_lanes.specs.Rows.{row_of}
 use Rattle.vme_lanes.specs.Lanes.{lanes_with, carries, bytes_on}
 
+-- bytes that are placed on the lanes of a location are carried and picked unchanged
 both :
     (l : Location) (bytes : List ℕ) → length bytes ≡ (row_of l).len
     → (carries l (lanes_with l bytes) ≡ true) × (bytes_on l (lanes_with l bytes) ≡ bytes)

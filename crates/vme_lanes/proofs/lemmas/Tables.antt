@@ -24,6 +24,7 @@ own_sensed Bytes12 = refl
 row_from : ℕ → ℕ → Option Location
 row_from first len = find (λ l. (row_of l).first == first && (row_of l).len == len) locations
 
+-- each location is the row of its own first byte and length
 own_row : (l : Location) → row_from (row_of l).first (row_of l).len ≡ Some l
 unfolding row_from
 own_row Byte0 = refl
