@@ -19,13 +19,13 @@ use Rattle.vme_cycle.specs.Plans.{shown_strobes}
 use Rattle.vme_cycle.specs.Parts.{IsLawful}
 use Rattle.vme_cycle.proofs.Lawful.{datum_lens, datum_few, few_len, block_datum, single}
 
--- n bytes that begin at an address are those of a location
+-- a location has the n bytes that begin at an address
 pub record IsAt (addr n : ℕ) (l : Location) : Type 0 where
   pub found : location_for addr n ≡ Some l
   pub first : (row_of l).first ≡ addr % 4
   pub len : chosen_len (is_wide_len n) l ≡ Some n
 
--- a row that a datum of a block has
+-- a location has the n bytes that begin at an address, and the levels of LWORD* and A01 of a datum of a block
 pub record IsBlockRow (addr n : ℕ) (l : Location) : Type 0 where
   pub at : IsAt addr n l
   pub lword : (row_of l).strobes.lword ≡ nat_le n 2
@@ -104,6 +104,7 @@ stays_aligned wide addr i n block aligned =
       ]
     ]
 
+-- the first datum of a block with a location is aligned
 begins_aligned : (request : Request) → is_block_request request ≡ true → is_none (first_location request) ≡ false → addr_of request % datum_len request ≡ 0
 begins_aligned request block found =
     elim (cases_Bool (addr_of request % datum_len request == 0)) [
@@ -120,11 +121,12 @@ block_datum_row row request i is block =
     block_row (is_wide_code (code_of request)) (address_of request i) (datum_len request) counted
     (stays_aligned (is_wide_code (code_of request)) (addr_of request) i (datum_len request) counted (begins_aligned request block is.found))
 
+-- an option that is not None has a value
 some_of : {A : Type 0} (found : Option A) → is_none found ≡ false → (x : A) × (found ≡ Some x)
 some_of None h = absurd cc
 some_of (Some x) h = (x, refl)
 
--- a test that passes keeps what was found
+-- what is left after a test that discards it was found before the test
 left_by : {A : Type 0} (test : Bool) (found : Option A) → is_none (if test then None else found) ≡ false → is_none found ≡ false
 left_by true found h = absurd cc
 left_by false found h = h
@@ -154,6 +156,7 @@ datum_at row request i is less =
           (there.0, plain_found (address_of request i) (datum_len request) there.0 plain found)
     ]
 
+-- a location is found for each datum
 pub datum_found :
     (row : CodeRow) (request : Request) (i : ℕ) → IsLawful row request → i < count_of request
     → (l : Location) × (location_for (address_of request i) (datum_len request) ≡ Some l)
@@ -236,7 +239,7 @@ first_shown s own addr strobes group place =
     ∙ ap (option_map (λ l. s.addr + (row_of l).first)) (own_sensed own)
     ∙ ap Some (omega (arith, group, place))
 
--- the strobes of a location shown for its own datum are its own strobes
+-- the strobes that the first datum shows are those of its own location
 pub held_by_itself : (first own : Location) (strobes : Strobes) → first ≡ own → strobes ≡ shown_strobes (row_of first).strobes (row_of own).strobes
     → strobes ≡ (row_of own).strobes
 held_by_itself first own strobes same shown = rw same at shown

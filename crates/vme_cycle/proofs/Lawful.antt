@@ -126,6 +126,7 @@ len_of_code : (wide : Bool) (n : ℕ) → is_datum_len wide n ≡ true → is_wi
 len_of_code true n h = h
 len_of_code false n h = few_len n (block_small n h).1
 
+-- a row of no block is not one of eight-byte data
 plain_row : (code : ℕ) (row : CodeRow) → read_code code ≡ Ok row → is_block row.kind ≡ false → row.wide ≡ false
 plain_row code row found alone =
     elim (cases_Bool row.wide) [
@@ -133,6 +134,7 @@ plain_row code row found alone =
       | inr plain ↦ plain
     ]
 
+-- a datum of a counted request has eight bytes exactly if the row of its code is one of eight-byte data
 wide_by_row :
     (row : CodeRow) (request : Request) → read_code (code_of request) ≡ Ok row → is_block row.kind ≡ is_block_request request
     → is_counted request ≡ true → is_wide_len (datum_len request) ≡ row.wide
@@ -146,6 +148,7 @@ wide_by_row row request code kind counted =
           ∙ sym (plain_row (code_of request) row code (kind ∙ alone))
     ]
 
+-- a request whose code has a row and that has no refusal is lawful
 pub lawful : (row : CodeRow) (request : Request) → read_code (code_of request) ≡ Ok row → first_refusal request ≡ None → IsLawful row request
 unfolding first_refusal
 lawful row request code none =
@@ -168,6 +171,7 @@ lawful row request code none =
     le_of_not_lt : (a b : ℕ) → nat_lt a b ≡ false → b ≤ a
     le_of_not_lt a b h = elim (leb_tells (suc a) b) [ inl less ↦ absurd cc | inr more ↦ omega (arith, more.1) ]
 
+-- bytes that lie in one unit between block boundaries are at most 2,048
 same_unit : (n addr span : ℕ) → addr / boundary_of n ≡ (addr + span - 1) / boundary_of n → span ≤ 2048
 same_unit n addr span h =
     elim (cases_Bool (is_wide_len n)) [
@@ -192,6 +196,7 @@ datum_within row request i is less =
     let split : datum_len request * suc i ≡ datum_len request + i * datum_len request = grind arith in
     omega (arith, upto, split, is.within)
 
+-- each space has at most 2^32 addresses
 space_small : (space : Space) → addresses_of space ≤ 2 ^ 32
 space_small A16 = omega arith
 space_small A24 = omega arith

@@ -21,17 +21,19 @@ all_found holds test (r ∷ rows) row all h =
       | inr fails ↦ all_found holds test rows row parts.1 (rw fails at h)
     ]
 
--- a row of eight-byte data is a block row
+-- whether a row, if it is one of eight-byte data, is a block row
 abbrev only_blocks : CodeRow → Bool
 only_blocks row = not row.wide || is_block row.kind
 
 found_block : (row : CodeRow) → row.wide ≡ true → only_blocks row ≡ true → is_block row.kind ≡ true
 found_block row wide only = rw wide at only
 
+-- the row that is read for a code was found in the table
 read_at : (code : ℕ) (row : CodeRow) (found : Option CodeRow) → ok_or found (fault_of code) ≡ Ok row → found ≡ Some row
 read_at code row None h = absurd cc
 read_at code row (Some r) h = cc
 
+-- the row of a code of eight-byte data is a block row
 pub wide_is_block : (code : ℕ) (row : CodeRow) → read_code code ≡ Ok row → row.wide ≡ true → is_block row.kind ≡ true
 unfolding read_code
 wide_is_block code row h wide =

@@ -17,7 +17,7 @@ pub record SignalLines : Type 0 where
   pub write : Bool
   pub lanes : List (Option ℕ)
 
--- the number of data bytes of a location of len bytes: len, or eight for four with a code of eight-byte data
+-- the number of data bytes of a location of len bytes: len; with a code of eight-byte data, eight for four, else none
 abbrev pub len_with : Bool → ℕ → Option ℕ
 len_with false len = Some len
 len_with true len = if len == 4 then Some 8 else None

@@ -7,8 +7,8 @@ use arrayvec::ArrayVec;
 use std::alloc::{AllocError, Global};
 use std::marker::Model;
 
-/// A buffer of fixed capacity for the bytes that the data of a transfer read. The capacity is
-/// allocated, if at all, when the buffer is made.
+/// A buffer of fixed capacity that collects the bytes of a block or of a transfer. Only making the
+/// buffer can allocate.
 #[derive(Debug, Drop)]
 pub struct BlockBuffer {
     repr: Repr,

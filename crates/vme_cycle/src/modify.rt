@@ -3,7 +3,7 @@ ghost use Rattle.vme_cycle.specs.Functions.{number_from, bytes_onto, number_byte
 
 use vme_lanes::{Datum, copy_bytes};
 
-/// The function of a read-modify-write cycle: it determines the bytes that replace the old bytes:
+/// The function of a read-modify-write cycle. It determines the bytes that replace the old bytes:
 /// IEEE 1014-1987, 2.3.8 (read-modify-write).
 #[derive(Debug, Drop, PartialEq, Eq)]
 pub enum Modify {
@@ -11,7 +11,7 @@ pub enum Modify {
     Set,
     /// Replaces the old bytes by these bytes.
     Exchange(Datum),
-    /// Adds this number, modulo two to the power of the number of bits.
+    /// Adds this number, modulo 256 to the power of the number of bytes.
     Add(Datum),
     /// Writes `put` if the old bytes equal `expect`. Otherwise it writes the old bytes back.
     Compare { expect: Datum, put: Datum },

@@ -16,7 +16,7 @@ use std::marker::Model;
 use vme_am::Am;
 use vme_lanes::{DataLines, Datum, Location, place};
 
-/// The plan of a lawful request: one bus cycle for each datum.
+/// The plan of a lawful request: the signals of each datum.
 #[derive(Debug, Drop)]
 pub struct Plan<'a> {
     am: Am,
@@ -87,7 +87,7 @@ impl<'a> Plan<'a> {
         self.request
     }
 
-    /// Returns the number of data. Each datum is a cycle of its own.
+    /// Returns the number of data: 1, or 1 to 256 for a block.
     pub fn len(&self) -> u16
         ensures value { result ≡ count_of self.now.request }
         ensures some { 0 < result }

@@ -10,7 +10,7 @@ use vme_lanes::{Datum, Location};
 /// transfer).
 const BOUNDARY: u64 = 256;
 
-/// This distance for blocks whose data have eight bytes.
+/// The distance between the addresses that no block of eight-byte data crosses.
 const WIDE_BOUNDARY: u64 = 2048;
 
 /// The number of bytes of a datum with a code of eight-byte data.
@@ -63,8 +63,8 @@ pub enum Request {
     },
 }
 
-/// Whether data of a block may have `n` bytes: eight with a code of eight-byte data, and otherwise
-/// as many as a read-modify-write.
+/// Whether data of a block may have `n` bytes: 8 with a code of eight-byte data, and otherwise 1, 2
+/// or 4. A read-modify-write has the lengths of a block without this code.
 fn is_datum_len(wide: bool, n: u8) -> bool
     ensures { result ≡ is_datum_len wide n }
 {
@@ -175,7 +175,7 @@ impl Request {
         }
     }
 
-    /// The number of bytes that it reads in all, if it is lawful.
+    /// Returns the number of bytes that a lawful request reads in all; 0 for a write.
     pub fn read_len(&self) -> usize
         ensures { result ≡ read_len self.now }
     {

@@ -23,12 +23,13 @@ rank_le A16 a b le = omega arith
 rank_le A24 a b le = omega arith
 rank_le A32 a b le = omega arith
 
--- an address whose rank lies between two ranks of a space is in that space
+-- the address b of the space t lies in the space s, between the addresses a and c
 record IsBetween (s t : Space) (a b c : ℕ) : Type 0 where
   space : t ≡ s
   above : a ≤ b
   below : b ≤ c
 
+-- an address whose rank lies between two ranks of a space lies in that space, between the two addresses
 between : (s t : Space) (a b c : ℕ) → b < addresses_of t → c < addresses_of s → rank s a ≤ rank t b → rank t b ≤ rank s c
     → IsBetween s t a b c
 between A16 A16 a b c b_in c_in from to = record { space = refl; above = omega arith; below = omega arith }

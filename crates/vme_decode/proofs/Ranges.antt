@@ -24,6 +24,7 @@ pub record Has (entry : Entry) (space : Space) (addr : ℕ) : Type 0 where
   pub from : entry.base ≤ addr
   pub below : addr < entry.base + entry.size
 
+-- an address that an entry covers is in its range
 pub has_from_covers : (entry : Entry) (space : Space) (addr : ℕ) → covers entry space addr ≡ true → Has entry space addr
 has_from_covers entry space addr h =
     let parts = and_parts (same_space entry.space space && nat_le entry.base addr) (nat_lt addr (end_of entry)) h in
@@ -34,12 +35,13 @@ has_from_covers entry space addr h =
       below = ltb-true addr (end_of entry) parts.1;
     }
 
+-- an entry covers each address in its range
 pub covers_from_has : (entry : Entry) (space : Space) (addr : ℕ) → Has entry space addr → covers entry space addr ≡ true
 covers_from_has entry space addr h =
     let same : same_space entry.space space ≡ true = rw h.space_is (same_space_self space) in
     and_from _ _ (and_from _ _ same (le-leb _ _ h.from)) (lt-ltb _ _ h.below)
 
--- the greater base is in both ranges
+-- two entries that overlap both cover the greater base
 pub overlap_shared :
     (a b : Entry) → overlap a b ≡ true → (space : Space) × (addr : ℕ) × (covers a space addr ≡ true) × (covers b space addr ≡ true)
 overlap_shared a b h =
@@ -51,7 +53,7 @@ overlap_shared a b h =
       covers_from_has b _ _ (record { space_is = refl; from = omega arith; below = omega arith }),
     )
 
--- an address in both ranges is between the greater base and the lesser end
+-- two entries that cover one address overlap
 pub shared_overlap :
     (a b : Entry) (space : Space) (addr : ℕ) → covers a space addr ≡ true → covers b space addr ≡ true → overlap a b ≡ true
 shared_overlap a b space addr ha hb =

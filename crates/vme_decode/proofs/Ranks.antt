@@ -8,7 +8,7 @@ use Rattle.std.proofs.lemmas.List.{get_or-replicate, get_or_default}
 use Rattle.vme_decode.specs.declared.table.Row.{Row}
 use Rattle.vme_decode.specs.Table.{rank_of, HasRanks}
 
--- the first n places have the ranks of their rows, and the others the greatest number
+-- the first n places have the ranks of their rows, and all other places the greatest number
 pub record HasRanksBelow (rows : List Row) (n : ℕ) (ranks : List ℕ) : Type 0 where
   pub places : length ranks ≡ 31
   pub used : (k : ℕ) (d : Row) → k < n → get_or ranks k 0 ≡ rank_of (get_or rows k d)

@@ -17,9 +17,11 @@ pub record HasRows (entries : List Entry) (n : ℕ) (rows : List Row) : Type 0 w
   pub own : All (IsRow entries) rows
   pub whole : (row : Row) → IsRow entries row → row.place < n → Contains rows row
 
+-- no rows are those of the first 0 entries
 pub has_none : (entries : List Entry) → HasRows entries 0 []
 has_none entries = record { few = omega arith; own = All-nil (IsRow entries); whole = λ row is_row below. absurd (omega arith) }
 
+-- a row from its parts: position, entry
 abbrev pub row_at : ℕ → Entry → Row
 row_at place entry = record { place = place; entry = entry }
 

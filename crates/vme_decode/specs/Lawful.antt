@@ -8,8 +8,7 @@ use Rattle.vme_decode.specs.declared.fault.MapFault.TheVariants.{TooMany, Misali
 use Rattle.vme_cycle.specs.Refusals.{where_true, first_of}
 use Rattle.vme_decode.specs.Entries.{end_of, overlap}
 
--- the refusals of one entry in order: a base that is not a multiple of four (C3), an end after the space's last address
--- (C2)
+-- the refusals of one entry in order: a base that is not a multiple of four (C3), an end outside the space (C2)
 abbrev pub entry_refusals : Entry → List (Option MapFault)
 entry_refusals entry =
     where_true (not (entry.base % 4 == 0)) Misaligned

@@ -59,7 +59,7 @@ impl Entry {
             && u64::from(self.base.max(other.base)) < self.end().min(other.end())
     }
 
-    /// Whether the entry shares an address with one of these.
+    /// Whether the entry shares an address with one of the `others`.
     pub(crate) fn overlaps_any(&self, others: &[Entry]) -> bool
         ensures { result ≡ list_any (overlap self.now) others.now }
     {

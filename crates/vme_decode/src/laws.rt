@@ -32,8 +32,8 @@ pub fn selected_is_the_one()
 {}
 
 /// States that the code of a cycle and the address of its first byte determine what the cycle
-/// selects. In a map without a refusal that is the one entry to which they fall, at an offset with
-/// the same remainder modulo four as the address.
+/// selects. In a map without a refusal that is the one entry that contains the address in the
+/// code's space and admits the code. The offset has the address's remainder modulo four.
 pub fn selection_goes_by_the_address()
     ensures first_byte { (entries : List Entry) (s : SignalLines) (addr : ℕ) →
         first_byte s ≡ Some addr → selection entries s ≡ selection_at entries s.am addr }

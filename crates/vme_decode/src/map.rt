@@ -11,7 +11,7 @@ use std::marker::Model;
 use vme_am::Am;
 use vme_cycle::Signals;
 
-/// The greatest number of entries of a map. The limit is its own: this crate knows no backplane.
+/// The greatest number of entries of a map: as many as a backplane has slots.
 const MOST_ENTRIES: usize = 21;
 
 /// The entries of the boards on one bus. No two of them cover the same address.

@@ -1,4 +1,4 @@
--- What a slave senses of a datum, at any counter, has with the code the length of the datum.
+-- The location that a slave senses for a datum selects as many bytes as the datum has, at any address.
 use Rattle.std.proofs.Common.{◌≡◌, ℕ, ◌%◌, ◌<◌, zero, Bool, true, false, not, Some, ap, sym, ◌∙◌, arith, refl, inl, inr}
 use Rattle.std.specs.Option.{option_and_then}
 use Rattle.std.specs.Prelude.{◌==◌, nat_le}
@@ -42,7 +42,7 @@ moved_len Bytes02 high h = absurd cc
 moved_len Bytes13 high h = absurd cc
 moved_len Bytes12 high h = absurd cc
 
--- a location of four bytes has A01 low; with A01 high its strobes select the two middle bytes
+-- with the strobes of a location of four bytes and A01 by the place r, a sensed location at r has four bytes
 quad_len :
     (own l : Location) (r : ℕ) (high : Bool) → (row_of own).len ≡ 4 → nat_le 2 r ≡ high → location_sensed (counted_strobes own high) ≡ Some l
     → (row_of l).first ≡ r → (row_of l).len ≡ 4
@@ -60,7 +60,7 @@ quad_len Bytes02 l r high four is sensed first = absurd cc
 quad_len Bytes13 l r high four is sensed first = absurd cc
 quad_len Bytes12 l r high four is sensed first = absurd cc
 
--- what a slave senses in a block has the length of the datum's own location
+-- with the strobes of a datum's location and A01 by the place r, a sensed location at r has as many bytes
 block_len :
     (own l : Location) (r : ℕ) → (row_of own).strobes.lword ≡ not ((row_of own).len == 4)
     → location_sensed (counted_strobes own (nat_le 2 r)) ≡ Some l → (row_of l).first ≡ r → (row_of l).len ≡ (row_of own).len
@@ -76,7 +76,7 @@ block_len own l r lword sensed first =
           cc
     ]
 
--- what a slave senses at its own place, at any counter, has the length of the datum
+-- a location that a slave senses for a datum at the location's place selects as many bytes as the datum has
 pub sensed_len :
     (t : Transfer) (i at : ℕ) (l : Location) → IsLawful t.am t.request → i < count_of t.request → sensed_at (signals_of t i) at ≡ Some l
     → (row_of l).first ≡ at % 4 → chosen_len t.am.wide l ≡ Some (datum_len t.request)

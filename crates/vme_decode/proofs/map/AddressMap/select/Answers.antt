@@ -1,4 +1,4 @@
--- The last clause follows from the first.
+-- The entry that is returned as the selection is the one that the cycle selects.
 use Rattle.std.proofs.Common.{◌≡◌, rules}
 use Rattle.vme_decode.specs.Select.{selection}
 use Rattle.vme_decode.proofs.lemmas.Selection.{result_facts}
