@@ -5,7 +5,7 @@ use Rattle.vme_memory.specs.Words.{bytes_after_write, word_bytes, bytes_of_words
 use Rattle.vme_memory.proofs.Shifts.{halves}
 use Rattle.vme_memory.proofs.Words.{word_len, words_len, read_at, read_on, written_at, written_on}
 
--- bytes of the first word only
+-- bytes that lie in the first of two words are the first ones of the four bytes at their place
 first_alone :
     (here next p n : ℕ) → 0 < n → p + n ≤ 4
     → slice_range (word_bytes here) p (p + n) ≡ take n (slice_range (word_bytes here ++ word_bytes next) p (p + 4))
@@ -22,7 +22,7 @@ first_alone here next (suc (suc zero)) (suc (suc zero)) some few = refl
 first_alone here next (suc (suc (suc zero))) (suc zero) some few = refl
 first_alone here next p n some few = absurd (omega arith)
 
--- bytes of both words
+-- bytes that lie in both of two words are the first ones of the four bytes at their place
 both :
     (here next p n : ℕ) → p < 4 → 4 < p + n → n ≤ 4
     → slice_range (word_bytes here) p (p + (4 - p)) ++ slice_range (word_bytes next) 0 (0 + (n - (4 - p)))
@@ -72,7 +72,7 @@ begun_over words at n here next word own own_next within few over made =
 pub next_there : (words : List ℕ) (at n : ℕ) → at + n ≤ length (bytes_of_words words) → 4 < at % 4 + n → at / 4 + 1 < length words
 next_there words at n within over = omega (arith, words_len words)
 
--- bytes that are written within one word, among the words of a board
+-- bytes that are written within one word are written at their offset in the board
 pub put_at :
     (words : List ℕ) (at len old word new : ℕ) → old ≡ get_or words (at / 4) old
     → at + len ≤ length (bytes_of_words words) → 0 < len
@@ -83,7 +83,7 @@ put_at words at len old word new own within some few changed =
     let short : length part ≡ len = length-take-le len (word_bytes new) (omega (arith, word_len new)) in
     written_at words part at old word own (omega arith) (omega arith) changed
 
--- bytes that are written from the first byte of a word, among the words of a board
+-- bytes that are written from the first byte of a word on are written at their offset in the board
 pub put_first :
     (words : List ℕ) (at len old word new : ℕ) → old ≡ get_or words (at / 4) old
     → at + len ≤ length (bytes_of_words words) → at % 4 ≡ 0 → 0 < len → len ≤ 4
@@ -93,7 +93,7 @@ put_first words at len old word new own within first some few changed =
     put_at words at len old word new own within some (omega arith)
     (changed ∙ ap (λ p. bytes_after_write (word_bytes old) p (take len (word_bytes new))) (sym first))
 
--- bytes that are written in two words are written whole
+-- two writes of the parts of bytes that lie in two words are one write of all these bytes
 pub put_over :
     (bytes : List ℕ) (at h n word : ℕ) → word < 2 ^ 32 → at + n ≤ length bytes → 0 < h → h < n → n ≤ 4
     → bytes_after_write (bytes_after_write bytes at (take h (word_bytes word))) (at + h)

@@ -6,9 +6,11 @@ use Rattle.vme_memory.specs.declared.reply.Reply.TheVariants.{Bytes, Done}
 use Rattle.vme_memory.specs.Boards.{Board, bytes_after_write}
 use Rattle.vme_memory.specs.Steps.{Command, can_answer, effect_of, read_at, write_at, step, LocalRead, LocalWrite, Read, Write, BlockRead, BlockWrite}
 
+-- a write leaves the new bytes at their offset
 same_bytes : (bytes new : List ℕ) (at : ℕ) → at + length new ≤ length bytes → slice_range (bytes_after_write bytes at new) at (at + length new) ≡ new
 same_bytes bytes new at fits = grind (arith, common_steps)
 
+-- a write keeps the number of bytes
 same_len : (bytes new : List ℕ) (at : ℕ) → at + length new ≤ length bytes → length (bytes_after_write bytes at new) ≡ length bytes
 same_len bytes new at fits = grind (arith, common_steps)
 
@@ -16,7 +18,7 @@ same_len bytes new at fits = grind (arith, common_steps)
 after : Board → ℕ → List ℕ → Board
 after board at new = record board { bytes = bytes_after_write board.bytes at new }
 
--- a write that the board carries out leaves the bytes at their offset
+-- the board after the step of a write that it carries out
 left_there :
     (board : Board) (command : Command) (at : ℕ) (new : List ℕ) → can_answer board command ≡ true → effect_of board command ≡ write_at board at new
     → (step board command).1 ≡ after board at new
@@ -32,6 +34,7 @@ unfolding after
 read_there board command at new fits can does =
     rw can (ap (λ p. p.0) does ∙ ap (λ bytes. Bytes (record { items = bytes })) (same_bytes board.bytes new at fits))
 
+-- the bytes of a write with the reply Done are read again at the same offset
 pub written_again :
     (board : Board) (at : ℕ) (new : List ℕ) → (step board (Write at new)).0 ≡ Done
     → (step (step board (Write at new)).1 (Read at (length new))).0 ≡ Bytes (record { items = new })
@@ -45,6 +48,7 @@ written_again board at new done =
       | inr refused ↦ let bad = rw refused at done in cc
     ]
 
+-- the bytes of a write in a block with the reply Done are read again in a block at the same offset
 pub block_again :
     (board : Board) (at : ℕ) (new : List ℕ) → (step board (BlockWrite at new)).0 ≡ Done
     → (step (step board (BlockWrite at new)).1 (BlockRead at (length new))).0 ≡ Bytes (record { items = new })
@@ -58,6 +62,7 @@ block_again board at new done =
       | inr refused ↦ let bad = rw refused at done in cc
     ]
 
+-- the bytes of a local write with the reply Done are read again by the local port at the same offset
 pub local_again :
     (board : Board) (at : ℕ) (new : List ℕ) → (step board (LocalWrite at new)).0 ≡ Done
     → (step (step board (LocalWrite at new)).1 (LocalRead at (length new))).0 ≡ Bytes (record { items = new })

@@ -10,7 +10,7 @@ use Rattle.vme_lanes.specs.declared.location.Location.TheVariants.{Byte0, Byte1,
 use Rattle.vme_lanes.specs.Rows.{row_of}
 use Rattle.vme_memory.specs.Words.{bytes_after_write, word_bytes, part_of, enables_of}
 
--- the bytes of a number that takes some bits of another
+-- a byte of a bitwise or, or and, of two numbers is that of their bytes
 byte_or : (a b k : ℕ) → bit_or a b / 2 ^ k % 2 ^ 8 ≡ bit_or (a / 2 ^ k % 2 ^ 8) (b / 2 ^ k % 2 ^ 8)
 byte_or a b k = ap (λ n. n % 2 ^ 8) (or_shr a b k) ∙ or_mod (a / 2 ^ k) (b / 2 ^ k) 8
 
@@ -24,6 +24,7 @@ whole_byte n = and_mask (n % 2 ^ 8) 8 ∙ omega arith
 abbrev pub merged : ℕ → ℕ → ℕ → ℕ
 merged word new mask = bit_or (bit_and word (bit_not w32 mask)) (bit_and new mask)
 
+-- where the mask is zero, the byte of the word stays
 kept_byte :
     (word new mask k : ℕ) → bit_not w32 mask / 2 ^ k % 2 ^ 8 ≡ 255 → mask / 2 ^ k % 2 ^ 8 ≡ 0
     → merged word new mask / 2 ^ k % 2 ^ 8 ≡ word / 2 ^ k % 2 ^ 8
@@ -33,6 +34,7 @@ kept_byte word new mask k ones zeros =
     ∙ ap (bit_or (word / 2 ^ k % 2 ^ 8)) (byte_and new mask k ∙ ap (bit_and (new / 2 ^ k % 2 ^ 8)) zeros ∙ and_zero_r (new / 2 ^ k % 2 ^ 8))
     ∙ or_zero_r (word / 2 ^ k % 2 ^ 8)
 
+-- where the mask is all ones, the byte is that of the other word
 put_byte :
     (word new mask k : ℕ) → bit_not w32 mask / 2 ^ k % 2 ^ 8 ≡ 0 → mask / 2 ^ k % 2 ^ 8 ≡ 255
     → merged word new mask / 2 ^ k % 2 ^ 8 ≡ new / 2 ^ k % 2 ^ 8
@@ -54,7 +56,7 @@ put_low :
     (word new mask : ℕ) → bit_not w32 mask / 2 ^ 0 % 2 ^ 8 ≡ 0 → mask / 2 ^ 0 % 2 ^ 8 ≡ 255 → merged word new mask % 256 ≡ new % 256
 put_low word new mask zeros ones = sym (low_byte (merged word new mask)) ∙ put_byte word new mask 0 zeros ones ∙ low_byte new
 
--- lists of four elements that agree at each place
+-- two lists of four elements that agree at each place are equal
 pub four :
     (a b c d e f g h : ℕ) → a ≡ e → b ≡ f → c ≡ g → d ≡ h → (a ∷ b ∷ c ∷ d ∷ []) ≡ (e ∷ f ∷ g ∷ h ∷ [])
 four a b c d e f g h p q r s = cc

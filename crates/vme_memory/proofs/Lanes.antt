@@ -30,6 +30,7 @@ in_half Bytes23 a b c d x y (Some z) None word high full made = absurd cc
 in_half Bytes23 a b c d x y (Some z) (Some w) word high full made = rw made refl
 in_half l a b c d x y z w word high full made = absurd cc
 
+-- with LWORD* high, the part of a word with D15-D00 in both halves has the bytes on the lanes of the location
 pub by_halves :
     (l : Location) (lanes : List (Option ℕ)) (word : ℕ) → length lanes ≡ 8 → (row_of l).strobes.lword ≡ true → carries l lanes ≡ true
     → word_bytes word
@@ -62,6 +63,7 @@ at_places Bytes12 a b c d x (Some y) None w word low full made = absurd cc
 at_places Bytes12 a b c d x (Some y) (Some z) w word low full made = rw made refl
 at_places l a b c d x y z w word low full made = absurd cc
 
+-- with LWORD* low, the part of a word with each lane at its own place has the bytes on the lanes of the location
 pub by_places :
     (l : Location) (lanes : List (Option ℕ)) (word : ℕ) → length lanes ≡ 8 → (row_of l).strobes.lword ≡ false → carries l lanes ≡ true
     → word_bytes word

@@ -6,7 +6,7 @@ use Rattle.vme_memory.specs.Words.{bytes_after_write, word_bytes, bytes_of_words
 use Rattle.vme_memory.proofs.Enables.{row_within, part_len}
 use Rattle.vme_memory.proofs.Words.{read_at, written_at}
 
--- a merged word, among the words of a board
+-- the bytes of a location that a word takes are written at their offset in the board
 pub merged_at :
     (words : List ℕ) (l : Location) (at old word new : ℕ) → old ≡ get_or words (at / 4) old
     → (row_of l).first ≡ at % 4 → at + (row_of l).len ≤ length (bytes_of_words words)
@@ -20,7 +20,7 @@ merged_at words l at old word new own place within changed =
     let there : at < length (bytes_of_words words) = omega (arith, (row_within l).0, within) in
     written_at words part at old word own there few (changed ∙ ap (λ p. bytes_after_write (word_bytes old) p part) place)
 
--- the part of a location in its word, among the words of a board
+-- the bytes of a board at an offset are the part of the location in its word
 pub part_at :
     (words : List ℕ) (l : Location) (at word : ℕ) → word ≡ get_or words (at / 4) word
     → (row_of l).first ≡ at % 4 → at + (row_of l).len ≤ length (bytes_of_words words)

@@ -10,7 +10,7 @@ use Rattle.vme_lanes.specs.Rows.{row_of}
 use Rattle.vme_memory.specs.Words.{bytes_after_write, word_bytes, part_of, enables_of}
 use Rattle.vme_memory.proofs.Enables.{merged, merged_bytes, four}
 
--- lists that agree at each place
+-- two lists of one, two or three elements that agree at each place are equal
 one : (a e : ℕ) → a ≡ e → (a ∷ []) ≡ (e ∷ [])
 one a e p = cc
 
@@ -61,7 +61,7 @@ part_from Bytes12 new = two _ _ _ _ (omega arith) (omega arith)
 abbrev pub mask_of : ℕ → ℕ → ℕ
 mask_of place len = 4294967295 * 2 ^ (32 - 8 * len) % 4294967296 / 2 ^ (8 * place)
 
--- under the mask, a word takes the first bytes of another word
+-- under the mask of the bytes of a location, a word takes the first bytes of another word there
 merged_at_row :
     (l : Location) (word new : ℕ)
     → word_bytes (merged word (new / 2 ^ (8 * (row_of l).first)) (mask_of (row_of l).first (row_of l).len))
@@ -77,6 +77,7 @@ merged_at_row Bytes02 word new = merged_bytes Bytes02 word _ ∙ ap (bytes_after
 merged_at_row Bytes13 word new = merged_bytes Bytes13 word _ ∙ ap (bytes_after_write (word_bytes word) 1) (part_from Bytes13 new)
 merged_at_row Bytes12 word new = merged_bytes Bytes12 word _ ∙ ap (bytes_after_write (word_bytes word) 1) (part_from Bytes12 new)
 
+-- under the mask of len bytes at a place, a word takes the first len bytes of another word there
 pub merged_from :
     (word new place len : ℕ) → 0 < len → place + len ≤ 4
     → word_bytes (merged word (new / 2 ^ (8 * place)) (mask_of place len))
@@ -133,7 +134,7 @@ shared l here next word =
     ap (λ bytes. bytes ++ word_bytes (merged word next (enables_of l))) (merged_bytes l here word)
     ∙ ap (λ bytes. bytes_after_write (word_bytes here) (row_of l).first (part_of l word) ++ bytes) (merged_bytes l word next)
 
--- these bytes at a location that ends the word
+-- two words that share a third one: the first takes its bytes from a place on, the second those before the place
 abbrev pub shared_from : List ℕ → List ℕ → List ℕ → ℕ → List ℕ
 shared_from here next word place =
     bytes_after_write here place (slice_range word place 4) ++ bytes_after_write word place (slice_range next place 4)

@@ -72,7 +72,7 @@ read_in_word words i p n d less few =
     ∙ middle_read before own after (4 * i) p n (prefix_len words i less) (omega (arith, word_len (get_or words i d)))
     ∙ sym (range_take own p n)
 
--- a change to one word leaves all others
+-- bytes that change in one word are written at their offset among the bytes of all words
 pub word_changed :
     (words new : List ℕ) (i p d word : ℕ) → i < length words → p + length new ≤ 4
     → word_bytes word ≡ bytes_after_write (word_bytes (get_or words i d)) p new
@@ -119,7 +119,7 @@ written_on bytes a b at fits =
     let long : at + length (a ++ b) ≡ at + length a + length b = omega (arith, length-append a b) in
     rw (prefix, back, long) (simp append_assoc)
 
--- a write inside bytes that are written
+-- a write inside bytes that are read and written back is that write alone
 pub written_inside :
     (bytes new : List ℕ) (at p n : ℕ) → at + n ≤ length bytes → p + length new ≤ n
     → bytes_after_write bytes at (bytes_after_write (slice_range bytes at (at + n)) p new) ≡ bytes_after_write bytes (at + p) new
@@ -140,13 +140,14 @@ written_inside bytes new at p n within few =
     ∙ sym (middle_written (take at bytes) own after new at p (length-take-le at bytes (omega arith)) (omega (arith, own_len)))
     ∙ ap (λ all. bytes_after_write all (at + p) new) whole
 
--- words that are dropped or taken are bytes that are dropped or taken
+-- the bytes after the first i words are those after the first 4 i bytes
 pub drop_words : (words : List ℕ) (i : ℕ) → drop (4 * i) (bytes_of_words words) ≡ bytes_of_words (drop i words)
 unfolding word_bytes
 drop_words words zero = refl
 drop_words [] (suc i) = let more : 4 * suc i ≡ suc (suc (suc (suc (4 * i)))) = omega arith in rw more refl
 drop_words (word ∷ words) (suc i) = let more : 4 * suc i ≡ suc (suc (suc (suc (4 * i)))) = omega arith in rw more (drop_words words i)
 
+-- the bytes of the first i words are the first 4 i bytes
 pub take_words : (words : List ℕ) (i : ℕ) → take (4 * i) (bytes_of_words words) ≡ bytes_of_words (take i words)
 unfolding word_bytes
 take_words words zero = refl

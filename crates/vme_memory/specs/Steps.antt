@@ -93,12 +93,12 @@ step board command = if can_answer board command then effect_of board command el
 abbrev pub driven_bytes : Location → List (Option ℕ) → Option (List ℕ)
 driven_bytes l lanes = if carries l lanes then Some (bytes_on l lanes) else None
 
--- a read, single or in a block
+-- the command of a read of len bytes, single or in a block
 abbrev pub read_command : Bool → ℕ → ℕ → Command
 read_command false at len = Read at len
 read_command true at len = BlockRead at len
 
--- a write, single or in a block
+-- the command of a write of some bytes, single or in a block
 abbrev pub write_command : Bool → ℕ → List ℕ → Command
 write_command false at new = Write at new
 write_command true at new = BlockWrite at new
@@ -118,7 +118,7 @@ narrow_command block write (Some f) at l lanes = if write && not block then Some
 abbrev pub wide_write : ℕ → List (Option ℕ) → Option Command
 wide_write at lanes = if carries_all lanes then Some (BlockWrite at (bytes_of lanes)) else None
 
--- the command of a cycle with a code of eight-byte data: a datum of a block at BYTE(0-3), and none elsewhere
+-- the command of a cycle with a code of eight-byte data: a datum of a block at BYTE(0-3), and none at other locations
 abbrev pub wide_command : Bool → Option functions.Modify → ℕ → Location → List (Option ℕ) → Option Command
 wide_command write None at l lanes =
     if (row_of l).len == 4 then if write then Some (BlockRead at 8) else wide_write at lanes else None

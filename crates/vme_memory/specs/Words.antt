@@ -5,7 +5,7 @@ use Rattle.std.specs.List.{flat_map}
 use Rattle.vme_lanes.specs.declared.location.Location.{Location}
 use Rattle.vme_lanes.specs.Rows.{row_of}
 
--- the bytes with new ones in place of those from offset at on
+-- the bytes, with new ones in place of those from the offset at on
 abbrev pub bytes_after_write : List ℕ → ℕ → List ℕ → List ℕ
 bytes_after_write bytes at new = take at bytes ++ new ++ drop (at + length new) bytes
 

@@ -33,7 +33,7 @@ pub enum Access<'a> {
         at: u32,
         bytes: &'a [u8],
     },
-    /// A read-modify-write of `n` bytes.
+    /// A read-modify-write of `n` bytes with the function `f`.
     Modify {
         at: u32,
         n: u8,

@@ -6,9 +6,9 @@ use vme_lanes::Location;
 pub enum Width8To32 {
     /// Single even and odd bytes: D08(EO).
     D08,
-    /// Also double bytes: D16.
+    /// Single and double bytes: D16.
     D16,
-    /// Also quad bytes: D32.
+    /// Single, double and quad bytes: D32.
     D32,
 }
 

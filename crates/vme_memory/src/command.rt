@@ -17,7 +17,8 @@ pub enum BoardCmd {
         offset: u32,
         bytes: Datum,
     },
-    /// A read-modify-write of `n` bytes at `offset` by the local port. `n` is 1, 2 or 4.
+    /// A read-modify-write of `n` bytes at `offset` with the function `f`, by the local port. `n`
+    /// is 1, 2 or 4.
     LocalModify {
         offset: u32,
         n: u8,

@@ -64,7 +64,7 @@ impl Storage {
         Some(byte_in(*word, (offset % 4) as u8))
     }
 
-    /// The bytes of a row that begins at `offset`.
+    /// The sixteen bytes that begin at `offset`, or those up to the end.
     #[tactic(auto, using(crate::proofs::Words::row_more, crate::proofs::Words::row_whole, crate::proofs::Words::word_len, crate::proofs::Words::words_len))]
     pub(crate) fn row(&self, offset: u32) -> Row
         requires aligned { offset % 4 ≡ 0 }
