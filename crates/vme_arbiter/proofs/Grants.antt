@@ -24,6 +24,7 @@ before-cases levels a b before =
       | inr both ↦ let parts = and_parts _ _ both in inr (eqb-true a.level b.level parts.0, ltb-true a.slot b.slot parts.1)
     ]
 
+-- on one level, a request of a lower slot precedes one of a greater slot
 lower-before : (levels : List ℕ) (a b : BusRequest) → a.level ≡ b.level → a.slot < b.slot → goes_before levels a b ≡ true
 lower-before levels a b level slot = or_right _ _ (and_from _ _ (eq-eqb a.level b.level level) (lt-ltb a.slot b.slot slot))
 
@@ -125,7 +126,7 @@ find-found test (x ∷ xs) next found =
           ((suc rest.0.0, omega (arith, rest.0.1), rest.0.2), rest.1)
     ]
 
--- if no request precedes another, each is behind it
+-- if no request of a list precedes a request, each is behind it
 behind_all : (first : ℕ) (next : BusRequest) (xs : List BusRequest) → first < 4 → is_level next.level ≡ true
     → All (λ r. is_level r.level ≡ true) xs → All (λ x. goes_before (level_order first) x next ≡ false) xs
     → All (IsBehind (level_order first) next) xs
@@ -210,7 +211,7 @@ some_next first r (s ∷ pending) first_ok levels_ok =
       )
     ]
 
--- no request is granted next exactly where none is pending
+-- if no request is granted next, none is pending
 pub none-granted : (first : ℕ) (pending : List BusRequest) → is_level first ≡ true → All (λ r. is_level r.level ≡ true) pending
     → next_request (level_order first) pending ≡ None → pending ≡ []
 none-granted first [] first_ok levels_ok none = refl

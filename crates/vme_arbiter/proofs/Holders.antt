@@ -16,9 +16,11 @@ use Rattle.vme_arbiter.specs.Masters.{slot_of, Frees, HasTheBus}
 pub reported-granted : (bus : Arbitration) (cmd : ArbCmd) → (arbiter_step bus cmd).1 ≡ Granted → (arbiter_step bus cmd).0.holder ≡ Some (slot_of cmd)
 reported-granted bus cmd reported = search rules
 
+-- the reply Freed is for the slot that held the bus
 pub reported-freed : (bus : Arbitration) (cmd : ArbCmd) → (arbiter_step bus cmd).1 ≡ Freed → bus.holder ≡ Some (slot_of cmd)
 reported-freed bus cmd reported = search rules
 
+-- after any other reply than Freed, the holder stays
 pub holder-stays : (bus : Arbitration) (cmd : ArbCmd) (slot : ℕ) → bus.holder ≡ Some slot → (arbiter_step bus cmd).1 ≢ Freed
     → (arbiter_step bus cmd).0.holder ≡ Some slot
 holder-stays bus cmd slot held not_freed = search rules

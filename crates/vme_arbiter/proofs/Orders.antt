@@ -47,6 +47,7 @@ after_two : (test : ℕ → Bool) → all_four test ≡ true → (test 2 && test
 unfolding all_four
 after_two test all = (and_parts (test 1) (test 2 && test 3) (and_parts (test 0) (test 1 && (test 2 && test 3)) all).1).1
 
+-- a test that passes on each of the four levels passes on a level in range
 all_four-at : (test : ℕ → Bool) (level : ℕ) → level < 4 → all_four test ≡ true → test level ≡ true
 unfolding all_four
 all_four-at test zero within all = (and_parts (test 0) (test 1 && (test 2 && test 3)) all).0
@@ -62,7 +63,7 @@ each_three test all f a b f< a< b< =
     all_four-at (λ b. test f a b) b b< (all_four-at (λ a. all_four (λ b. test f a b)) a a<
     (all_four-at (λ f. all_four (λ a. all_four (λ b. test f a b))) f f< all))
 
--- of two different levels one precedes the other
+-- whether two levels are equal, or one precedes the other
 total_at : ℕ → ℕ → ℕ → Bool
 total_at f a b = eqb a b || (stands_before (level_order f) a b || stands_before (level_order f) b a)
 
@@ -70,6 +71,7 @@ total_everywhere : all_four (λ f. all_four (λ a. all_four (λ b. total_at f a 
 unfolding all_four total_at
 total_everywhere = refl
 
+-- two levels in range are equal, or one precedes the other
 pub before-total : (first a b : ℕ) → first < 4 → a < 4 → b < 4
     → (a ≡ b) ⊎ ((stands_before (level_order first) a b ≡ true) ⊎ (stands_before (level_order first) b a ≡ true))
 unfolding total_at
@@ -79,7 +81,7 @@ before-total first a b first< a< b< =
       | inr apart ↦ inr (or_cases _ _ apart)
     ]
 
--- a greater level precedes a lower one, except that the levels up to the first precede those above it
+-- whether a level precedes another by the rule: first the levels up to the first one, then the others, each downwards
 goes_down : ℕ → ℕ → ℕ → Bool
 goes_down f a b = (ltb b a && (not (ltb f a) || ltb f b)) || (not (ltb f a) && ltb f b)
 
@@ -90,6 +92,7 @@ down_everywhere : all_four (λ f. all_four (λ a. all_four (λ b. down_at f a b)
 unfolding all_four down_at goes_down
 down_everywhere = refl
 
+-- a level that precedes another by the rule precedes it in the order
 down-before : (first a b : ℕ) → first < 4 → a < 4 → b < 4 → goes_down first a b ≡ true → stands_before (level_order first) a b ≡ true
 unfolding down_at
 down-before first a b first< a< b< down =
@@ -119,7 +122,7 @@ above_first first a b above lower a< =
     down-before first a b (omega arith) a< (omega arith)
     (or_left _ _ (and_from _ _ (lt-ltb b a lower) (or_right _ _ (lt-ltb first b above))))
 
--- after a rotating grant, fewer levels precede one that followed the granted level
+-- whether fewer levels precede a level after a rotating grant on one that preceded it
 turn_at : ℕ → ℕ → ℕ → Bool
 turn_at f granted level =
     not (stands_before (level_order f) granted level)
@@ -129,6 +132,7 @@ turn_everywhere : all_four (λ f. all_four (λ a. all_four (λ b. turn_at f a b)
 unfolding all_four turn_at
 turn_everywhere = refl
 
+-- after a rotating grant, fewer levels precede one that followed the granted level
 pub turn-nearer : (first granted level : ℕ) → first < 4 → granted < 4 → level < 4 → stands_before (level_order first) granted level ≡ true
     → levels_before (level_order (first_after Rotating granted)) level < levels_before (level_order first) level
 unfolding turn_at
@@ -138,7 +142,7 @@ turn-nearer first granted level first< granted< level< before =
       | inr nearer ↦ ltb-true _ _ nearer
     ]
 
--- at most three levels precede a level
+-- whether at most three levels precede a level
 three_at : ℕ → ℕ → Bool
 three_at f level = ltb (levels_before (level_order f) level) 4
 
@@ -146,6 +150,7 @@ three_everywhere : all_four (λ f. all_four (λ level. three_at f level)) ≡ tr
 unfolding all_four three_at
 three_everywhere = refl
 
+-- at most three levels precede a level in range
 pub three-before : (first level : ℕ) → first < 4 → level < 4 → levels_before (level_order first) level ≤ 3
 unfolding three_at
 three-before first level first< level< =

@@ -6,13 +6,15 @@ use Rattle.std.proofs.lemmas.List.Elements.{All-contains}
 use Rattle.vme_arbiter.specs.Requests.{BusRequest, with_request, without_slot}
 use Rattle.vme_arbiter.specs.Orderly.{IsBySlot}
 
--- the elements of a list are its first one and those of the rest
+-- the first element of a list is in the list
 contains_first : (x r : BusRequest) (xs : List BusRequest) → x ≡ r → Contains (x ∷ xs) r
 contains_first x r xs same = (0, omega arith, same)
 
+-- an element of the rest of a list is in the list
 contains_later : (x r : BusRequest) (xs : List BusRequest) → Contains xs r → Contains (x ∷ xs) r
 contains_later x r xs later = (suc later.0, omega (arith, later.1), later.2)
 
+-- an element of a list is the first one or one of the rest
 pub contains_parts : (x r : BusRequest) (xs : List BusRequest) → Contains (x ∷ xs) r → (x ≡ r) ⊎ Contains xs r
 contains_parts x r xs (zero, within, at) = inl at
 contains_parts x r xs (suc k, within, at) = inr (k, omega (arith, within), at)
@@ -39,6 +41,7 @@ with-contains new r (x ∷ pending) member =
           ])
     ]
 
+-- a request of a set with one more request is that request or one of the set
 pub contains-with : (new r : BusRequest) (pending : List BusRequest) → Contains (with_request new pending) r → (r ≡ new) ⊎ Contains pending r
 contains-with new r [] member =
     elim (contains_parts new r [] member) [ inl same ↦ inl (sym same) | inr there ↦ inr there ]
@@ -72,6 +75,7 @@ without-contains slot r (x ∷ pending) there other =
           ])
     ]
 
+-- a request of a set without a slot's requests is one of the set and of another slot
 pub contains-without : (slot : ℕ) (r : BusRequest) (pending : List BusRequest) → Contains (without_slot slot pending) r
     → Contains pending r × (r.slot ≢ slot)
 contains-without slot r [] member = absurd (omega (arith, member.1))

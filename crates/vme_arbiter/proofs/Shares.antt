@@ -27,18 +27,20 @@ use Rattle.vme_arbiter.proofs.Sets.{contains_parts, with-contains, without-conta
 pub grant-holds : (bus : Arbitration) (cmd : ArbCmd) (r : BusRequest) → grant_of bus cmd ≡ Some r → (arbiter_step bus cmd).0.holder ≡ Some r.slot
 grant-holds bus cmd r is = search rules
 
--- each new holder is granted the bus
+-- a slot that a request makes the holder is granted the bus
 taken_granted : (holder : Option ℕ) (bus : Arbitration) (new : BusRequest) (slot : ℕ) → bus.holder ≢ Some slot
     → (lawful_ask holder bus new).0.holder ≡ Some slot
     → (r : BusRequest) × (option_map_or (λ (h : ℕ). None) holder (Some new) ≡ Some r) × (r.slot ≡ slot)
 taken_granted None bus new slot other now = (new, refl, same_Some new.slot slot now)
 taken_granted (Some h) bus new slot other now = absurd (other now)
 
+-- a slot that a release makes the holder is granted the bus
 handed_granted : (next : Option BusRequest) (bus : Arbitration) (slot : ℕ) → (bus_after_release next bus).holder ≡ Some slot
     → (r : BusRequest) × (next ≡ Some r) × (r.slot ≡ slot)
 handed_granted None bus slot now = cc
 handed_granted (Some next) bus slot now = (next, refl, same_Some next.slot slot now)
 
+-- a slot that a command makes the holder is granted the bus by it
 pub holder-granted : (bus : Arbitration) (cmd : ArbCmd) (slot : ℕ) → bus.holder ≢ Some slot → (arbiter_step bus cmd).0.holder ≡ Some slot
     → (r : BusRequest) × (grant_of bus cmd ≡ Some r) × (r.slot ≡ slot)
 holder-granted bus (Ask asks level) slot other now =

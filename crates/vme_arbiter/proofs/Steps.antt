@@ -31,7 +31,7 @@ asked-waits kind first (Some h) slot level places within held can =
     let empty = empty_place slot places _ (slice_get-get_or places slot None within) none in
     rw can (ap (arbitration kind first (Some h)) (requests_from-set_some 0 slot slot level places (omega arith) empty))
 
--- when the holder gives the bus back, the place of the next request is emptied
+-- when the holder releases the bus, the place of the next request is emptied
 pub done-hands : (kind : ArbiterKind) (first : ℕ) (holder : Option ℕ) (slot : ℕ) (next : BusRequest) (places : List (Option ℕ))
     → holds (arbitration kind first holder (requests_of places)) slot ≡ true
     → Some next ≡ next_request (level_order first) (requests_of places)

@@ -56,7 +56,7 @@ ask_step bus slot level = if can_ask bus slot level then lawful_ask bus.holder b
 abbrev pub look_step : Arbitration → ℕ → Arbitration × ArbReply
 look_step bus slot = (bus, if holds bus slot then Granted else if pends bus slot then Waiting else Denied)
 
--- the state after the bus is given back: granted to the next request, if any;
+-- the state after a release of the bus: it is granted to the next request, if any;
 -- IEEE 1014-1987, 3.3 (arbiter and requesters)
 abbrev pub bus_after_release : Option BusRequest → Arbitration → Arbitration
 bus_after_release None bus = record bus { holder = None }
@@ -66,7 +66,7 @@ bus_after_release (Some next) bus = granted next (without_slot next.slot bus.pen
 abbrev pub next_of : Arbitration → Option BusRequest
 next_of bus = next_request (level_order bus.first) bus.pending
 
--- the step of giving the bus back
+-- the step of a release
 abbrev pub done_step : Arbitration → ℕ → Arbitration × ArbReply
 done_step bus slot = if holds bus slot then (bus_after_release (next_of bus) bus, Freed) else (bus, Denied)
 

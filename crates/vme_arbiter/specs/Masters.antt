@@ -44,7 +44,7 @@ abbrev pub StandsAsReplied : Arbitration → ℕ → Option ArbReply → Type 0
 StandsAsReplied bus slot last = IsAsReplied (holds bus slot) (pends bus slot) last
 
 -- whether the master of a slot may give a command after its last reply: a request after none or Freed, a check after
--- Waiting, and the bus back after Granted
+-- Waiting, and a release after Granted
 abbrev pub may_give : ℕ → Option ArbReply → ArbCmd → Bool
 may_give slot None (Ask s level) = s == slot && is_level level
 may_give slot (Some Freed) (Ask s level) = s == slot && is_level level

@@ -10,7 +10,7 @@ use Rattle.vme_arbiter.specs.Requests.{BusRequest, bus_request}
 use Rattle.vme_arbiter.specs.Arbitration.{Arbitration, holds, can_ask, next_of, arbiter_step}
 
 -- the request to which a command grants the bus, if any: a new request on a free bus, or the next one when the holder
--- is done
+-- releases the bus
 abbrev pub grant_of : Arbitration → ArbCmd → Option BusRequest
 grant_of bus (Ask slot level) =
     if can_ask bus slot level then option_map_or (λ holder. None) bus.holder (Some (bus_request level slot)) else None

@@ -1,5 +1,5 @@
-/// A command to the arbiter. A slot is in range from 1 to 21, a level from 0 to 3 (BR0* to BR3*,
-/// section 3.2).
+/// A command to the arbiter. A slot is in range from 1 to 21, and a level from 0 to 3, the bus
+/// request lines BR0* to BR3*: IEEE 1014-1987, 3.2 (arbitration bus lines).
 #[derive(Clone, Copy, Debug, PartialEq, Eq)]
 pub enum ArbCmd {
     /// A slot requests the bus, on the bus request line of a level.
@@ -14,9 +14,9 @@ pub enum ArbCmd {
         /// The slot that checks.
         slot: u16,
     },
-    /// A slot gives the bus back.
+    /// A slot releases the bus.
     Done {
-        /// The slot that gives the bus back.
+        /// The slot that releases the bus.
         slot: u16,
     },
 }
@@ -30,7 +30,8 @@ pub enum ArbReply {
     Waiting,
     /// The slot held the bus and no longer holds it.
     Freed,
-    /// Nothing changed: a request out of range or from a slot that holds or waits, a check by a
-    /// slot that does neither, or a bus given back by a slot that does not hold it.
+    /// Nothing changed: a request out of range or by a slot that holds the bus or waits for it, a
+    /// check by a slot that neither holds nor waits, or a release by a slot that does not hold the
+    /// bus.
     Denied,
 }

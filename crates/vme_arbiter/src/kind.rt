@@ -6,10 +6,10 @@ use crate::levels::HIGHEST;
 /// How an arbiter chooses the level of a grant: IEEE 1014-1987, 3.3 (arbiter and requesters).
 #[derive(Clone, Copy, Debug, PartialEq, Eq)]
 pub enum ArbiterKind {
-    /// Priority: each grant begins at the greatest level, 3.
+    /// Priority (PRI): each grant begins at the greatest level, 3.
     Priority,
-    /// Rotating: a grant begins at the level below that of the grant before it, and at 3 after
-    /// level 0.
+    /// Rotating (RRS, round-robin select): a grant begins at the level below that of the grant
+    /// before it, and at 3 after level 0.
     Rotating,
 }
 

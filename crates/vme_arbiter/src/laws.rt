@@ -17,7 +17,7 @@ ghost use Rattle.vme_arbiter.specs.Masters.{slot_of, HasTheBus, may_give, Stands
 
 /// States which request is granted next: the one on the first level in the order from `first`, and
 /// on that level the one of the lowest slot. Each set of requests on levels in range that is not
-/// empty has exactly one of these.
+/// empty has exactly one request that is granted next.
 pub fn first_level_then_lowest_slot()
     ensures next { (first : ℕ) (pending : List BusRequest) (next : BusRequest) →
         IsTrue (is_level first) → All (λ r. IsTrue (is_level r.level)) pending →

@@ -1,5 +1,5 @@
 //! The arbiter of the arbitration bus (ANSI/IEEE Std 1014-1987, chapter 3). Slots request the data
-//! transfer bus on four levels, and at most one slot holds it. When the holder gives the bus back,
+//! transfer bus on four levels, and at most one slot holds it. When the holder releases the bus,
 //! the arbiter grants it to the first level with a request, and on that level to the lowest slot,
 //! which is first on the grant daisy chain.
 #![tactic(auto)]

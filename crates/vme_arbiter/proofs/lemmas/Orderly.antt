@@ -36,7 +36,7 @@ can_ask-facts bus slot level can =
 pub levels_ok : (pending : List BusRequest) → All IsLawfulRequest pending → All (λ r. is_level r.level ≡ true) pending
 levels_ok pending requests = All-weaker IsLawfulRequest (λ r. is_level r.level ≡ true) (λ r lawful. lawful.1) pending requests
 
--- the first level after a grant is in range, and 3 by priority
+-- the first level after a grant is in range
 first-in_range : (kind : ArbiterKind) (level : ℕ) → is_level level ≡ true → is_level (first_after kind level) ≡ true
 first-in_range Priority level level_ok = refl
 first-in_range Rotating level level_ok =
@@ -46,6 +46,7 @@ first-in_range Rotating level level_ok =
       | inr other ↦ rw other (lt-ltb (level - 1) 4 (omega arith))
     ]
 
+-- the first level after a grant by priority is 3
 first-priority : (kind : ArbiterKind) (level : ℕ) → kind ≡ Priority → first_after kind level ≡ 3
 first-priority kind level is = ap (λ k. first_after k level) is
 
@@ -74,7 +75,7 @@ taken-orderly (Some h) bus slot level is orderly can =
       free = λ idle. cc;
     }
 
--- a bus that is given back leaves an orderly state
+-- a release leaves an orderly state
 handed-orderly : (bus : Arbitration) (next : Option BusRequest) → next_of bus ≡ next → IsOrderly bus
     → IsOrderly (bus_after_release next bus)
 handed-orderly bus None is_next orderly =
@@ -98,7 +99,7 @@ handed-orderly bus (Some next) is_next orderly =
       free = λ idle. cc;
     }
 
--- a new request and a bus that is given back keep the kind
+-- a new request and a release keep the kind
 taken-kind : (holder : Option ℕ) (bus : Arbitration) (new : BusRequest) → (lawful_ask holder bus new).0.kind ≡ bus.kind
 taken-kind None bus new = refl
 taken-kind (Some h) bus new = refl

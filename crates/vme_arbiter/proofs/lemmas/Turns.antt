@@ -53,7 +53,7 @@ ask-fits bus slot level slot_ok level_ok not_holds not_pends =
     and_from _ _ (and_from _ _ (and_from _ _ slot_ok level_ok) (not_from_false _ not_holds)) (not_from_false _ not_pends) in
     rw can (taken-fits bus.holder bus slot level)
 
--- a slot that does not wait neither holds nor waits after it gives the bus back
+-- a slot that does not wait neither holds nor waits after it releases the bus
 handed-nowhere : (bus : Arbitration) (slot : ℕ) (next : Option BusRequest) → next_of bus ≡ next → has_slot slot bus.pending ≡ false
     → StandsAsReplied (bus_after_release next bus) slot (Some Freed)
 handed-nowhere bus slot None is_next none = (refl, none)
@@ -70,7 +70,7 @@ promoted pending (Some Waiting) one fits left = inl refl
 promoted pending (Some Granted) one fits left = refl
 promoted pending (Some Denied) one fits left = fits
 
--- a slot other than the holder matches its last reply after the bus is given back
+-- a slot other than the holder matches its last reply after a release
 handed-other : (bus : Arbitration) (slot : ℕ) (last : Option ArbReply) (next : Option BusRequest) → next_of bus ≡ next
     → IsAsReplied false (has_slot slot bus.pending) last → StandsAsReplied (bus_after_release next bus) slot last
 handed-other bus slot last None is_next fits = fits
@@ -111,7 +111,7 @@ holder-not_pends None bus slot is lawful held = cc
 holder-not_pends (Some h) bus slot is lawful held =
     ap (λ s. has_slot s bus.pending) (sym (eqb-true h slot held)) ∙ (rw is at lawful).1
 
--- a check of a slot that holds or waits has the reply that matches
+-- a check by a slot that holds or waits has the reply that matches
 look-fits : (bus : Arbitration) (slot : ℕ) → (holds bus slot ≡ true) ⊎ (pends bus slot ≡ true)
     → StandsAsReplied (arbiter_step bus (Look slot)).0 slot (Some (arbiter_step bus (Look slot)).1)
 look-fits bus slot fits =
@@ -124,7 +124,7 @@ look-fits bus slot fits =
           ]
     ]
 
--- a slot that gives the bus back neither holds nor waits afterwards
+-- a slot that releases the bus neither holds nor waits afterwards
 done-fits : (bus : Arbitration) (slot : ℕ) → IsOrderly bus → holds bus slot ≡ true
     → StandsAsReplied (arbiter_step bus (Done slot)).0 slot (Some (arbiter_step bus (Done slot)).1)
 done-fits bus slot orderly held =
@@ -160,16 +160,16 @@ other-turn bus slot last (Done done) other fits =
       | inr not_held ↦ rw not_held fits
     ]
 
--- the last reply to each who, after an entry
+-- the last reply to each caller, after an entry
 pub reported_last : (ℕ → Option ArbReply) → Entry ArbCmd ArbReply → ℕ → Option ArbReply
 reported_last last e who = cond (eqb e.who who) (Some e.reply) (last who)
 
--- the first k who are masters of slots of their own
+-- the callers 0 to k - 1 are masters, each with a slot of its own
 pub record AreMasters (k : ℕ) (slots : ℕ → ℕ) : Type 0 where
   pub in_range : (who : ℕ) → who < k → IsTrue (is_slot (slots who))
   pub apart : (v w : ℕ) → v < k → w < k → slots v ≡ slots w → v ≡ w
 
--- after a command of one of them, each stands where its last reply says
+-- after a command of one master, each master's slot holds or waits as its last reply states
 pub all_stand : (k : ℕ) (slots : ℕ → ℕ) (bus : Arbitration) (last : ℕ → Option ArbReply) (e : Entry ArbCmd ArbReply) → AreMasters k slots
     → e.who < k → slot_of e.cmd ≡ slots e.who → StandsAsReplied (arbiter_step bus e.cmd).0 (slots e.who) (Some e.reply)
     → ((who : ℕ) → who < k → StandsAsReplied bus (slots who) (last who))
@@ -190,7 +190,7 @@ record AreFit (k : ℕ) (slots : ℕ → ℕ) (bus : Arbitration) (last : ℕ �
   fits : (who : ℕ) → who < k → StandsAsReplied bus (slots who) (last who)
   goes : (who : ℕ) → who < k → GoesByReplies (slots who) (last who) (own who h)
 
--- a master follows the replies after an entry of its own, and after an entry of another master
+-- a master that follows the replies may give the command of its next entry, and follows the replies after that entry
 goes_own : (slot : ℕ) (last : Option ArbReply) (e : Entry ArbCmd ArbReply) (h : List (Entry ArbCmd ArbReply))
     → GoesByReplies slot last (own e.who (e ∷ h))
     → (may_give slot last e.cmd ≡ true) × GoesByReplies slot (Some e.reply) (own e.who h)

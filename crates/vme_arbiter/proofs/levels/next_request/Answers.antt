@@ -5,7 +5,7 @@ use Rattle.vme_arbiter.proofs.Listed.{none-listed}
 use Rattle.vme_arbiter.proofs.Nexts.{up_to_first-next, later-next, later-within}
 use Rattle.vme_arbiter.proofs.levels.next_request.Goals as goal
 
--- no request is pending
+-- The request that the search by levels finds is granted next.
 pub returns-then-not-has_request-clause-next : goal.returns-then-not-has_request-clause-next
 returns-then-not-has_request-clause-next c =
     sym (none-listed (level_order c.args.first) c.args.levels.now (c.has_request.ensures (search rules)))
