@@ -1,4 +1,4 @@
--- A task that makes its own call on the machine, and is given the reply.
+-- A task that makes its own call on the machine and advances by the reply.
 use Rattle.std.specs.Prelude.{ℕ, ◌≡◌, ◌≢◌, length, Option, Some, None, IfSome}
 use Rattle.vme_core.specs.declared.event.EventReply.{EventReply}
 use Rattle.vme_core.specs.Runs.{Machine}
@@ -7,7 +7,7 @@ use Rattle.vme_core.specs.Machines.{process_count}
 use Rattle.vme_core.specs.EventRefs.{target_of_call, CanCount}
 use Rattle.vme_core.specs.NextSteps.{NextStep, NotStarted, call_in}
 
--- the object of a call, if there is a call, is there and can count a further step
+-- if there is a call, its object exists and can count a further step
 abbrev pub CanMake : Machine → Option Call → Type 0
 CanMake machine call = IfSome call (λ call. CanCount machine (target_of_call call))
 
@@ -16,8 +16,8 @@ abbrev pub advanced_on : {T : Type 0} → (T → Option EventReply → T) → Op
 advanced_on advance None who machine task = (machine, task)
 advanced_on advance (Some call) who machine task = ((machine_step machine who call).0, advance task (Some (machine_step machine who call).1))
 
--- a task makes its next call for a processor and advances by the reply; without a next call, the task and the machine stay as they are.
--- Once begun it stays begun; the numbers of boards and of processors stay
+-- a task makes its next call for a processor and advances by the reply; without a next call nothing changes. A task
+-- that has begun stays begun, and the numbers of boards and of processors stay
 pub record AdvancesOn {T R : Type 0} (next : T → NextStep R) (advance : T → Option EventReply → T) (who : ℕ) (before after : Machine)
     (old new : T) : Type 0 where
   pub step : (after, new) ≡ advanced_on advance (call_in (next old)) who before old

@@ -15,8 +15,8 @@ pub enum Event {
     Bus(ArbCmd),
 }
 
-/// A command to one of the boards or to the arbiter that is borrowed, or a datum of a transfer
-/// without the lines of its cycle.
+/// An event by reference: a borrowed command to one of the boards, a datum of a transfer without
+/// the lines of its cycle, or a command to the arbiter.
 #[derive(Debug, Drop)]
 pub enum EventRef<'a> {
     /// A command to the board with this index.
@@ -28,7 +28,7 @@ pub enum EventRef<'a> {
 }
 
 impl EventRef<'_> {
-    /// The event itself, with the lines of a cycle.
+    /// Returns the event as a value. A datum becomes its cycle, with the signals computed.
     pub fn to_event(&self) -> Event
         ensures { call_of result ≡ call_asked self.now }
     {

@@ -33,7 +33,7 @@ abbrev pub bus_job : List Entry → ℕ → ℕ → Transfer → Job
 bus_job map slot level t =
     Bus (record { slot = slot; level = level; transfer = t; place = selection_at map t.am (addr_of t.request) })
 
--- the job of a command to the local port of the board at a place
+-- the job of a command to the local port of the board with an index
 abbrev pub local_job : ℕ → BoardCmd → Job
 local_job board cmd = Local (record { board = board; cmd = cmd })
 
@@ -49,7 +49,7 @@ look_call job = OnBus (Look job.slot)
 abbrev pub done_call : BusJob → Call
 done_call job = OnBus (Done job.slot)
 
--- datum i goes to the selected board, at the first datum's offset counted on; with no board the slot releases the bus;
+-- the call of datum i: its command to the selected board at its offset, or with no board the release of the bus;
 -- IEEE 1014-1987, 2.3.7 (block transfer)
 abbrev pub datum_call : BusJob → Option (ℕ × ℕ) → ℕ → Call
 datum_call job None i = done_call job
@@ -60,7 +60,7 @@ datum_call job (Some place) i =
 abbrev pub local_call : LocalJob → Call
 local_call job = OnBoard job.board (command_given job.cmd)
 
--- whether the arbiter can reply so: `Freed` only to a release, `Granted` and `Waiting` only to a request or a poll
+-- whether a reply answers a command: `Freed` only a release, `Granted` and `Waiting` only a request or a poll
 abbrev pub answers_command : ArbCmd → ArbReply → Bool
 answers_command (Ask slot level) Freed = false
 answers_command (Look slot) Freed = false
@@ -68,8 +68,8 @@ answers_command (Done slot) Granted = false
 answers_command (Done slot) Waiting = false
 answers_command cmd reply = true
 
--- whether a reply fits a call: the arbiter can reply so to the command; or the board replies as many bytes as the
--- command reads, done if it reads none, or a bus error
+-- whether a reply fits a call: the arbiter's answers its command; a board's has as many bytes as the command reads, is
+-- done if it reads none, or is a bus error
 abbrev pub fits : Call → EventReply → Bool
 fits (OnBus cmd) (replies.Bus reply) = answers_command cmd reply
 fits (OnBoard board command) (replies.Board reply) = has_form (option_and_then reply_len command) reply

@@ -16,8 +16,8 @@ last_arb_reply [] = None
 last_arb_reply (Some (replies.Bus reply) ∷ before) = Some reply
 last_arb_reply (given ∷ before) = last_arb_reply before
 
--- a board's command is that of the next datum: as many data as were answered precede it in the request, and it goes to
--- the board and offset that the first datum selected, counted on
+-- a command to a board is that of the next datum: its index is the number of data that were answered, and its offset is
+-- that of the first datum plus the bytes of the data before it
 pub record IsNextDatum (job : BusJob) (given : Inputs) (board : ℕ) (command : Option Command) : Type 0 where
   pub offset : ℕ
   pub placed : job.place ≡ Some (board, offset)

@@ -52,7 +52,7 @@ expected_len (expected_replies.Read n) = Some n
 expected_len (expected_replies.Modify n) = Some n
 expected_len expected_replies.Write = None
 
--- the outcome with these bytes, after a bus error that came after so many data, if there was one
+-- the outcome with these bytes: after a bus error that came after so many data, or after no bus error
 abbrev pub end_outcome : ExpectedReply → Option ℕ → List ℕ → Outcome
 end_outcome expected None bytes = expected_outcome expected bytes
 end_outcome expected (Some count) bytes = error_outcome count bytes

@@ -124,6 +124,7 @@ pub enum Job<'a> {
 }
 
 impl Job<'_> {
+    /// The reply that the job's calls on a board expect.
     pub(crate) fn expected(&self) -> ExpectedReply
         ensures value { result ≡ job_expected self.now }
         ensures short { IsShort result (job_read_len self.now) }

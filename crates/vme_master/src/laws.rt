@@ -26,8 +26,9 @@ ghost use Rattle.vme_master.specs.Tables.{Inputs, next_of};
 ghost use Rattle.vme_master.specs.Machine.{task_given, to_do};
 ghost use Rattle.vme_master.specs.Laws.{last_arb_reply, IsNextDatum, IsBelow};
 
-/// A task follows the table: after calls with any replies it does next what the table says. A reply
-/// that does not fit, is absent or comes before the first call is a denial. An outcome is final.
+/// States that a task follows the table `next_of`: after calls with any replies it does next what
+/// the table has for these replies. A reply that does not fit, is absent or comes before the first
+/// call is a denial. An outcome is final.
 #[tactic(auto, using(crate::proofs::lemmas::Stands::by_the_table))]
 pub fn tasks_go_by_the_table()
     ensures table { (job : Job) (given : Inputs) → to_do (task_given job given) ≡ next_of job given }
@@ -41,9 +42,10 @@ pub fn tasks_go_by_the_table()
         next_of job given ≡ Returns outcome → next_of job (last ∷ given) ≡ Returns outcome }
 {}
 
-/// A transfer's calls on a board are the commands of its data, one for each and in their order, on
-/// the board that its first byte selects. A local command makes its one call alone. With no board
-/// selected, a transfer makes no call on a board and ends with the bus timer's error or a denial.
+/// States that a transfer's calls on a board are the commands of its data, one for each and in
+/// their order, on the board that its first byte selects. A local command makes only its one call.
+/// With no board selected, a transfer makes no call on a board and ends with the bus timer's error
+/// or a denial.
 pub fn data_go_in_order()
     ensures data { (job : BusJob) (given : Inputs) (board : ℕ) (command : Option Command) →
         next_of (Bus job) given ≡ Invokes (OnBoard board command) →
@@ -55,9 +57,9 @@ pub fn data_go_in_order()
         (outcome ≡ Denied) ⊎ (outcome ≡ error_outcome 0 []) }
 {}
 
-/// Each board that a transfer calls is the one of the map to which the code and the address of its
-/// first byte fall. Each board that any job calls is among the first `n` if the job's own boards
-/// are.
+/// States that each board that a transfer calls is that of the map's entry which contains the
+/// address of the first byte in the code's space and admits the code. Each board that a job calls
+/// is among the first `n` if the job's own boards are.
 pub fn boards_are_of_the_map()
     ensures falls { (map : List Entry) (slot level : ℕ) (t : Transfer) (given : Inputs) (board : ℕ)
         (command : Option Command) →
@@ -69,9 +71,9 @@ pub fn boards_are_of_the_map()
         IsBelow n job → next_of job given ≡ Invokes (OnBoard board command) → board < n }
 {}
 
-/// A transfer keeps its tenure of the bus. Its commands to the arbiter are its own slot's, and the
-/// arbiter's last reply allows each of them. Data go to a board only while that reply is `Granted`.
-/// Without a denial the transfer ends only with the reply `Freed`.
+/// States that a transfer keeps its tenure of the bus. Its commands to the arbiter are its own
+/// slot's, and the arbiter's last reply allows each of them. Data go to a board only while that
+/// reply is `Granted`. Without a denial the transfer ends only with the reply `Freed`.
 pub fn transfers_keep_their_tenure()
     ensures own { (job : BusJob) (given : Inputs) (cmd : ArbCmd) →
         next_of (Bus job) given ≡ Invokes (OnBus cmd) →
@@ -88,7 +90,7 @@ pub fn transfers_keep_their_tenure()
         reply ≡ replies.Bus Freed }
 {}
 
-/// Every reply of a board or of the arbiter fits the command that it answers.
+/// States that every reply of a board or of the arbiter fits the command that it answers.
 pub fn replies_fit()
     ensures board { (memory : Board) (board : ℕ) (command : Option Command) →
         IsTrue (fits (OnBoard board command) (replies.Board (command_step memory command).1)) }

@@ -50,9 +50,10 @@ impl<'a> Model for Task<'a> {
 }
 
 impl<'a> Task<'a> {
-    /// Returns the task of a slot's request for a transfer over the bus, which the slot requests on
-    /// `level`. It borrows the request and reads into `buffer`, whose capacity must be enough. The
-    /// selected board is that of the first byte: IEEE 1014-1987, 2.3.5 (addressing).
+    /// Returns the task of a transfer over the bus, which `slot` requests on `level`. The task
+    /// borrows the request and reads into `buffer`, whose capacity must be at least the number of
+    /// bytes that the request reads. The map selects the board by the first byte:
+    /// IEEE 1014-1987, 2.3.5 (addressing).
     ///
     /// # Errors
     ///
@@ -74,9 +75,9 @@ impl<'a> Task<'a> {
         Ok(Task::bus(map, slot, level, transfer, buffer))
     }
 
-    /// Returns the task of a request that the task owns. The request may read no more bytes than a
-    /// buffer holds inline. The selected board is that of the first byte:
-    /// IEEE 1014-1987, 2.3.5 (addressing).
+    /// Returns the task of a transfer over the bus, which `slot` requests on `level`. The task owns
+    /// the request, which may read at most `INLINE_LEN` bytes, 40. The map selects the board by the
+    /// first byte: IEEE 1014-1987, 2.3.5 (addressing).
     ///
     /// # Errors
     ///
@@ -95,7 +96,7 @@ impl<'a> Task<'a> {
         Ok(Task::bus(map, slot, level, transfer, BlockBuffer::new()))
     }
 
-    /// Returns the task of a command to the local port of the board at place `board`.
+    /// Returns the task of a command to the local port of the board with index `board`.
     #[inline(always)]
     pub fn local(board: usize, cmd: BoardCmd) -> Task<'a>
         ensures { result ≡ fresh_task (local_job board cmd) }

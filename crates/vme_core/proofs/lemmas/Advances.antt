@@ -1,4 +1,4 @@
--- A task that makes its own call, as part of another.
+-- A task that makes its own call as a part of another task.
 use Rattle.std.proofs.Common.{◌≡◌, ℕ, Option, Some, None, ap, sym, ◌∙◌}
 use Rattle.vme_core.specs.declared.event.EventReply.{EventReply}
 use Rattle.vme_core.specs.Runs.{Machine}
@@ -7,7 +7,7 @@ use Rattle.vme_core.specs.NextSteps.{NextStep, call_in, next_map}
 use Rattle.vme_core.specs.Advances.{advanced_on, AdvancesOn}
 use Rattle.vme_core.proofs.lemmas.NextSteps.{map_call, map_rests}
 
--- a task that is another's only part, makes its calls and gives its result makes its own call as that does
+-- if a whole makes the calls of its one part and returns the part's result, mapped, it advances as the part does
 pub part_advances : {T U R S : Type 0} (whole : T → U) (f : R → S) (next : T → NextStep R) (next_whole : U → NextStep S)
     (advance : T → Option EventReply → T) (advance_whole : U → Option EventReply → U) (who : ℕ) (before after : Machine) (old new : T)
     → ((t : T) → next_whole (whole t) ≡ next_map f (next t))

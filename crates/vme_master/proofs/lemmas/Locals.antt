@@ -45,6 +45,7 @@ own_step j (Invokes call) None g = tt
 own_step j (Invokes call) (Some reply) g = own_row j call reply g
 own_step j (Returns outcome) last g = tt
 
+-- after any replies, a local command makes no other call than its own
 own_calls : (j : LocalJob) (g : Inputs) → MakesOwn j (next_of (Local j) g)
 own_calls j [] = tt
 own_calls j (last ∷ g) = own_step j (next_of (Local j) g) last g

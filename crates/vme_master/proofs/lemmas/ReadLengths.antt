@@ -75,7 +75,7 @@ pub replied_within : (job : Job) (reply : Reply) → has_form (expected_len (job
 replied_within (Bus job) reply form short = form_within job.transfer.request reply form
 replied_within (Local job) reply form short = short
 
--- the buffer's capacity is enough for one datum more
+-- the buffer's capacity is enough for the bytes of one reply more
 pub buffer_before : (job : Job) (i capacity : ℕ) (read : List ℕ) (reply : Reply) → HasRead job (Transferring i) read
     → has_form (expected_len (job_expected job)) reply ≡ true → length (bytes_of reply) ≤ 8 → job_read_len job ≤ capacity
     → length read + length (bytes_of reply) ≤ capacity

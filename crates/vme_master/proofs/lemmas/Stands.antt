@@ -1,4 +1,4 @@
--- The machine follows the table: how its fields stand to what it was given.
+-- The machine of a task follows the table: its fields match what it was given.
 use Rattle.std.proofs.Common.{◌≡◌, ℕ, zero, suc, ◌+◌, true, false, List, [], ◌∷◌, ◌++◌, Option, Some, None, refl, ap, sym, ◌∙◌, inl, inr, ◌⊎◌}
 use Rattle.std.specs.Prelude.{nat_lt, is_some}
 use Rattle.std.proofs.lemmas.Bool.{cases_Bool}
@@ -50,6 +50,7 @@ LocalFacts j (Finished berr) read g = next_of (Local j) g ≡ Returns (end_outco
 LocalFacts j Denied read g = next_of (Local j) g ≡ Returns outcomes.Denied
 LocalFacts j phase read g = ⊥
 
+-- the fields of a job fit what it was given
 abbrev Facts : Job → Phase → List ℕ → Inputs → Type 0
 Facts (Bus j) phase read g = BusFacts j phase read g
 Facts (Local j) phase read g = LocalFacts j phase read g
@@ -210,6 +211,7 @@ local_replied j read g Done facts form =
     rw (facts.0, fit) (ap (λ bytes. Returns (expected_outcome (job_expected (Local j)) (bytes ++ []))) (sym facts.2))
 local_replied j read g Berr facts form = rw facts.0 (ap (λ bytes. Returns (error_outcome 0 (bytes ++ []))) (sym facts.2))
 
+-- the fields of a local command fit after any reply of a board
 local_answered : (j : LocalJob) (read : List ℕ) (g : Inputs) (reply : Reply) → LocalFacts j (Transferring 0) read g
     → LocalFacts j (task_after (task (Local j) (Transferring 0) read) (Transferring 0) (Some (replies.Board reply))).phase
     (task_after (task (Local j) (Transferring 0) read) (Transferring 0) (Some (replies.Board reply))).read (Some (replies.Board reply) ∷ g)

@@ -42,6 +42,7 @@ datum_stands : (j : BusJob) (place : Option (ℕ × ℕ)) (g : Inputs) → j.pla
 datum_stands j None g placed more held = (refl, held)
 datum_stands j (Some p) g placed more held = (record { offset = p.1; placed = placed; more = more; own = refl }, held)
 
+-- after a grant or a board's reply, the next datum or the release follows
 on_stands : (j : BusJob) (g : Inputs) (i : ℕ) → i ≡ data_in g → last_arb_reply g ≡ Some arb_replies.Granted → Stands j g (Invokes (datum_or_done j i))
 on_stands j g i same held =
     elim (cases_Bool (nat_lt i (count_of j.transfer.request))) [
@@ -107,6 +108,7 @@ pub holds_for_data : (j : BusJob) (g : Inputs) (board : ℕ) (command : Option C
     → last_arb_reply g ≡ Some arb_replies.Granted
 holds_for_data j g board command next = (subst (Stands j g) next (next_stands j g)).1
 
+-- a command that follows from the last reply is one that the reply allows
 may_turn : (j : BusJob) (g : Inputs) (cmd : ArbCmd) → is_level j.level ≡ true → TurnStands j g cmd → may_give j.slot (last_arb_reply g) cmd ≡ true
 may_turn j g (arb_commands.Ask slot level) lawful stands =
     rw (stands.2, stands.0, stands.1) (and_from _ _ (eq-eqb j.slot j.slot refl) lawful)
@@ -118,6 +120,7 @@ pub turns_go_by : (j : BusJob) (g : Inputs) (cmd : ArbCmd) → is_level j.level 
     → may_give j.slot (last_arb_reply g) cmd ≡ true
 turns_go_by j g cmd lawful next = may_turn j g cmd lawful (subst (Stands j g) next (next_stands j g))
 
+-- a command that follows from the last reply is the slot's request, poll or release
 own_turn : (j : BusJob) (g : Inputs) (cmd : ArbCmd) → TurnStands j g cmd
     → (cmd ≡ arb_commands.Ask j.slot j.level) ⊎ ((cmd ≡ arb_commands.Look j.slot) ⊎ (cmd ≡ arb_commands.Done j.slot))
 own_turn j g (arb_commands.Ask slot level) stands = inl (rw (stands.0, stands.1) refl)
