@@ -11,7 +11,7 @@ use Rattle.vme_arbiter.specs.Grants.{IsBehind}
 use Rattle.vme_arbiter.proofs.Grants.{next-granted}
 use Rattle.vme_arbiter.proofs.Pending.{has_slot}
 
--- an entry of the array is a request
+-- a test that passes on an entry of the array passes on some request
 pub any_at : (test : BusRequest → Bool) (n k slot : ℕ) (levels : List (Option ℕ)) (level : ℕ) → slot ≡ n + k
     → slice_get levels k ≡ Some (Some level) → test (bus_request level slot) ≡ true → list_any test (requests_from n levels) ≡ true
 any_at test n k slot [] level place there passes = cc

@@ -91,12 +91,12 @@ record WaitsOn (bus : Arbitration) (r : BusRequest) : Type 0 where
   kind : bus.kind ≡ Rotating
   waits : IsLowest bus r
 
--- the properties of the grants while a request waits
+-- grants are on other levels than a request, and at most one for each level that precedes its own
 record Goes (bus : Arbitration) (r : BusRequest) (grants : List BusRequest) : Type 0 where
   elsewhere : All (λ grant. grant.level ≢ r.level) grants
   by_order : length grants ≤ levels_before (level_order bus.first) r.level
 
--- while a request is pending, a new request is not granted at once and keeps the level at which the next grant begins
+-- while a request is pending, a new request is not granted: the request still waits, and the grants keep the properties
 taken_goes : (holder : Option ℕ) (bus : Arbitration) (r new : BusRequest) (later : List BusRequest) → bus.holder ≡ holder → IsOrderly bus
     → IsLowest bus r → (new.level ≡ r.level → r.slot ≤ new.slot)
     → IsLowest (lawful_ask holder bus new).0 r
@@ -131,6 +131,7 @@ record Passed (bus : Arbitration) (r next : BusRequest) : Type 0 where
   elsewhere : next.level ≢ r.level
   nearer : levels_before (level_order (first_after bus.kind next.level)) r.level < levels_before (level_order bus.first) r.level
 
+-- a grant to another request than the lowest on its level passes that request
 passed_by : (bus : Arbitration) (r next : BusRequest) → WaitsOn bus r → next_of bus ≡ Some next → next ≢ r → Passed bus r next
 passed_by bus r next on is_next other =
     let levels = level_order bus.first in
@@ -151,7 +152,7 @@ passed_by bus r next on is_next other =
           (ltb-true r.level 4 r_ok) before);
     }
 
--- the grants after the bus is granted to another request
+-- after a release, the request still waits, and the grants from the release on have the properties
 handed_goes : (bus : Arbitration) (r : BusRequest) (next : Option BusRequest) (later : List BusRequest) → WaitsOn bus r → next_of bus ≡ next
     → All (λ grant. grant ≢ r) (cons_option next later)
     → IsLowest (bus_after_release next bus) r × (Goes (bus_after_release next bus) r later → Goes bus r (cons_option next later))

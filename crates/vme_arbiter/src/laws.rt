@@ -29,9 +29,9 @@ pub fn first_level_then_lowest_slot()
         IsNext (level_order first) pending a → IsNext (level_order first) pending b → a ≡ b }
 {}
 
-/// States that the list of pending requests is a set. An added request is in it beside all others;
-/// a slot that is removed has none, and all others stay; two lists sorted by slot with the same
-/// requests are equal.
+/// States that the list of pending requests is a set. Adding a request keeps all that are in the
+/// set. Removing a slot removes its requests and keeps those of all other slots. Two lists sorted
+/// by slot with the same requests are equal.
 pub fn pending_requests_are_a_set()
     ensures added { (pending : List BusRequest) (new r : BusRequest) →
         Contains (with_request new pending) r ↔ ((r ≡ new) ⊎ Contains pending r) }

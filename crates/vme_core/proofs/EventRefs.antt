@@ -12,7 +12,7 @@ use Rattle.vme_core.specs.Runs.{Machine}
 use Rattle.vme_core.specs.Calls.{OnBoard, command_step, counted_step, machine_step}
 use Rattle.vme_core.specs.Machines.{IsThere}
 
--- the board is stored in its place again
+-- the machine in which the board is replaced by its next state is the machine after the call
 pub board_made :
     (m self : Machine) (who x : ℕ) (command : Option Command) (b new : CountedState Board) (reply : Reply) → m ≡ self → IsThere self (at.Board x)
     → b ≡ slice_index_or m.boards x b → (new, reply) ≡ counted_step command_step b who command

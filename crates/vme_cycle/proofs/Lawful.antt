@@ -40,7 +40,7 @@ none_first false fault more h = (refl, h)
 single_lens : (n : ℕ) → is_single_len n ≡ true → (1 ≤ n) × (n ≤ 4)
 single_lens n h = let parts = and_parts _ _ h in (leb-true 1 n parts.0, leb-true n 4 parts.1)
 
--- a block's datum has one, two or four bytes
+-- a datum of a block without a code of eight-byte data has one, two or four bytes
 pub block_lens : (n : ℕ) → is_block_len n ≡ true → (n ≡ 1) ⊎ ((n ≡ 2) ⊎ (n ≡ 4))
 block_lens n h =
     elim (eqb_tells n 1) [
@@ -54,7 +54,7 @@ block_lens n h =
 block_small : (n : ℕ) → is_block_len n ≡ true → (1 ≤ n) × (n ≤ 4)
 block_small n h = elim (block_lens n h) [ inl one ↦ (omega (arith, one), omega (arith, one)) | inr more ↦ elim more [ inl two ↦ (omega (arith, two), omega (arith, two)) | inr four ↦ (omega (arith, four), omega (arith, four)) ] ]
 
--- a block's datum has one, two, four or, with a code of such data, eight bytes
+-- a datum of a block has one, two, four or eight bytes
 pub datum_lens : (wide : Bool) (n : ℕ) → is_datum_len wide n ≡ true → (n ≡ 1) ⊎ ((n ≡ 2) ⊎ ((n ≡ 4) ⊎ (n ≡ 8)))
 datum_lens true n h = inr (inr (inr (eqb-true n 8 h)))
 datum_lens false n h =
@@ -106,7 +106,7 @@ single (BlockWrite am addr n bytes) h = absurd cc
 single (BlockFill am addr n count bytes) h = absurd cc
 single (Modify am addr n f) h = refl
 
--- a block's datum has a length that blocks allow
+-- the data of a counted block request have a length that its code allows
 pub block_datum :
     (request : Request) → is_block_request request ≡ true → is_counted request ≡ true
     → is_datum_len (is_wide_code (code_of request)) (datum_len request) ≡ true
@@ -121,7 +121,7 @@ block_datum (Modify am addr n f) b h = absurd cc
 pub few_len : (n : ℕ) → n ≤ 4 → is_wide_len n ≡ false
 few_len n few = elim (eqb_tells n 8) [ inl eight ↦ absurd (omega (arith, eight.1, few)) | inr other ↦ other.0 ]
 
--- a datum has eight bytes exactly with a code of such data
+-- a datum of a block has eight bytes exactly with a code of eight-byte data
 len_of_code : (wide : Bool) (n : ℕ) → is_datum_len wide n ≡ true → is_wide_len n ≡ wide
 len_of_code true n h = h
 len_of_code false n h = few_len n (block_small n h).1

@@ -15,7 +15,7 @@ use Rattle.vme_cycle.specs.Counts.{is_wide_len, unit_of}
 use Rattle.vme_cycle.specs.Refusals.{where_true, first_of}
 use Rattle.vme_cycle.specs.Requests.{code_of, addr_of, datum_len, span_of, is_block_request, function_of, is_counted}
 
--- a lawful request with the row of its code
+-- a request with the row of its code; `IsLawfulTransfer` states that the request is lawful
 pub record Transfer : Type 0 where
   pub am : CodeRow
   pub request : Request

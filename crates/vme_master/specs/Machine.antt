@@ -57,8 +57,7 @@ abbrev pub end_outcome : ExpectedReply → Option ℕ → List ℕ → Outcome
 end_outcome expected None bytes = expected_outcome expected bytes
 end_outcome expected (Some count) bytes = error_outcome count bytes
 
--- the phase of a transfer at datum i: the transfer of it, or the release of the bus if there is no such datum or no
--- board
+-- the phase of a transfer at datum i: its transfer, or the release of the bus past the last datum or without a board
 abbrev pub datum_phase : BusJob → Option (ℕ × ℕ) → ℕ → Phase
 datum_phase job None i = Releasing (Some 0)
 datum_phase job (Some place) i = if nat_lt i (count_of job.transfer.request) then Transferring i else Releasing None

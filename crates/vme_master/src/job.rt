@@ -19,8 +19,8 @@ use vme_cycle::{BlockBuffer, Transfer};
 use vme_lanes::Datum;
 use vme_memory::{BoardCmd, Reply};
 
-/// A transfer over the bus: the slot and the level of its request, the lawful request, and the
-/// place and offset of its first byte, if a board is selected.
+/// A transfer over the bus: the slot and the level that request the bus, the lawful request, and
+/// the board and the offset of its first byte, if a board is selected.
 #[derive(Debug, Drop)]
 pub struct BusJob<'a> {
     pub(crate) slot: u16,
@@ -75,8 +75,8 @@ impl BusJob<'_> {
         }
     }
 
-    /// The phase at datum `i`: the transfer of it, or the release of the bus if there is no such
-    /// datum or no board.
+    /// The phase at datum `i`: its transfer, or the release of the bus past the last datum or
+    /// without a board.
     fn at(&self, i: u16, count: u16) -> Phase
         requires { count ≡ count_of self.now.transfer.request }
         ensures { result ≡ datum_phase self.now self.now.place i }

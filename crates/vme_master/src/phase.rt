@@ -7,7 +7,7 @@ pub enum Phase {
     Requesting,
     /// The slot polls whether it holds the bus.
     Polling,
-    /// The board has call `i`: datum `i`, or the one command to a local port.
+    /// The task makes call `i` on the board: datum `i`, or the one command to a local port.
     Transferring { i: u16 },
     /// The slot releases the bus. `berr` is the number of data before a bus error, if one came.
     Releasing { berr: Option<u16> },

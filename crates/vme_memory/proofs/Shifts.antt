@@ -98,14 +98,14 @@ merged_from word new place len some few = absurd (omega arith)
 abbrev pub turned : ℕ → ℕ → ℕ
 turned new place = rotate_right w32 new (8 * place)
 
--- a rotated word has its low bits before the others
+-- a rotated word has its low bits before its high bits
 turned_at :
     (new low high : ℕ) → new / 2 ^ low < 2 ^ high → new * 2 ^ high % 2 ^ 32 ≡ new % 2 ^ low * 2 ^ high
     → bit_or (new / 2 ^ low) (new * 2 ^ high % 2 ^ 32) ≡ new % 2 ^ low * 2 ^ high + new / 2 ^ low
 turned_at new low high fits last =
     ap (bit_or (new / 2 ^ low)) last ∙ or_comm (new / 2 ^ low) (new % 2 ^ low * 2 ^ high) ∙ or_shifted (new % 2 ^ low) high (new / 2 ^ low) fits
 
--- a rotated word has its last bytes before the others
+-- a rotated word has its last bytes before its first ones
 turned_bytes :
     (new place : ℕ) → new < 2 ^ 32 → place < 4
     → word_bytes (turned new place) ≡ drop (4 - place) (word_bytes new) ++ take (4 - place) (word_bytes new)

@@ -9,6 +9,7 @@ whole_word : (word : ℕ) → slice_range (word_bytes word) 0 (0 + 4) ≡ word_b
 unfolding word_bytes
 whole_word word = refl
 
+-- the four bytes at the offset of a word are its bytes
 whole_read :
     (words : List ℕ) (i word : ℕ) → i < length words → word ≡ get_or words i word
     → slice_range (bytes_of_words words) (4 * i + 0) (4 * i + 0 + 4) ≡ word_bytes word
@@ -19,7 +20,7 @@ whole_read words i word less own =
 pub wide_there : (words : List ℕ) (at : ℕ) → at + 8 ≤ length (bytes_of_words words) → at % 4 ≡ 0 → at / 4 + 1 < length words
 wide_there words at within place = omega (arith, words_len words)
 
--- the bytes of two words are read
+-- the bytes of two consecutive words are the eight bytes at the offset of the first one
 pub wide_read :
     (words : List ℕ) (at here next : ℕ) → here ≡ get_or words (at / 4) here → next ≡ get_or words (at / 4 + 1) next
     → at + 8 ≤ length (bytes_of_words words) → at % 4 ≡ 0
@@ -36,17 +37,18 @@ wide_read words at here next own own_next within place =
     ∙ ap (λ bytes. slice_range (bytes_of_words words) at (at + 4) ++ bytes) (sym back)
     ∙ read_on (bytes_of_words words) at 4 8 (omega arith)
 
--- a word that replaces another
+-- a word that replaces another is a write of its four bytes
 whole_put : (old word : ℕ) → word_bytes word ≡ bytes_after_write (word_bytes old) 0 (word_bytes word)
 unfolding word_bytes
 whole_put old word = refl
 
+-- a word that is replaced is a write of its four bytes in the board
 whole_written :
     (words : List ℕ) (i word : ℕ) → i < length words
     → bytes_of_words (set words i word) ≡ bytes_after_write (bytes_of_words words) (4 * i + 0) (word_bytes word)
 whole_written words i word less = word_changed words (word_bytes word) i 0 0 word less (omega (arith, word_len word)) (whole_put (get_or words i 0) word)
 
--- bytes that are written to both words are written whole
+-- two consecutive words that are replaced are a write of their eight bytes
 pub wide_written :
     (words : List ℕ) (at here next : ℕ) → at + 8 ≤ length (bytes_of_words words) → at % 4 ≡ 0
     → bytes_of_words (set (set words (at / 4) here) (at / 4 + 1) next)
@@ -68,7 +70,7 @@ wide_written words at here next within place =
 pub across_there : (words : List ℕ) (at : ℕ) → at + 4 ≤ length (bytes_of_words words) → 0 < at % 4 → at / 4 + 1 < length words
 across_there words at within over = omega (arith, words_len words)
 
--- four bytes that are written across both words are written whole
+-- four bytes that are written across two words are written at their offset in the board
 pub across_written :
     (words : List ℕ) (at here next put_here put_next new : ℕ) → here ≡ get_or words (at / 4) here → next ≡ get_or words (at / 4 + 1) next
     → at + 4 ≤ length (bytes_of_words words) → 0 < at % 4

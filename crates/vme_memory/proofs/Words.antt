@@ -30,13 +30,15 @@ parted words i d less =
 prefix_len : (words : List ℕ) (i : ℕ) → i < length words → length (bytes_of_words (take i words)) ≡ 4 * i
 prefix_len words i less = words_len (take i words) ∙ ap (λ n. 4 * n) (length-take-le i words (omega arith))
 
+-- what is dropped past the first of two lists is dropped from the second
 drop_past : (before rest : List ℕ) (k p : ℕ) → length before ≡ k → drop (k + p) (before ++ rest) ≡ drop p rest
 drop_past before rest k p at = sym (drop-drop p k (before ++ rest)) ∙ ap (drop p) (drop_at before rest k at)
 
+-- what is taken past the first of two lists is the first and a prefix of the second
 take_past : (before rest : List ℕ) (k p : ℕ) → length before ≡ k → take (k + p) (before ++ rest) ≡ before ++ take p rest
 take_past before rest k p at = ap (λ k. take (k + p) (before ++ rest)) (sym at) ∙ take-append-add before rest p
 
--- a part of the middle of three lists
+-- a part of the middle one of three lists is read from it
 middle_read :
     (before own after : List ℕ) (k p n : ℕ) → length before ≡ k → p + n ≤ length own
     → take n (drop (k + p) (before ++ (own ++ after))) ≡ take n (drop p own)
@@ -45,6 +47,7 @@ middle_read before own after k p n at few =
     ap (take n) (drop_past before (own ++ after) k p at ∙ drop-append-le p own after within)
     ∙ take-append-le n (drop p own) after (grind (arith, common_steps))
 
+-- a write in the middle one of three lists changes only it
 middle_written :
     (before own after new : List ℕ) (k p : ℕ) → length before ≡ k → p + length new ≤ length own
     → bytes_after_write (before ++ (own ++ after)) (k + p) new ≡ before ++ (bytes_after_write own p new ++ after)
@@ -56,10 +59,11 @@ middle_written before own after new k p at few =
     ap (λ j. drop j (before ++ (own ++ after))) same ∙ drop_past before (own ++ after) k (p + length new) at ∙ drop-append-le (p + length new) own after few in
     rw (prefix, back) (simp append_assoc)
 
+-- n bytes at an offset are a prefix of the bytes from that offset on
 range_take : (bytes : List ℕ) (at n : ℕ) → slice_range bytes at (at + n) ≡ take n (drop at bytes)
 range_take bytes at n = let same : at + n - at ≡ n = omega arith in ap (λ j. take j (drop at bytes)) same
 
--- the bytes that are read from one word
+-- bytes within one word are read from that word
 pub read_in_word :
     (words : List ℕ) (i p n d : ℕ) → i < length words → p + n ≤ 4
     → slice_range (bytes_of_words words) (4 * i + p) (4 * i + p + n) ≡ slice_range (word_bytes (get_or words i d)) p (p + n)

@@ -6,7 +6,7 @@ use Rattle.vme_memory.specs.declared.command.BoardCmd.TheVariants as given
 use Rattle.vme_memory.specs.Boards.{Board}
 use Rattle.vme_memory.specs.Steps.{Command, LocalRead, LocalWrite, LocalModify, command_of, answer}
 
--- the command of a caller's command; none for a cycle that stands for no command
+-- the command of the step for a caller's command; none for a cycle whose signals have no command
 abbrev pub command_given : BoardCmd → Option Command
 command_given (given.LocalRead offset n) = Some (LocalRead offset n)
 command_given (given.LocalWrite offset bytes) = Some (LocalWrite offset bytes.items)

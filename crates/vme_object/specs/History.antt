@@ -12,7 +12,7 @@ abbrev pub IsLegal : {S C R : Type 0} → (S → C → S × R) → S → List (E
 IsLegal step s [] = Unit {0}
 IsLegal step s (e ∷ h) = (e.reply ≡ (step s e.cmd).1) × IsLegal step (step s e.cmd).0 h
 
--- the entries of the caller who, in order
+-- the entries of the caller with the number who, in order
 abbrev pub own : {C R : Type 0} → ℕ → List (Entry C R) → List (Entry C R)
 own who h = filter (λ e. e.who == who) h
 

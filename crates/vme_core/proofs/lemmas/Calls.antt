@@ -77,7 +77,7 @@ did_call m who (events.Board x cmd) there =
     ]
 did_call m who (events.Bus cmd) there = did_bus m who cmd
 
--- a board that took a command is stored in its place again
+-- the machine in which a board is replaced by its next state is the machine after the call of the event
 pub board_applied : (m self : Machine) (event : Event) (who x : ℕ) (cmd : BoardCmd) (b new : CountedState Board) (reply : Reply) → m ≡ self
     → event ≡ events.Board x cmd → IsThere self (target_of event) → b ≡ slice_index_or m.boards x b
     → (new, reply) ≡ counted_step board_step b who cmd

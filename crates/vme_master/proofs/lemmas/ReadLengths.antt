@@ -34,7 +34,7 @@ offset_below offset addr n count i most within less some end =
 pub same_place : (offset addr distance : ℕ) → offset % 4 ≡ addr % 4 → (offset + distance) % 4 ≡ (addr + distance) % 4
 same_place offset addr distance same = omega arith
 
--- all calls of a job together read at most as many bytes as the job
+-- the most bytes of one call, times the number of calls, are the bytes that the job reads at most
 pub all_bytes : (job : Job) → most_bytes job * call_count job ≡ job_read_len job
 all_bytes (Bus job) = bus_bytes job.transfer.request
   where
@@ -90,6 +90,7 @@ broken_buffer : (job : Job) (i : ℕ) (read : List ℕ) → length read ≤ job_
 broken_buffer (Bus job) i read capacity = capacity
 broken_buffer (Local job) i read capacity = capacity
 
+-- the bound on the bytes that were read holds in the phase at a datum
 datum_buffer : (job : BusJob) (place : Option (ℕ × ℕ)) (i : ℕ) (read : List ℕ) → length read ≤ most_bytes (Bus job) * i
     → length read ≤ job_read_len (Bus job) → HasRead (Bus job) (datum_phase job place i) read
 datum_buffer job None i read so_far capacity = capacity
@@ -99,6 +100,7 @@ datum_buffer job (Some place) i read so_far capacity =
       | inr past ↦ rw past capacity
     ]
 
+-- the bound on the bytes that were read holds in the phase at the next call
 next_buffer : (job : Job) (i : ℕ) (read : List ℕ) → i < call_count job → length read ≤ most_bytes job * (i + 1)
     → length read ≤ job_read_len job → HasRead job (phase_at job (i + 1)) read
 next_buffer (Bus job) i read less so_far capacity = datum_buffer job job.place (i + 1) read so_far capacity

@@ -52,6 +52,7 @@ wide_chosen : (l : Location) (n : ℕ) → chosen_len true l ≡ Some n → ((ro
 wide_chosen Bytes03 n h = (refl, cc)
 wide_chosen l n h = absurd cc
 
+-- without a code of eight-byte data, code and location select as many bytes as the location has
 narrow_chosen : (l : Location) (n : ℕ) → chosen_len false l ≡ Some n → (row_of l).len ≡ n
 narrow_chosen l n h = cc
 
@@ -172,6 +173,7 @@ driven_form board block l at lanes =
       | inr some ↦ rw some refl
     ]
 
+-- the reply to a cycle without a code of eight-byte data has the request's form
 narrow_form :
     (board : Board) (request : Request) (i at : ℕ) (block : Bool) (l : Location) (lanes : List (Option ℕ)) → (row_of l).len ≡ datum_len request
     → has_form (datum_reply_len request) (answer board (narrow_command block (is_none (datum_of request i)) (function_of request) at l lanes)).0 ≡ true
@@ -191,6 +193,7 @@ wide_write_form board at lanes =
       | inr some ↦ rw some refl
     ]
 
+-- the reply to a cycle with a code of eight-byte data has the request's form
 wide_form :
     (board : Board) (request : Request) (i at : ℕ) (l : Location) (lanes : List (Option ℕ)) → (row_of l).len ≡ 4 → datum_len request ≡ 8
     → has_form (datum_reply_len request) (answer board (wide_command (is_none (datum_of request i)) (function_of request) at l lanes)).0 ≡ true

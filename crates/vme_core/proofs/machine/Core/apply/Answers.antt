@@ -1,7 +1,7 @@
 use Rattle.vme_core.proofs.lemmas.Calls.{board_applied}
 use Rattle.vme_core.proofs.machine.Core.apply.Goals as goal
 
--- the board is stored in its place again
+-- the machine in which the board is replaced by its next state is the machine after the call
 pub returns-in_ok-apply-in-Board-clause-step : goal.returns-in_ok-apply-in-Board-clause-step
 returns-in_ok-apply-in-Board-clause-step c =
     board_applied _ c.args.self.now c.args.event.now c.args.who c.in-Board.board c.in-Board.cmd c.index_mut.result.now c.apply.new.self

@@ -2,7 +2,7 @@ use Rattle.vme_memory.specs.Locals.{command_given, answer_given}
 use Rattle.vme_core.proofs.EventRefs.{board_made}
 use Rattle.vme_core.proofs.machine.Core.apply_board.Goals as goal
 
--- the board is stored in its place again
+-- the machine in which the board is replaced by its next state is the machine after the call
 pub returns-clause-step : goal.returns-clause-step
 unfolding answer_given
 returns-clause-step c =
