@@ -97,6 +97,7 @@ pending_not slot levels none =
     (all_listed (λ r. eqb r.slot slot ≡ false) 0 levels (λ k level there. ne_eqb (0 + k) slot (λ at.
     let same : k ≡ slot = omega arith in none level (ap (slice_get levels) (sym same) ∙ there))))
 
+-- whether a slot has a pending request, by what its place has
 pending_by : (slot : ℕ) (levels : List (Option ℕ)) (place : Option (Option ℕ)) → slice_get levels slot ≡ place
     → has_slot slot (requests_of levels) ≡ is_some (option_and_then (λ level. level) place)
 pending_by slot levels None at = pending_not slot levels (λ level there. let not_there = sym at ∙ there in cc)

@@ -43,6 +43,7 @@ before-apart levels a b first same =
 all_four : (ℕ → Bool) → Bool
 all_four test = test 0 && (test 1 && (test 2 && test 3))
 
+-- a test that passes on each of the four levels passes on the last two
 after_two : (test : ℕ → Bool) → all_four test ≡ true → (test 2 && test 3) ≡ true
 unfolding all_four
 after_two test all = (and_parts (test 1) (test 2 && test 3) (and_parts (test 0) (test 1 && (test 2 && test 3)) all).1).1
@@ -67,6 +68,7 @@ each_three test all f a b f< a< b< =
 total_at : ℕ → ℕ → ℕ → Bool
 total_at f a b = eqb a b || (stands_before (level_order f) a b || stands_before (level_order f) b a)
 
+-- all levels in range pass the test, as is computed
 total_everywhere : all_four (λ f. all_four (λ a. all_four (λ b. total_at f a b))) ≡ true
 unfolding all_four total_at
 total_everywhere = refl
@@ -85,9 +87,11 @@ before-total first a b first< a< b< =
 goes_down : ℕ → ℕ → ℕ → Bool
 goes_down f a b = (ltb b a && (not (ltb f a) || ltb f b)) || (not (ltb f a) && ltb f b)
 
+-- whether a level that precedes another by the rule precedes it in the order
 down_at : ℕ → ℕ → ℕ → Bool
 down_at f a b = not (goes_down f a b) || stands_before (level_order f) a b
 
+-- the rule gives the order of all levels in range, as is computed
 down_everywhere : all_four (λ f. all_four (λ a. all_four (λ b. down_at f a b))) ≡ true
 unfolding all_four down_at goes_down
 down_everywhere = refl
@@ -128,6 +132,7 @@ turn_at f granted level =
     not (stands_before (level_order f) granted level)
     || ltb (levels_before (level_order (first_after Rotating granted)) level) (levels_before (level_order f) level)
 
+-- all levels in range pass the test of a rotating grant, as is computed
 turn_everywhere : all_four (λ f. all_four (λ a. all_four (λ b. turn_at f a b))) ≡ true
 unfolding all_four turn_at
 turn_everywhere = refl
@@ -146,6 +151,7 @@ turn-nearer first granted level first< granted< level< before =
 three_at : ℕ → ℕ → Bool
 three_at f level = ltb (levels_before (level_order f) level) 4
 
+-- at most three levels precede each level in range, as is computed
 three_everywhere : all_four (λ f. all_four (λ level. three_at f level)) ≡ true
 unfolding all_four three_at
 three_everywhere = refl

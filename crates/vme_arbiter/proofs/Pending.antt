@@ -13,6 +13,7 @@ use Rattle.vme_arbiter.proofs.Grants.{granted-pends}
 abbrev pub has_slot : ℕ → List BusRequest → Bool
 has_slot slot pending = list_any (λ r. eqb r.slot slot) pending
 
+-- the first two of three alternatives in the other order
 or_swap : (a b c : Bool) → (a || (b || c)) ≡ (b || (a || c))
 or_swap true true c = refl
 or_swap true false c = refl

@@ -32,6 +32,7 @@ pub record IsBlockRow (addr n : ℕ) (l : Location) : Type 0 where
   pub quad : (row_of l).strobes.lword ≡ not ((row_of l).len == 4)
   pub a01 : (row_of l).strobes.a01 ≡ nat_le 2 (addr % 4)
 
+-- a number below four is 0, 1, 2 or 3
 residues : (r : ℕ) → r < 4 → (r ≡ 0) ⊎ ((r ≡ 1) ⊎ ((r ≡ 2) ⊎ (r ≡ 3)))
 residues zero less = inl refl
 residues (suc zero) less = inr (inl refl)
@@ -39,6 +40,7 @@ residues (suc (suc zero)) less = inr (inr (inl refl))
 residues (suc (suc (suc zero))) less = inr (inr (inr refl))
 residues (suc (suc (suc (suc r)))) less = absurd (omega (arith, less))
 
+-- one byte at any address has a block row
 one_byte : (addr r : ℕ) → addr % 4 ≡ r → r < 4 → (l : Location) × IsBlockRow addr 1 l
 unfolding location_at
 one_byte addr r at less =
@@ -53,6 +55,7 @@ one_byte addr r at less =
       ]
     ]
 
+-- two bytes at an even address have a block row
 two_bytes : (addr r : ℕ) → addr % 4 ≡ r → r < 4 → addr % 2 ≡ 0 → (l : Location) × IsBlockRow addr 2 l
 unfolding location_at
 two_bytes addr r at less even =
@@ -67,10 +70,12 @@ two_bytes addr r at less even =
       ]
     ]
 
+-- four bytes at a multiple of four have a block row
 four_bytes : (addr : ℕ) → addr % 4 ≡ 0 → (l : Location) × IsBlockRow addr 4 l
 unfolding location_at
 four_bytes addr at = (Bytes03, record { at = record { found = rw at refl; first = sym at; len = refl }; lword = refl; quad = refl; a01 = rw at refl })
 
+-- eight bytes at a multiple of four have a block row
 eight_bytes : (addr : ℕ) → addr % 4 ≡ 0 → (l : Location) × IsBlockRow addr 8 l
 eight_bytes addr at = (Bytes03, record { at = record { found = refl; first = sym at; len = refl }; lword = refl; quad = refl; a01 = rw at refl })
 

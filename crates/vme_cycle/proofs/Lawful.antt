@@ -19,12 +19,14 @@ use Rattle.vme_cycle.specs.Refusals.{where_true, first_of}
 use Rattle.vme_cycle.specs.Lawful.{first_refusal}
 use Rattle.vme_cycle.proofs.Wide.{wide_is_block, wide_code}
 
+-- two truth values that do not differ are equal
 beq_true : (a b : Bool) → not (beq a b) ≡ false → a ≡ b
 beq_true true true h = refl
 beq_true true false h = absurd cc
 beq_true false true h = absurd cc
 beq_true false false h = refl
 
+-- a truth value whose negation is false is true
 not_false : (b : Bool) → not b ≡ false → b ≡ true
 not_false true h = refl
 not_false false h = absurd cc
@@ -51,6 +53,7 @@ block_lens n h =
       ]
     ]
 
+-- a datum of a block without a code of eight-byte data has one to four bytes
 block_small : (n : ℕ) → is_block_len n ≡ true → (1 ≤ n) × (n ≤ 4)
 block_small n h = elim (block_lens n h) [ inl one ↦ (omega (arith, one), omega (arith, one)) | inr more ↦ elim more [ inl two ↦ (omega (arith, two), omega (arith, two)) | inr four ↦ (omega (arith, four), omega (arith, four)) ] ]
 
@@ -60,10 +63,12 @@ datum_lens true n h = inr (inr (inr (eqb-true n 8 h)))
 datum_lens false n h =
     elim (block_lens n h) [ inl one ↦ inl one | inr more ↦ elim more [ inl two ↦ inr (inl two) | inr four ↦ inr (inr (inl four)) ] ]
 
+-- a datum of a block has one to eight bytes
 data_small : (wide : Bool) (n : ℕ) → is_datum_len wide n ≡ true → (1 ≤ n) × (n ≤ 8)
 data_small true n h = let eight = eqb-true n 8 h in (omega (arith, eight), omega (arith, eight))
 data_small false n h = let few = block_small n h in (few.0, omega (arith, few.1))
 
+-- one to four bytes are one to eight bytes
 up_to_eight : (n : ℕ) → (1 ≤ n) × (n ≤ 4) → (1 ≤ n) × (n ≤ 8)
 up_to_eight n few = (few.0, omega (arith, few.1))
 
@@ -85,6 +90,7 @@ datum_few (BlockWrite am addr n bytes) b h = absurd cc
 datum_few (BlockFill am addr n count bytes) b h = absurd cc
 datum_few (Modify am addr n f) b h = (block_small n (and_parts _ _ h).0).1
 
+-- a block has at least one datum
 some_count : (count : ℕ) → is_block_count count ≡ true → 0 < count
 some_count count h = let some = leb-true 1 count (and_parts _ _ h).0 in omega (arith, some)
 

@@ -25,6 +25,7 @@ all_found holds test (r ∷ rows) row all h =
 abbrev only_blocks : CodeRow → Bool
 only_blocks row = not row.wide || is_block row.kind
 
+-- a row of eight-byte data that passes the test is a block row
 found_block : (row : CodeRow) → row.wide ≡ true → only_blocks row ≡ true → is_block row.kind ≡ true
 found_block row wide only = rw wide at only
 
@@ -43,9 +44,11 @@ wide_is_block code row h wide =
 pub wide_code : (code : ℕ) (row : CodeRow) → read_code code ≡ Ok row → is_wide_code code ≡ row.wide
 wide_code code row h = ap is_wide_row h
 
+-- two numbers are equal if their options are
 some_same : (a b : ℕ) → Some a ≡ Some b → a ≡ b
 some_same a b h = cc
 
+-- with a code of eight-byte data, a location that selects bytes has four
 four_of : (len n : ℕ) → len_with true len ≡ Some n → len ≡ 4
 four_of len n h =
     elim (cases_Bool (len == 4)) [

@@ -18,6 +18,7 @@ last_of_none [] more none = none
 last_of_none (None ∷ prefix) more none = last_of_none prefix more none
 last_of_none (Some fault ∷ prefix) more none = cc
 
+-- if the refusal of a test is absent, the test fails
 not_where_true : (test : Bool) (fault : MapFault) → first_of (where_true test fault ∷ []) ≡ None → test ≡ false
 not_where_true true fault none = cc
 not_where_true false fault none = cc

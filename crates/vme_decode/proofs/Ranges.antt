@@ -7,12 +7,14 @@ use Rattle.vme_am.specs.declared.code.Space.TheVariants.{A16, A24, A32}
 use Rattle.vme_decode.specs.declared.entry.Entry.{Entry}
 use Rattle.vme_decode.specs.Entries.{same_space, end_of, covers, overlap}
 
+-- spaces that the test finds equal are equal
 same_space_is : (a b : Space) → same_space a b ≡ true → a ≡ b
 same_space_is A16 A16 same = refl
 same_space_is A24 A24 same = refl
 same_space_is A32 A32 same = refl
 same_space_is a b same = cc
 
+-- the test finds a space equal to itself
 same_space_self : (a : Space) → same_space a a ≡ true
 same_space_self A16 = refl
 same_space_self A24 = refl

@@ -10,13 +10,15 @@ use Rattle.vme_lanes.specs.declared.location.Location.TheVariants.{Byte0, Byte1,
 use Rattle.vme_lanes.specs.Rows.{row_of}
 use Rattle.vme_memory.specs.Words.{bytes_after_write, word_bytes, part_of, enables_of}
 
--- a byte of a bitwise or, or and, of two numbers is that of their bytes
+-- a byte of the bitwise or of two numbers is the or of their bytes
 byte_or : (a b k : ℕ) → bit_or a b / 2 ^ k % 2 ^ 8 ≡ bit_or (a / 2 ^ k % 2 ^ 8) (b / 2 ^ k % 2 ^ 8)
 byte_or a b k = ap (λ n. n % 2 ^ 8) (or_shr a b k) ∙ or_mod (a / 2 ^ k) (b / 2 ^ k) 8
 
+-- a byte of the bitwise and of two numbers is the and of their bytes
 byte_and : (a b k : ℕ) → bit_and a b / 2 ^ k % 2 ^ 8 ≡ bit_and (a / 2 ^ k % 2 ^ 8) (b / 2 ^ k % 2 ^ 8)
 byte_and a b k = ap (λ n. n % 2 ^ 8) (and_shr a b k) ∙ and_mod (a / 2 ^ k) (b / 2 ^ k) 8
 
+-- under the mask of eight ones, a byte is unchanged
 whole_byte : (n : ℕ) → bit_and (n % 2 ^ 8) 255 ≡ n % 2 ^ 8
 whole_byte n = and_mask (n % 2 ^ 8) 8 ∙ omega arith
 
@@ -48,10 +50,12 @@ put_byte word new mask k zeros ones =
 low_byte : (n : ℕ) → n / 2 ^ 0 % 2 ^ 8 ≡ n % 256
 low_byte n = omega arith
 
+-- where the mask is zero, the lowest byte of the word stays
 kept_low :
     (word new mask : ℕ) → bit_not w32 mask / 2 ^ 0 % 2 ^ 8 ≡ 255 → mask / 2 ^ 0 % 2 ^ 8 ≡ 0 → merged word new mask % 256 ≡ word % 256
 kept_low word new mask ones zeros = sym (low_byte (merged word new mask)) ∙ kept_byte word new mask 0 ones zeros ∙ low_byte word
 
+-- where the mask is all ones, the lowest byte is that of the other word
 put_low :
     (word new mask : ℕ) → bit_not w32 mask / 2 ^ 0 % 2 ^ 8 ≡ 0 → mask / 2 ^ 0 % 2 ^ 8 ≡ 255 → merged word new mask % 256 ≡ new % 256
 put_low word new mask zeros ones = sym (low_byte (merged word new mask)) ∙ put_byte word new mask 0 zeros ones ∙ low_byte new

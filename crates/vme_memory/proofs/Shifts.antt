@@ -10,13 +10,15 @@ use Rattle.vme_lanes.specs.Rows.{row_of}
 use Rattle.vme_memory.specs.Words.{bytes_after_write, word_bytes, part_of, enables_of}
 use Rattle.vme_memory.proofs.Enables.{merged, merged_bytes, four}
 
--- two lists of one, two or three elements that agree at each place are equal
+-- two lists of one element that agree are equal
 one : (a e : ℕ) → a ≡ e → (a ∷ []) ≡ (e ∷ [])
 one a e p = cc
 
+-- two lists of two elements that agree at each place are equal
 two : (a b e f : ℕ) → a ≡ e → b ≡ f → (a ∷ b ∷ []) ≡ (e ∷ f ∷ [])
 two a b e f p q = cc
 
+-- two lists of three elements that agree at each place are equal
 three : (a b c e f g : ℕ) → a ≡ e → b ≡ f → c ≡ g → (a ∷ b ∷ c ∷ []) ≡ (e ∷ f ∷ g ∷ [])
 three a b c e f g p q r = cc
 

@@ -99,11 +99,12 @@ handed-orderly bus (Some next) is_next orderly =
       free = λ idle. cc;
     }
 
--- a new request and a release keep the kind
+-- a new request keeps the kind
 taken-kind : (holder : Option ℕ) (bus : Arbitration) (new : BusRequest) → (lawful_ask holder bus new).0.kind ≡ bus.kind
 taken-kind None bus new = refl
 taken-kind (Some h) bus new = refl
 
+-- a release keeps the kind
 handed-kind : (next : Option BusRequest) (bus : Arbitration) → (bus_after_release next bus).kind ≡ bus.kind
 handed-kind None bus = refl
 handed-kind (Some next) bus = refl

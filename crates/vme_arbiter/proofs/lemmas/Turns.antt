@@ -23,6 +23,7 @@ use Rattle.vme_arbiter.proofs.lemmas.Orderly.{orderly-step, orderly-opening}
 abbrev is_held_by : Option ℕ → ℕ → Bool
 is_held_by holder slot = option_map_or (λ h. eqb h slot) holder false
 
+-- a slot that the test finds to be the holder is the holder
 held_by-some : (holder : Option ℕ) (slot : ℕ) → is_held_by holder slot ≡ true → holder ≡ Some slot
 held_by-some None slot held = cc
 held_by-some (Some h) slot held = ap (λ (s : ℕ). Some s) (eqb-true h slot held)
@@ -39,13 +40,14 @@ may_give-slot slot (Some Waiting) (Look s) may = eqb-true s slot may
 may_give-slot slot (Some Granted) (Done s) may = eqb-true s slot may
 may_give-slot slot last cmd may = cc
 
--- a slot that neither holds nor waits holds or waits after its request, as the reply states
+-- after a valid request, the slot holds or waits as the reply states
 taken-fits : (holder : Option ℕ) (bus : Arbitration) (slot level : ℕ)
     → StandsAsReplied (lawful_ask holder bus (bus_request level slot)).0 slot (Some (lawful_ask holder bus (bus_request level slot)).1)
 taken-fits None bus slot level = eq-eqb slot slot refl
 taken-fits (Some h) bus slot level =
     inr (has_slot-with slot (bus_request level slot) bus.pending ∙ or_left _ _ (eq-eqb slot slot refl))
 
+-- after a request by a slot that neither holds nor waits, the slot holds or waits as the reply states
 ask-fits : (bus : Arbitration) (slot level : ℕ) → is_slot slot ≡ true → is_level level ≡ true → holds bus slot ≡ false
     → pends bus slot ≡ false → StandsAsReplied (ask_step bus slot level).0 slot (Some (ask_step bus slot level).1)
 ask-fits bus slot level slot_ok level_ok not_holds not_pends =

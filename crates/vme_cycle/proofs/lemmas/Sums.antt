@@ -31,6 +31,7 @@ number_onto (suc len) n before rest =
 pub number_of-number_bytes : (len n : ℕ) → number_of (number_bytes len n) ≡ n % 256 ^ len
 number_of-number_bytes len n = number_onto len n 0 [] ∙ omega arith
 
+-- the last len bytes of a number, followed by some bytes, are len more than these
 onto_len : (len n : ℕ) (rest : List ℕ) → length (bytes_onto len n rest) ≡ len + length rest
 onto_len zero n rest = omega arith
 onto_len (suc len) n rest = onto_len len (n / 256) ((n % 256) ∷ rest) ∙ omega arith
@@ -39,9 +40,11 @@ onto_len (suc len) n rest = onto_len len (n / 256) ((n % 256) ∷ rest) ∙ omeg
 pub length-number_bytes : (len n : ℕ) → length (number_bytes len n) ≡ len
 length-number_bytes len n = onto_len len n [] ∙ omega arith
 
+-- a number is a byte
 abbrev IsByte : ℕ → Type 0
 IsByte byte = byte < 256
 
+-- the last bytes of a number, followed by bytes, are bytes
 onto_small : (len n : ℕ) (rest : List ℕ) → AllByRecursion IsByte rest → AllByRecursion IsByte (bytes_onto len n rest)
 onto_small zero n rest small = small
 onto_small (suc len) n rest small = onto_small len (n / 256) ((n % 256) ∷ rest) (omega arith, small)
@@ -70,6 +73,7 @@ number_before (byte ∷ bytes) before =
     higher : (p low : ℕ) → (256 * before + byte) * p + low ≡ before * (p * 256) + ((256 * 0 + byte) * p + low)
     higher p low = grind arith
 
+-- bytes spell a number below a power of 256, by recursion
 number_small : (bytes : List ℕ) → AllByRecursion IsByte bytes → number_of bytes < 256 ^ length bytes
 number_small [] small = omega arith
 number_small (byte ∷ bytes) small =

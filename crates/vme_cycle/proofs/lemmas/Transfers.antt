@@ -23,6 +23,7 @@ pub record ComesFrom (request : Request) (t : Transfer) : Type 0 where
   pub row : read_code (code_of request) ≡ Ok t.am
   pub none : first_refusal request ≡ None
 
+-- a transfer comes from its request, by the refusal and the row of the code
 comes_by :
     (request : Request) (t : Transfer) (refusal : Option CycleFault) (found : Result CodeRow AmFault) → first_refusal request ≡ refusal
     → read_code (code_of request) ≡ found → refusal_or refusal (transfer_with request found) ≡ Ok t → ComesFrom request t

@@ -31,6 +31,7 @@ abbrev MakesOwn : LocalJob → NextStep Outcome → Type 0
 MakesOwn j (Invokes call) = call ≡ local_call j
 MakesOwn j next = Unit {0}
 
+-- after a call and a reply, a local command makes no other call than its own
 own_row : (j : LocalJob) (call : Call) (reply : EventReply) (g : Inputs) → MakesOwn j (next_after (Local j) (Invokes call) (Some reply) g)
 own_row j call (replies.Board (Bytes datum)) g =
     elim (cases_Bool (fits call (replies.Board (Bytes datum)))) [ inl fit ↦ rw fit tt | inr misfit ↦ rw misfit tt ]
@@ -38,6 +39,7 @@ own_row j call (replies.Board Done) g = elim (cases_Bool (fits call (replies.Boa
 own_row j call (replies.Board Berr) g = elim (cases_Bool (fits call (replies.Board Berr))) [ inl fit ↦ rw fit tt | inr misfit ↦ rw misfit tt ]
 own_row j call (replies.Bus reply) g = elim (cases_Bool (fits call (replies.Bus reply))) [ inl fit ↦ rw fit tt | inr misfit ↦ rw misfit tt ]
 
+-- after one input more, a local command makes no other call than its own
 own_step : (j : LocalJob) (next : NextStep Outcome) (last : Option EventReply) (g : Inputs) → MakesOwn j (next_after (Local j) next last g)
 own_step j NotStarted None g = refl
 own_step j NotStarted (Some reply) g = tt
@@ -72,6 +74,7 @@ pub board_fits : (m : Board) (board : ℕ) (command : Option Command) → fits (
 board_fits m board None = refl
 board_fits m board (Some command) = reply_form m command
 
+-- the reply to a valid request fits it
 ask_fits : (holder : Option ℕ) (bus : Arbitration) (slot level : ℕ)
     → answers_command (arb_commands.Ask slot level) (lawful_ask holder bus (bus_request level slot)).1 ≡ true
 ask_fits None bus slot level = refl
