@@ -11,13 +11,13 @@ use Rattle.vme_grammar.specs.Canonical.{IsFill, AreData, IsFunction, set, exchan
 use Rattle.vme_grammar.proofs.Words.{IsWord, only_word, first_word, exact_is_word, decimal_is_word}
 use Rattle.vme_grammar.proofs.Spelled.{apart}
 
--- two words with a space between
+-- a text of two words with one space between has these two words
 pub two_words : (text first rest second : List ℕ) (len : ℕ) → first ≡ take len text → rest ≡ drop len text → rest ≡ 32 ∷ second → IsWord first
     → IsWord second → words text ≡ first ∷ second ∷ []
 two_words text first rest second len prefix back space one other =
     ap words (apart len text first rest second prefix back space) ∙ first_word first second one ∙ ap (λ more. first ∷ more) (only_word second other)
 
--- COUNT HEX
+-- `COUNT HEX` is a number of data and a datum
 pub fill_is :
     (n count len : ℕ) (text first rest second : List ℕ) (bytes : ArrayVec ℕ) → first ≡ take len text → rest ≡ drop len text → rest ≡ 32 ∷ second
     → decimal_number 4 first ≡ Some count → Some bytes.items ≡ exact_bytes n second → IsFill n (words text) count bytes
@@ -29,7 +29,7 @@ fill_is n count len text first rest second bytes prefix back space number datum 
   datum = sym datum;
 }
 
--- HEX HEX
+-- `HEX HEX` is two data
 pub data_are :
     (n len : ℕ) (text first rest second : List ℕ) (expect put : ArrayVec ℕ) → first ≡ take len text → rest ≡ drop len text → rest ≡ 32 ∷ second
     → Some expect.items ≡ exact_bytes n first → Some put.items ≡ exact_bytes n second → AreData n (words text) expect put
@@ -41,26 +41,26 @@ data_are n len text first rest second expect put prefix back space expected datu
   datum = sym datum;
 }
 
--- set
+-- `set` is the function that sets bit 7
 pub set_is : (n : ℕ) (text : List ℕ) → bytes_eq text (codes "set") ≡ true → IsFunction n (words text) modifies.Set
 set_is n text same =
     subst (λ (ws : List (List ℕ)). IsFunction n ws modifies.Set) (sym (ap words ((bytes_eq-Decides text (codes "set")).0 same))) set
 
--- a name and a datum
+-- a text of a name, a space and a datum has two words, the name and the datum
 named :
     (n : ℕ) (name text hex bytes : List ℕ) → text ≡ name ++ 32 ∷ hex → words (name ++ 32 ∷ hex) ≡ name ∷ words hex → exact_bytes n hex ≡ Some bytes
     → words text ≡ name ∷ hex ∷ []
 named n name text hex bytes is cut datum =
     ap words is ∙ cut ∙ ap (λ more. name ∷ more) (only_word hex (exact_is_word n bytes hex datum))
 
--- add HEX
+-- `add HEX` is the function that adds a datum
 pub add_is :
     (n : ℕ) (text hex : List ℕ) (by : ArrayVec ℕ) → text ≡ codes "add" ++ 32 ∷ hex → Some by.items ≡ exact_bytes n hex
     → IsFunction n (words text) (modifies.Add by)
 add_is n text hex by is datum =
     subst (λ (ws : List (List ℕ)). IsFunction n ws (modifies.Add by)) (sym (named n (codes "add") text hex by.items is refl (sym datum))) (add (sym datum))
 
--- xchg HEX
+-- `xchg HEX` is the function that writes a datum
 pub exchange_is :
     (n : ℕ) (text hex : List ℕ) (put : ArrayVec ℕ) → text ≡ codes "xchg" ++ 32 ∷ hex → Some put.items ≡ exact_bytes n hex
     → IsFunction n (words text) (modifies.Exchange put)
@@ -68,7 +68,7 @@ exchange_is n text hex put is datum =
     subst (λ (ws : List (List ℕ)). IsFunction n ws (modifies.Exchange put)) (sym (named n (codes "xchg") text hex put.items is refl (sym datum)))
     (exchange (sym datum))
 
--- cas HEX HEX
+-- `cas HEX HEX` is the function that compares with a datum and writes another
 pub compare_is :
     (n : ℕ) (text both_hex : List ℕ) (expect put : ArrayVec ℕ) → text ≡ codes "cas" ++ 32 ∷ both_hex → AreData n (words both_hex) expect put
     → IsFunction n (words text) (modifies.Compare expect put)

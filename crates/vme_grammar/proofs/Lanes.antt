@@ -2,13 +2,13 @@
 use Rattle.std.proofs.Common.{◌≡◌, ℕ, List, [], ◌∷◌, ◌++◌, length, Option, None, Some, true, false, slice_index_or, refl, ap, ◌∙◌, arith}
 use Rattle.vme_grammar.specs.Texts.{lane_text, lanes_text, reported_lanes}
 
--- a data lane's two digits, and then a text
+-- the two digits of a data lane before a text are the data lane's text before it
 two_digits :
     (lane : Option ℕ) (rest : List ℕ) → slice_index_or (lane_text lane) 0 0 ∷ (slice_index_or (lane_text lane) 1 0 ∷ rest) ≡ lane_text lane ++ rest
 two_digits None rest = refl
 two_digits (Some byte) rest = refl
 
--- the digits of lanes, one after another
+-- the digits of data lanes, in order
 abbrev digits : List (Option ℕ) → List ℕ
 digits [] = []
 digits (lane ∷ lanes) = slice_index_or (lane_text lane) 0 0 ∷ (slice_index_or (lane_text lane) 1 0 ∷ digits lanes)
@@ -19,10 +19,11 @@ digits_are (lane ∷ lanes) =
     ap (λ rest. slice_index_or (lane_text lane) 0 0 ∷ (slice_index_or (lane_text lane) 1 0 ∷ rest)) (digits_are lanes)
     ∙ two_digits lane (lanes_text lanes)
 
--- the digits of a data lane that were taken
+-- the first two digits of a text, before a rest
 abbrev taken : List ℕ → List ℕ → List ℕ
 taken text rest = slice_index_or text 0 0 ∷ (slice_index_or text 1 0 ∷ rest)
 
+-- the digits of the last four of eight data lanes are their text
 pub last_four :
     (lanes : List (Option ℕ)) (first second third last : List ℕ) → length lanes ≡ 8
     → first ≡ lane_text (slice_index_or lanes 4 None) → second ≡ lane_text (slice_index_or lanes 5 None)
@@ -32,6 +33,7 @@ last_four (a ∷ b ∷ c ∷ d ∷ e ∷ f ∷ g ∷ h ∷ []) first second thir
     rw (e1, e2, e3, e4) (digits_are (e ∷ f ∷ g ∷ h ∷ []))
 last_four lanes first second third last len e1 e2 e3 e4 = absurd (omega (arith, len))
 
+-- the digits of eight data lanes are their text
 pub all_eight :
     (lanes : List (Option ℕ)) (first second third fourth fifth sixth seventh last : List ℕ) → length lanes ≡ 8
     → first ≡ lane_text (slice_index_or lanes 0 None) → second ≡ lane_text (slice_index_or lanes 1 None)

@@ -21,7 +21,7 @@ use Rattle.vme_grammar.specs.Naming.{function_of, line_by, line_named}
 use Rattle.vme_grammar.specs.Modifies.{field_place, operand_count, modify_of, modify_line, local_modify_line}
 use Rattle.vme_grammar.proofs.Cases.{cases_Option, cases_Result, same_count}
 
--- the places after the name of a function are those of its data
+-- a read-modify-write over the bus has four words after the first, and one for each datum of its function
 bus_places : (function : Function) → length (drop 1 (fields_of (form.Modify function))) ≡ operand_count function + 4
 bus_places Set = refl
 bus_places Exchange = refl
@@ -34,7 +34,7 @@ local_places Exchange = refl
 local_places Add = refl
 local_places Compare = refl
 
--- a line that is read
+-- the result with a line and no refusal
 abbrev reported : Line → Result Line LineFault
 reported line = Ok line
 
@@ -74,7 +74,7 @@ data_read whole Compare o name (x ∷ y ∷ []) count =
     ]
 data_read whole Compare o name (x ∷ y ∷ z ∷ rest) count = absurd (omega (arith, eqb-true (length (x ∷ y ∷ z ∷ rest)) 2 count))
 
--- AM ADDR N FUNC, with the name of the function known
+-- the line of `m`, if the fourth word after it names a function
 modify_by :
     (function : Function) (a b c name : List ℕ) (rest : List (List ℕ)) → function_of (Some name) ≡ Ok function
     → modify_line (a ∷ b ∷ c ∷ name ∷ rest) ≡ line_by (form.Modify function) (a ∷ b ∷ c ∷ name ∷ rest)
@@ -100,7 +100,7 @@ modify_by function a b c name rest is =
       ]
     ]
 
--- OFF N FUNC, with the name of the function known
+-- the line of `lm`, if the third word after it names a function
 local_modify_by :
     (function : Function) (a b name : List ℕ) (rest : List (List ℕ)) → function_of (Some name) ≡ Ok function
     → local_modify_line (a ∷ b ∷ name ∷ rest) ≡ line_by (form.LocalModify function) (a ∷ b ∷ name ∷ rest)
@@ -123,12 +123,12 @@ local_modify_by function a b name rest is =
       ]
     ]
 
--- a function that is absent
+-- an absent name of a function is a wrong number of words
 no_function : function_of None ≡ Err WordCount
 unfolding function_of
 no_function = refl
 
--- the function that the words name
+-- the line of a read-modify-write over the bus, by the function that its words name
 bus_named :
     (first function : Function) (words : List (List ℕ)) → function_of (slice_get words 3) ≡ Ok function
     → line_by (form.Modify function) words ≡ line_named (form.Modify first) words

@@ -15,7 +15,7 @@ use Rattle.vme_grammar.specs.Forms.{Place, Word, Of, places, fields_of, forms}
 use Rattle.vme_grammar.specs.Grammar.{go_by, form_of, operands_of, line_of_words}
 use Rattle.vme_grammar.specs.Naming.{form_named, function_of, with_function, line_by, line_named}
 
--- six bytes that name a form
+-- the six bytes of `unlock` name the form Unlock
 pub unlock_named :
     (word : List ℕ) → 6 ≤ length word → length word < 7 → slice_index_or word 0 0 ≡ 117 → slice_index_or word 1 0 ≡ 110
     → slice_index_or word 2 0 ≡ 108 → slice_index_or word 3 0 ≡ 111 → slice_index_or word 4 0 ≡ 99 → slice_index_or word 5 0 ≡ 107
@@ -30,13 +30,13 @@ unlock_named (p ∷ q ∷ r ∷ s ∷ t ∷ []) long short u n l o c k = absurd 
 unlock_named (p ∷ q ∷ r ∷ s ∷ t ∷ v ∷ []) long short u n l o c k = rw (u, n, l, o, c, k) refl
 unlock_named (p ∷ q ∷ r ∷ s ∷ t ∷ v ∷ w ∷ more) long short u n l o c k = absurd (omega (arith, short))
 
--- no words match every list of places
+-- the empty list of words matches any places if an absent word counts as a match
 go_by_none : (more : List Place) → go_by true more [] ≡ true
 go_by_none [] = refl
 go_by_none (Word text ∷ more) = go_by_none more
 go_by_none (Of field ∷ more) = go_by_none more
 
--- if the first word does not match, more words do not help
+-- if the first word alone does not match, it does not match with more words after it
 first_fails :
     (some : List Place) (word : List ℕ) (words : List (List ℕ)) → go_by true some (word ∷ []) ≡ false
     → go_by true some (word ∷ words) ≡ false
@@ -63,7 +63,7 @@ pub unnamed : (word : List ℕ) (words : List (List ℕ)) → form_named word �
 unfolding form_named form_of
 unnamed word words none = rw (none_named forms word words none) refl
 
--- the test by which a form was found
+-- a form that `find` returns passes the test
 pub find_passes : (p : LineForm → Bool) (some : List LineForm) (form : LineForm) → find p some ≡ Some form → p form ≡ true
 find_passes p [] form found = absurd (cc)
 find_passes p (x ∷ some) form found =
@@ -159,7 +159,7 @@ own_first Unlock = refl
 own_first Put = refl
 own_first Take = refl
 
--- a line that begins with the first word of a form has that form, if it names its function
+-- words that begin with the first word of a form have that form, with the function that they name
 pub own_word : (form : LineForm) (words : List (List ℕ)) → form_of (word_of form ∷ words) ≡ with_function form words
 unfolding form_of
 own_word Read words = refl
@@ -177,7 +177,7 @@ own_word Unlock words = refl
 own_word Put words = refl
 own_word Take words = refl
 
--- the form that a word names is that of the line, if the line names its function
+-- the form of words is the one that their first word names, with the function that they name
 pub named :
     (word : List ℕ) (words : List (List ℕ)) (form : LineForm) → form_named word ≡ Some form
     → form_of (word ∷ words) ≡ with_function form words
@@ -186,7 +186,7 @@ named word words form found =
     let passes = find_passes (λ form. go_by true (places form) (word ∷ [])) forms form found in
     rw (first_is (word_of form) (places form) word (own_first form) passes) (own_word form words)
 
--- for a fixed word, there is nothing left to read
+-- a fixed word adds no operand
 by_more :
     (more : List Field) (word : List ℕ) (words : List (List ℕ)) → operands_of (Name ∷ more) (word ∷ words) ≡ operands_of more words
 unfolding operands_of with_field

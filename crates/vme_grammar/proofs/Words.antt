@@ -83,7 +83,7 @@ hex_pairs_unspaced bytes (c ∷ d ∷ cs) read =
       ]
     ]
 
--- the value of a conditional that is present: the test holds
+-- if a conditional with an absent alternative is present, its test holds
 cond_is : {A : Type 0} (b : Bool) (value : Option A) (x : A) → (if b then value else None) ≡ Some x → (b ≡ true) × (value ≡ Some x)
 cond_is true value x is = (refl, is)
 cond_is false value x is = absurd (cc)

@@ -6,8 +6,8 @@ use Rattle.vme_grammar.specs.declared.fault.LineFault.TheVariants.{UnknownWord, 
 use Rattle.vme_grammar.specs.Operands.{Operands}
 use Rattle.vme_lexer.specs.Numbers.{hex_number, hex_bytes, exact_bytes, local_bytes, small_number, local_number, decimal_number}
 
--- a field of a line; Name is a function's name, which the form gives already; Expected and Datum have the length given
--- before; FourBytes is a word of a mailbox, the most significant byte first
+-- a field of a line; Name is a fixed word, which adds no operand; Expected and Datum have the length that an earlier
+-- field states; FourBytes is a word of a mailbox, the most significant byte first
 pub data Field : Type 0 where
   Name : Field
   Code : Field

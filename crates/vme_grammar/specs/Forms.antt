@@ -53,7 +53,7 @@ places Unlock = Word (codes "unlock") ∷ fields (Code ∷ Address ∷ [])
 places Put = Word (codes "put") ∷ fields (Mailbox ∷ FourBytes ∷ [])
 places Take = Word (codes "take") ∷ fields (Mailbox ∷ [])
 
--- the field that a place is read as; for a fixed word there is nothing left to read
+-- the field that a place is read as; a fixed word is read as Name, which adds no operand
 abbrev pub field_at : Place → Field
 field_at (Word text) = Name
 field_at (Of field) = field
@@ -62,7 +62,7 @@ field_at (Of field) = field
 abbrev pub fields_of : LineForm → List Field
 fields_of form = map field_at (places form)
 
--- all functions, as a list that a search computes on
+-- all functions of a read-modify-write
 abbrev pub functions : List Function
 functions = Set ∷ Exchange ∷ Add ∷ Compare ∷ []
 

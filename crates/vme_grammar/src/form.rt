@@ -34,8 +34,8 @@ pub(crate) enum LineForm {
 }
 
 impl LineForm {
-    /// The first form that begins with `word`. For a read-modify-write, the function is not yet
-    /// known.
+    /// The first form that begins with `word`. For a read-modify-write, the form has the function
+    /// `Set`, whatever function the line names.
     #[tactic(auto, unfolding(crate::specs::Naming::form_named), using(crate::proofs::Naming::unlock_named))]
     fn named(word: &[u8]) -> Option<LineForm>
         ensures { result ≡ form_named word.now }

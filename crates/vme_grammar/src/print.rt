@@ -1,5 +1,5 @@
-//! The texts of signals, outcomes and refusals, appended to a buffer. Each function appends a whole
-//! line, or leaves the buffer's text as it was if an allocation fails.
+//! The texts of signals, outcomes and refusals, appended to a buffer. Each public function appends
+//! its whole text, or leaves the buffer's text unchanged if an allocation fails.
 ghost use Rattle.std.specs.Prelude.{◌≡◌, ◌+◌, ◌*◌, ◌<◌, ◌≤◌, ◌++◌, length, true, false, vec_len, vec_capacity, OnOk, OnErr, codes};
 ghost use Rattle.std.specs.Int.{w32, to_be_bytes};
 ghost use Rattle.vme_lanes.specs.Rows.{row_of};

@@ -10,7 +10,7 @@ use Rattle.std.proofs.lemmas.List.Sums.{position_or_len_is, passes_at_first}
 use Rattle.memchr.specs.Find.{IsFirstByte}
 use Rattle.vme_lexer.specs.Words.{words, is_nonempty, IsCut, IsUncut}
 
--- the test of a byte
+-- whether a byte is `byte`
 abbrev is_byte : ℕ → ℕ → Bool
 is_byte byte = λ b. b == byte
 

@@ -10,7 +10,7 @@ use Rattle.vme_lexer.specs.Numbers.{hex_digit, hex_from, hex_pairs, hex_bytes}
 abbrev pub Counts : Option ℕ → ℕ → Type 0
 Counts digit count = MatchOption digit (count ≡ 2 ^ 32) (λ d. (count ≡ d) × (d < 16))
 
--- the decision of `Counts`
+-- whether `Counts` holds
 abbrev pub is_count : Option ℕ → ℕ → Bool
 is_count None count = nat_eq count 4294967296
 is_count (Some d) count = nat_eq count d && nat_lt d 16
@@ -26,6 +26,7 @@ unfoldable pub counts_below : List ℕ → ℕ → Bool
 counts_below table zero = true
 counts_below table (suc n) = is_count (hex_digit n) (get_or table n 0) && counts_below table n
 
+-- no byte counts as more than 2 ^ 32
 pub most_count : (digit : Option ℕ) (count : ℕ) → Counts digit count → count ≤ 2 ^ 32
 most_count None count counts = omega (arith, counts)
 most_count (Some d) count counts = omega (arith, counts.0, counts.1)
@@ -42,7 +43,7 @@ counts_at table (suc n) c all less =
     let both = both_true (is_count (hex_digit n) (get_or table n 0)) (counts_below table n) all in
     elim (cases_eq c n) [ inl same ↦ rw same (count_of (hex_digit n) (get_or table n 0) both.0) | inr other ↦ counts_at table n c both.1 (omega arith) ]
 
--- a number below 2 ^ 32 is that of k digits; for any other number, a byte of the word is no digit
+-- the number after k bytes of a word: below 2 ^ 32 it is the one that they spell; otherwise the word spells no number
 pub record IsRead (n k : ℕ) (rest word : List ℕ) : Type 0 where
   pub read : n < 2 ^ 32 → hex_from n rest ≡ hex_from 0 word
   pub small : n < 2 ^ 32 → n < 16 ^ k
@@ -80,7 +81,7 @@ buffer_for n k count digit few counts capacity =
     let low : count ≤ 2 ^ 32 = most_count digit count counts in
     omega (arith, high, capacity, low)
 
--- one more byte is read
+-- one more byte keeps `IsRead`
 pub read_more :
     (n k c count : ℕ) (rest word : List ℕ) → k < 8 → Counts (hex_digit c) count → IsRead n k (c ∷ rest) word → IsRead (16 * n + count) (k + 1) rest word
 read_more n k c count rest word few counts so = read_by n k c count rest word (hex_digit c) few refl counts so
@@ -89,7 +90,7 @@ read_more n k c count rest word few counts so = read_by n k c count rest word (h
 abbrev pub with_prefix : List ℕ → Option (List ℕ) → Option (List ℕ)
 with_prefix prefix bytes = option_map (λ bs. prefix ++ bs) bytes
 
--- a prefix of two parts is two prefixes
+-- to add two lists as one prefix is to add the second and then the first
 with_prefix-append : (prefix bytes : List ℕ) (read : Option (List ℕ)) → with_prefix (prefix ++ bytes) read ≡ with_prefix prefix (with_prefix bytes read)
 with_prefix-append prefix bytes None = refl
 with_prefix-append prefix bytes (Some bs) = ap Some (append_assoc prefix bytes bs)
@@ -106,15 +107,15 @@ hex_pairs-more bytes new (c ∷ d ∷ cs) tail high low long first second pushed
     ∙ with_prefix-append bytes ((16 * high + low) ∷ []) (hex_pairs cs)
     ∙ rw (first, second) refl
 
--- a sum below 2 ^ 32 is that of bytes, and the rest spells those after them; for any other sum, a byte of the word is
--- no digit
+-- the sum of the pairs so far: below 2 ^ 32 the word spells `bytes` and then what the rest spells; otherwise the word
+-- spells no bytes
 pub record IsSpelled (bytes : List ℕ) (sum : ℕ) (rest word : List ℕ) : Type 0 where
   pub spelled : sum < 2 ^ 32 → with_prefix bytes (hex_pairs rest) ≡ hex_pairs word
   pub small : sum < 2 ^ 32 → sum ≤ 255 * length bytes
   pub unspelled : 2 ^ 32 ≤ sum → hex_pairs word ≡ None
   pub capacity : sum ≤ 17 * 2 ^ 32 * length bytes
 
--- two bytes that are not a pair of digits
+-- if one of the first two bytes is no digit, the list spells no bytes
 unpaired :
     (rest : List ℕ) (first second : Option ℕ) → 2 ≤ length rest → hex_digit (get_or rest 0 0) ≡ first → hex_digit (get_or rest 1 0) ≡ second
     → (first ≡ None) ⊎ (second ≡ None) → hex_pairs rest ≡ None
@@ -125,7 +126,7 @@ unpaired (c ∷ d ∷ cs) (Some a) None long one two none = rw (one, two) refl
 unpaired (c ∷ d ∷ cs) (Some a) (Some b) long one two (inl none) = cc
 unpaired (c ∷ d ∷ cs) (Some a) (Some b) long one two (inr none) = cc
 
--- a pair that spells no byte
+-- a pair that spells no byte keeps `IsSpelled`
 spelled_none :
     (bytes new : List ℕ) (sum pair : ℕ) (rest tail word : List ℕ) → 2 ^ 32 ≤ pair → pair ≤ 17 * 2 ^ 32 → hex_pairs rest ≡ None → length new ≡ length bytes + 1
     → IsSpelled bytes sum rest word → IsSpelled new (sum + pair) tail word
@@ -159,7 +160,7 @@ spelled_by bytes new sum high low rest tail word (Some a) (Some b) few long one 
       capacity = omega (arith, so.capacity, longer, high_is.0, high_is.1, low_is.0, low_is.1);
     }
 
--- one more pair is spelled
+-- one more pair keeps `IsSpelled`
 pub spelled_more :
     (bytes new : List ℕ) (sum high low : ℕ) (rest tail word : List ℕ) → length bytes < 256 → 2 ≤ length rest → Counts (hex_digit (get_or rest 0 0)) high
     → Counts (hex_digit (get_or rest 1 0)) low → new ≡ bytes ++ ((16 * high + low) % 256) ∷ [] → tail ≡ drop 2 rest → length new ≡ length bytes + 1

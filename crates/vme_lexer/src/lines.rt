@@ -7,6 +7,7 @@ use crate::parts::cut_far;
 
 const LINE_END: u8 = b'\n';
 
+/// The line without the CR at its end, if it ends with CR.
 fn without_return(line: &[u8]) -> &[u8]
     ensures { result.now ≡ strip_carriage_return line.now }
 {

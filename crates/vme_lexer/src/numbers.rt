@@ -83,7 +83,7 @@ pub fn hex_bytes<const MOST: usize>(word: &[u8]) -> Option<ArrayVec<u8, MOST>>
 
 /// Returns the bytes that `word` spells if they are exactly `len`, two hexadecimal digits a byte.
 ///
-/// Returns `None` otherwise, and where `len` is 0 or more than 8.
+/// Returns `None` otherwise, and if `len` is 0 or more than 8.
 #[tactic(auto, unfolding(crate::specs::Numbers::exact_bytes))]
 pub fn exact_bytes(len: u8, word: &[u8]) -> Option<Datum>
     ensures { option_map (λ bytes. bytes.items) result ≡ exact_bytes len word.now }
@@ -130,6 +130,7 @@ pub fn local_bytes(word: &[u8]) -> Option<Datum>
     }
 }
 
+/// The value of `c` as a decimal digit, or `None` if it is not a digit.
 fn decimal_digit(c: u8) -> Option<u8>
     ensures value { result ≡ decimal_digit c }
     ensures small { IfSome result (λ d. d < 10) }
