@@ -35,7 +35,8 @@ pub struct ClassTable {
     pub rmw: bool,
 }
 
-/// The values of a table `board`.
+/// The values of a table `board`: its slot, its request level, its range, its class, and the text
+/// of its processor's script.
 #[derive(Drop)]
 pub struct BoardTable<'a> {
     pub slot: u32,
@@ -59,7 +60,8 @@ impl<'a> Model for BoardTable<'a> {
     } };
 }
 
-/// The values of a table `mailbox`.
+/// The values of a table `mailbox`: its address modifier code, its address, and its number of
+/// slots.
 #[derive(Clone, Copy)]
 pub struct MailboxTable {
     pub am: u32,
@@ -67,7 +69,8 @@ pub struct MailboxTable {
     pub slots: u32,
 }
 
-/// The values of a file.
+/// The values of a file: the name of the arbiter, the number of tries, the schedule as pairs of a
+/// slot and a number of turns, the number of rounds, the boards, and the mailboxes.
 #[derive(Drop)]
 pub struct FileTable<'a> {
     pub arbiter: &'a str,

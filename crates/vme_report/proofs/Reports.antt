@@ -22,7 +22,7 @@ module _ (boards : List BoardText) where
   unfolding report_text
   by_parts = refl
 
-  -- the replies are reported
+  -- after the replies, the counts and the memories are left to write
   pub replies_reported :
       (old new : Option (List ℕ)) (before after : List ℕ) → before ≡ [] → Gathers old new before after replies
       → SoFar old new after (counts ++ memories) (report_text boards)
@@ -30,35 +30,35 @@ module _ (boards : List BoardText) where
       so_far_more old old new before after replies (report_text boards) (counts ++ memories) (report_text boards)
       (so_far_none old before (report_text boards) none) by_parts reported
 
-  -- then the counts are reported
+  -- after the counts, the memories are left to write
   pub counts_reported :
       (old mid new : Option (List ℕ)) (before after : List ℕ) → SoFar old mid before (counts ++ memories) (report_text boards)
       → Gathers mid new before after counts → SoFar old new after memories (report_text boards)
   counts_reported old mid new before after so_far reported =
       so_far_more old mid new before after counts (counts ++ memories) memories (report_text boards) so_far refl reported
 
-  -- then the memories are reported
+  -- after the memories, nothing is left to write
   pub memory_reported :
       (old mid new : Option (List ℕ)) (before after : List ℕ) → SoFar old mid before memories (report_text boards)
       → Gathers mid new before after memories → SoFar old new after [] (report_text boards)
   memory_reported old mid new before after so_far reported =
       so_far_more old mid new before after memories memories [] (report_text boards) so_far (sym (append-nil memories)) reported
 
-  -- the sink fails in the replies
+  -- if the sink fails in the replies, a prefix of the report was written
   pub replies_cut :
       (old new : Option (List ℕ)) (before : List ℕ) → before ≡ [] → AppendsPrefix old new (before ++ replies) → AppendsPrefix old new (report_text boards)
   replies_cut old new before none failed =
       so_far_fails old old new before replies (report_text boards) (counts ++ memories) (report_text boards)
       (so_far_none old before (report_text boards) none) by_parts failed
 
-  -- the sink fails in the counts
+  -- if the sink fails in the counts, a prefix of the report was written
   pub counts_cut :
       (old mid new : Option (List ℕ)) (before : List ℕ) → SoFar old mid before (counts ++ memories) (report_text boards)
       → AppendsPrefix mid new (before ++ counts) → AppendsPrefix old new (report_text boards)
   counts_cut old mid new before so_far failed =
       so_far_fails old mid new before counts (counts ++ memories) memories (report_text boards) so_far refl failed
 
-  -- the sink fails in the memories
+  -- if the sink fails in the memories, a prefix of the report was written
   pub memory_cut :
       (old mid new : Option (List ℕ)) (before : List ℕ) → SoFar old mid before memories (report_text boards)
       → AppendsPrefix mid new (before ++ memories) → AppendsPrefix old new (report_text boards)

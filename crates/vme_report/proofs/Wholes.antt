@@ -5,13 +5,13 @@ use Rattle.std.specs.List.{flat_map, range_with_len}
 use Rattle.vme_shared.specs.declared.reply.LineReply.{LineReply}
 use Rattle.vme_report.specs.Texts.{line_text, replies_text, row, row_text, row_count}
 
--- the text of the items from one on begins with its own
+-- the text of the items from item i on begins with the text of item i
 pub item_first :
     {X : Type 0} (f : X → List ℕ) (xs : List X) (i : ℕ) (x : X) → i < length xs → x ≡ get_or xs i x
     → flat_map f (drop i xs) ≡ f x ++ flat_map f (drop (i + 1) xs)
 item_first f xs i x within is = ap (flat_map f) (drop_more xs i x within) ∙ ap (λ y. f y ++ flat_map f (drop (i + 1) xs)) (sym is)
 
--- the text of the lines of a script from one on begins with its own
+-- the text of the lines of a script from line i on begins with the text of line i
 pub reply_first :
     (slot : ℕ) (lines : List (ℕ × LineReply)) (i : ℕ) (line : ℕ × LineReply) → i < length lines → line ≡ get_or lines i line
     → replies_text slot (drop i lines) ≡ line_text slot line.0 line.1 ++ replies_text slot (drop (i + 1) lines)
@@ -24,7 +24,7 @@ number_first f i n within = ap (λ k. flat_map f (range_with_len i k)) one_more
     one_more : n - i ≡ suc (n - (i + 1))
     one_more = omega (arith, within)
 
--- the text of the rows of a memory from one on begins with its own
+-- the text of the rows of a memory from row i on begins with the text of row i
 pub row_first :
     (slot i : ℕ) (bytes own : List ℕ) → i < row_count bytes → own ≡ row bytes i
     → flat_map (λ k. row_text slot (16 * k) (row bytes k)) (range_with_len i (row_count bytes - i))

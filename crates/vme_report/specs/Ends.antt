@@ -1,4 +1,4 @@
--- How a run of scripts ends that has no whole report.
+-- The faults that end a run of scripts before its report is written whole.
 use Rattle.std.specs.Prelude.{◌≢◌, Bool, true, false, Result, Err}
 use Rattle.vme_report.specs.declared.fault.RunFault.{RunFault}
 use Rattle.vme_report.specs.declared.fault.RunFault.TheVariants.{Thread, Spent, Write}
