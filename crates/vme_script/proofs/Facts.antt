@@ -14,11 +14,12 @@ use Rattle.vme_config_toml.specs.Files.{BoardValues}
 use Rattle.vme_script.specs.Boards.{entry_of, class_of, range_refused, board_config, boards_after, have_ranges, map_of}
 use Rattle.vme_script.specs.Scripts.{has_slots}
 
+-- a Boolean whose negation is false is true
 pub true_from_not : (b : Bool) → not b ≡ false → b ≡ true
 true_from_not true e = refl
 true_from_not false e = cc
 
--- the parts of a configured board: none of its refusals holds
+-- the parts of a configured board, to which no refusal applies
 record Parts (slot level : Bool) (range : Entry → Result (Unit {0}) ConfigFault) (make : Entry → Class → BoardConfig) (config : BoardConfig) : Type 0 where
   entry : Entry
   class : Class
@@ -52,7 +53,7 @@ board_parts :
 unfolding board_config
 board_parts before board config e = parts _ _ (entry_of board.range) (class_of board.class) range_refused _ config e
 
--- a board before others
+-- if the results of a board and of the boards after it give a list, neither is refused
 more_parts :
     (first : Result BoardConfig ConfigFault) (others : Result (List BoardConfig) ConfigFault) (boards : List BoardConfig)
     → (first >>= (λ x. others >>= (λ xs. Ok (x ∷ xs)))) ≡ Ok boards
@@ -77,7 +78,7 @@ pub record Known (before : ℕ) (values : List BoardValues) (boards : List Board
   pub ascending : ascend before boards ≡ true
   pub slots : has_slots values ≡ true
 
--- the facts about one more board
+-- the facts hold of a configured board and the boards after it
 one_more :
     (before : ℕ) (value : BoardValues) (values : List BoardValues) (x : BoardConfig) (xs : List BoardConfig)
     → board_config before value ≡ Ok x → Known value.slot values xs → Known before (value ∷ values) (x ∷ xs)
@@ -91,6 +92,7 @@ one_more before value values x xs first others =
       slots = rw within.1 others.slots;
     }
 
+-- the facts hold of the boards of each configuration
 pub boards_known : (before : ℕ) (values : List BoardValues) (boards : List BoardConfig) → boards_after before values ≡ Ok boards → Known before values boards
 boards_known before [] boards e =
     let none : [] ≡ boards = cc in

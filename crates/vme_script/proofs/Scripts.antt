@@ -61,7 +61,7 @@ one_script slot (Err refusal) others scripts e = cc
 one_script slot (Ok x) (Err fault) scripts e = cc
 one_script slot (Ok x) (Ok xs) scripts e = (x, xs, refl, refl, cc)
 
--- a script for each board, none of them too long
+-- there is a script for each board, and no script is too long
 pub scripts_known :
     (entries : List Entry) (mailboxes : List Mailbox) (place : ℕ) (boards : List BoardValues) (scripts : List (List ScriptLine))
     → scripts_from entries mailboxes place boards ≡ Ok scripts → (length scripts ≡ length boards) × (list_all is_short scripts ≡ true)

@@ -125,7 +125,7 @@ rest_parts :
 rest_parts x (Err fault) mailboxes e = cc
 rest_parts x (Ok xs) mailboxes e = (xs, refl, cc)
 
--- a mailbox before others
+-- if the results of a mailbox and of the mailboxes after it give a list, neither is refused
 more_parts :
     (first : Result (Mailbox × BoardRange) ConfigFault) (others : BoardRange → Result (List Mailbox) ConfigFault) (mailboxes : List Mailbox)
     → (first >>= (λ x. others x.1 >>= (λ xs. Ok (x.0 ∷ xs)))) ≡ Ok mailboxes
@@ -139,7 +139,7 @@ more_parts (Ok x) others mailboxes e =
 abbrev LiesAt : List BoardConfig → Mailbox → BoardRange → Type 0
 LiesAt boards mailbox place = range_of (entries_of boards) mailbox ≡ Some place
 
--- each mailbox is lawful, and shares no byte with those before all of them
+-- each mailbox is lawful, and shares no byte with an earlier range or with another of these mailboxes
 record Each (boards : List BoardConfig) (earlier : List BoardRange) (mailboxes : List Mailbox) : Type 0 where
   lawful : (k : ℕ) (m : Mailbox) → slice_get mailboxes k ≡ Some m → IsLawfulMailbox boards m
   new : (k : ℕ) (m : Mailbox) (p : BoardRange) → slice_get mailboxes k ≡ Some m → LiesAt boards m p → list_any (share p) earlier ≡ false
@@ -161,7 +161,7 @@ new_among p first earlier none =
 one_place : (boards : List BoardConfig) (m : Mailbox) (p q : BoardRange) → LiesAt boards m p → LiesAt boards m q → p ≡ q
 one_place boards m p q here there = let same : Some p ≡ Some q = sym here ∙ there in cc
 
--- the first mailbox, and those after it
+-- `Each` holds of a declared mailbox and the mailboxes after it
 one_more :
     (boards : List BoardConfig) (earlier : List BoardRange) (table : MailboxTable) (m : Mailbox) (p : BoardRange) (ms : List Mailbox)
     → list_all is_lawful boards ≡ true → Sited boards earlier table m p → Each boards (earlier ++ p ∷ []) ms → Each boards earlier (m ∷ ms)

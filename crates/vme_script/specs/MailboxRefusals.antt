@@ -14,7 +14,7 @@ use Rattle.vme_script.specs.Answers.{◌>>=◌, refuse}
 use Rattle.vme_script.specs.Boards.{entries_of}
 
 -- the mailbox that a table declares, and its bytes; it is refused for its numbers, for bytes that are not within one
--- able board, and for a byte of an earlier mailbox
+-- board that supports mailboxes, and for a byte of an earlier mailbox
 unfoldable pub declared_mailbox : List BoardConfig → List BoardRange → MailboxTable → Result (Mailbox × BoardRange) ConfigFault
 declared_mailbox boards earlier table = do
   mailbox ← ok_or (mailbox_from_table table) BadMailbox

@@ -1,4 +1,4 @@
--- The configuration that the text of a file is.
+-- The configuration of a file's document.
 use Rattle.std.specs.Prelude.{Option, Result}
 use Rattle.std.specs.Option.{ok_or}
 use Rattle.toml.specs.Data.{Members}

@@ -160,7 +160,7 @@ impl Config {
         &self.scripts[i]
     }
 
-    /// Returns how often a line that waits tries at most.
+    /// Returns the greatest number of attempts at an `await`, a `lock`, a `put` or a `take`.
     pub fn tries(&self) -> u32
         ensures { result ≡ self.now.tries }
     {
@@ -181,7 +181,8 @@ impl Config {
         Arbiter::of(self.arbiter)
     }
 
-    /// Returns the number of rounds over all slots that follow the schedule.
+    /// Returns the number of rounds that follow the schedule. A round is one turn of each board's
+    /// slot, in order of slots.
     pub fn rounds(&self) -> u32
         ensures { result ≡ self.now.rounds }
     {

@@ -9,9 +9,11 @@ use thiserror::Error;
 use vme_config_toml::DocumentFault;
 use vme_grammar::LineFault;
 
-/// Why a text is not a configuration. Its `Display` text is the number of the refusal.
+/// Why a text is not a configuration. Its `Display` text begins with the number of the refusal. The
+/// text of `OutOfMemory` is `memory`.
 ///
-/// The variants are in the order in which they are checked, except `OutOfMemory`.
+/// The variants are in the order in which they are checked, except `OutOfMemory`. The word of the
+/// arbiter is checked after `Overlap`.
 #[derive(Clone, Copy, Debug, PartialEq, Eq, Error)]
 pub enum ConfigFault {
     /// C6: the text is not TOML.

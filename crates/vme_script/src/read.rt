@@ -9,7 +9,7 @@ use std::alloc::Global;
 use vme_config_toml::{file_values, table_of};
 
 impl Config {
-    /// Reads the text of a TOML file.
+    /// Parses the text of a TOML file and returns its configuration.
     ///
     /// # Errors
     ///

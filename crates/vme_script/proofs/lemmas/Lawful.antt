@@ -64,7 +64,7 @@ counted false true boards rest c e = cc
 counted false false (Err fault) rest c e = cc
 counted false false (Ok x) rest c e = (refl, refl, (x, refl, e))
 
--- the parts of a configuration
+-- the checks of a file that gave the parts of its configuration
 pub record Made (file : FileValues) (c : Configuration) : Type 0 where
   pub some : (length file.boards == 0) ≡ false
   pub most : nat_lt 21 (length file.boards) ≡ false
