@@ -45,7 +45,7 @@ IsOwnAttempt slot level (Transferring job) = IsOwnJob slot level job
 IsOwnAttempt slot level (Awaiting job want) = IsOwnJob slot level job
 IsOwnAttempt slot level (Sharing s) = (s.slot ≡ slot) × (s.level ≡ level)
 
--- the arbiter's last reply allows each command to the arbiter
+-- the arbiter's last reply to a job allows each command to the arbiter
 job_turns : (slot level : ℕ) (job : Job) (g : Inputs) (cmd : ArbCmd) → IsOwnJob slot level job → is_level level ≡ true
     → next_of job g ≡ Invokes (OnBus cmd) → may_give slot (job_reported job g) cmd ≡ true
 job_turns slot level (Bus j) g cmd own lawful made =
@@ -53,6 +53,7 @@ job_turns slot level (Bus j) g cmd own lawful made =
     (turns_go_by j g cmd (subst (λ (l : ℕ). is_level l ≡ true) (sym own.1) lawful) made)
 job_turns slot level (Local j) g cmd own lawful made = absurd (local_never j g cmd made)
 
+-- the arbiter's last reply to an attempt allows each command to the arbiter
 pub attempt_turns : (slot level : ℕ) (a : Attempt) (g : Inputs) (cmd : ArbCmd) → IsOwnAttempt slot level a → is_level level ≡ true
     → attempt_next a g ≡ Invokes (OnBus cmd) → may_give slot (attempt_reported a g) cmd ≡ true
 attempt_turns slot level (Transferring job) g cmd own lawful made =
@@ -71,6 +72,7 @@ IsTransfer (Awaiting (Bus j) want) = Unit {0}
 IsTransfer (Awaiting (Local j) want) = ⊥
 IsTransfer (Sharing s) = Unit {0}
 
+-- the data of an attempt go to a board only while the arbiter's last reply is `Granted`
 pub attempt_holds : (a : Attempt) (g : Inputs) (b : ℕ) (command : Option Command) → IsTransfer a
     → attempt_next a g ≡ Invokes (OnBoard b command) → attempt_reported a g ≡ Some arb_replies.Granted
 attempt_holds (Transferring (Bus j)) g b command transfer made =
@@ -82,7 +84,7 @@ attempt_holds (Awaiting (Local j) want) g b command transfer made = absurd trans
 attempt_holds (Sharing s) g b command transfer made =
     laws.holds_for_data s g b command (shares_makes (shared_next s g) (OnBoard b command) made)
 
--- after a good reply of the arbiter the slot stands as it states
+-- after a good reply of the arbiter the slot stands as the reply states
 pub attempt_turn : (a : Attempt) (g : Inputs) (cmd : ArbCmd) (reply : ArbReply) (bus : Arbitration) (slot : ℕ)
     → attempt_next a g ≡ Invokes (OnBus cmd) → IsGood (OnBus cmd) (event_replies.Bus reply) → StandsAsReplied bus slot (Some reply)
     → StandsAsReplied bus slot (attempt_reported a (Some (event_replies.Bus reply) ∷ g))
@@ -141,6 +143,7 @@ waits_ends want (Returns outcome) answer ends = record {
   granted = λ good. (λ denied. good cc, λ denied. absurd cc);
 }
 
+-- the end of a request to a lock or a mailbox, whose outcome is the line's reply
 record SharedEnd (next : NextStep SharedOutcome) (answer : LineReply) : Type 0 where
   outcome : SharedOutcome
   ends : next ≡ Returns outcome
@@ -158,6 +161,7 @@ board_quiet : (job : Job) (g : Inputs) (reply : EventReply) (datum : Reply) → 
 board_quiet (Bus j) g reply datum freed board = absurd cc
 board_quiet (Local j) g reply datum freed board = refl
 
+-- an attempt that ends with a good reply ends well
 pub attempt_ends : (a : Attempt) (g : Inputs) (call : Call) (reply : EventReply) (answer : LineReply) → attempt_next a g ≡ Invokes call
     → IsGood call reply → attempt_next a (Some reply ∷ g) ≡ Returns answer → EndsWell a g reply answer
 attempt_ends (Transferring job) g call reply answer made good ends =

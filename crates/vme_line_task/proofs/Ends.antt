@@ -78,6 +78,7 @@ not_begun (Transferring job) answer ends = absurd cc
 not_begun (Awaiting job want) answer ends = absurd cc
 not_begun (Sharing s) answer ends = stage_not_begun (first_stage s.request) (stage_job s (first_stage s.request)) answer ends
 
+-- an attempt that ends at its first call ends at once
 pub just_begun : (a : Attempt) (answer : LineReply) → attempt_next a (None ∷ []) ≡ Returns answer → EndsAtOnce answer
 just_begun (Transferring job) answer ends = absurd cc
 just_begun (Awaiting job want) answer ends = absurd cc
@@ -87,6 +88,7 @@ just_begun (Sharing s) answer ends = stage_just_begun s (first_stage s.request) 
 abbrev IsLast : Attempt → Attempts → Type 0
 IsLast a made = (answer : LineReply) → attempt_next a made.given ≡ Returns answer → (asks_again answer && nat_lt 1 made.left) ≡ false
 
+-- after the next attempt has begun, if one is due, a current attempt that has ended is the last one
 last_attempt : (a : Attempt) (made : Attempts) → IsLast a (next_attempt made (attempt_next a made.given))
 last_attempt a made =
     elim (cases_Bool (next_wants_retry (attempt_next a made.given) && nat_lt 1 made.left)) [
@@ -111,6 +113,7 @@ lawful_stays tries (Ok a) given last answer ends =
     ap (λ (next : NextStep LineReply). attempt_next a (next_attempt (record { given = last ∷ made.given; left = made.left }) next).given) stays
     ∙ rw over stays
 
+-- the reply of a line is final
 pub answer_stays : (config : Configuration) (board : ℕ) (line : Line) (given : Inputs) (last : Option EventReply) (answer : LineReply)
     → next_given config board line given ≡ Returns answer → next_given config board line (last ∷ given) ≡ Returns answer
 unfolding next_given

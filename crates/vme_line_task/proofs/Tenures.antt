@@ -58,7 +58,7 @@ row_granted (Local j) g call (replies.Bus reply) made good denial =
     let fit : fits (local_call j) (replies.Bus reply) ≡ true = subst (λ c. fits c (replies.Bus reply) ≡ true) own good.fit in
     absurd cc
 
--- after a good reply a task goes by its table
+-- after a good reply a task follows its table
 good_row : (job : Job) (g : Inputs) (call : Call) (reply : EventReply) → next_of job g ≡ Invokes call → IsGood call reply
     → next_of job (Some reply ∷ g) ≡ row_of_reply job reply g
 good_row job g call reply made good = rw (made, good.fit) refl
@@ -75,6 +75,7 @@ abbrev pub FreedBy : Job → EventReply → Type 0
 FreedBy (Bus j) reply = reply ≡ replies.Bus arb_replies.Freed
 FreedBy (Local j) reply = Unit {0}
 
+-- if a good reply ends a transfer, the reply is `Freed`
 pub good_freed : (job : Job) (g : Inputs) (call : Call) (reply : EventReply) (outcome : Outcome) → next_of job g ≡ Invokes call
     → IsGood call reply → next_of job (Some reply ∷ g) ≡ Returns outcome → FreedBy job reply
 good_freed (Bus j) g call reply outcome made good ends =
@@ -103,6 +104,7 @@ pub datum_reported : (job : Job) (g : Inputs) (reply : Reply) → job_reported j
 datum_reported (Bus j) g reply = refl
 datum_reported (Local j) g reply = refl
 
+-- a job begins without a reply of the arbiter
 pub begin_reported : (job : Job) → job_reported job (None ∷ []) ≡ None
 begin_reported (Bus j) = refl
 begin_reported (Local j) = refl

@@ -19,7 +19,7 @@ use Rattle.vme_line_task.specs.Machine.{fresh_of}
 pub reads_so_many : (am addr n : ℕ) (t : Transfer) → transfer_of (Read am addr n) ≡ Ok t → read_len t.request ≡ n
 reads_so_many am addr n t is = ap read_len (comes_from (Read am addr n) t is).same
 
--- a wait, by its task and the bytes that it waits for
+-- the attempt of a read that waits for bytes, by its task and these bytes
 pub waits_so : (config : Configuration) (board am addr : ℕ) (bytes want : List ℕ) (task : TaskView) (wait : AwaitTask)
     → Ok task ≡ bus_task (entries_of config.boards) (slot_at config board) (level_at config board) (transfer_of (Read am addr (length bytes)))
     → bytes ≡ want → wait.task ≡ task → wait.want ≡ record { items = want }

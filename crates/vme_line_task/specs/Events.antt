@@ -1,4 +1,4 @@
--- What a line does next and how it ended, as the results of its functions show them.
+-- What a line does next, and its reply, by the results of its functions.
 use Rattle.std.specs.Prelude.{ℕ, ◌<◌, Option, Some, None}
 use Rattle.vme_core.specs.declared.event.Event.{Event}
 use Rattle.vme_core.specs.declared.event.Event.TheVariants as events

@@ -16,15 +16,15 @@ use Rattle.vme_script.specs.declared.script.ScriptLine.{ScriptLine}
 use Rattle.vme_script.specs.Boards.{entries_of}
 use Rattle.vme_script.specs.Configurations.{Configuration}
 
--- the slot of the board at a place, and of its processor
+-- the slot of the board at an index, and of its processor
 abbrev pub slot_at : Configuration → ℕ → ℕ
 slot_at config board = slice_index_or (map (λ one. one.slot) config.boards) board 0
 
--- the level on which the processor of the board at a place requests the bus
+-- the level on which the processor of the board at an index requests the bus
 abbrev pub level_at : Configuration → ℕ → ℕ
 level_at config board = slice_index_or (map (λ one. one.level) config.boards) board 0
 
--- the script of the processor of the board at a place
+-- the script of the processor of the board at an index
 abbrev pub script_at : Configuration → ℕ → List ScriptLine
 script_at config board = slice_index_or config.scripts board []
 

@@ -20,12 +20,12 @@ use Rattle.vme_line_task.specs.Scripts.{Attempt, Transferring, Awaiting, Sharing
 abbrev pub moves_next : NextStep Outcome → NextStep LineReply
 moves_next next = next_map Transfer next
 
--- a read that is to find bytes is answered whether these are they, and a bus error or a denial as it is
+-- the reply to a read that waits for bytes: Met if it read them, Timeout if it read others, else its outcome
 abbrev pub await_reply : List ℕ → Outcome → LineReply
 await_reply want (outcomes.Read bytes) = if bytes_eq bytes.items want then Met else Timeout
 await_reply want outcome = Transfer outcome
 
--- a read that waits for bytes: the line's reply is whether they were read, or the bus error or the denial
+-- a read that waits for bytes: the line's reply follows from the outcome of the read
 abbrev pub waits_next : List ℕ → NextStep Outcome → NextStep LineReply
 waits_next want next = next_map (await_reply want) next
 
@@ -70,7 +70,7 @@ abbrev pub attempt_given : Attempt → Option EventReply → Attempts → Attemp
 attempt_given attempt last made =
     next_attempt (record { given = last ∷ made.given; left = made.left }) (attempt_next attempt (last ∷ made.given))
 
--- the attempts, at most so many, by all that the line was given, the newest first
+-- the attempts, at most `tries`, by all that the line was given, the newest first
 abbrev pub attempts_of : Attempt → ℕ → Inputs → Attempts
 attempts_of attempt tries [] = record { given = []; left = tries }
 attempts_of attempt tries (last ∷ before) = attempt_given attempt last (attempts_of attempt tries before)

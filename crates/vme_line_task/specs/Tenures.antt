@@ -1,4 +1,4 @@
--- How a line stands at the arbiter by the replies to it, and which replies are good ones.
+-- The arbiter's last reply to a line, by the replies to the line so far; and the replies that are no denial.
 use Rattle.std.specs.Prelude.{ℕ, ◌≢◌, IsTrue, List, Option, Some, None, Result, Ok, Err}
 use Rattle.vme_cycle.specs.declared.fault.CycleFault.{CycleFault}
 use Rattle.vme_memory.specs.Steps.{Command, LocalRead, LocalWrite, LocalModify}

@@ -51,7 +51,7 @@ impl Attempts<'_> {
     }
 
     /// Performs the current attempt's next event on `core` for processor `who` and gives the
-    /// attempt the reply. A transfer or a local command is attempted once, so its task does this by
+    /// attempt the reply. A transfer or a local command is attempted once, so its task advances by
     /// itself.
     #[inline(always)]
     pub(crate) fn advance_on(&mut self, core: &mut Core, who: usize)
@@ -66,7 +66,8 @@ impl Attempts<'_> {
         }
     }
 
-    /// The same by `event_ref`, for what may be attempted again.
+    /// Performs the current attempt's next event, which `event_ref` returns, on `core` for
+    /// processor `who` and gives the attempts the reply. Another attempt may begin.
     #[inline(never)]
     fn advance_on_by_ref(&mut self, core: &mut Core, who: usize)
         requires who { who < process_count core.old }

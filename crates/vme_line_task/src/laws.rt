@@ -1,3 +1,5 @@
+//! Laws of lines, of their traces and of their tenures. Each function's contract is a law; its body
+//! is empty.
 ghost use Rattle.std.specs.Prelude.{◌≡◌, ◌<◌, ◌⊎◌, ◌∷◌, ◌++◌, [], ℕ, List, Option, Some, None, length, slice_get, IsTrue};
 ghost use Rattle.vme_memory.specs.declared.reply.Reply.{Reply};
 ghost use Rattle.vme_memory.specs.Steps.{Command};
@@ -24,8 +26,8 @@ ghost use Rattle.vme_line_task.specs.Events.{IsCallBelow};
 ghost use Rattle.vme_line_task.specs.Traces.{ScriptState, IsTracePrefix};
 ghost use Rattle.vme_line_task.specs.Tenures.{line_reported, IsLocal, IsGood, IsGranted};
 
-/// A line follows the table: after calls with any replies it does next what the table says. A
-/// line's reply is final.
+/// States that a line follows the table: after calls with any replies, its next step is the one of
+/// the table. A line's reply is final.
 pub fn lines_go_by_the_table()
     ensures given { (config : Configuration) (board : ℕ) (line : Line) (given : Inputs) →
         line_to_do (line_given config board line given) ≡ next_given config board line given }
@@ -37,16 +39,16 @@ pub fn lines_go_by_the_table()
         next_given config board line (last ∷ given) ≡ Returns answer }
 {}
 
-/// Each board that a line calls is one of the configuration.
+/// States that each board that a line calls is one of the configuration.
 pub fn lines_call_boards_that_are_there()
     ensures { (config : Configuration) (board : ℕ) (line : Line) (given : Inputs) (call : Call) →
         board < length config.boards → next_given config board line given ≡ Invokes call →
         IsCallBelow (length config.boards) call }
 {}
 
-/// A processor goes through its script line by line. Its trace begins before the first line. A call
-/// of the next line with its reply extends the trace within that line, and the line's reply leads
-/// to the line after it.
+/// States that a processor goes through its script line by line. Its trace begins before the first
+/// line. A call of the next line with its reply extends the trace within that line, and the line's
+/// reply leads to the line after it.
 pub fn traces_go_line_by_line()
     ensures begin { (config : Configuration) (board : ℕ) →
         IsTracePrefix config board [] (record { ended = []; replies = [] }) }
@@ -63,11 +65,13 @@ pub fn traces_go_line_by_line()
         IsTracePrefix config board moves (record { ended = script_state.ended ++ answer ∷ []; replies = [] }) }
 {}
 
-/// A line keeps its tenure of the bus, as its transfers do. The arbiter's last reply to its slot
-/// allows each command to the arbiter. The data of a transfer go to a board only while that reply
-/// is `Granted`. After a reply that fits and is no denial, the slot stands at the arbiter as the
-/// last reply states. A line that ends with it has no denial as its reply, and its slot stands as
-/// one without a reply of the arbiter. The reply of a line without a call is no denial.
+/// States that a line keeps its tenure of the bus.
+///
+/// The arbiter's last reply to the line's slot allows each command that the line gives the arbiter.
+/// The data of a transfer go to a board only while that last reply is `Granted`. After a reply that
+/// fits its call and is no denial, the state of the slot at the arbiter is the one that the last
+/// reply states. If that reply ends the line, the line's own reply is no denial, and the state of
+/// the slot is that of a slot without a reply. The reply of a line without a call is no denial.
 pub fn lines_keep_their_tenure()
     ensures begin { (config : Configuration) (board : ℕ) (line : Line) →
         line_reported config board line [] ≡ None }

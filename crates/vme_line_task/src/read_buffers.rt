@@ -12,8 +12,8 @@ use vme_script::Script;
 
 /// Empty buffers for the lines of a script that have not begun, in order.
 ///
-/// Only buffers that allocate are kept. Any other is made as its line begins, so that most lines
-/// need one byte here.
+/// Only buffers that allocate are kept. Any other buffer is made when its line begins, so that a
+/// line with an inline buffer needs one byte here.
 #[derive(Drop)]
 pub struct ReadBuffers {
     /// Whether the buffer of each line allocates.
@@ -63,7 +63,7 @@ impl ReadBuffers {
         })
     }
 
-    /// Returns the buffer of the next line, and removes it here.
+    /// Removes the buffer of the next line and returns it.
     pub fn take(&mut self) -> BlockBuffer
         requires { 0 < length self.old }
         ensures { self.old ≡ result ∷ self.new }
@@ -76,8 +76,8 @@ impl ReadBuffers {
     }
 }
 
-/// Returns the number of bytes that a line reads, if they may be more than a buffer holds inline.
-/// The request of any other line is not checked here.
+/// Returns the number of bytes that a line reads if they may be more than a buffer holds inline,
+/// otherwise 0. Only a request that may read so many bytes is checked here.
 fn long_buffer(line: &Line) -> usize
     ensures long { inline_capacity < result → result ≡ line_read_len line.now }
     ensures short { result ≤ inline_capacity → line_read_len line.now ≤ inline_capacity }

@@ -1,3 +1,4 @@
+//! The reply to a line, by reference.
 use vme_cycle::CycleFault;
 use vme_master::OutcomeRef;
 use vme_shared::SharedOutcome;

@@ -1,3 +1,4 @@
+//! A line of a script as a task.
 ghost use Rattle.std.specs.Prelude.{◌≡◌, ◌≢◌, ◌<◌, ◌≤◌, ◌∷◌, [], ℕ, length, option_map, option_copied, is_some, slice_get, Some, None};
 ghost use Rattle.vme_core.specs.EventRefs.{call_asked};
 ghost use Rattle.vme_core.specs.Machines.{process_count};
@@ -35,9 +36,10 @@ pub enum LineTask<'a> {
 }
 
 impl<'a> LineTask<'a> {
-    /// Returns a line of the script of a board's processor before its first call. `board` is the
-    /// board's place, and `line` the line's place among those that request something. A request
-    /// over the bus reads into `buffer`.
+    /// Returns a line of the script of a board's processor before its first call.
+    ///
+    /// `board` is the board's index in the configuration, and `line` the line's index among those
+    /// that request something. A request over the bus reads into `buffer`.
     #[inline(always)]
     #[tactic(auto, using(crate::proofs::lemmas::Below::started_below))]
     pub fn start(config: &'a Config, board: usize, line: usize, buffer: BlockBuffer) -> LineTask<'a>
@@ -98,8 +100,8 @@ impl<'a> LineTask<'a> {
     }
 
     /// Performs the next event on `core` for processor `who` and gives the line the reply. Without
-    /// a next event nothing changes. This is `event_ref`, `Core::apply_ref` and `advance` in one,
-    /// and faster.
+    /// a next event nothing changes. The result is that of `event_ref`, `Core::apply_ref` and
+    /// `advance`, but this method is faster.
     #[inline(always)]
     pub fn advance_on(&mut self, core: &mut Core, who: usize)
         requires who { who < process_count core.old }
@@ -112,7 +114,7 @@ impl<'a> LineTask<'a> {
         }
     }
 
-    /// Returns whether the line has ended. It reads less than `reply`.
+    /// Returns whether the line has ended. It reads less memory than `reply`.
     #[inline(always)]
     pub fn is_finished(&self) -> bool
         ensures { result ≡ is_some (result_in (line_to_do self.now)) }

@@ -1,3 +1,4 @@
+//! The next step of a line.
 ghost use Rattle.std.specs.Prelude.{◌≡◌, option_map};
 ghost use Rattle.vme_core.specs.EventRefs.{call_asked};
 ghost use Rattle.vme_line_task.specs.Events.{call_of_todo};

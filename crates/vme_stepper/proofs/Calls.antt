@@ -31,12 +31,12 @@ can_next machine task NotStarted is below steps = tt
 can_next machine task (Invokes call) is below steps = can_call machine task call below steps is
 can_next machine task (Returns answer) is below steps = tt
 
--- a line can make its call, if it has one
+-- the machine can make a line's call, if the line has one
 pub can_make : (machine : Machine) (task : LineTask) → IsLineBelow (length machine.boards) task → StepsWithin (2 ^ 64 - 2) machine
     → CanMake machine (call_in (line_to_do task))
 can_make machine task below steps = can_next machine task (line_to_do task) refl below steps
 
--- the machine and the line after its call
+-- the machine and the line after the line's call
 pub made_by : (who : ℕ) (before after : Machine) (task new : LineTask) (call : Call) → Invokes call ≡ line_to_do task
     → AdvancesOn line_to_do line_advance who before after task new
     → ◌≡◌ {A = Machine × LineTask} (after, new) (advanced_on line_advance (Some call) who before task)

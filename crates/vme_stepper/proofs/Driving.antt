@@ -30,6 +30,7 @@ module _ (config : Configuration) (self : StepperView) (machine : Machine) (proc
       rw processor_there
       (rw (own, ← same) (ap (λ (p : Machine × ProcessorView). record { machine = p.0; processors = slice_set self.processors board p.1 }) turn))
 
+  -- the stepper after the turn is still one of the configuration
   pub turned_sound : (after : Machine) (new : ProcessorView) → IsProcessorOf config board new → process_count after ≡ process_count machine → length after.boards ≡ length machine.boards
       → IsStepperOf config (record { machine = after; processors = slice_set processors board new })
   turned_sound after new good same_process_count same_boards = record {

@@ -19,12 +19,12 @@ use Rattle.vme_stepper.specs.Steppers.{ProcessorView, processor_of, processors_f
 use Rattle.vme_stepper.proofs.Reported.{reported_length, reported_none, unfinished, get_map, map_next}
 use Rattle.vme_stepper.proofs.SystemStates.{processors_get}
 
--- no line of a script has a reply
+-- the script state in which no line has a reply
 abbrev pub fresh_script_state : List ScriptLine → ScriptState
 fresh_script_state script = script_state [] []
 
 module _ (config : Configuration) where
-  -- one processor more
+  -- the processors of the script states and one more
   processors_push : (from place : ℕ) (script_states : List ScriptState) (c : ScriptState) → place ≡ from + length script_states
       → processors_from config from (script_states ++ c ∷ []) ≡ processors_from config from script_states ++ processor_of config place c ∷ []
   processors_push from place [] c at = let same : from ≡ place = omega arith in ap (λ p. processor_of config p c ∷ []) same
@@ -43,6 +43,7 @@ module _ (config : Configuration) where
       let at_none : unreported ≡ processor script = rw (reported_none script) refl in
       at_none ∙ ap processor (sym (get_or_from_slice_get config.scripts board script [] found))
 
+  -- the processors before their first lines, of the first boards and the next one
   pub processors_next : (board : ℕ) (script : List ScriptLine) → slice_get config.scripts board ≡ Some script
       → processors_from config 0 (map fresh_script_state (take board config.scripts)) ++ record { script = script; lines = map unfinished script; ended = 0; at = None } ∷ []
       ≡ processors_from config 0 (map fresh_script_state (take (board + 1) config.scripts))

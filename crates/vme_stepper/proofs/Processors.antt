@@ -19,18 +19,18 @@ use Rattle.vme_line_task.proofs.lemmas.Lines.{by_the_replies}
 use Rattle.vme_stepper.proofs.Reported.{reported_more}
 
 module _ (config : Configuration) (board : ℕ) where
-  -- if a line is left, its place is within the script
+  -- if a line is left, its index is within the script
   within : (n : ℕ) (line : Line) (lines : List Line) → drop n (lines_at config board) ≡ line ∷ lines → n < length (script_at config board)
   within n line lines left =
       omega (arith, ap length left, length-drop n (lines_at config board), length-map (script_at config board) (λ one. one.line))
 
-  -- the lines after the next
+  -- after one more reply, the lines after the next one are left
   left_after : (ended : List LineReply) (answer : LineReply) (line : Line) (lines : List Line) → drop (length ended) (lines_at config board) ≡ line ∷ lines
       → drop (length (ended ++ answer ∷ [])) (lines_at config board) ≡ lines
   left_after ended answer line lines left =
       ap (λ n. drop n (lines_at config board)) (length_push ended answer) ∙ sym (drop-drop 1 (length ended) (lines_at config board)) ∙ ap (λ ls. drop 1 ls) left
 
-  -- a reply is recorded
+  -- a processor with one more recorded reply is that of the script state with this reply
   answered_is : (processor : ProcessorView) (ended : List LineReply) (answer : LineReply) (line : Line) (lines : List Line)
       → drop (length ended) (lines_at config board) ≡ line ∷ lines → processor.script ≡ script_at config board
       → processor.lines ≡ reported_lines (script_at config board) ended → processor.ended ≡ length ended
@@ -38,7 +38,7 @@ module _ (config : Configuration) (board : ℕ) where
   answered_is processor ended answer line lines left script reported count =
       rw (script, reported, count, reported_more (script_at config board) ended answer (within (length ended) line lines left), length_push ended answer) refl
 
-  -- a task advances by a reply
+  -- a processor whose task has advanced by a reply is that of the script state with this reply
   settled_is : (processor : ProcessorView) (ended : List LineReply) (reply : EventReply) (replies : List EventReply) (line : Line) (lines : List Line) (next : NextStep LineReply)
       → drop (length ended) (lines_at config board) ≡ line ∷ lines → processor.script ≡ script_at config board
       → processor.lines ≡ reported_lines (script_at config board) ended → processor.ended ≡ length ended
@@ -75,6 +75,7 @@ module _ (config : Configuration) (board : ℕ) where
       (ap (λ processor. (step.0, processor))
       (settled_is (processor_of config board c) c.ended step.1 c.replies line lines (line_next config board line (step.1 ∷ c.replies)) left refl refl refl))
 
+  -- a turn of a processor with these lines left is that of its script state
   pub lines_is : (lines : List Line) (machine : Machine) (c : ScriptState) → lines_left config board c ≡ lines
       → lines_turn config board lines machine (processor_of config board c) ≡ with_processor (script_state_turn config board lines machine c)
   lines_is [] machine c left = refl

@@ -8,7 +8,7 @@ use Rattle.vme_shared.specs.declared.reply.LineReply.TheVariants.{Unfinished}
 use Rattle.vme_script.specs.declared.script.ScriptLine.{ScriptLine}
 use Rattle.vme_stepper.specs.Reports.{reported_lines}
 
--- one reply more
+-- to record one more reply is to set the reply of the next line
 pub reported_more :
     (script : List ScriptLine) (ended : List LineReply) (answer : LineReply) → length ended < length script
     → slice_set (reported_lines script ended) (length ended) ((slice_index_or (reported_lines script ended) (length ended) (0, answer)).0, answer)
@@ -28,13 +28,13 @@ pub reported_none : (script : List ScriptLine) → map (λ line. (line.number, U
 reported_none [] = refl
 reported_none (line ∷ script) = ap (λ lines. (line.number, Unfinished) ∷ lines) (reported_none script)
 
--- the value at a place is that of the element there
+-- the element of a mapped list at an index is the value of the element there
 pub get_map : {A B : Type 0} (f : A → B) (xs : List A) (i : ℕ) → slice_get (map f xs) i ≡ option_map f (slice_get xs i)
 get_map f [] i = refl
 get_map f (x ∷ xs) zero = refl
 get_map f (x ∷ xs) (suc i) = get_map f xs i
 
--- one element more
+-- the first i + 1 values are the first i and the next one
 pub map_next : {A B : Type 0} (f : A → B) (xs : List A) (i : ℕ) (y : B) → slice_get (map f xs) i ≡ Some y
     → map f (take (i + 1) xs) ≡ map f (take i xs) ++ y ∷ []
 map_next f xs i y found =
@@ -50,7 +50,7 @@ map_next f xs i y found =
 abbrev pub unfinished : ScriptLine → ℕ × LineReply
 unfinished line = (line.number, Unfinished)
 
--- the number of one line more
+-- the entries of the first j + 1 lines are those of the first j and the next one
 pub reported_next :
     (script : List ScriptLine) (j number : ℕ) → slice_get (map (λ line. line.number) script) j ≡ Some number
     → map unfinished (take (j + 1) script) ≡ map unfinished (take j script) ++ (number, Unfinished) ∷ []

@@ -20,12 +20,12 @@ use Rattle.vme_stepper.proofs.Reported.{get_map}
 use Rattle.vme_stepper.proofs.Places.{slot_found}
 use Rattle.vme_stepper.proofs.Turning.{next_first}
 
--- a value of a counted state
+-- the value of a counted state, by the list of these values
 counted_is : {B : Type 0} (f : CountedState Board → B) (counted_states : List (CountedState Board)) (i : ℕ) (counted : CountedState Board) (y : B) → slice_get counted_states i ≡ Some counted
     → slice_get (map f counted_states) i ≡ Some y → f counted ≡ y
 counted_is f counted_states i counted y at found = same_Some _ _ (sym (rw at at (get_map f counted_states i)) ∙ found)
 
--- one entry more
+-- the entries from board i on are that of board i and those of the boards after it
 pub board_more : (boards : List BoardConfig) (processors : List ProcessorView) (counted_states : List (CountedState Board)) (i slot steps : ℕ) (processor : ProcessorView) (lines : List (ℕ × LineReply)) (object : Board)
     (made : List ℕ)
     → slice_get (map (λ board. board.slot) boards) i ≡ Some slot → i < length processors → processor ≡ get_or processors i processor → lines ≡ processor.lines
@@ -70,6 +70,7 @@ script_states_reported config (board ∷ boards) (script ∷ scripts) (c ∷ scr
     let after : drop (from + 1) config.scripts ≡ scripts = sym (drop-drop 1 from config.scripts) ∙ ap (λ (ss : List (List ScriptLine)). drop 1 ss) are in
     rw (own, script_states_reported config boards scripts script_states counted_states (from + 1) after (omega (arith, count))) refl
 
+-- the entries of the stepper of a system are those of the system
 pub system_reported : (config : Configuration) (system : SystemState) → length config.scripts ≡ length config.boards
     → processors_reported config.boards (stepper_of config system).processors (stepper_of config system).machine.boards ≡ reported_system config system
 system_reported config system count = script_states_reported config config.boards config.scripts system.script_states system.machine.boards 0 refl count

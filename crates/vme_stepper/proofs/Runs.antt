@@ -12,12 +12,12 @@ use Rattle.vme_stepper.specs.Steppers.{StepperView, stepper_turn_at, stepper_of,
 use Rattle.vme_stepper.proofs.SystemStates.{system_more}
 use Rattle.vme_stepper.proofs.Steps.{steps_after}
 
--- one turn more
+-- the stepper after one more turn is that of the system after one more turn
 pub turn_more : (config : Configuration) (stepper : StepperView) (before : List ℕ) (slot : ℕ) (place : Option ℕ) → stepper ≡ stepper_of config (state_after config before)
     → place ≡ board_in_slot config slot → stepper_turn_at config stepper place ≡ stepper_of config (state_after config (before ++ slot ∷ []))
 turn_more config stepper before slot place is at = rw (is, at) (sym (system_more config before slot))
 
--- few turns leave every object able to count its steps
+-- after at most 2 ^ 64 - 2 turns, no object has made more than 2 ^ 64 - 2 steps
 pub few_steps : (config : Configuration) (stepper : StepperView) (before : List ℕ) → stepper ≡ stepper_of config (state_after config before)
     → length before ≤ 2 ^ 64 - 2 → StepsWithin (2 ^ 64 - 2) stepper.machine
 few_steps config stepper before is few = subst (λ (d : StepperView). StepsWithin (2 ^ 64 - 2) d.machine) (sym is) (steps_after config (2 ^ 64 - 2) before few)
@@ -31,7 +31,7 @@ none_more config before slot (suc n) none =
     ∙ none_more config (before ++ slot ∷ []) slot n none
     ∙ ap (λ slots. stepper_of config (state_after config slots)) (append_assoc before (slot ∷ []) (replicate n slot))
 
--- the turns of one pair more
+-- the turns of the first i + 1 pairs are those of the first i and of the next one
 pub schedule_more : (schedule : List (ℕ × ℕ)) (i : ℕ) → i < length schedule
     → schedule_turns (take i schedule) ++ replicate (get_or schedule i (0, 0)).1 (get_or schedule i (0, 0)).0 ≡ schedule_turns (take (i + 1) schedule)
 schedule_more schedule i within =
@@ -46,7 +46,7 @@ schedule_length (turns ∷ schedule) =
     ∙ ap (λ n. n + length (schedule_turns schedule)) (length-replicate turns.1 turns.0) ∙ ap (λ n. turns.1 + n) (schedule_length schedule)
     ∙ sym (sum_by-cons (λ (t : ℕ × ℕ). t.1) turns schedule)
 
--- the first pairs of a schedule and a part of the next have few turns
+-- the first pairs of a schedule and a part of the next have no more turns than the schedule
 pub schedule_few : (schedule : List (ℕ × ℕ)) (i k most : ℕ) → i < length schedule → k ≤ (get_or schedule i (0, 0)).1 → turns_of schedule ≤ most
     → length (schedule_turns (take i schedule) ++ replicate k (get_or schedule i (0, 0)).0) ≤ most
 schedule_few schedule i k most within part few =
@@ -62,7 +62,7 @@ schedule_few schedule i k most within part few =
       sum_by-take-le (λ (t : ℕ × ℕ). t.1) schedule (i + 1),
     )
 
--- one round more
+-- n rounds and one more are n + 1 rounds
 pub round_more : (n : ℕ) (slots : List ℕ) → round_turns n slots ++ slots ≡ round_turns (n + 1) slots
 round_more n slots = rw (add-one n) (by_round n)
   where
@@ -74,7 +74,7 @@ round_length : (n : ℕ) (slots : List ℕ) → length (round_turns n slots) ≡
 round_length zero slots = omega arith
 round_length (suc n) slots = length-append slots (round_turns n slots) ∙ ap (λ m. length slots + m) (round_length n slots) ∙ omega arith
 
--- a schedule, rounds and a part of the next round have few turns
+-- a schedule, rounds and a part of the next round have at most 2 ^ 64 - 2 turns
 pub rounds_few : (config : Configuration) (slots : List ℕ) (i k : ℕ) → IsLawful config → i ≤ config.rounds → length slots ≤ 21
     → length (schedule_turns config.schedule ++ (round_turns i slots ++ take k slots)) ≤ 2 ^ 64 - 2
 rounds_few config slots i k lawful within few =

@@ -29,7 +29,7 @@ set_each P (y ∷ ys) zero (suc k) new x each is found = each (suc k) x found
 set_each P (y ∷ ys) (suc i) zero new x each is found = each zero x found
 set_each P (y ∷ ys) (suc i) (suc k) new x each is found = set_each (λ j z. P (suc j) z) ys i k new x (λ j z there. each (suc j) z there) is found
 
--- a greater bound holds too
+-- a bound on steps also holds if it is made greater
 pub steps_weaker : (n m : ℕ) (machine : Machine) → n ≤ m → StepsWithin n machine → StepsWithin m machine
 steps_weaker n m machine more steps = record {
   boards = λ b counted found. let few = steps.boards b counted found in omega arith;
@@ -95,7 +95,7 @@ module _ (config : Configuration) where
   fresh_steps (memory ∷ memories) zero counted k found = let same = same_Some _ _ found in omega (arith, sym (ap (λ t. t.steps) same))
   fresh_steps (memory ∷ memories) (suc b) counted k found = fresh_steps memories b counted k found
 
-  -- after so many turns no object has made more steps
+  -- after at most `most` turns, no object has made more than `most` steps
   pub steps_after : (most : ℕ) (slots : List ℕ) → length slots ≤ most → StepsWithin most (state_after config slots).machine
   unfolding state_after
   steps_after most slots few =

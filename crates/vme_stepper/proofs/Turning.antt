@@ -20,39 +20,39 @@ use Rattle.vme_stepper.specs.Steppers.{ProcessorView, processor_answered, proces
 abbrev pub processor_at : ProcessorView → LineTask → ProcessorView
 processor_at processor task = record { script = processor.script; lines = processor.lines; ended = processor.ended; at = Some task }
 
--- the next line is the first that is left
+-- the next element of a list is the first of those that are left
 pub next_first : {A : Type 0} → (lines : List A) (n : ℕ) (line : A) → slice_get lines n ≡ Some line → drop n lines ≡ line ∷ drop (n + 1) lines
 next_first lines n line found =
     drop_more lines n line (slice_get_within lines n line found) ∙ ap (λ one. one ∷ drop (n + 1) lines) (get_or_from_slice_get lines n line line found)
 
 module _ (config : Configuration) (board : ℕ) (machine : Machine) where
-  -- the next line ends without a call
+  -- if the next line ends without a call, the turn is that of the lines after it
   pub turn_answered : (processor : ProcessorView) (line : Line) (answer : LineReply) → processor.at ≡ None → slice_get (lines_at config board) processor.ended ≡ Some line
       → line_to_do (line_begun config board line) ≡ Returns answer
       → processor_turn config board machine processor ≡ processor_turn config board machine (processor_answered processor answer)
   turn_answered processor line answer idle found ends = rw (next_first (lines_at config board) processor.ended line found) (rw idle (rw ends refl))
 
-  -- the next line begins
+  -- if the next line begins with a call, the turn is that of a processor with this line at work
   pub turn_begun : (processor : ProcessorView) (line : Line) (call : Call) → processor.at ≡ None → slice_get (lines_at config board) processor.ended ≡ Some line
       → line_to_do (line_begun config board line) ≡ Invokes call
       → processor_turn config board machine processor ≡ processor_turn config board machine (processor_at processor (line_begun config board line))
   turn_begun processor line call idle found makes = rw (next_first (lines_at config board) processor.ended line found) (rw idle (rw makes refl))
 
-  -- the line at work makes its call
+  -- the turn of a processor with a line at work is the line's call
   pub turn_called : (processor : ProcessorView) (line : Line) (task : LineTask) (call : Call) → processor.at ≡ Some task
       → slice_get (lines_at config board) processor.ended ≡ Some line → line_to_do task ≡ Invokes call
       → processor_turn config board machine processor ≡ processor_called machine board processor task call
   turn_called processor line task call at found makes = rw (next_first (lines_at config board) processor.ended line found) (rw at (rw makes refl))
 
-  -- no line is left
+  -- with no line left, a turn changes nothing
   pub turn_over : (processor : ProcessorView) → length (lines_at config board) ≤ processor.ended → processor_turn config board machine processor ≡ (machine, processor)
   turn_over processor over = rw (drop_all processor.ended (lines_at config board) over) refl
 
-  -- a place of a script has a line
+  -- an index below the length of a list has an element
   place_found : (n : ℕ) (lines : List Line) → n < length lines → (line : Line) × (slice_get lines n ≡ Some line)
   place_found n lines there = elim (slice_get_cases lines n).1 [ inl found ↦ (found.0, found.2) | inr past ↦ absurd (omega (arith, past.0)) ]
 
-  -- the line at work has made its call
+  -- the call of the line at work, with the reply to it, is the turn
   pub turn_made : (after : Machine) (processor : ProcessorView) (task : LineTask) (call : Call) (reply : EventReply)
       → processor.at ≡ Some task → processor.ended < length (lines_at config board)
       → line_to_do task ≡ Invokes call → (after, reply) ≡ machine_step machine board call
@@ -62,7 +62,7 @@ module _ (config : Configuration) (board : ℕ) (machine : Machine) where
       ap (λ (s : Machine × EventReply). (s.0, processor_settled processor (line_advance task (Some s.1)) (line_to_do (line_advance task (Some s.1))))) step
       ∙ sym (turn_called processor found.0 task call at found.1 makes)
 
-  -- the line at work makes another call next
+  -- the turn, if the line at work makes another call next
   pub turn_goes_on : (after : Machine) (processor : ProcessorView) (script : List ScriptLine) (lines : List (ℕ × LineReply)) (ended : ℕ) (task next : LineTask) (call then : Call) (reply : EventReply)
       → record { script = script; lines = lines; ended = ended; at = Some task } ≡ processor → length processor.lines ≡ length (lines_at config board) → ended < length lines
       → line_to_do task ≡ Invokes call → (after, reply) ≡ machine_step machine board call → next ≡ line_advance task (Some reply) → Invokes then ≡ line_to_do next
@@ -75,7 +75,7 @@ module _ (config : Configuration) (board : ℕ) (machine : Machine) where
       ap (λ (l : ProcessorView). (after, l)) (sym settles) ∙ turn_made after own task call reply refl (omega (arith, all)) makes step
       ∙ ap (λ (l : ProcessorView). processor_turn config board machine l) is
 
-  -- the line at work has ended
+  -- the turn, if the line at work has ended
   pub turn_ends : (after : Machine) (processor : ProcessorView) (script : List ScriptLine) (lines : List (ℕ × LineReply)) (ended : ℕ) (task next : LineTask) (call : Call) (answer : LineReply)
       (reply : EventReply) → record { script = script; lines = lines; ended = ended; at = Some task } ≡ processor → length processor.lines ≡ length (lines_at config board)
       → ended < length lines → line_to_do task ≡ Invokes call → (after, reply) ≡ machine_step machine board call → next ≡ line_advance task (Some reply)

@@ -43,6 +43,6 @@ reported_system config system = reported_boards config.boards config.scripts sys
 abbrev pub run_text : Configuration → List ℕ → List ℕ
 run_text config slots = report_text (reported_system config (state_after config slots))
 
--- the status after turns of these slots: whether each line has a good reply
+-- the status after turns of these slots: Clean if each reply is a success
 abbrev pub run_status : Configuration → List ℕ → Status
 run_status config slots = report_status (reported_system config (state_after config slots))

@@ -100,11 +100,11 @@ stepper_turned config stepper board (Some processor) =
     let next = processor_turn config board stepper.machine processor in
     record { machine = next.0; processors = slice_set stepper.processors board next.1 }
 
--- a turn of the processor of the board at a place
+-- a turn of the processor of the board at an index
 abbrev pub stepper_turn : Configuration → StepperView → ℕ → StepperView
 stepper_turn config stepper board = stepper_turned config stepper board (slice_get stepper.processors board)
 
--- a turn at the place of a board, if there is one
+-- a turn at the index of a board, if there is one
 abbrev pub stepper_turn_at : Configuration → StepperView → Option ℕ → StepperView
 stepper_turn_at config stepper None = stepper
 stepper_turn_at config stepper (Some board) = stepper_turn config stepper board
@@ -131,7 +131,7 @@ processor_of config board c = record {
   at = task_at config board c.replies (lines_left config board c);
 }
 
--- the stepper's processors of script states, of the boards from a place on
+-- the stepper's processors of script states, of the boards from an index on
 abbrev pub processors_from : Configuration → ℕ → List ScriptState → List ProcessorView
 processors_from config board [] = []
 processors_from config board (c ∷ script_states) = processor_of config board c ∷ processors_from config (board + 1) script_states

@@ -35,8 +35,8 @@ call_made config board line machine c call =
     let step = machine_step machine board call in
     (step.0, settled c.ended (step.1 ∷ c.replies) (line_next config board line (step.1 ∷ c.replies)))
 
--- a turn by what a line does next: it makes its call, or its reply is recorded and the lines after it have the turn; no
--- line rests once it is called
+-- a turn by what a line does next: it makes its call, or its reply is recorded and the lines after it have the turn;
+-- nothing happens with `NotStarted`, which `line_next` never gives
 abbrev pub turn_by : Configuration → ℕ → Line → Machine → ScriptState → NextStep LineReply → (ScriptState → Machine × ScriptState) → Machine × ScriptState
 turn_by config board line machine c (Invokes call) after = call_made config board line machine c call
 turn_by config board line machine c (Returns answer) after = after (script_state (c.ended ++ answer ∷ []) [])
@@ -60,12 +60,12 @@ turn_in config system board (Some c) =
     let next = script_state_turn config board (lines_left config board c) system.machine c in
     record { machine = next.0; script_states = slice_set system.script_states board next.1 }
 
--- a turn at the place of a board, if there is one
+-- a turn at the index of a board, if there is one
 abbrev pub turn_at : Configuration → SystemState → Option ℕ → SystemState
 turn_at config system None = system
 turn_at config system (Some board) = turn_in config system board (slice_get system.script_states board)
 
--- the place of the board in a slot, if there is one
+-- the index of the board in a slot, if there is one
 abbrev pub board_in_slot : Configuration → ℕ → Option ℕ
 board_in_slot config slot = position (λ board. board.slot == slot) config.boards
 

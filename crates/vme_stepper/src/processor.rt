@@ -18,8 +18,8 @@ use vme_shared::LineReply;
 
 /// A script with the replies of the lines that have ended, and the line at work, if there is one.
 ///
-/// All memory is allocated when the processor is made, that of the bytes of its lines too. The task
-/// of a line stays in its place.
+/// All memory, that for the bytes of its lines included, is allocated when the processor is made.
+/// The task of a line is not moved while the line is at work.
 #[derive(Drop)]
 pub(crate) struct Processor<'a> {
     script: &'a Script,
@@ -45,7 +45,7 @@ impl<'a> Model for Processor<'a> {
 }
 
 impl<'a> Processor<'a> {
-    /// Returns a processor of which no line has ended.
+    /// Returns a processor before its first line. No line has ended.
     pub(crate) fn new(alloc: Global, script: &'a Script) -> Result<Processor<'a>, AllocError>
         ensures { IfOk result (λ processor. processor ≡ record {
           script = script.now;
@@ -75,7 +75,8 @@ impl<'a> Processor<'a> {
         self.lines.as_slice()
     }
 
-    /// Performs one event, if there is a line that needs one.
+    /// Records the replies of lines that need no event, and then performs one event, if there is a
+    /// line that needs one.
     #[inline(always)]
     pub(crate) fn turn(&mut self, config: &'a Config, core: &mut Core, board: usize)
         requires board { board < length config.now.boards }
@@ -173,7 +174,7 @@ fn end_line(lines: &mut [(u16, LineReply)], place: usize, at_work: &mut Option<L
     }
 }
 
-/// Records the reply of the line at a place.
+/// Records the reply of the line with index `place`.
 #[inline(never)]
 fn put_answer(lines: &mut [(u16, LineReply)], place: usize, answer: LineReply)
     requires { place < length lines.old }

@@ -13,10 +13,11 @@ use vme_report::RunFault;
 use vme_script::Config;
 use vme_shared::Status;
 
-/// Runs the scripts by turns of these slots, one after another, and appends the report to `sink`.
-/// Returns the status of the replies.
+/// Runs the scripts by turns of the processors in `slots`, one after another, and appends the
+/// report to `sink`. Returns the status of the replies.
 ///
-/// A turn of a slot without a board, or with no line left, does nothing. No turn allocates.
+/// A turn of a slot without a board, or of a processor with no line left, does nothing. No turn
+/// allocates.
 ///
 /// # Errors
 ///

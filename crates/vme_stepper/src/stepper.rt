@@ -52,7 +52,7 @@ impl<'a> Stepper<'a> {
         Ok(Stepper { core, processors })
     }
 
-    /// Performs a turn of the processor of a board.
+    /// Performs a turn of the processor of the board with index `board`.
     #[inline(always)]
     fn turn(&mut self, config: &'a Config, board: usize)
         requires board { board < length config.now.boards }
@@ -173,7 +173,7 @@ impl<'a> Stepper<'a> {
     }
 }
 
-/// Returns the place of the board in a slot, if there is one.
+/// Returns the index of the board in a slot, if there is one.
 fn board_in_slot(config: &Config, slot: u16) -> Option<usize>
     ensures place { result ≡ board_in_slot config.now slot }
     ensures there { IfSome result (λ board. board < length config.now.boards) }
@@ -200,7 +200,7 @@ fn zero_memories(alloc: Global, config: &Config) -> Result<Vec<ByteMemory>, OutO
     Ok(memories)
 }
 
-/// Returns the processors, of which no line has ended.
+/// Returns the processors before their first lines.
 fn fresh_processors<'a>(alloc: Global, config: &'a Config) -> Result<Vec<Processor<'a>>, AllocError>
     ensures { IfOk result (λ processors. processors.items
         ≡ processors_from config.now 0 (initial_state config.now).script_states) }

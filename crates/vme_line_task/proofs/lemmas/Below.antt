@@ -122,19 +122,19 @@ unfolding IsLineBelow
 started_below config board line there = λ given call made.
     next_below config board line given call there (sym (by_the_given config board line given) ∙ made)
 
--- and stays so
+-- a line that was given one reply and then others was given all of them
 after_all : (task : LineTask) (last : Option EventReply) (given : Inputs)
     → line_advanced (line_advance task last) given ≡ line_advanced task (given ++ last ∷ [])
 after_all task last [] = refl
 after_all task last (next ∷ given) = ap (λ (t : LineTask). line_advance t next) (after_all task last given)
 
--- a line that is given one thing more calls boards among the first n alone
+-- a line that is given one more reply, or an absent one, calls boards among the first n alone
 pub advance_below : (n : ℕ) (task : LineTask) (last : Option EventReply) → IsLineBelow n task → IsLineBelow n (line_advance task last)
 unfolding IsLineBelow
 advance_below n task last below = λ given call made.
     below (given ++ last ∷ []) call (sym (ap line_to_do (after_all task last given)) ∙ made)
 
--- also after a call that it makes itself
+-- a line that makes its next call on a machine then calls boards among the first n alone
 pub made_below : (n who : ℕ) (before after : Machine) (task new : LineTask) → AdvancesOn line_to_do line_advance who before after task new
     → IsLineBelow n task → IsLineBelow n new
 made_below n who before after task new it below = by (call_in (line_to_do task)) it.step

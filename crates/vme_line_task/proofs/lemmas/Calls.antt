@@ -25,7 +25,7 @@ transfer_on : (left : ℕ) (t : TaskView) (reply : Option EventReply)
     → attempts_advance (record { attempt = Transfer t; left = left }) reply ≡ record { attempt = Transfer (advance t reply); left = left }
 transfer_on left t reply = rw (moves_once (to_do (advance t reply))) refl
 
--- it makes its own call as its task does
+-- attempts at a transfer make a call and advance as the transfer's task does
 pub transfer_advances : (left who : ℕ) (before after : Machine) (old new : TaskView) → AdvancesOn to_do advance who before after old new
     → AdvancesOn attempts_to_do attempts_advance who before after (record { attempt = Transfer old; left = left })
     (record { attempt = Transfer new; left = left })
@@ -33,7 +33,7 @@ transfer_advances left who before after old new it =
     part_advances (λ t. record { attempt = Transfer t; left = left }) answers.Transfer to_do attempts_to_do advance attempts_advance who before
     after old new (λ t. refl) (transfer_on left) it
 
--- and a line as its attempts do
+-- a line makes a call and advances as its attempts do
 pub running_advances : (who : ℕ) (before after : Machine) (old new : Attempts)
     → AdvancesOn attempts_to_do attempts_advance who before after old new
     → AdvancesOn line_to_do line_advance who before after (Running old) (Running new)

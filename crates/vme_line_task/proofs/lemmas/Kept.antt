@@ -39,10 +39,11 @@ use Rattle.vme_line_task.proofs.lemmas.Below.{moves_makes}
 use Rattle.vme_line_task.proofs.Ends.{just_begun}
 use Rattle.vme_line_task.proofs.Attempted.{attempt_begins, IsOwnAttempt, attempt_turns, IsTransfer, attempt_holds, attempt_turn, attempt_datum, attempt_ends}
 
--- the attempts when the current one was given one thing more
+-- the attempts after the current one was given one more reply, or an absent one
 abbrev now_made : Attempts → Option EventReply → Attempts
 now_made made last = record { given = last ∷ made.given; left = made.left }
 
+-- the current attempt has ended, and another attempt begins
 record IsFollowed (made : Attempts) (next : NextStep LineReply) : Type 0 where
   answer : LineReply
   ended : next ≡ Returns answer
@@ -91,7 +92,7 @@ line_own config board (lines.Unlock am addr) = shared_own config board (asked_sh
 line_own config board (lines.Put box word) = shared_own config board (asked_shared.Put (mailbox_at config box) word)
 line_own config board (lines.Take box) = shared_own config board (asked_shared.Take (mailbox_at config box))
 
--- at its first call the first attempt was given nothing else
+-- at the first call of a line, its current attempt was given an absent reply alone
 first_given : (tries : ℕ) (a : Attempt) → (attempts_of a tries (None ∷ [])).given ≡ None ∷ []
 first_given tries a =
     let now : Attempts = record { given = None ∷ []; left = tries } in
@@ -162,7 +163,7 @@ shared_holds config board request given b command made = by_refusal (shared_refu
     by_refusal None made = lawful_holds config.tries (Sharing (shared_job config board request)) given b command tt made
     by_refusal (Some fault) made = absurd cc
 
--- the commands of a local port are its own
+-- the command that a line gives the local port is no bus cycle
 own_local : (board b : ℕ) (cmd : BoardCmd) (g : Inputs) (command : Option Command) → IsOwnLine (lines.Local cmd)
     → next_of (local_job board cmd) g ≡ Invokes (OnBoard b command) → IsLocal command
 own_local board b cmd g command own made =
@@ -196,14 +197,14 @@ line_holds_by config board (lines.Put box word) given b command own made =
 line_holds_by config board (lines.Take box) given b command own made =
     inr (shared_holds config board (asked_shared.Take (mailbox_at config box)) given b command made)
 
--- a line's data are a local port's, or go to a board only while the arbiter's last reply is `Granted`
+-- a line's command to a board is one of the local port, or the arbiter's last reply is `Granted`
 pub line_holds : (config : Configuration) (board : ℕ) (line : Line) (replies : List EventReply) (b : ℕ) (command : Option Command)
     → IsOwnLine line → line_next config board line replies ≡ Invokes (OnBoard b command)
     → IsLocal command ⊎ (line_reported config board line replies ≡ Some arb_replies.Granted)
 unfolding next_given line_reported
 line_holds config board line replies b command own made = line_holds_by config board line (given_of replies) b command own made
 
--- an attempt after a good reply of the arbiter
+-- after a good reply of the arbiter to an attempt, the slot stands as the last reply states
 lawful_turn : (tries : ℕ) (attempt : Result Attempt CycleFault) (given : Inputs) (cmd : ArbCmd) (reply : ArbReply) (bus : Arbitration)
     (slot : ℕ) → lawful_next tries attempt given ≡ Invokes (OnBus cmd) → IsGood (OnBus cmd) (event_replies.Bus reply) → StandsAsReplied bus slot (Some reply)
     → StandsAsReplied bus slot (lawful_reported tries attempt (Some (event_replies.Bus reply) ∷ given))
@@ -228,7 +229,7 @@ unfolding next_given line_reported
 line_turn config board line replies cmd reply bus slot made good stands =
     lawful_turn config.tries (line_attempt config board line) (given_of replies) cmd reply bus slot made good stands
 
--- an attempt after a good reply of a board
+-- a good reply of a board to an attempt leaves the arbiter's last reply the same
 lawful_datum : (tries : ℕ) (attempt : Result Attempt CycleFault) (given : Inputs) (call : Call) (reply : Reply)
     → lawful_next tries attempt given ≡ Invokes call → IsGood call (event_replies.Board reply)
     → lawful_reported tries attempt (Some (event_replies.Board reply) ∷ given) ≡ lawful_reported tries attempt given

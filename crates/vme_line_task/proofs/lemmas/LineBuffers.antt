@@ -20,7 +20,7 @@ buffer_found [] n line is = absurd (cc is)
 buffer_found (one ∷ script) zero line is = ap (λ (l : Line). Some (buffer_of l)) (same_Some one.line line is)
 buffer_found (one ∷ script) (suc n) line is = buffer_found script n line is
 
--- the buffers of one line more
+-- the buffers of the first n lines and the next one, by the successor of n
 buffers_on : (script : List ScriptLine) (n : ℕ) (line : Line) → slice_get (map (λ one. one.line) script) n ≡ Some line
     → buffers_of (take (suc n) script) ≡ buffers_of (take n script) ++ buffer_of line ∷ []
 buffers_on [] n line is = absurd (cc is)
@@ -32,7 +32,7 @@ pub buffers_more : (script : List ScriptLine) (n : ℕ) (line : Line) → slice_
     → buffers_of (take (n + 1) script) ≡ buffers_of (take n script) ++ buffer_of line ∷ []
 buffers_more script n line is = rw (add-one n) (buffers_on script n line is)
 
--- the next buffer is empty and enough for the line at a place, and the others are those of the lines after it
+-- the next buffer is empty and large enough for line n, and the other buffers are those of the lines after it
 pub record IsNextBuffer (script : List ScriptLine) (n : ℕ) (buffer : BufferView) (rest : List BufferView) : Type 0 where
   pub none : buffer.items ≡ []
   pub enough : (line : Line) → slice_get (map (λ one. one.line) script) n ≡ Some line → line_read_len line ≤ buffer.capacity
@@ -74,12 +74,12 @@ unfoldable pub AreKept : List Bool → List BufferView → List BufferView → T
 AreKept take_memory long buffers =
     (more : List Bool) (rest : List BufferView) → buffers_kept (take_memory ++ more) (long ++ rest) ≡ buffers ++ buffers_kept more rest
 
--- no buffers are kept for no lines
+-- `AreKept` holds of the empty lists
 pub kept_none : (take_memory : List Bool) (long : List BufferView) → take_memory ≡ [] → long ≡ [] → AreKept take_memory long []
 unfolding AreKept
 kept_none take_memory long none empty = λ more rest. rw (none, empty) refl
 
--- one buffer more that is not kept
+-- `AreKept` holds with one more buffer that does not allocate
 pub kept_short : (take_memory : List Bool) (long buffers : List BufferView) (buffer : BufferView) → AreKept take_memory long buffers
     → buffer ≡ record { items = []; capacity = inline_capacity } → AreKept (take_memory ++ false ∷ []) long (buffers ++ buffer ∷ [])
 unfolding AreKept
@@ -89,7 +89,7 @@ kept_short take_memory long buffers buffer before empty = λ more rest.
     ∙ ap (λ (r : BufferView). buffers ++ r ∷ buffers_kept more rest) (sym empty)
     ∙ sym (append_assoc buffers (buffer ∷ []) (buffers_kept more rest))
 
--- one buffer more that is kept
+-- `AreKept` holds with one more buffer that allocates
 pub kept_long : (take_memory : List Bool) (long buffers : List BufferView) (buffer : BufferView) → AreKept take_memory long buffers
     → AreKept (take_memory ++ true ∷ []) (long ++ buffer ∷ []) (buffers ++ buffer ∷ [])
 unfolding AreKept
@@ -108,7 +108,7 @@ kept_all take_memory long buffers all =
     ∙ all [] []
     ∙ append-nil buffers
 
--- one line more whose buffer is kept
+-- `AreKept` holds with one more line whose buffer allocates
 pub one_long : (script : List ScriptLine) (n count : ℕ) (line : Line) (before after : List Bool) (long longer : List BufferView) (buffer : BufferView)
     → slice_get (map (λ one. one.line) script) n ≡ Some line → AreKept before long (buffers_of (take n script)) → count ≡ line_read_len line
     → after ≡ before ++ true ∷ [] → longer ≡ long ++ buffer ∷ [] → buffer ≡ record { items = []; capacity = max inline_capacity count }
@@ -116,7 +116,7 @@ pub one_long : (script : List ScriptLine) (n count : ℕ) (line : Line) (before 
 one_long script n count line before after long longer buffer found kept reads marked put made =
     rw (marked, put, buffers_more script n line found, ← reads, ← made) (kept_long before long (buffers_of (take n script)) buffer kept)
 
--- one line more whose buffer is not kept
+-- `AreKept` holds with one more line whose buffer does not allocate
 pub one_short : (script : List ScriptLine) (n count : ℕ) (line : Line) (before after : List Bool) (long : List BufferView)
     → slice_get (map (λ one. one.line) script) n ≡ Some line → AreKept before long (buffers_of (take n script)) → count ≡ line_read_len line
     → after ≡ before ++ false ∷ [] → count ≤ inline_capacity → AreKept after long (buffers_of (take (n + 1) script))

@@ -1,4 +1,4 @@
--- A line follows the table: how its task stands to what it was given.
+-- A line follows the table: its task follows from all that it was given.
 use Rattle.std.proofs.Common.{◌≡◌, ℕ, ◌-◌, List, [], ◌∷◌, Option, None, Result, Ok, Err, refl, ap, ◌∙◌, inl, inr}
 use Rattle.std.specs.Prelude.{nat_lt, ◌&&◌}
 use Rattle.std.proofs.lemmas.Bool.{cases_Bool}
@@ -77,7 +77,7 @@ same_attempts a tries given last =
     ap (λ (t : AttemptTask). attempts_again (record { attempt = t; left = made.left }) (attempt_to_do t)) step
     ∙ ap (attempts_again (tasks_of a now)) (task_next a now.given) ∙ same_again a now (attempt_next a now.given)
 
--- the machine's line, by its attempt
+-- the machine's line is that of the table's attempts
 attempts_given : (a : Attempt) (tries : ℕ) (given : Inputs)
     → line_advanced (line_fresh tries (Ok a)) given ≡ Running (tasks_of a (attempts_of a tries given))
 attempts_given a tries [] = ap (λ (t : AttemptTask). Running (record { attempt = t; left = tries })) (task_fresh a)

@@ -13,7 +13,7 @@ use Rattle.vme_line_task.specs.Scripts.{lines_at}
 use Rattle.vme_line_task.specs.Tables.{line_next}
 use Rattle.vme_line_task.specs.Traces.{Continues, LineTrace, IsTrace, ScriptState, AtWork, IsTracePrefix}
 
--- one transition more of a line
+-- a line that continues by transitions continues by these and the transition of its next call
 pub goes-snoc : (config : Configuration) (board : ℕ) (line : Line) (before : List EventReply) (moves : List Transition) (replies : List EventReply)
     (m : Transition) → Continues config board line before moves replies → line_next config board line replies ≡ Invokes (call_of m.event)
     → Continues config board line before (moves ++ m ∷ []) (m.reply ∷ replies)
@@ -22,7 +22,7 @@ goes-snoc config board line before [] replies m goes next =
 goes-snoc config board line before (first ∷ moves) replies m goes next =
     (goes.0, goes-snoc config board line (first.reply ∷ before) moves replies m goes.1 next)
 
--- the trace of one line more
+-- the trace of lines and the trace of one more line are the trace of all these lines
 pub trace-snoc : (config : Configuration) (board : ℕ) (lines : List Line) (moves : List Transition) (answers : List LineReply) (line : Line)
     (more : List Transition) (answer : LineReply) → IsTrace config board lines moves answers → LineTrace config board line more answer
     → IsTrace config board (lines ++ line ∷ []) (moves ++ more) (answers ++ answer ∷ [])
@@ -52,12 +52,12 @@ next_line : (finished left : List Line) → slice_get (finished ++ left) (length
 next_line [] left = refl
 next_line (one ∷ finished) left = next_line finished left
 
--- the next line before its first call has no transitions
+-- before its first call, the next line has no transitions
 rests : (config : Configuration) (board : ℕ) (left : List Line) → AtWork config board left [] []
 rests config board [] = (refl, refl)
 rests config board (line ∷ left) = refl
 
--- no transitions lead to the state before the first line
+-- the empty list of transitions leads to the state before the first line
 pub follows_nothing : (config : Configuration) (board : ℕ) → IsTracePrefix config board [] (record { ended = []; replies = [] })
 follows_nothing config board = record {
   finished = [];
