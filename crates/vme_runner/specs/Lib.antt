@@ -1,5 +1,5 @@
 -- The definitions that the contracts cite.
--- What a line of a script asks for next, by the replies to it so far.
+-- What a line of a script does next, by the replies to it so far.
 pub use Rattle.vme_line_task.specs.Scripts
 pub use Rattle.vme_line_task.specs.ReadBuffers
 pub use Rattle.vme_line_task.specs.Tables
@@ -7,7 +7,7 @@ pub use Rattle.vme_line_task.specs.Machine
 pub use Rattle.vme_line_task.specs.Events
 pub use Rattle.vme_line_task.specs.Traces
 pub use Rattle.vme_line_task.specs.Tenures
--- Runs by listed turns.
+-- Runs by turns on one thread.
 pub use Rattle.vme_stepper.specs.Turns
 pub use Rattle.vme_stepper.specs.Schedules
 pub use Rattle.vme_stepper.specs.Reports as StepReports

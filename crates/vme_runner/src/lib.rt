@@ -1,6 +1,6 @@
-//! The processors of a backplane (ANSI/IEEE Std 1014-1987, chapters 2 and 3) at work on their
-//! scripts: on one thread by listed turns, or as one thread a processor; their report and its text;
-//! and the laws of both. This crate only names what other crates define.
+//! The drivers that run the scripts of a backplane's processors (ANSI/IEEE Std 1014-1987, chapters
+//! 2 and 3), on one thread by turns or with one thread for each processor; the report of a run, its
+//! text, and the laws of runs. The crate re-exports items of other crates and defines none.
 #![tactic(auto)]
 
 pub use vme_engines::report_text;

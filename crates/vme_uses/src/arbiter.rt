@@ -4,7 +4,8 @@ ghost use Rattle.std.specs.Prelude.{◌≡◌};
 use vme_arbiter::{ArbCmd, ArbReply, Arbiter};
 use vme_object::Object;
 
-/// Requests the bus for two slots. The second one waits, although its level is greater.
+/// Returns the replies to requests for the bus by two slots. The second slot waits, although its
+/// level is greater.
 pub fn two_requests() -> (ArbReply, ArbReply)
     ensures { result ≡ (ArbReply.Granted, ArbReply.Waiting) }
 {

@@ -6,7 +6,7 @@ use vme_bus_objects::{BusCommand, BusObject};
 use vme_core::EventReply;
 use vme_object::Object;
 
-/// Requests a free bus from the arbiter, which is an object of the bus, for a slot.
+/// Returns the reply to a request for the free bus by slot 5. The arbiter is an object of the bus.
 pub fn first_request() -> EventReply
     ensures { result ≡ EventReply.Bus ArbReply.Granted }
 {

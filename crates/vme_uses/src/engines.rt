@@ -6,7 +6,7 @@ use std::alloc::Global;
 use vme_engines::{ProgramFault, Status, cycles_engine};
 use vme_io::{RoomSink, Sink, SliceSource};
 
-/// Makes the cycles of request lines, into a sink, and returns the status.
+/// Performs the cycles of request lines, writes their text to a sink, and returns the status.
 pub fn cycles_of(alloc: Global, lines: &[u8], sink: &mut RoomSink) -> Result<Status, ProgramFault>
     requires { ⟦<RoomSink as Sink>⟧.is_marked sink.old ≡ false }
     ensures { IfOk result (λ status. status ≡ cycles_status lines.now) }

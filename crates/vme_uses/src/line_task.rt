@@ -7,7 +7,7 @@ use vme_cycle::BlockBuffer;
 use vme_line_task::line_read_len;
 use vme_script::Line;
 
-/// Returns a buffer for all that a line reads over the bus.
+/// Returns a buffer for the bytes that a line's request reads over the bus.
 pub fn buffer_for(alloc: Global, line: &Line) -> Result<BlockBuffer, AllocError>
     ensures { IfOk result (λ buffer. line_read_len line.now ≤ buffer.capacity) }
 {

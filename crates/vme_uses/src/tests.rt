@@ -1,4 +1,5 @@
-//! Each use, run once, but for that of `vme_sequential`: no program has a report of one order yet.
+//! Each use, run once, except those of `vme_port_array` and `vme_sequential`. No program has a
+//! report of one order yet.
 use crate::{
     am, arbiter, bus_objects, bus_wait, config_toml, cores, cycle, decode, devices, engines,
     grammar, lanes, lexer, line_task, mailbox_laws, master, memory, object, port, report, run_laws,
