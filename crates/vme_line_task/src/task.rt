@@ -126,7 +126,9 @@ impl<'a> LineTask<'a> {
     }
 
     /// Returns the number of attempts that are left, the current one among them. If it falls with a
-    /// reply, another attempt has begun, and a driver on a thread may wait before that one.
+    /// reply, another attempt has begun, and a driver on a thread may wait before that one. It does
+    /// not fall for a transfer or a local command, which is attempted once; it is 0 for a refused
+    /// line.
     pub fn attempts_left(&self) -> u32
         ensures { result ≡ attempts_left self.now }
     {
