@@ -1,4 +1,4 @@
--- The example keeps the protocol.
+-- The example keeps the protocol, and a put that writes the count before the word breaks it.
 use Rattle.std.proofs.Common.{◌≡◌, ℕ, zero, suc, Bool, true, false, eqb, ltb, ◌<◌, ◌≤◌, List, [], ◌∷◌, refl, ap, Some, arith}
 use Rattle.std.specs.Prelude.{is_some, ◌&&◌}
 use Rattle.std.proofs.lemmas.Bool.{false≢true, ne_eqb, ltb-true, and_parts}
@@ -23,7 +23,7 @@ all_early : List (Entry BoardCmd Reply) → Bool
 all_early [] = true
 all_early (e ∷ h) = ltb e.who 3 && all_early h
 
--- the other masters have no entries
+-- masters with numbers from 3 on have no entries
 none_later : (who : ℕ) (h : List (Entry BoardCmd Reply)) → 3 ≤ who → all_early h ≡ true → own who h ≡ []
 unfolding all_early
 none_later who [] later early = refl

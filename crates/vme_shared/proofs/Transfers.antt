@@ -1,5 +1,5 @@
--- The outcome of a transfer of one datum: as many bytes as it expects, or a bus error. A denial comes only of a reply
--- that does not fit, or of the arbiter.
+-- The outcome of a transfer of one datum: as many bytes as it expects, or a bus error. A denial comes only from a reply
+-- that does not fit, or from the arbiter.
 use Rattle.std.proofs.Common.{◌≡◌, ◌≢◌, ℕ, ◌+◌, true, List, [], ◌∷◌, length, Option, Some, None, refl, ap, sym, subst, ◌∙◌, inl, inr}
 use Rattle.std.specs.Prelude.{is_some}
 use Rattle.std.specs.Option.{option_and_then}
@@ -136,7 +136,7 @@ board_formed j g board command Berr single ((none, empty), some, wanted) form = 
     by_place None some = absurd cc
     by_place (Some p) some = berr_formed (request_expected j.transfer.request) (data_in g) (bytes_in g)
 
--- what follows one reply more has its form
+-- what follows one more reply has its form
 step_formed : (j : BusJob) (g : Inputs) (next : NextStep Outcome) (last : Option EventReply) → count_of j.transfer.request ≡ 1 → Formed j g next
     → Formed j (last ∷ g) (next_after (Bus j) next last g)
 step_formed j g NotStarted None single formed = (ap data_in formed, ap bytes_in formed)

@@ -1,4 +1,4 @@
--- What a lock, a put or a take does next, as the result of its functions shows it.
+-- What a lock, an unlock, a put or a take does next, as the result of `next` states it.
 use Rattle.std.specs.Prelude.{◌≡◌, ◌∷◌, Option}
 use Rattle.vme_core.specs.declared.event.EventReply.{EventReply}
 use Rattle.vme_core.specs.Calls.{call_of}
@@ -15,7 +15,7 @@ abbrev pub next_in : SharedTodo → NextStep SharedOutcome
 next_in (todos.Call event) = Invokes (call_of event)
 next_in (todos.Finished outcome) = Returns outcome
 
--- what a task does next when it is given a reply, or none: it advances by that, and does what the table says of all that it was given
+-- a task that is given a reply, or none, advances by it, and does next what the table says for all that it was given
 pub record IsNextOf (old new : SharedView) (reply : Option EventReply) (result : SharedTodo) : Type 0 where
   pub task : new ≡ shared_advance old reply
   pub todo : next_in result ≡ shared_to_do new

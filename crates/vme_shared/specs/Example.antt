@@ -36,7 +36,7 @@ abbrev pub cycle_by : ℕ → Request → Reply → Entry BoardCmd Reply
 cycle_by who request reply =
     entry who (Cycle (signals_of (data_transfer request) 0) (addr_of request) (function_of request)) reply
 
--- a master locks the mailbox and finds this byte before
+-- a master sets the lock, whose byte was `old` before
 abbrev pub locks : ℕ → ℕ → Entry BoardCmd Reply
 locks who old = cycle_by who (Modify 0x09 0 1 functions.Set) (Bytes (record { items = old ∷ [] }))
 

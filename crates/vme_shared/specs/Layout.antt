@@ -5,11 +5,11 @@ use Rattle.std.specs.Prelude.{ℕ, ◌+◌, ◌*◌, ◌%◌}
 abbrev pub put_count_from : ℕ → ℕ
 put_count_from first = first + 4
 
--- the count of words taken lies after the count of words put
+-- the count of words taken lies after the count of words put, at the next multiple of four
 abbrev pub take_count_from : ℕ → ℕ
 take_count_from first = first + 8
 
--- where the word with number n lies: the words go round the slots
+-- the word with number n lies in the slot whose number is n modulo the number of slots
 abbrev pub word_from : ℕ → ℕ → ℕ → ℕ
 word_from first slots n = first + 16 + 4 * (n % slots)
 

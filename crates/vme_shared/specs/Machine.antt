@@ -1,5 +1,4 @@
--- The task of a lock, a put or a take as a machine that keeps its progress in place of the replies so far, for
--- functions.
+-- The task of a lock, an unlock, a put or a take as a state machine: it keeps its progress in place of the replies.
 use Rattle.std.specs.Prelude.{◌≢◌, [], ◌∷◌, Option, Some, None, Result, Ok, Err}
 use Rattle.vme_cycle.specs.declared.fault.CycleFault.{CycleFault}
 use Rattle.vme_core.specs.declared.event.EventReply.{EventReply}
@@ -44,7 +43,7 @@ abbrev pub current_stepped : SharedJob → StageResult → CurrentTransfer
 current_stepped s (Continue stage) = stage_called stage (stage_job s stage)
 current_stepped s (Finish end) = Finished end
 
--- a stage by what its bus task does next: an outcome leads on
+-- the transfer at work by what its bus task does next, or what follows the outcome of that task
 abbrev pub current_by : SharedJob → Stage → TaskView → NextStep Outcome → CurrentTransfer
 current_by s stage task (Returns outcome) = current_stepped s (step_after s.request stage outcome)
 current_by s stage task next = Running stage task
@@ -54,7 +53,7 @@ abbrev pub current_or : SharedJob → CurrentTransfer → Option StageResult →
 current_or s current None = current
 current_or s current (Some step) = current_stepped s step
 
--- the transfer at work after the next reply, or an absent one
+-- the transfer at work, or what follows it, after the next reply or an absent one
 abbrev pub current_after : SharedJob → CurrentTransfer → Option EventReply → CurrentTransfer
 current_after s (Running stage task) given = current_by s stage (advance task given) (to_do (advance task given))
 current_after s (Finished end) given = Finished end
@@ -94,7 +93,7 @@ current_to_do (Finished end) = Returns end
 abbrev pub shared_to_do : SharedView → NextStep SharedOutcome
 shared_to_do v = current_to_do v.current
 
--- the transfer at work has not ended
+-- the bus task of the transfer at work, if there is one, has not ended
 abbrev pub IsGoing : CurrentTransfer → Type 0
 IsGoing (Running stage task) = (outcome : Outcome) → to_do task ≢ Returns outcome
 IsGoing (Finished end) = Unit {0}

@@ -1,4 +1,4 @@
--- Where a mailbox lies in a board's memory, and what a new one holds.
+-- Where a mailbox lies in a board's memory, what a new one holds, and which commands touch it.
 use Rattle.std.specs.Prelude.{ℕ, ◌≡◌, ◌+◌, ◌%◌, ◌≤◌, nat_lt, Bool, true, ◌&&◌, length}
 use Rattle.vme_memory.specs.declared.class.Width8To32.TheVariants.{D32}
 use Rattle.vme_memory.specs.Boards.{Board, zeros}
@@ -30,8 +30,7 @@ word_at m n = word_from m.offset m.slots n
 abbrev pub end_of : BoardMailbox → ℕ
 end_of m = m.offset + mailbox_len m.slots
 
--- a mailbox lies wholly in a board that answers quad-byte cycles and read-modify-writes, at a multiple of four, with 1
--- to 64 slots
+-- a mailbox of 1 to 64 slots lies at a multiple of four in a board that answers quad-byte cycles and read-modify-writes
 pub record LiesIn (board : Board) (m : BoardMailbox) : Type 0 where
   pub width : board.class.width ≡ D32
   pub rmw : board.class.rmw ≡ true

@@ -41,7 +41,7 @@ pub record IsMailbox (m : Mailbox) : Type 0 where
   pub few_slots : m.slots ≤ 64
   pub within : mailbox_end m ≤ 2 ^ 32
 
--- the mailbox of a put or a take is one
+-- the mailbox of a put or a take satisfies `IsMailbox`
 abbrev pub IsWellFormed : SharedRequest → Type 0
 IsWellFormed (Lock am addr) = Unit {0}
 IsWellFormed (Unlock am addr) = Unit {0}
@@ -95,7 +95,7 @@ mailbox_refusal m =
     ∷ refusal_in (transfer_of (read_word m.am (word_at m (m.slots - 1))))
     ∷ [])
 
--- the refusal of a shared request, if there is one
+-- the refusal of a request to a lock or a mailbox, if there is one
 abbrev pub shared_refusal : SharedRequest → Option CycleFault
 shared_refusal (Lock am addr) = refusal_in (transfer_of (set_lock am addr))
 shared_refusal (Unlock am addr) = refusal_in (transfer_of (clear_lock am addr))

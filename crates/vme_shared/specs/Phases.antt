@@ -63,8 +63,8 @@ next_phase m (Fetched t x) (Writes at len n) = reached (at == take_count_at m &&
 next_phase m Counted (Writes at len new) = reached (is_unlock m at len new) Idle
 next_phase m phase access = None
 
--- the phase after a command and its reply, while the protocol is kept; an absent command, and one that touches no byte
--- of the mailbox, leave it
+-- the phase after a command and its reply, or none once the protocol is broken; an absent command, and a command that
+-- touches no byte of the mailbox, keep the phase
 abbrev pub after_command : BoardMailbox → Option Phase → Option Command → Reply → Option Phase
 after_command m None command reply = None
 after_command m (Some phase) None reply = Some phase

@@ -9,7 +9,7 @@ use Rattle.vme_shared.specs.declared.reply.LineReply.TheVariants.{Transfer, Refu
 use Rattle.vme_shared.specs.declared.status.Status.{Status}
 use Rattle.vme_shared.specs.declared.status.Status.TheVariants.{Clean, Marked}
 
--- clean if all was read or written, or the old bytes were found
+-- clean if a transfer or local command ended without a bus error and without a denial
 abbrev pub outcome_status : Outcome → Status
 outcome_status (Read bytes) = Clean
 outcome_status Done = Clean
@@ -30,7 +30,7 @@ shared_status shared.Spent = Marked
 shared_status shared.Berr = Marked
 shared_status shared.Denied = Marked
 
--- clean if a line ended well: its transfer, lock, unlock, put or take did, or the bytes that it waits for were met
+-- clean if a line read the bytes that it waits for, or its transfer, lock, unlock, put or take is clean
 abbrev pub reply_status : LineReply → Status
 reply_status (Transfer outcome) = outcome_status outcome
 reply_status (Refused fault) = Marked
@@ -39,12 +39,12 @@ reply_status Timeout = Marked
 reply_status (Shared outcome) = shared_status outcome
 reply_status Unfinished = Marked
 
--- marked if one of the two is
+-- marked if one of two statuses is marked
 abbrev pub worse_of : Status → Status → Status
 worse_of Clean status = status
 worse_of Marked status = Marked
 
--- marked if one of these is
+-- marked if one of these statuses is marked
 abbrev pub worst : List Status → Status
 worst [] = Clean
 worst (status ∷ more) = worse_of status (worst more)

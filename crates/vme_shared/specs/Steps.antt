@@ -24,7 +24,7 @@ abbrev pub has_top_bit : List ℕ → Bool
 has_top_bit [] = false
 has_top_bit (byte ∷ bytes) = nat_le 128 byte
 
--- the number that four bytes give, the most significant first; other lengths give none
+-- the number of four bytes, the most significant first, or none for another length
 abbrev pub word_in : List ℕ → Option ℕ
 word_in bytes = if length bytes == 4 then Some (number_of bytes) else None
 
@@ -37,8 +37,8 @@ on_word None lead = Finish shared.Denied
 abbrev pub words_between : ℕ → ℕ → ℕ
 words_between p t = (p + 2 ^ 32 - t) % 2 ^ 32
 
--- once both counts are known: a put writes its word if the put count can rise and a slot is free, and a take reads a
--- word if there is one; else the lock is released
+-- the stage after both counts are read: a put writes its word if the put count can rise and a slot is free, and a take
+-- reads a word if there is one; else the lock is released
 abbrev pub counted_stage : SharedRequest → ℕ → ℕ → Stage
 counted_stage (Put mailbox word) p t =
     if p == 2 ^ 32 - 1 then Unlocks shared.Spent

@@ -1,4 +1,4 @@
--- What a lock, a put or a take does next: by its table and all that it was given.
+-- What a lock, an unlock, a put or a take does next, by its table and all that it was given.
 use Rattle.std.specs.Prelude.{ℕ, List, [], ◌∷◌, Option, None, Result, Ok, Err}
 use Rattle.vme_cycle.specs.declared.fault.CycleFault.{CycleFault}
 use Rattle.vme_cycle.specs.Lawful.{Transfer, transfer_of}
@@ -41,8 +41,7 @@ pub data Progress : Type 0 where
   At : Stage → Job → Inputs → Progress
   Over : SharedOutcome → Progress
 
--- a stage whose bus job was given so much; a refused transfer ends the task with a bus error, but an accepted request
--- has none
+-- a stage whose bus job was given these replies; a refused transfer, which no accepted request has, ends the task
 abbrev pub stage_begun : Stage → Inputs → Result Job CycleFault → Progress
 stage_begun stage given (Ok job) = At stage job given
 stage_begun stage given (Err fault) = Over shared.Berr
@@ -52,12 +51,12 @@ abbrev pub step_begun : SharedJob → StageResult → Progress
 step_begun s (Continue stage) = stage_begun stage (None ∷ []) (stage_job s stage)
 step_begun s (Finish end) = Over end
 
--- a stage by what its bus job does next: an outcome leads on
+-- the stage at work by what its bus job does next, or what follows the outcome of that job
 abbrev pub progress_by : SharedJob → Stage → Job → Inputs → NextStep Outcome → Progress
 progress_by s stage job given (Returns outcome) = step_begun s (step_after s.request stage outcome)
 progress_by s stage job given next = At stage job given
 
--- how far the task has come after one reply more, or an absent one
+-- how far the task has come after one more reply, or an absent one
 abbrev pub progress_given : SharedJob → Option EventReply → Progress → Progress
 progress_given s last (At stage job given) = progress_by s stage job (last ∷ given) (next_of job (last ∷ given))
 progress_given s last (Over end) = Over end

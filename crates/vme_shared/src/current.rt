@@ -19,8 +19,8 @@ pub enum CurrentTransfer<'a> {
 }
 
 impl CurrentTransfer<'_> {
-    /// Gives the transfer at work the reply to its event, or nothing. Returns what follows it, if
-    /// it has ended.
+    /// Gives the transfer at work the reply to its event, or `None` at its first call. If this ends
+    /// the transfer, returns what follows the transfer.
     #[tactic(auto, using(crate::proofs::lemmas::Stands::by_outcome))]
     pub(crate) fn advance(
         &mut self,

@@ -50,7 +50,7 @@ pub fn shared_tasks_are_refused_at_the_start()
         shared_refusal s.request ≡ None → (job : Job) × (stage_job s stage ≡ Ok job) }
 {}
 
-/// Each board that is called is one of the map.
+/// Each board that a lock, an unlock, a put or a take calls is one of the map.
 pub fn shared_tasks_call_boards_of_the_map()
     ensures { (s : SharedJob) (given : Inputs) (board : ℕ) (command : Option Command) →
         shared_next s given ≡ Invokes (OnBoard board command) → board < length s.map }
@@ -59,7 +59,7 @@ pub fn shared_tasks_call_boards_of_the_map()
 /// A lock, an unlock, a put or a take keeps its tenure of the bus, transfer by transfer. The
 /// arbiter's last reply allows each command to the arbiter. Data go to a board only while that
 /// reply is `Granted`. After a reply that fits and is no denial, the slot stands at the arbiter as
-/// the last reply states. An outcome that comes with it is no denial, it comes with the reply
+/// the last reply states. If that reply ends the task, then the outcome is no denial, the reply is
 /// `Freed`, and the slot is free.
 pub fn shared_tasks_keep_their_tenure()
     ensures begin { (s : SharedJob) → shared_reported s (None ∷ []) ≡ None }

@@ -11,7 +11,7 @@ use vme_core::EventReply;
 use vme_cycle::CycleFault;
 use vme_decode::AddressMap;
 
-/// A lock that is taken or released, call by call. The lock is bit 7 of a byte.
+/// The task that takes or releases a lock, call by call. The lock is bit 7 of a byte.
 #[derive(Debug, Drop)]
 pub struct LockTask<'a> {
     task: SharedTask<'a>,

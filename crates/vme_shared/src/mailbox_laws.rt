@@ -22,8 +22,9 @@ pub fn mailboxes_are_queues()
         length (words_put m h) ≤ length (words_taken m h) + m.slots }
 {}
 
-/// An example of the protocol: one master puts a word, and another takes it, which found the
-/// mailbox locked at first. A put that writes the count before the word breaks the protocol.
+/// An example of the protocol: one master puts a word, while another master finds the mailbox
+/// locked. The other master then takes the word. A put that writes the count before the word breaks
+/// the protocol.
 pub fn a_word_goes_through()
     ensures legal { IsLegal board_step example_board example_history }
     ensures proper { IsProper example_mailbox example_history }

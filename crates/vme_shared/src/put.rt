@@ -13,7 +13,7 @@ use vme_core::EventReply;
 use vme_cycle::CycleFault;
 use vme_decode::AddressMap;
 
-/// A word that is put into a mailbox, call by call.
+/// The task that puts a word into a mailbox, call by call.
 #[derive(Debug, Drop)]
 pub struct PutTask<'a> {
     task: SharedTask<'a>,

@@ -24,9 +24,9 @@ pub enum LineReply {
 }
 
 impl LineReply {
-    /// Returns `Clean` for a good reply: bytes that were read, written or found, an `await` that
-    /// was met, a lock that was taken or released, and a word that was put or taken. Any other
-    /// reply is `Marked`.
+    /// Returns `Clean` for a good reply: a transfer or local command without a bus error and
+    /// without a denial, an `await` that was met, a lock that was taken or released, and a word
+    /// that was put or taken. Returns `Marked` for any other reply.
     pub fn status(&self) -> Status
         ensures { result ≡ reply_status self.now }
     {

@@ -27,7 +27,8 @@ pub enum SharedRequest {
 }
 
 impl SharedRequest {
-    /// Returns the first refusal of the request's transfers.
+    /// Returns the refusal of the transfer of a lock or an unlock. For a put or a take, returns the
+    /// refusal of the lock's transfer, or else that of a read of the mailbox's last word.
     pub(crate) fn check(self) -> Result<(), CycleFault>
         requires { IsWellFormed self }
         ensures { refusal_in result ≡ shared_refusal self }
@@ -39,6 +40,7 @@ impl SharedRequest {
         }
     }
 
+    /// Returns the stage of the first transfer.
     pub(crate) fn first_stage(self) -> Stage
         ensures { result ≡ first_stage self }
     {

@@ -13,7 +13,7 @@ use vme_core::EventReply;
 use vme_cycle::CycleFault;
 use vme_decode::AddressMap;
 
-/// A word that is taken from a mailbox, call by call.
+/// The task that takes a word from a mailbox, call by call.
 #[derive(Debug, Drop)]
 pub struct TakeTask<'a> {
     task: SharedTask<'a>,

@@ -16,10 +16,10 @@ use vme_core::{EventRef, EventReply};
 use vme_cycle::CycleFault;
 use vme_decode::AddressMap;
 
-/// A lock, an unlock, a put or a take, call by call.
+/// The task of a lock, an unlock, a put or a take, call by call.
 ///
-/// Each of its transfers is a bus task of its own, which begins at once as the one before ends. The
-/// task allocates nothing.
+/// Each of its transfers is a bus task, which begins when the bus task before it ends. It allocates
+/// nothing.
 #[derive(Debug, Drop)]
 pub struct SharedTask<'a> {
     job: Job<'a>,
@@ -42,7 +42,8 @@ impl<'a> SharedTask<'a> {
     ///
     /// # Errors
     ///
-    /// The first refusal of the request's transfers.
+    /// The refusal of the transfer of a lock or an unlock. For a put or a take, the refusal of the
+    /// lock's transfer, or else that of a read of the mailbox's last word.
     pub fn start(
         map: &'a AddressMap,
         slot: u16,

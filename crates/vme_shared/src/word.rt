@@ -12,7 +12,7 @@ pub(crate) fn word_bytes(word: u32) -> Datum
     Datum::try_from(&word.to_be_bytes()[..]).unwrap()
 }
 
-/// Returns the word that four bytes give, the most significant first; other lengths give none.
+/// Returns the word of four bytes, the most significant first, or `None` for another length.
 pub(crate) fn word_in(bytes: &[u8]) -> Option<u32>
     ensures { result ≡ word_in bytes.now }
 {

@@ -9,13 +9,13 @@ use Rattle.vme_master.specs.declared.outcome.Outcome.TheVariants as outcomes
 use Rattle.vme_master.specs.Jobs.{expected_outcome}
 use Rattle.vme_master.specs.Tables.{Inputs, outcome_by}
 
--- bytes that a datum wants end no transfer as denied
+-- the outcome of expected bytes is no denial
 pub expected_granted : (expected : ExpectedReply) (bytes : List ℕ) → expected_outcome expected bytes ≢ outcomes.Denied
 expected_granted (expected_replies.Read n) bytes = λ same. absurd cc
 expected_granted (expected_replies.Modify n) bytes = λ same. absurd cc
 expected_granted expected_replies.Write bytes = λ same. absurd cc
 
--- and neither does what comes of a transfer's last reply
+-- the outcome at the release of the bus is no denial
 pub outcome_granted : (j : BusJob) (place : Option (ℕ × ℕ)) (g : Inputs) → outcome_by j place g ≢ outcomes.Denied
 outcome_granted j None g = λ same. absurd cc
 outcome_granted j (Some place) [] = expected_granted _ _

@@ -1,4 +1,4 @@
--- A new mailbox, into which no word was put.
+-- A new mailbox holds no word, and it is a queue in every legal and proper history.
 use Rattle.std.proofs.Common.{◌≡◌, ℕ, ◌+◌, ◌-◌, ◌≤◌, ◌<◌, List, [], length, get_or, drop, replicate, slice_range, refl, ap, sym, ◌∙◌, arith}
 use Rattle.std.proofs.lemmas.Grind.{same_number_lists}
 use Rattle.std.proofs.lemmas.List.{get_or-replicate, get_or-take, get_or-drop, length-replicate}

@@ -103,7 +103,7 @@ module _ (m : BoardMailbox) (some : 1 ≤ m.slots) (who : ℕ) (given : Option C
         | inr apart ↦ looks_on bytes after put taken holds apart (stays Idle) still
       ]
 
-  -- a command that touches the mailbox leads to a next phase
+  -- a command that touches the mailbox and that the protocol allows leads to a next phase
   next_of : (board : Board) (command : Command) (phase : Phase) → given ≡ Some command → touches m command ≡ true → reply ≡ (step board command).0
       → is_some (after_command m (phases who) given reply) ≡ true → phases who ≡ Some phase
       → (next : Phase)
@@ -150,7 +150,7 @@ module _ (m : BoardMailbox) (some : 1 ≤ m.slots) (who : ℕ) (given : Option C
             ]
       ]
 
--- any command of one master keeps the mailbox
+-- a command that the protocol allows to its master keeps the mailbox
 advance : (m : BoardMailbox) (some : 1 ≤ m.slots) (who : ℕ) (given : Option Command) (reply : Reply) (phases : ℕ → Option Phase) (board : Board)
     (put taken : List ℕ) → reply ≡ (answer board given).0 → is_some (after_command m (phases who) given reply) ≡ true
     → Holds m board.bytes put taken phases
@@ -167,7 +167,7 @@ advance m some who (Some command) reply phases board put taken replied goes hold
           (λ phase. cond-false (touches m command) (next_phase m phase (access_of command reply)) (Some phase) beside)
     ]
 
--- an entry of the history moves its own master to the next row and keeps the mailbox
+-- an entry that the protocol allows moves its master to the next phase and keeps the mailbox
 pub entry_holds : (m : BoardMailbox) (some : 1 ≤ m.slots) (e : Entry BoardCmd Reply) (phases : ℕ → Option Phase) (board : Board) (put taken : List ℕ)
     → e.reply ≡ (board_step board e.cmd).1 → is_some (after_entry m (phases e.who) e) ≡ true → Holds m board.bytes put taken phases
     → Holds m (board_step board e.cmd).0.bytes (put ++ put_by (phases e.who) (after_entry m (phases e.who) e))
@@ -215,7 +215,7 @@ kept_queue m bytes put taken kept = record {
   capacity = kept.few;
 }
 
--- a queue of words in three parts
+-- words of a queue may be appended part by part or at once
 joined : (m : BoardMailbox) (put a b taken c d : List ℕ) → IsQueue m ((put ++ a) ++ b) ((taken ++ c) ++ d)
     → IsQueue m (put ++ (a ++ b)) (taken ++ (c ++ d))
 joined m put a b taken c d queue =

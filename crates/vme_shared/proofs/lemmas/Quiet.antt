@@ -13,7 +13,7 @@ use Rattle.vme_shared.proofs.lemmas.MailboxSteps.{Did, Changes, changes}
 use Rattle.vme_shared.proofs.lemmas.Kept.{Kept, IsHeld, Stands, SameNumbers, kept_same, stands_same, same_beside, lock_set, reached_is}
 use Rattle.vme_shared.proofs.lemmas.Rows.{Went, same_words}
 
--- all numbers of the mailbox stay the same, that of the lock too
+-- all numbers of the mailbox stay the same, including that of the lock
 pub record Quiet (m : BoardMailbox) (bytes after : List ℕ) : Type 0 where
   pub lock : number_in after (lock_at m) 1 ≡ number_in bytes (lock_at m) 1
   pub same : SameNumbers m bytes after
@@ -30,7 +30,7 @@ quiet_beside m bytes new at some within (inl below) =
 quiet_beside m bytes new at some within (inr above) =
     record { lock = number_apart bytes new at (lock_at m) 1 within (inl (omega arith)); same = same_beside m bytes new at some within (inr above) }
 
--- the bytes after a command that touches no byte of the mailbox have its numbers
+-- a change of bytes that are none of the mailbox leaves its numbers the same
 quiet_by : (m : BoardMailbox) (bytes after : List ℕ) (command : Command) → 1 ≤ m.slots → touches m command ≡ false
     → Changes bytes (offset_of command) (len_of command) after → Quiet m bytes after
 quiet_by m bytes after command some beside (inl is) = quiet_same m bytes after is

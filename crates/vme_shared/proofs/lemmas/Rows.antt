@@ -166,7 +166,7 @@ module _ (m : BoardMailbox) (some : 1 ≤ m.slots) (bytes after put taken : List
         stands = rw is_there (number_apart bytes new (take_count_at m) (lock_at m) 1 inside (inl (omega arith)) ∙ held);
       }
 
-  -- an access keeps the mailbox by whichever row it goes
+  -- each access that the protocol allows keeps the mailbox
   pub went : (phase next : Phase) (access : Access) → Kept m bytes put taken → Stands m bytes put taken phase → Did bytes access after
       → next_phase m phase access ≡ Some next → Went m after put taken phase next
   went Idle next (Sets at len old) kept stands did goes =

@@ -1,4 +1,4 @@
--- The machine follows the table: how its transfer at work stands to what the task was given.
+-- The state machine follows the table: its transfer at work is the one that all given replies lead to.
 use Rattle.std.proofs.Common.{◌≡◌, [], ◌∷◌, Option, None, Result, Ok, Err, refl, ap, ◌∙◌}
 use Rattle.std.specs.Option.{option_map}
 use Rattle.vme_cycle.specs.declared.fault.CycleFault.{CycleFault}
@@ -18,7 +18,7 @@ use Rattle.vme_shared.specs.Steps.{first_stage, step_after}
 use Rattle.vme_shared.specs.Tables.{SharedJob, Progress, At, Over, stage_job, stage_begun, step_begun, progress_by, progress_given, progress_of, task_shown, next_at, shared_next}
 use Rattle.vme_shared.specs.Machine.{SharedView, stage_fresh, stage_called, current_stepped, current_by, current_or, current_after, shared_advance, shared_given, current_to_do, shared_to_do}
 
--- the transfer at work goes on, or what follows its outcome does
+-- the transfer at work, or what follows its outcome if it has one
 pub by_outcome : (s : SharedJob) (stage : Stage) (task : TaskView) (next : NextStep Outcome)
     → current_by s stage task next ≡ current_or s (currents.Running stage task) (option_map (step_after s.request stage) (result_in next))
 by_outcome s stage task NotStarted = refl
@@ -73,7 +73,7 @@ shows (Over end) = refl
 pub by_the_given : (s : SharedJob) (g : Inputs) → shared_to_do (shared_given s g) ≡ shared_next s g
 by_the_given s g = ap current_to_do (given_work s g) ∙ shows (progress_of s g)
 
--- a task does next what the table says after one reply more
+-- a task does next what the table says after one more reply
 pub next_by_the_given : (s : SharedJob) (g : Inputs) (v : SharedView) (last : Option EventReply) → v ≡ shared_given s g
     → shared_to_do (shared_advance v last) ≡ shared_next s (last ∷ g)
 next_by_the_given s g v last same =

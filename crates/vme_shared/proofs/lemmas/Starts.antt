@@ -1,4 +1,4 @@
--- Requests that are accepted: the first transfer is called first, and no later transfer is refused.
+-- Accepted requests: the first call requests the bus, and no later transfer is refused.
 use Rattle.std.proofs.Common.{◌≡◌, ℕ, suc, ◌+◌, ◌-◌, ◌*◌, ◌%◌, ◌<◌, ◌≤◌, nat_lt, true, false, [], ◌∷◌, Option, Some, None, Result, Ok, Err, refl, ap, sym, subst, arith, inl, inr}
 use Rattle.std.specs.Prelude.{◌&&◌, is_none, is_some}
 use Rattle.std.proofs.Math.Nat.{mod-eq_of_lt}
@@ -53,7 +53,7 @@ looked m none =
     let both = both_none (refusal_in (transfer_of (set_lock m.am m.addr))) (refusal_in (transfer_of (read_word m.am (word_at m (m.slots - 1))))) none in
     record { lock = no_refusal (set_lock m.am m.addr) _ refl both.0; last = no_refusal (read_word m.am (word_at m (m.slots - 1))) _ refl both.1 }
 
--- a request is lawful part by part
+-- a request that meets each condition is lawful
 lawful_by : (row : CodeRow) (request : Request) → read_code (code_of request) ≡ Ok row → is_block_request request ≡ false
     → is_block row.kind ≡ false → (is_some (function_of request) && is_program row.kind) ≡ false → is_counted request ≡ true
     → nat_lt (addresses_of row.space) (addr_of request + span_of request) ≡ false → is_none (first_location request) ≡ false
@@ -65,7 +65,7 @@ lawful_by row request code alone kind program counted within found =
 within_by : (limit last : ℕ) → last ≤ limit → nat_lt limit last ≡ false
 within_by limit last less = elim (leb_tells (suc limit) last) [ inl more ↦ absurd (omega (arith, more.1, less)) | inr is ↦ is.0 ]
 
--- what the two transfers show: the code has a row that is no block's, and the mailbox lies within the space
+-- the code of a mailbox has a row for no block, and the mailbox lies within the row's space
 record Placed (m : Mailbox) : Type 0 where
   row : CodeRow
   code : read_code m.am ≡ Ok row

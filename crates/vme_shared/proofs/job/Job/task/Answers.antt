@@ -1,4 +1,4 @@
--- A transfer of a lock or a mailbox reads few bytes.
+-- A transfer of a lock or a mailbox reads at most four bytes.
 use Rattle.std.proofs.Common.{ap, arith}
 use Rattle.vme_cycle.specs.Requests.{read_len}
 use Rattle.vme_cycle.proofs.lemmas.Transfers.{comes_from}
