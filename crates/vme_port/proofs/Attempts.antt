@@ -26,7 +26,7 @@ abbrev pub pass_view : {S C R : Type 0} → TableId → ℕ → ℕ → Me (Home
 pass_view port who made m = record { port = port; who = who; made = made; seen = seen_by m.0.accounts; mine = made_by m.0.accounts }
 
 module _ {S C R : Type 0} (step : S → C → S × R) (start : S) (k : ℕ) where
-  -- how the port was opened
+  -- the port was opened with this object, for this number of passes
   abbrev pub Opened : S → ℕ → Type 0
   Opened object passes = (object ≡ start) × (passes ≡ k)
 

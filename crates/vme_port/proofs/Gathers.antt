@@ -16,12 +16,12 @@ module _ {S C R : Type 0} where
     pub joined : m ≡ (view (map account_of done) false, [])
     pub counted : All IsCounted done
 
-  -- the seat of the last pass
+  -- the seat of the last pass is gathered
   pub first_joined : (all left : List (PassView C R)) (p : PassView C R) (m : Me (Home S) (SeatView C R)) → all ≡ left ++ p ∷ []
       → m ≡ (view (account_of p ∷ []) false, []) → IsCounted p → IsGathered all left m
   first_joined all left p m split alone counted = record { done = p ∷ []; split = split; joined = alone; counted = All-cons IsCounted p [] counted (All-nil IsCounted) }
 
-  -- one more pass is joined
+  -- a gathered seat that joins one more pass is gathered
   pub next_joined : (all rest left : List (PassView C R)) (p : PassView C R) (m n m' : Me (Home S) (SeatView C R)) → IsGathered all rest m → rest ≡ left ++ p ∷ []
       → n ≡ (view (account_of p ∷ []) false, []) → IsCounted p → m' ≡ (joint_view m.0 n.0, m.1) → IsGathered all left m'
   next_joined all rest left p m n m' was split alone counted after = record {

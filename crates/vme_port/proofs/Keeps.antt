@@ -51,7 +51,7 @@ module _ {S C R : Type 0} (step : S → C → S × R) (start : S) (k : ℕ) wher
   abbrev Rule : State (Home S) (SeatView C R) → Type 0
   Rule = Kept step start k
 
-  -- a step that changes no view and keeps a free word free and a taken word taken
+  -- a step that changes no view, and keeps a free word free and a taken word taken, keeps the rule
   resting : (s : State (Home S) (SeatView C R)) (id : ℕ) (v : SeatView C R) (c : List (ℕ × Home S)) (new : ℕ) → Rule s → get_elem? s.views id ≡ some v
       → (slice_index s.words 0 ≡ 0 → new ≡ 0) → (slice_index s.words 0 ≢ 0 → new ≢ 0) → Rule (stepped s 0 new id c v keeps)
   resting s id v c new r at free taken =
@@ -71,7 +71,7 @@ module _ {S C R : Type 0} (step : S → C → S × R) (start : S) (k : ℕ) wher
       } in
       subst (λ (views : List (SeatView C R)). Rule (record { words = set s.words 0 new; homes = s.homes; views = views })) (sym (set_again s.views id v at)) kept
 
-  -- an exchange that finds the word free takes the object
+  -- an exchange that finds the word free and takes the object keeps the rule
   taking : (s : State (Home S) (SeatView C R)) (id new : ℕ) (a : Account C R) (r : Rule s) → 0 < new → get_elem? s.views id ≡ some (view (a ∷ []) false)
       → (others : List (Entry C R)) → r.history ≡ a.seen ++ others → (fits : IsConsistent r.history a) → (home : AtHome step start r.history s)
       → Rule (stepped s 0 new id [] (view (account a.who (a.seen ++ others) a.mine ∷ []) true) (takes 0 home.home))
@@ -118,7 +118,7 @@ module _ {S C R : Type 0} (step : S → C → S × R) (start : S) (k : ℕ) wher
       let over = sum_over (λ (v : SeatView C R). cond v.out 1 0) weight s.views id (view (a ∷ []) false) less at in
       omega (arith, away.one_out, r.weights)
 
-  -- an exchange from a free word wins or loses
+  -- an exchange from a free word, by a seat with one account, keeps the rule and wins or loses
   tries_alone : (opened : S → ℕ → Type 0) → opened start k → (slots id new : ℕ) (a : Account C R) → 0 < new
       → Allows Rule slots id (view (a ∷ []) false, []) 0 (λ x. either (eqb x 0) new x) (take_effect step opened (table_step slots 0 0 new none) (view (a ∷ []) false, []))
   tries_alone opened opens slots id new a some_new s r wide at fits64 =
@@ -169,14 +169,14 @@ module _ {S C R : Type 0} (step : S → C → S × R) (start : S) (k : ℕ) wher
         )
       ])
 
-  -- an exchange from a free word to a positive number, from an idle seat
+  -- an exchange from a free word to a positive number, by an idle seat, keeps the rule and wins or loses
   pub tries : (opened : S → ℕ → Type 0) → opened start k → (slots id new : ℕ) (me : Me (Home S) (SeatView C R)) → 0 < new → IsIdle me
       → Allows Rule slots id me 0 (λ x. either (eqb x 0) new x) (take_effect step opened (table_step slots 0 0 new none) me)
   tries opened opens slots id new me some_new idle =
       subst (λ (m : Me (Home S) (SeatView C R)). Allows Rule slots id m 0 (λ x. either (eqb x 0) new x) (take_effect step opened (table_step slots 0 0 new none) m)) (sym idle.1)
       (tries_alone opened opens slots id new idle.0 some_new)
 
-  -- the exchange that marks a taken port as wanted
+  -- the exchange that marks a taken port as wanted keeps the rule and changes no view
   pub marks : (slots id : ℕ) (me : Me (Home S) (SeatView C R)) → Allows Rule slots id me 0 (λ x. either (eqb x 1) 2 x) (λ n m'. m' ≡ me)
   marks slots id me s r wide at fits64 =
       exchanged (slice_index s.words 0) 1 2

@@ -40,7 +40,7 @@ module _ {S C R : Type 0} (step : S → C → S × R) (start : S) (k : ℕ) wher
     whole = own-append a.who h es ∙ ap (λ l. l ++ own a.who es) f.whole ∙ ap (λ l. a.mine ++ l) (own_all a.who es whose);
   }
 
-  -- the state after a put
+  -- the rule holds in the state after a put
   putting : (s : State (Home S) (SeatView C R)) (id : ℕ) (a : Account C R) (home : Home S) (es : List (Entry C R)) (r : Rule s)
       → get_elem? s.views id ≡ some (view (a ∷ []) true) → a.seen ≡ r.history → Away step start r.history s
       → IsLegal step (replay step start r.history) es → All (λ e. e.who ≡ a.who) es
@@ -74,7 +74,7 @@ module _ {S C R : Type 0} (step : S → C → S × R) (start : S) (k : ℕ) wher
         });
       }
 
-  -- a put of the object with entries of the holder
+  -- a put of the object with entries of the holder keeps the rule
   pub puts : (slots id : ℕ) (es : List (Entry C R)) (me : Me (Home S) (SeatView C R)) → MayPut step start es me
       → Allows Rule slots id me 0 (λ x. 0) (put_effect es (table_step slots 0 0 0 none) me)
   puts slots id es me may =

@@ -13,8 +13,7 @@ abbrev pub entries_of : {C R F : Type 0} → ℕ → C → Result R F → List (
 entries_of who cmd (Ok reply) = entry who cmd reply ∷ []
 entries_of who cmd (Err fault) = []
 
--- what one call does to a pass: the pass sees further entries of others, then adds the entries `es` of its own; all
--- that it has seen is legal
+-- one call: the pass sees further entries of others, then adds its own entries `es`; all that it has seen is legal
 pub record Adds {S C R : Type 0} (step : S → C → S × R) (start : S) (es : List (Entry C R)) (p q : PassView C R) : Type 0 where
   pub port : q.port ≡ p.port
   pub who : q.who ≡ p.who
@@ -27,8 +26,7 @@ pub record Adds {S C R : Type 0} (step : S → C → S × R) (start : S) (es : L
   pub sound : own p.who q.seen ≡ q.mine
   pub made : q.made ≡ p.made + length es
 
--- what any number of calls do to a pass: the pass has seen more of the history, in which its own entries are exactly
--- `es`
+-- any number of calls: the pass has seen more of the history, in which its own entries are exactly `es`
 pub record Makes {C R : Type 0} (es : List (Entry C R)) (p q : PassView C R) : Type 0 where
   pub port : q.port ≡ p.port
   pub who : q.who ≡ p.who

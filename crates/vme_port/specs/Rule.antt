@@ -11,8 +11,7 @@ use Rattle.vme_port.specs.declared.rule.SeatView.{SeatView}
 use Rattle.vme_port.specs.declared.home.Home.{Home}
 use Rattle.vme_port.specs.Views.{weight, names, holders}
 
--- an account agrees with a history: what it has seen is a prefix of it, and its own entries there are those that it
--- made
+-- an account has seen a prefix of a history, and made and seen all its own entries there
 pub record IsConsistent {C R : Type 0} (h : List (Entry C R)) (a : Account C R) : Type 0 where
   pub begins : IsPrefix a.seen h
   pub sound : own a.who a.seen ≡ a.mine

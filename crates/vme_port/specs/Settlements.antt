@@ -21,8 +21,8 @@ module _ {S C R : Type 0} (step : S → C → S × R) (start : S) where
     pub known : All (λ e. e.who < k) history
     pub fits : All (IsConsistent history) accounts
 
-  -- a settled port: k passes, one for each number below k, share one legal history of n entries; each has seen a prefix
-  -- of it, and made and seen all its own entries there
+  -- a settled port: k passes, one for each number below k, share one legal history of n entries, whose replay is the
+  -- object; each has seen a prefix of it, and made and seen all its own entries there
   pub record Settles (k : ℕ) (passes : List (PassView C R)) (object : S) (n : ℕ) : Type 0 where
     pub history : List (Entry C R)
     pub legal : IsLegal step start history

@@ -75,8 +75,7 @@ pub record MayPut {S C R : Type 0} (step : S → C → S × R) (start : S) (es :
   pub count : home.count ≡ length (holder.seen ++ es)
 
 module _ {S C R : Type 0} where
-  -- a put: the entries `es` are appended to what the account has seen and to what it made; the seat no longer holds the
-  -- object
+  -- a put: the account has seen and made the entries `es` too, and the seat no longer holds the object
   abbrev pub HasPut : List (Entry C R) → Me (Home S) (SeatView C R) → Me (Home S) (SeatView C R) → Type 0
   HasPut es m m' = (a : Account C R) → m.0 ≡ view (a ∷ []) true
       → m' ≡ (view (account a.who (a.seen ++ es) (a.mine ++ es) ∷ []) false, [])
@@ -101,7 +100,7 @@ module _ {S V : Type 0} (i : ℕ) where
     pub last : home.count ≡ 2 ^ 64 - 1
     pub same : m' ≡ m
 
-  -- the object that the seat holds performed a command, gave this reply, and counts one entry more
+  -- the object that the seat holds performed a command, gave this reply, and counts one more entry
   pub record HasPerformed {C R : Type 0} (step : S → C → S × R) (cmd : C) (reply : R) (m m' : Me (Home S) V) : Type 0 where
     pub home : Home S
     pub out : m.1 ≡ (i, home) ∷ []

@@ -12,10 +12,10 @@ pub enum PortFault {
 pub enum TryFault {
     /// Another pass holds the object.
     Busy,
-    /// The history has 2^64 - 1 entries.
+    /// The history of the object has 2^64 - 1 entries.
     Spent,
 }
 
-/// The fault of a call whose history already has 2^64 - 1 entries, the most that can be counted.
+/// The fault of a call of an object whose history has 2^64 - 1 entries, the most that are counted.
 #[derive(Debug, Drop)]
 pub struct Spent;

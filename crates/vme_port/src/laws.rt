@@ -11,8 +11,9 @@ ghost use Rattle.vme_port.specs.Settlements.{Settles, StandsIn};
 
 use vme_object::Object;
 
-/// Calls compose. Over no call a pass makes no entries; over one call it makes what that call adds;
-/// over two sequences of calls it makes the entries of the first followed by those of the second.
+/// Calls compose. A pass makes no entries over no call, and the entries that a call adds over that
+/// call. It makes the entries of one sequence of calls followed by those of a second sequence over
+/// both.
 pub fn calls_compose<O: Object>()
     ensures none { (p : PassView O.Cmd O.Reply) → Makes [] p p }
     ensures one { (start : O) (es : List (Entry O.Cmd O.Reply)) (p q : PassView O.Cmd O.Reply) →
@@ -27,7 +28,7 @@ pub fn calls_compose<O: Object>()
 /// is behind everything that the pass had seen at that moment and behind the entries that the pass
 /// made before this one, and the entry has the reply of the step there. The history has no other
 /// entries than those of the passes, and as many as they made together. A pass that was unused at
-/// the moment made exactly its own part of the history.
+/// that moment made exactly its own part of the history.
 pub fn calls_make_one_history<O: Object>()
     ensures placed { (start object : O) (k n : ℕ) (passes : List (PassView O.Cmd O.Reply))
         (reported : Settles O.step start k passes object n)

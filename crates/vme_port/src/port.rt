@@ -14,7 +14,7 @@ use std::alloc::{AllocError, Global};
 use std::snapshot::Snapshot;
 use vme_object::Object;
 
-/// The greatest number of passes of a port. The limit is its own: this crate knows no backplane.
+/// The greatest number of passes of a port. This limit does not come from a backplane.
 const MOST_PASSES: usize = 21;
 
 /// One object that callers on any threads share, each through a pass of its own.
@@ -71,8 +71,8 @@ impl<O: Object> Port<O> {
         Ok((port, passes))
     }
 
-    /// Whether a call waits for the object or is about to wait. Other threads may change that at
-    /// any time, so no clause states anything about the result.
+    /// Returns whether a call may be waiting, or be about to wait, for the object. Other threads may
+    /// change this at any time, so no clause describes the result.
     pub fn is_wanted(&self) -> bool {
         self.table.shared.peek(0) == WANTED
     }

@@ -71,7 +71,7 @@ impl<C, R> EntryWitness<C, R> for Brand {
     ghost entries = { [] };
 }
 
-/// The step that takes the object: it wins or loses.
+/// The step that takes the object if it is in its slot.
 pub struct TakeStep<O, W> {
     of: PhantomData<(O, W)>,
 }

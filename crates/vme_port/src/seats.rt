@@ -32,7 +32,8 @@ impl<O: Object> Port<O> {
             == FREE
     }
 
-    /// Performs a command on the object that the seat holds, unless its history is full.
+    /// Performs a command on the object that the seat holds, and returns the reply. If the history
+    /// has 2^64 - 1 entries, it returns `None` and changes nothing.
     pub(crate) fn perform_counted<A: Operation<O>>(
         &self,
         seat: &mut Seat<Home<O>, SeatView<O::Cmd, O::Reply>>,
@@ -51,8 +52,8 @@ impl<O: Object> Port<O> {
         Some(asked.perform(&mut home.object))
     }
 
-    /// Puts the object back, with these entries appended to its history, and wakes one waiting
-    /// call.
+    /// Puts the object back, with these entries appended to its history. If the port is marked as
+    /// wanted, it wakes one waiting call.
     pub(crate) fn put_entries<W: EntryWitness<O::Cmd, O::Reply>>(
         &self,
         seat: &mut Seat<Home<O>, SeatView<O::Cmd, O::Reply>>,

@@ -37,7 +37,7 @@ one_part : {C R : Type 0} (who i : ℕ) (cmd : C) (reply : R) → part i (entry 
 one_part who i cmd reply = rw (eq-eqb i i refl) refl
 
 module _ {S C R : Type 0} (step : S → C → S × R) (starts : List S) (k i : ℕ) where
-  -- how the array was opened
+  -- the array was opened with these objects, for this number of passes
   abbrev pub Opened : List S → ℕ → Type 0
   Opened objects passes = (objects ≡ starts) × (passes ≡ k)
 

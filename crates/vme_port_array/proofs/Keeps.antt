@@ -95,7 +95,7 @@ module _ {S C R : Type 0} (step : S → C → S × R) (starts : List S) where
     abbrev Rule : State (Home S) (ArrayView (Indexed C) R) → Type 0
     Rule = Kept step starts k
 
-    -- a step that changes no view and keeps a free word free and a taken word taken
+    -- a step that changes no view, and keeps a free word free and a taken word taken, keeps the rule
     resting : (s : State (Home S) (ArrayView (Indexed C) R)) (id i : ℕ) (v : ArrayView (Indexed C) R) (c : List (ℕ × Home S)) (new : ℕ) → Rule s → get_elem? s.views id ≡ some v
         → i < length starts → (slice_index s.words (word_of i) ≡ 0 → new ≡ 0) → (slice_index s.words (word_of i) ≢ 0 → new ≢ 0)
         → Rule (stepped s (word_of i) new id c v keeps)
@@ -122,7 +122,7 @@ module _ {S C R : Type 0} (step : S → C → S × R) (starts : List S) where
         } in
         subst (λ (views : List (ArrayView (Indexed C) R)). Rule (record { words = set s.words (word_of i) new; homes = s.homes; views = views })) (sym (set_again s.views id v there)) kept
 
-    -- an exchange that finds the word free takes the object
+    -- an exchange that finds the word free and takes the object keeps the rule
     taking : (s : State (Home S) (ArrayView (Indexed C) R)) (id i new : ℕ) (a : Account (Indexed C) R) (r : Rule s) → 0 < new → i < length starts → get_elem? s.views id ≡ some (view (a ∷ []) None)
         → (others : List (Entry (Indexed C) R)) → r.history ≡ a.seen ++ others → (fits : IsConsistent r.history a) → (home : AtHome step starts i r.history s)
         → Rule (stepped s (word_of i) new id [] (view (account a.who (a.seen ++ others) a.mine ∷ []) (Some i)) (takes i home.home))
@@ -183,7 +183,7 @@ module _ {S C R : Type 0} (step : S → C → S × R) (starts : List S) where
         let over = sum_over (λ (v : ArrayView (Indexed C) R). cond (is_out i v.out) 1 0) weight s.views id (view (a ∷ []) None) less there in
         omega (arith, away.one_out, r.weights)
 
-    -- an exchange from a free word wins or loses
+    -- an exchange from a free word, by a seat with one account, keeps the rule and wins or loses
     tries_alone : (opened : List S → ℕ → Type 0) → opened starts k → (slots id i new : ℕ) (a : Account (Indexed C) R) → 0 < new → i < length starts
         → Allows Rule slots id (view (a ∷ []) None, []) (word_of i) (λ x. either (eqb x 0) new x) (take_effect step opened (table_step slots (word_of i) 0 new none) (view (a ∷ []) None, []))
     tries_alone opened opens slots id i new a some_new less s r wide there fits64 =
@@ -239,14 +239,14 @@ module _ {S C R : Type 0} (step : S → C → S × R) (starts : List S) where
           )
         ])
 
-    -- an exchange from a free word to a positive number, from an idle seat
+    -- an exchange from a free word to a positive number, by an idle seat, keeps the rule and wins or loses
     pub tries : (opened : List S → ℕ → Type 0) → opened starts k → (slots id i new : ℕ) (me : Me (Home S) (ArrayView (Indexed C) R)) → 0 < new → i < length starts → IsIdle me
         → Allows Rule slots id me (word_of i) (λ x. either (eqb x 0) new x) (take_effect step opened (table_step slots (word_of i) 0 new none) me)
     tries opened opens slots id i new me some_new less idle =
         subst (λ (m : Me (Home S) (ArrayView (Indexed C) R)). Allows Rule slots id m (word_of i) (λ x. either (eqb x 0) new x) (take_effect step opened (table_step slots (word_of i) 0 new none) m)) (sym idle.1)
         (tries_alone opened opens slots id i new idle.0 some_new less)
 
-    -- the exchange that marks a taken object as wanted
+    -- the exchange that marks a taken object as wanted keeps the rule and changes no view
     pub marks : (slots id i : ℕ) (me : Me (Home S) (ArrayView (Indexed C) R)) → i < length starts → Allows Rule slots id me (word_of i) (λ x. either (eqb x 1) 2 x) (λ n m'. m' ≡ me)
     marks slots id i me less s r wide there fits64 =
         let word : ℕ = slice_index s.words (word_of i) in

@@ -61,7 +61,7 @@ module _ {S C R : Type 0} (step : S → C → S × R) (starts : List S) where
         let both = sum_two (names a.who) s.views id j (view (a ∷ []) out) u at there other in
         omega (arith, r.shared a.who, counts_once (ltb a.who k))
 
-    -- the state after a put
+    -- the rule holds in the state after a put
     putting : (s : State (Home S) (ArrayView (Indexed C) R)) (id i : ℕ) (a : Account (Indexed C) R) (home : Home S) (start : S) (es : List (Entry (Indexed C) R)) (r : Rule s) → i < length starts
         → get_elem? s.views id ≡ some (view (a ∷ []) (Some i)) → Away step starts i r.history s → get_elem? starts i ≡ some start
         → IsLegal step (replay step start (part i r.history)) (part i es) → All (λ e. e.who ≡ a.who) es → All (λ e. e.cmd.index ≡ i) es
@@ -110,7 +110,7 @@ module _ {S C R : Type 0} (step : S → C → S × R) (starts : List S) where
           ];
         }
 
-    -- a put of the object with entries of the holder
+    -- a put of the object with entries of the holder keeps the rule
     pub puts : (opened : List S → ℕ → Type 0) → opened starts k → (slots id i : ℕ) (es : List (Entry (Indexed C) R)) (me : Me (Home S) (ArrayView (Indexed C) R)) → i < length starts → MayPut step starts i es me
         → Allows Rule slots id me (word_of i) (λ x. 0) (put_effect step opened es (table_step slots (word_of i) 0 0 none) me)
     puts opened opens slots id i es me less may =

@@ -13,8 +13,8 @@ abbrev pub entries_of : {C R F : Type 0} → ℕ → ℕ → C → Result R F �
 entries_of who index cmd (Ok reply) = entry who (indexed index cmd) reply ∷ []
 entries_of who index cmd (Err fault) = []
 
--- what one call does to a pass: the pass sees further entries of others, then adds the entries `es` of its own; in all
--- that it has seen, the part of each object is legal
+-- one call: the pass sees further entries of others, then adds its own entries `es`; in all that it has seen, the part
+-- of each object is legal
 pub record Adds {S C R : Type 0} (step : S → C → S × R) (starts : List S) (es : List (Entry (Indexed C) R))
     (p q : PassView (Indexed C) R) : Type 0 where
   pub port : q.port ≡ p.port

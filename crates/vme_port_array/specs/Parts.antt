@@ -6,7 +6,7 @@ use Rattle.vme_object.specs.declared.history.Entry.{Entry}
 use Rattle.vme_object.specs.History.{IsLegal, entry}
 use Rattle.vme_port_array.specs.declared.indexed.Indexed.{Indexed}
 
--- the index of an object's word: each word stands eight words after the one before
+-- the index of an object's word: the words of two neighbouring objects are eight words apart
 abbrev pub word_of : ℕ → ℕ
 word_of i = i * 8
 

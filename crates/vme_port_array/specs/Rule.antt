@@ -32,9 +32,8 @@ module _ {S C R : Type 0} (step : S → C → S × R) (starts : List S) where
     pub holder : (j : ℕ) (v : ArrayView (Indexed C) R) → get_elem? s.views j ≡ some v → v.out ≡ Some i
         → (a : Account (Indexed C) R) × (v.accounts ≡ a ∷ []) × (part i a.seen ≡ part i h)
 
-  -- the rule: one history, of callers below k and of indexes of the array, agrees with all accounts, and each object's
-  -- part of it is legal; each number below k has one account, and no other number has one; each object is in its slot, or
-  -- one view holds it
+  -- the rule: one history, of callers below k and of indexes of the array, has legal parts and fits all accounts.
+  -- Exactly the numbers below k have an account, one each. Each object is in its slot, or one view holds it.
   pub record Kept (k : ℕ) (s : State (Home S) (ArrayView (Indexed C) R)) : Type 0 where
     pub history : List (Entry (Indexed C) R)
     pub legal : AreLegal step starts history

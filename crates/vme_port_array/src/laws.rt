@@ -14,9 +14,9 @@ ghost use Rattle.vme_port_array.specs.Settlements.{Settles, StandsIn};
 
 use vme_object::Object;
 
-/// Calls compose. Over no call a pass makes no entries; over one call of any object it makes what
-/// that call adds; over two sequences of calls it makes the entries of the first followed by those
-/// of the second.
+/// Calls compose. A pass makes no entries over no call, and the entries that a call of any object
+/// adds over that call. It makes the entries of one sequence of calls followed by those of a second
+/// sequence over both.
 pub fn calls_compose<O: Object>()
     ensures none { (p : PassView (Indexed O.Cmd) O.Reply) → Makes [] p p }
     ensures one { (starts : List O) (es : List (Entry (Indexed O.Cmd) O.Reply)) (p q : PassView (Indexed O.Cmd) O.Reply) →
@@ -31,7 +31,7 @@ pub fn calls_compose<O: Object>()
 /// is behind everything that the pass had seen at that moment, whatever objects it is about, and
 /// behind the entries that the pass made before this one; the entry has the reply of its object's
 /// step there. The history has no other entries than those of the passes, and as many as they made
-/// together. A pass that was unused at the moment made exactly its own part of the history.
+/// together. A pass that was unused at that moment made exactly its own part of the history.
 pub fn calls_make_one_history<O: Object>()
     ensures placed { (starts : List O) (homes : List (Home O)) (k : ℕ) (passes : List (PassView (Indexed O.Cmd) O.Reply))
         (reported : Settles O.step starts k passes homes)

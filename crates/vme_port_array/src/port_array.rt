@@ -16,7 +16,7 @@ use std::snapshot::Snapshot;
 use vme_object::Object;
 use vme_port::{FREE, Home, WANTED};
 
-/// The greatest number of passes of an array. The limit is its own: this crate knows no backplane.
+/// The greatest number of passes of an array. This limit does not come from a backplane.
 const MOST_PASSES: usize = 21;
 
 /// The greatest number of objects of an array, so that the index of a word can't overflow.
@@ -104,8 +104,8 @@ impl<O: Object> PortArray<O> {
         self.objects
     }
 
-    /// Returns whether a call waits, or is about to wait, for the object at an index. Other threads
-    /// may change this at any time, so no clause describes the result.
+    /// Returns whether a call may be waiting, or be about to wait, for the object at an index.
+    /// Other threads may change this at any time, so no clause describes the result.
     pub fn is_wanted(&self, index: usize) -> bool
         requires { index < objects_of self.now }
     {

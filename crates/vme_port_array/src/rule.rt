@@ -3,7 +3,7 @@
 //!
 //! A take and a put state what the array was opened with, and a put also states the entries that it
 //! adds. For each of these facts a kind of step has a type parameter, whose trait has one ghost
-//! member that the proof of the caller chooses, as in `vme_port`.
+//! member that the proof of the caller chooses.
 use crate::indexed::Indexed;
 use crate::opening::Opening;
 use atomic_table::{Join, Play, Split, TableRule};
@@ -61,7 +61,7 @@ impl<C, R> EntryWitness<C, R> for Brand {
     ghost entries = { [] };
 }
 
-/// The step that takes an object: it wins or loses.
+/// The step that takes an object if it is in its slot.
 pub struct TakeStep<O, W> {
     of: PhantomData<(O, W)>,
 }

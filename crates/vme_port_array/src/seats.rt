@@ -40,8 +40,8 @@ impl<O: Object> PortArray<O> {
             == FREE
     }
 
-    /// Performs a command on the object that the seat holds, unless its part of the history is
-    /// full.
+    /// Performs a command on the object that the seat holds, and returns the reply. If the object's
+    /// part of the history has 2^64 - 1 entries, it returns `None` and changes nothing.
     pub(crate) fn perform_counted<A: Operation<O>>(
         &self,
         seat: &mut Seat<Home<O>, ArrayView<Indexed<O::Cmd>, O::Reply>>,
@@ -61,8 +61,8 @@ impl<O: Object> PortArray<O> {
         Some(asked.perform(&mut home.object))
     }
 
-    /// Puts the object back, with these entries appended to the history, and wakes one call that
-    /// waits for the object.
+    /// Puts the object back, with these entries appended to the history. If the object is marked as
+    /// wanted, it wakes one call that waits for the object.
     pub(crate) fn put_entries<W: OpeningWitness<O>, E: EntryWitness<O::Cmd, O::Reply>>(
         &self,
         seat: &mut Seat<Home<O>, ArrayView<Indexed<O::Cmd>, O::Reply>>,

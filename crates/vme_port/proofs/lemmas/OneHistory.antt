@@ -91,7 +91,7 @@ module _ {S C R : Type 0} (step : S → C → S × R) (start : S) where
     pub all_made : (P : Entry C R → Type 0) → All (λ p. All P p.mine) passes → All P reported.history
     all_made = Shared.all_made k reported.history passes shared
 
-  -- where an entry of a settled port stands
+  -- the place of an entry of a settled port, without its reply
   abbrev own_place : (h seen mine : List (Entry C R)) (e : Entry C R) → StandsIn step start h seen mine e → Shared.IsOwnPlace h seen mine e
   own_place h seen mine e at = record { before = at.before; after = at.after; place = at.place; behind = at.behind; only = at.only }
 

@@ -22,7 +22,7 @@ module _ {S V : Type 0} (i : ℕ) where
       → IsFull i m (m.0, (i, home) ∷ rest m.1)
   full m home there out last = record { home = home; out = alone m home there out; last = last; same = ap (λ l. (m.0, l)) (sym there) }
 
-  -- the object performs the command and counts one entry more
+  -- the object performs the command and counts one more entry
   pub performed : {C R : Type 0} (step : S → C → S × R) (cmd : C) (reply : R) (m : Me (Home S) V) (home next : Home S) → m.1 ≡ (i, home) ∷ rest m.1 → IsOut i m
       → home.count < 2 ^ 64 - 1 → next.count ≡ home.count + 1 → next.object ≡ (step home.object cmd).0 → reply ≡ (step home.object cmd).1
       → HasPerformed i step cmd reply m (m.0, (i, next) ∷ rest m.1)

@@ -39,7 +39,7 @@ module _ {C R : Type 0} where
   owned_none [] = refl
   owned_none (a ∷ l) = omega (arith, sum_by-cons (λ (a : Account C R). length (own {C = C} {R = R} a.who [])) a l, owned_none l)
 
-  -- the number of owned entries, with one entry more
+  -- the number of owned entries, with one more entry
   owned_more : (l : List (Account C R)) (e : Entry C R) (h : List (Entry C R)) → owned l (e ∷ h) ≡ owned l h + names_among e.who l
   owned_more [] e h = refl
   owned_more (a ∷ l) e h =

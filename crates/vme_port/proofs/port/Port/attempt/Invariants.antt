@@ -3,7 +3,7 @@ use Rattle.vme_object.specs.History.{entry}
 use Rattle.vme_port.specs.Ports.{opening, passes_of}
 use Rattle.vme_port.proofs.port.Port.attempt.Given as goal
 
--- the take knows how the port was opened
+-- the take states with which object, and for how many passes, the port was opened
 abbrev pub ghosts-take : goal.ghosts-take
 ghosts-take g a = record { opened = λ object passes. (object ≡ opening a.self.now) × (passes ≡ passes_of a.self.now) }
 

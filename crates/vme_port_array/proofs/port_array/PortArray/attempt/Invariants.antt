@@ -4,15 +4,15 @@ use Rattle.vme_port_array.specs.Parts.{indexed}
 use Rattle.vme_port_array.specs.Arrays.{opening, passes_of}
 use Rattle.vme_port_array.proofs.port_array.PortArray.attempt.Given as goal
 
--- the take knows how the array was opened
+-- the take states with which objects, and for how many passes, the array was opened
 abbrev pub ghosts-take : goal.ghosts-take
 ghosts-take g a = record { opened = λ objects passes. (objects ≡ opening a.self.now) × (passes ≡ passes_of a.self.now) }
 
--- a put without an entry knows how the array was opened
+-- a put without an entry states with which objects, and for how many passes, the array was opened
 abbrev pub ghosts-put_unchanged : goal.ghosts-put_unchanged
 ghosts-put_unchanged g a = record { opened = λ objects passes. (objects ≡ opening a.self.now) × (passes ≡ passes_of a.self.now) }
 
--- a put of one entry knows how the array was opened
+-- a put of one entry states with which objects, and for how many passes, the array was opened
 abbrev pub ghosts-put_entry-W-OpeningWitness : goal.ghosts-put_entry-W-OpeningWitness
 ghosts-put_entry-W-OpeningWitness g a = record { opened = λ objects passes. (objects ≡ opening a.self.now) × (passes ≡ passes_of a.self.now) }
 
