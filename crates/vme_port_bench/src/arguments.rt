@@ -12,10 +12,12 @@ pub struct Arguments {
     pub calls: u64,
 }
 
-/// Parses the words of the command line, of which the first is the program's name.
+/// Parses the words of the command line, of which the first is the program's name, and returns the
+/// arguments.
 ///
 /// # Errors
-/// `Usage` unless exactly two more words follow, each a decimal number of at most 64 bits.
+/// `Usage` unless exactly two more words follow, each a decimal number of at most 64 bits with an
+/// optional plus sign.
 pub fn read_arguments(words: &[String]) -> Result<Arguments, BenchFault>
     ensures read { OkIff result (AreTwoNumbers words.now) (arguments_of words.now) }
     ensures usage { IfErr result (λ fault. fault ≡ BenchFault.Usage) }

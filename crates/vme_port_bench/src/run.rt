@@ -37,7 +37,8 @@ impl Outcome {
 /// A thread that makes its calls and returns its pass.
 type Child<'a> = PromisedHandle<Option<Pass<Counter>>, CallsOf<'a>>;
 
-/// Opens a port of a counter, lets the threads make their calls at the same time, and closes it.
+/// Opens a port of a counter, lets the threads make their calls at the same time, and closes the
+/// port. Returns the counter's number and the length of its history.
 ///
 /// # Errors
 /// `Usage` if the number of threads is not 1 to 21, `Memory` if an allocation fails, `Thread` if a

@@ -6,7 +6,7 @@ use std::thread::Promise;
 use vme_object::{Counter, CounterCmd};
 use vme_port::{Pass, Port};
 
-/// The promise of a thread: it returns a pass of the port that has made `calls` increments.
+/// The promise of a thread: a pass that it returns is one of the port and made `calls` increments.
 #[derive(Clone, Copy)]
 pub struct CallsOf<'a> {
     /// The port that the thread calls.
@@ -19,7 +19,8 @@ impl<'a> Promise<Option<Pass<Counter>>> for CallsOf<'a> {
     ghost kept_by = { λ p r. IfSome r (HasBumped p.port.now p.calls) };
 }
 
-/// Increments the counter `calls` times with this pass. Returns `None` if the history is full.
+/// Increments the counter `calls` times with this pass, and returns the pass, or `None` if the
+/// history is full.
 pub fn work<R: Wait>(
     rt: &R,
     port: &Port<Counter>,

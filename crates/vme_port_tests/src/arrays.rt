@@ -117,7 +117,7 @@ fn an_array_returns_its_objects_with_their_counts(rt: HostRuntime) -> Result<(),
     Ok(())
 }
 
-/// Bumps the object at `own` and the object at index 2 by turns, `CALLS` times each, and returns
+/// Bumps the object at `own` and the object at index 2 alternately, `CALLS` times each, and returns
 /// the pass.
 fn work<R: Wait>(
     rt: &R,

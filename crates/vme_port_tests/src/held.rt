@@ -15,7 +15,7 @@ use vme_port::{Pass, Port, TryFault};
 /// The number of times that a thread polls a flag.
 const LOOKS: u32 = 10_000_000;
 
-/// The sign that a call is inside, and the one that releases it.
+/// Returns two flags: the one that a command sets when it begins, and the one that it waits for.
 fn signs(alloc: Global) -> Result<(Arc<AtomicBool>, Arc<AtomicBool>), AllocError> {
     let entered = Arc::new(alloc, AtomicBool::new(false))?;
     let release = Arc::new(alloc, AtomicBool::new(false))?;

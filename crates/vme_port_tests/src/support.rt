@@ -1,4 +1,4 @@
-//! What the tests of ports share: opening a port, and taking and adding its passes.
+//! Functions for the tests of ports: they open a port, and remove and add passes.
 ghost use Rattle.std.specs.Prelude.{◌≡◌, All};
 ghost use Rattle.vme_port.specs.Ports.{IsPassOf, passes_of};
 
