@@ -1,4 +1,4 @@
--- How long a processor has waited for the bus, and what becomes of that when it waits, gets the bus and releases it.
+-- How long a processor has waited for the bus, and how that changes when it waits, gets the bus and releases it.
 use Rattle.std.specs.Prelude.{ℕ, ◌+◌, ◌-◌, ◌^◌, ◌==◌, ◌&&◌, Bool, true, false, nat_lt, nat_le, min, if◌then◌else◌, vec_len}
 use Rattle.std.specs.Int.{is_power_of_two}
 use Rattle.vme_bus_wait.specs.declared.wait_state.WaitState.{WaitState}
@@ -16,19 +16,19 @@ rounds_of state = state.rounds
 abbrev pub still_rounds_of : WaitState → ℕ
 still_rounds_of state = state.still
 
--- whether the processor waited for the bus that it last had
+-- whether the processor waited for the bus that it has now
 abbrev pub has_waited : WaitState → Bool
 has_waited state = state.has_waited
 
--- a count of rounds plus one; the greatest count of 32 bits stays
+-- a count of rounds plus one, at most the greatest number of 32 bits
 abbrev pub one_more : ℕ → ℕ
 one_more n = min (n + 1) (2 ^ 32 - 1)
 
--- a processor that does not wait, and whether it waited for the bus that it last had
+-- a processor that does not wait, and whether it waited for the bus that it has now
 abbrev pub at_rest : Bool → WaitState
 at_rest waited = record { rounds = 0; still = 0; has_waited = waited }
 
--- the processor in one round more
+-- the processor in one more round
 abbrev pub in_next_round : WaitState → WaitState
 in_next_round state = record state { rounds = one_more (rounds_of state) }
 
@@ -44,12 +44,11 @@ after_no_release state = record state { still = one_more (still_rounds_of state)
 abbrev pub is_time_to_wake : ℕ → Bool
 is_time_to_wake still = nat_le 8 still && is_power_of_two still
 
--- whether a processor may sleep while another one waits awake: it has waited more than 16 rounds, and the bus was released
--- in the last one
+-- whether a processor may sleep while another waits awake: it waited for over 16 rounds, with a release in the last one
 abbrev pub may_sleep : WaitState → Bool
 may_sleep state = nat_lt 16 (rounds_of state) && (still_rounds_of state == 0)
 
--- whether a processor may sleep as the last one: the bus was not released in 64 rounds
+-- whether a processor may sleep as the last one: the bus was not released in the last 64 rounds
 abbrev pub may_sleep_as_last : WaitState → Bool
 may_sleep_as_last state = nat_le 64 (still_rounds_of state)
 

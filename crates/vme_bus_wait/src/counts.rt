@@ -1,7 +1,7 @@
 use crossbeam_utils::CachePadded;
 use std::sync::atomic::{AtomicBool, AtomicU64, Ordering};
 
-/// The values that all waiting processors share, each on a cache line of its own.
+/// The values that all processors share, each on a cache line of its own.
 #[derive(Drop)]
 pub(crate) struct Counts {
     releases: CachePadded<AtomicU64>,
@@ -20,7 +20,7 @@ impl Counts {
         }
     }
 
-    /// The number of releases of the bus.
+    /// Returns the number of releases of the bus.
     pub(crate) fn releases(&self) -> u64 {
         self.releases.load(Ordering::SeqCst)
     }
@@ -30,7 +30,7 @@ impl Counts {
         self.releases.fetch_add(1, Ordering::SeqCst);
     }
 
-    /// The number of processors that wait awake.
+    /// Returns the number of processors that wait awake.
     pub(crate) fn awake(&self) -> u64 {
         self.awake.load(Ordering::SeqCst)
     }
@@ -45,7 +45,7 @@ impl Counts {
         self.awake.fetch_sub(1, Ordering::SeqCst) > 1
     }
 
-    /// The number of processors that sleep or are about to sleep.
+    /// Returns the number of processors that sleep or are about to sleep.
     pub(crate) fn asleep(&self) -> u64 {
         self.asleep.load(Ordering::SeqCst)
     }
@@ -60,8 +60,7 @@ impl Counts {
         self.asleep.fetch_sub(1, Ordering::SeqCst);
     }
 
-    /// Marks one of two processors as deferring to the other. Returns whether the other one already
-    /// does.
+    /// Marks one of two processors as deferring to the other. Returns whether one was marked before.
     pub(crate) fn step_aside(&self) -> bool {
         self.aside.swap(true, Ordering::SeqCst)
     }

@@ -25,7 +25,7 @@ impl Sleeper {
         }
     }
 
-    /// Marks the processor as asleep. It can be woken from now on.
+    /// Marks the processor as asleep. Another processor can wake it from now on.
     pub(crate) fn lie_down(&self) {
         self.word.store(ASLEEP, Ordering::SeqCst);
     }

@@ -30,6 +30,7 @@ fn take_turns<R: Wait>(rt: &R, waiters: &BusWaiters, turn: &AtomicU64, who: usiz
     }
 }
 
+/// Runs `take_turns` for three processors, each on a thread.
 fn three<R: Threads + Wait + Sync>(rt: &R, waiters: &BusWaiters, turn: &AtomicU64) {
     join(
         rt,
@@ -111,14 +112,14 @@ fn who_waits_long_sleeps(rt: HostRuntime) -> Result<(), Fail> {
 enum Waking {
     /// It releases the bus.
     Release,
-    /// It waits for as many rounds without a release as the sleepers are first woken after.
+    /// It waits for `STILL_ROUNDS` rounds without a release.
     StillRounds,
 }
 
 /// The number of rounds without a release after which the sleepers are first woken.
 const STILL_ROUNDS: u64 = 8;
 
-/// The longest sleep, in milliseconds. A sleep takes as long if no other processor ends it.
+/// The longest sleep, in milliseconds. A sleep that no other processor ends takes this long.
 const LONGEST: u64 = 10;
 
 /// The greatest number of sleeps. A busy machine may prolong most of them.

@@ -14,7 +14,8 @@ ghost use Rattle.vme_bus_wait.specs.Waits.{
 
 use std::mem;
 
-/// The number of rounds with releases by others after which a waiting processor may sleep.
+/// The number of rounds after which a waiting processor may sleep, if the bus was released in the
+/// last one.
 const AWAKE_ROUNDS: u32 = 16;
 
 /// The number of consecutive rounds without a release after which the sleepers are first woken.
@@ -56,7 +57,7 @@ impl WaitState {
         };
     }
 
-    /// Returns whether the processor waited for the bus that it last had, and clears that fact.
+    /// Returns whether the processor waited for the bus that it now releases, and clears that mark.
     #[inline(always)]
     pub(crate) fn take_has_waited(&mut self) -> bool
         ensures result { result ≡ has_waited self.old }
@@ -65,7 +66,7 @@ impl WaitState {
         mem::replace(&mut self.has_waited, false)
     }
 
-    /// Whether the processor waits.
+    /// Returns whether the processor waits.
     pub(crate) fn has_begun(&self) -> bool
         ensures { result ≡ nat_lt 0 (rounds_of self.now) }
     {
@@ -79,15 +80,16 @@ impl WaitState {
         self.rounds = self.rounds.saturating_add(1);
     }
 
-    /// Whether the processor may sleep while another one waits awake: it has waited long, and the
-    /// bus was released in the last round.
+    /// Returns whether the processor may sleep while another one waits awake: it has waited for
+    /// more than 16 rounds, and the bus was released in the last one.
     pub(crate) fn is_over(&self) -> bool
         ensures { result ≡ may_sleep self.now }
     {
         self.rounds > AWAKE_ROUNDS && self.still == 0
     }
 
-    /// Whether the processor may sleep as the last one: the bus was not released for long.
+    /// Returns whether the processor may sleep as the last one: the bus was not released in the
+    /// last 64 rounds.
     pub(crate) fn is_spent(&self) -> bool
         ensures { result ≡ may_sleep_as_last self.now }
     {

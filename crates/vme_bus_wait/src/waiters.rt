@@ -19,11 +19,11 @@ use std::{hint, thread};
 /// The number of times that a processor polls for a release before it yields its thread.
 const PAUSES: u32 = 64;
 
-/// With this many processors at most one waits at a time, so no count of awake processors is
-/// kept. With fewer, none ever waits.
+/// With this many processors, at most one waits at a time, so awake processors are not counted.
+/// With fewer, none ever waits.
 const ALONE: usize = 2;
 
-/// The number of times that a processor that defers to the other one polls for its releases.
+/// The number of times that a processor that defers to the other polls for that one's releases.
 const LOOKS_ASIDE: u32 = 16;
 
 /// The number of pauses before each of these polls. Each poll delays the other processor by a cache
@@ -61,8 +61,8 @@ impl BusWaiters {
         })
     }
 
-    /// Returns the number of releases so far. Read it before asking the arbiter, so that no release
-    /// after the arbiter's reply is missed.
+    /// Returns the number of releases so far, which stays 0 for fewer than two processors. Read it
+    /// before asking the arbiter, so that no release after the arbiter's reply is missed.
     pub fn releases(&self) -> u64 {
         self.counts.releases()
     }
@@ -122,9 +122,10 @@ impl BusWaiters {
         }
     }
 
-    /// Lets the other of two processors use the bus for a while, until its releases stop, unless
-    /// the other one defers too. A change of the bus between threads takes longer than a transfer,
-    /// so one processor makes several transfers before the other does.
+    /// Lets the other of two processors use the bus until its releases stop, for at most
+    /// `LOOKS_ASIDE` polls. Returns at once if the other one defers too. A change of the bus
+    /// between threads takes longer than a transfer, so one processor makes several transfers
+    /// before the other does.
     #[cold]
     #[inline(never)]
     fn stand_aside(&self) {
@@ -145,7 +146,7 @@ impl BusWaiters {
         self.counts.step_back();
     }
 
-    /// Whether more than one processor may wait at a time, so that awake processors are counted.
+    /// Returns whether more than one processor may wait at a time, so that awake ones are counted.
     #[inline(always)]
     fn counts_awake(&self) -> bool
         ensures { result ≡ nat_lt 2 (processors_of self.now) }
@@ -153,14 +154,15 @@ impl BusWaiters {
         self.sleepers.len() > ALONE
     }
 
-    /// Counts one more processor that waits awake.
+    /// Counts one more processor that waits awake, if awake processors are counted.
     fn come_awake(&self) {
         if self.counts_awake() {
             self.counts.come_awake();
         }
     }
 
-    /// Counts one processor fewer that waits awake. Returns whether another one remains.
+    /// Counts one processor fewer that waits awake, if awake processors are counted. Returns
+    /// whether another one remains.
     #[inline(always)]
     fn leave_awake(&self) -> bool {
         self.counts_awake() && self.counts.leave_awake()
