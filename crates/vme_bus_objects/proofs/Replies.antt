@@ -1,4 +1,4 @@
--- An object keeps its kind, so the reply to a command of that kind has the kind, whatever calls others made.
+-- An object keeps its kind, so the reply to a command of that kind is of that kind, whatever calls others made.
 use Rattle.std.proofs.Common.{◌≡◌, ℕ, List, [], ◌∷◌, ◌++◌, refl, ap, ◌∙◌}
 use mathlib.Core.Option.{some}
 use lib.ListN.{get_elem?}

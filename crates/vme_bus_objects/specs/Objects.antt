@@ -9,8 +9,7 @@ use Rattle.vme_bus_objects.specs.declared.object.BusObject.TheVariants as object
 use Rattle.vme_bus_objects.specs.declared.command.BusCommand.{BusCommand}
 use Rattle.vme_bus_objects.specs.declared.command.BusCommand.TheVariants as commands
 
--- a command of the object's own kind has the step of the board or of the arbiter; a command of the other kind changes
--- nothing, and the reply is a bus error
+-- the step of the board or of the arbiter for a command of its kind; no change and a bus error for another command
 abbrev pub bus_object_step : BusObject → BusCommand → BusObject × EventReply
 bus_object_step (objects.Board memory) (commands.Board cmd) = (objects.Board (board_step memory cmd).0, replies.Board (board_step memory cmd).1)
 bus_object_step (objects.Board memory) (commands.Arbiter cmd) = (objects.Board memory, replies.Board Berr)

@@ -41,16 +41,14 @@ run_of h = map transition_of h
 abbrev pub transitions_of : ℕ → List Transition → List Transition
 transitions_of who run = filter (λ m. m.who == who) run
 
--- a command to the object at an index, and the reply, are of that object's kind: objects below n are boards, and object
--- n is the arbiter
+-- a command to the object at an index and the reply are of its kind: boards below n, and the arbiter at n
 abbrev pub MatchesKindAt : ℕ → ℕ → BusCommand → EventReply → Type 0
 MatchesKindAt n index (commands.Board cmd) (replies.Board reply) = index < n
 MatchesKindAt n index (commands.Board cmd) (replies.Bus reply) = ⊥
 MatchesKindAt n index (commands.Arbiter cmd) (replies.Board reply) = ⊥
 MatchesKindAt n index (commands.Arbiter cmd) (replies.Bus reply) = index ≡ n
 
--- the command and the reply of an entry are of its object's kind: objects below n are boards, and object n is the
--- arbiter
+-- the command and the reply of an entry are of its object's kind: boards below n, and the arbiter at n
 abbrev pub MatchesKind : ℕ → BusEntry → Type 0
 MatchesKind n e = MatchesKindAt n e.cmd.index e.cmd.cmd e.reply
 

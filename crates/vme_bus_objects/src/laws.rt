@@ -20,7 +20,8 @@ ghost use Rattle.vme_bus_objects.specs.Objects.{bus_object_step};
 ghost use Rattle.vme_bus_objects.specs.Runs.{BusEntry, MatchesKind, run_of, transitions_of, IsBoardHistory, IsArbiterHistory, IsBoardReply, IsArbiterReply};
 
 /// A history in which each command and reply is of its object's kind is a run of transitions. The
-/// part of each board, of the arbiter and of each processor in the history is its part of the run.
+/// objects below `n` are boards, and object `n` is the arbiter. The part of each board, of the
+/// arbiter and of each processor in the history is its part of the run.
 pub fn histories_are_runs()
     ensures boards { (n x : ℕ) (memory : Board) (h : List BusEntry) → x < n → All (MatchesKind n) h →
         IsLegal bus_object_step (objects.Board memory) (part x h) → IsBoardHistory x memory h }

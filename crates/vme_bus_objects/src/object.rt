@@ -6,8 +6,8 @@ use vme_core::EventReply;
 use vme_memory::{ByteMemory, Reply};
 use vme_object::Object;
 
-/// An object of the bus: the memory of a board, or the arbiter. A command of the other kind leaves
-/// it unchanged, and the reply is a bus error.
+/// An object of the bus: the memory of a board, or the arbiter. A command for the other kind of
+/// object leaves it unchanged, and the reply is a bus error.
 #[derive(Drop)]
 pub enum BusObject {
     /// The memory of a board.

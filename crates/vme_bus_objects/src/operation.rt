@@ -6,7 +6,7 @@ use vme_memory::{ByteMemory, Reply};
 use vme_object::Operation;
 
 /// An operation on a board's memory, performed on an object of the bus. Its command is that of the
-/// operation, to a board.
+/// operation, to a board. On the arbiter it changes nothing, and the reply is a bus error.
 #[derive(Drop)]
 pub struct BoardOperation<'a, A> {
     /// The operation on the memory.

@@ -1,4 +1,5 @@
--- A history of boards and their arbiter is a run: the part of each object and of each processor in the one is its part of the other.
+-- A history of boards and their arbiter is a run: the part of each object and of each processor in the history is its
+-- part of the run.
 use Rattle.std.proofs.Common.{◌≡◌, ◌≢◌, ℕ, suc, ◌<◌, List, [], ◌∷◌, length, All, refl, ap, sym, subst, ◌∙◌, arith, inl, inr, eq-eqb, ne_eqb}
 use Rattle.std.proofs.lemmas.Bool.{cases_eq}
 use Rattle.std.proofs.lemmas.List.Elements.{All-head, All-tail}
@@ -35,7 +36,7 @@ run_there : (who x y : ℕ) (cmd : BoardCmd) (reply : Reply) (h : List BusEntry)
     → board_part x (run_of (entry who (indexed y (commands.Board cmd)) (replies.Board reply) ∷ h)) ≡ board_part x (run_of h)
 run_there who x y cmd reply h other = rw (ne_eqb y x other) refl
 
--- an entry that is in no part of a board keeps the board's history
+-- two histories with the same part of a board, and runs with the same part of it, agree on the board's history
 same_board : (x : ℕ) (memory : Board) (h h' : List BusEntry) → part x h' ≡ part x h → board_part x (run_of h') ≡ board_part x (run_of h)
     → IsBoardHistory x memory h → IsBoardHistory x memory h'
 same_board x memory h h' part_is run_is linked = record {
@@ -44,7 +45,7 @@ same_board x memory h h' part_is run_is linked = record {
   count = ap length part_is ∙ linked.count ∙ ap length (sym run_is);
 }
 
--- a board's history with one more command of the board before it
+-- a board's history stays its part of the run with one more command of the board before it
 next_board : (who x : ℕ) (cmd : BoardCmd) (reply : Reply) (memory : Board) (h : List BusEntry) → replies.Board reply ≡ replies.Board (board_step memory cmd).1
     → IsBoardHistory x (board_step memory cmd).0 h → IsBoardHistory x memory (entry who (indexed x (commands.Board cmd)) (replies.Board reply) ∷ h)
 next_board who x cmd reply memory h answer linked =
@@ -88,7 +89,7 @@ board_history n x memory (e ∷ h) below kinds legal =
         same_board x memory h (entry who (indexed index (commands.Arbiter cmd)) (replies.Bus reply) ∷ h) part_is refl
         (again memory (subst (IsLegal bus_object_step (objects.Board memory)) part_is legal))
 
--- an entry that is in no part of the arbiter keeps the arbiter's history
+-- two histories with the same part of the arbiter, and runs with the same part of it, agree on its history
 same_arbiter : (n : ℕ) (bus : Arbitration) (h h' : List BusEntry) → part n h' ≡ part n h → bus_part (run_of h') ≡ bus_part (run_of h)
     → IsArbiterHistory n bus h → IsArbiterHistory n bus h'
 same_arbiter n bus h h' part_is run_is linked = record {
@@ -97,7 +98,7 @@ same_arbiter n bus h h' part_is run_is linked = record {
   count = ap length part_is ∙ linked.count ∙ ap length (sym run_is);
 }
 
--- the arbiter's history with one more command of the arbiter before it
+-- the arbiter's history stays its part of the run with one more command of the arbiter before it
 next_arbiter : (who n : ℕ) (cmd : ArbCmd) (reply : ArbReply) (bus : Arbitration) (h : List BusEntry) → replies.Bus reply ≡ replies.Bus (arbiter_step bus cmd).1
     → IsArbiterHistory n (arbiter_step bus cmd).0 h → IsArbiterHistory n bus (entry who (indexed n (commands.Arbiter cmd)) (replies.Bus reply) ∷ h)
 next_arbiter who n cmd reply bus h answer linked =
