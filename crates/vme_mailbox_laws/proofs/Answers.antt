@@ -1,4 +1,4 @@
--- A board of quad bytes and read-modify-writes answers the command of each stage.
+-- A board that answers quad-byte cycles and read-modify-writes answers the command of each stage.
 use Rattle.std.proofs.Common.{◌≡◌, ◌≢◌, ℕ, ◌+◌, ◌%◌, ◌≤◌, true, List, [], ◌∷◌, length, Some, refl, sym, arith}
 use Rattle.std.proofs.lemmas.Bool.{and_from, le-leb, eq-eqb}
 use Rattle.vme_lanes.specs.Rows.{location_at}
@@ -25,7 +25,7 @@ write_answered : (board : Board) (at : ℕ) (new : List ℕ) → can_answer boar
 write_answered board at new can error = let is = rw can at error in cc
 
 module _ (board : Board) (m : BoardMailbox) (lies : LiesIn board m) where
-  -- four bytes at a multiple of four
+  -- four bytes at a multiple of four have the location of a quad byte
   quad_there : (at : ℕ) → at % 4 ≡ 0 → location_at at 4 ≡ Some Bytes03
   quad_there at place = own_found Bytes03 at (sym place)
 
@@ -39,7 +39,7 @@ module _ (board : Board) (m : BoardMailbox) (lies : LiesIn board m) where
       let within = lies.within in
       and_from _ _ (le-leb (at + 4) (length board.bytes) (omega arith)) (rw (quad_there at place) (rw lies.width refl))
 
-  -- one byte at a multiple of four
+  -- one byte at a multiple of four has the location of byte 0
   byte_there : (at : ℕ) → at % 4 ≡ 0 → location_at at 1 ≡ Some Byte0
   byte_there at place = own_found Byte0 at (sym place)
 

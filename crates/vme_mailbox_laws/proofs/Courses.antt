@@ -39,7 +39,7 @@ use Rattle.vme_mailbox_laws.proofs.Single.{IsGoodTo, Waits, Answered, reply_byte
 use Rattle.vme_mailbox_laws.proofs.Stages.{IsStage, is_stage, stage_command, stage_expected}
 use Rattle.vme_mailbox_laws.proofs.Rows.{Before, Words, Leads, IsFine, IsFineEnd, goes}
 
--- a stage in this phase: its datum has no reply yet, or the stage's outcome leads on
+-- a stage in this phase: its datum has no reply yet, or has one whose outcome leads to the next step
 abbrev pub AtWork : BoardMailbox → SharedRequest → Stage → BusJob → Inputs → Phase → List ℕ → List ℕ → Type 0
 AtWork m request stage bus g phase put taken =
     (Waits bus g × (Before m request stage phase × Words request stage put taken))
@@ -85,7 +85,7 @@ pub some_slot : (s : SharedJob) (board : ℕ) (m : BoardMailbox) → UsesMailbox
 some_slot s board m uses = rw uses.lies.slots (asked_slot s.request uses.mailbox uses.asked uses.formed)
 
 module _ (s : SharedJob) (board : ℕ) (m : BoardMailbox) (uses : UsesMailbox s board m) where
-  -- a stage begins
+  -- the progress matches its phase and its words when a stage begins
   begun : (stage : Stage) (g : Inputs) (result : Result Job CycleFault) (at : Option Phase) (phase : Phase) (put taken : List ℕ) → stage_job s stage ≡ result
       → at ≡ Some phase → Before m s.request stage phase → Words s.request stage put taken → ((bus : BusJob) → Waits bus g)
       → Stands m board s.request (stage_begun stage g result) at put taken
@@ -95,7 +95,7 @@ module _ (s : SharedJob) (board : ℕ) (m : BoardMailbox) (uses : UsesMailbox s 
   begun stage g (Err fault) at phase put taken made there before words waits =
       let lawful = all_lawful s stage uses.formed uses.started in let refused = sym made ∙ lawful.1 in absurd cc
 
-  -- a step is taken
+  -- the progress matches its phase and its words after a step
   stepped : (step : StageResult) (at : Option Phase) (phase : Phase) (put taken : List ℕ) → at ≡ Some phase → Leads m s.request step phase put taken
       → Stands m board s.request (step_begun s step) at put taken
   stepped (Continue stage) at phase put taken there leads =
@@ -152,7 +152,7 @@ module _ (s : SharedJob) (board : ℕ) (m : BoardMailbox) (uses : UsesMailbox s 
       (unmoved m board s.request (At stage job (last ∷ g)) at at put taken refl
       (record { phase = stands.phase; is = stands.is; own = stands.own; work = inl (waits, before) }))
 
-  -- the arbiter replies to a request or a look
+  -- the progress still matches after a reply of the arbiter to a request or a look
   turned_on : (stage : Stage) (job : Job) (g : Inputs) (at : Option Phase) (put taken : List ℕ) (last : Option EventReply) (call : Call)
       (stands : IsAt m board s.request stage job g at put taken) → Waits stands.own.bus g
       → Before m s.request stage stands.phase × Words s.request stage put taken
@@ -178,7 +178,7 @@ module _ (s : SharedJob) (board : ℕ) (m : BoardMailbox) (uses : UsesMailbox s 
       waits_on stage job g at put taken (Some (replies.Bus reply)) stands (waits_reported stands.own.bus stands.own.one g call reply which waits makes_bus fine)
       before same
 
-  -- the datum goes to the board
+  -- the progress still matches after the reply of the board to the datum
   datum_on : (stage : Stage) (job : Job) (g : Inputs) (at : Option Phase) (put taken : List ℕ) (last : Option EventReply)
       (stands : IsAt m board s.request stage job g at put taken) → Waits stands.own.bus g
       → Before m s.request stage stands.phase × Words s.request stage put taken
@@ -209,7 +209,7 @@ module _ (s : SharedJob) (board : ℕ) (m : BoardMailbox) (uses : UsesMailbox s 
         work = inr (reply, answered, rw stands.is leads);
       })
 
-  -- the bus is released, and the stage's outcome leads on
+  -- the progress still matches after the release of the bus, which ends the stage
   freed : (stage : Stage) (job : Job) (g : Inputs) (at : Option Phase) (put taken : List ℕ) (last : Option EventReply) (reply : Reply)
       (stands : IsAt m board s.request stage job g at put taken) → Answered stands.own.bus reply g
       → Leads m s.request (step_after s.request stage (expected_outcome (stage_expected stage) (reply_bytes reply))) stands.phase put taken
@@ -230,7 +230,7 @@ module _ (s : SharedJob) (board : ℕ) (m : BoardMailbox) (uses : UsesMailbox s 
       (unmoved m board s.request (step_begun s (step_after s.request stage outcome)) at at put taken refl
       (stepped (step_after s.request stage outcome) at stands.phase put taken stands.is leads))
 
-  -- a stage before its first call
+  -- the progress still matches after the first call of a stage
   called : (stage : Stage) (job : Job) (g : Inputs) (at : Option Phase) (put taken : List ℕ) (last : Option EventReply)
       (stands : IsAt m board s.request stage job g at put taken) → Waits stands.own.bus g
       → Before m s.request stage stands.phase × Words s.request stage put taken → next_of job g ≡ NotStarted
@@ -242,7 +242,7 @@ module _ (s : SharedJob) (board : ℕ) (m : BoardMailbox) (uses : UsesMailbox s 
       waits_on stage job g at put taken None stands (waits_called stands.own.bus g waits rests_bus) before
       (ap (λ n. phase_given m board (task_shown n) None at) rests)
 
-  -- one more reply, at any stage
+  -- the progress still matches after one more good reply, at any stage
   pub moves : (progress : Progress) (last : Option EventReply) (at : Option Phase) (put taken : List ℕ) → Stands m board s.request progress at put taken
       → IsGood (next_at progress) last → IsCount (phase_given m board (next_at progress) last at) → Moved progress last at put taken
   moves (Over end) last at put taken stands good count = unmoved m board s.request (Over end) at at put taken refl stands

@@ -14,7 +14,7 @@ use Rattle.vme_shared.specs.Tables.{SharedJob, Progress, At, Over, progress_of, 
 use Rattle.vme_mailbox_laws.specs.Along.{UsesMailbox, AllGood, AllCounts, phase_along, words_given}
 use Rattle.vme_mailbox_laws.proofs.Courses.{IsAt, IsOver, Stands, stands_along}
 
--- a put or a take always is in some phase
+-- a put or a take is always in some phase
 some_phase : (m : BoardMailbox) (board : ℕ) (request : SharedRequest) (progress : Progress) (at : Option Phase) (put taken : List ℕ)
     → Stands m board request progress at put taken → is_some at ≡ true
 some_phase m board request (At stage job g) at put taken stands = rw stands.is refl
@@ -36,7 +36,7 @@ goes_on_yet m board request stage job g at put taken outcome stands is =
       | inr answered ↦ let here = subst (λ n. task_shown n ≡ Returns outcome) (to_job ∙ answered.1.next) is in absurd cc
     ]
 
--- the phase and the words at the end
+-- at the end the mailbox is left, and the words are those of the outcome
 pub ends_in : (m : BoardMailbox) (board : ℕ) (request : SharedRequest) (progress : Progress) (at : Option Phase) (put taken : List ℕ)
     (outcome : SharedOutcome) → Stands m board request progress at put taken → next_at progress ≡ Returns outcome
     → IsOver request outcome at put taken

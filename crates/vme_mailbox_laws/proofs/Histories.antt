@@ -93,7 +93,7 @@ pub record Led (m : BoardMailbox) (at : Option Phase) (es : List (Entry BoardCmd
   pub goes : is_some (phase_after m at es) ≡ true
   pub done : wanted (phase_after m at es) (words_along put_by m at es) (words_along taken_by m at es)
 
--- the entry of its caller follows the protocol, and all others wait
+-- the first entry of a history follows the protocol of its caller
 own_first : (m : BoardMailbox) (phases : ℕ → Option Phase) (e : Entry BoardCmd Reply) (h : List (Entry BoardCmd Reply)) (wanted : ℕ → Wanted)
     → IsAnswered m e → Through m (phases e.who) (own e.who (e ∷ h)) (wanted e.who)
     → (is_some (after_entry m (phases e.who) e) ≡ true)
@@ -104,7 +104,7 @@ own_first m phases e h wanted answered through =
     let mine : own e.who (e ∷ h) ≡ e ∷ own e.who h = let same : (e.who == e.who) ≡ true = eq-eqb e.who e.who refl in rw same refl in
     subst (λ es. Through m (phases e.who) es (wanted e.who)) mine through answered
 
--- the goal of each caller after an entry
+-- the goal of each caller after an entry, which changes only the goal of its own caller
 abbrev choose : Bool → Wanted → Wanted → Wanted
 choose true own other = own
 choose false own other = other

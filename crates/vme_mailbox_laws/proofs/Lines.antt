@@ -39,7 +39,7 @@ use Rattle.vme_mailbox_laws.specs.Runs.{AllTurned}
 use Rattle.vme_mailbox_laws.proofs.Through.{Wanted, behind, Through}
 use Rattle.vme_mailbox_laws.proofs.Tasks.{IsIn, move_on}
 
--- a board's part of a run, for the first transition and the others
+-- a board's part of a run is its part of the first transition followed by its part of the others
 pub part_cons : (x : ℕ) (m : Transition) (run : List Transition) → board_part x (m ∷ run) ≡ board_part x (m ∷ []) ++ board_part x run
 part_cons x m run = by_entry (board_entry x m.who m.event m.reply) refl
   where
@@ -88,7 +88,7 @@ module _ (s : SharedJob) (board : ℕ) (m : BoardMailbox) (uses : UsesMailbox s 
       ]
 
   module _ (config : Configuration) (who : ℕ) (line : Line) (is : line_attempt config who line ≡ Ok (Sharing s)) where
-    -- the replies that the current attempt of the line was given
+    -- the state of the current attempt of the line, by the replies that the line was given
     abbrev pub InLine : List EventReply → Option Phase → List ℕ → List ℕ → Type 0
     InLine replies at put taken = IsIn s board m uses (attempts_of (Sharing s) config.tries (given_of replies)).given at put taken
 
@@ -118,7 +118,7 @@ module _ (s : SharedJob) (board : ℕ) (m : BoardMailbox) (uses : UsesMailbox s 
         line_moves (mv.reply ∷ before) run replies next ps ts rest wanted
         (settles (record { given = Some mv.reply ∷ made.given; left = made.left }) next ps ts after) goes.1 turned.1 leads))
 
-    -- the phase and the words at the end of the line
+    -- at the end of the line the mailbox is left, and the words are those of the outcome
     pub line_over : (replies : List EventReply) (answer : LineReply) (at : Option Phase) (put taken : List ℕ) → InLine replies at put taken
         → line_next config who line replies ≡ Returns answer
         → (outcome : SharedOutcome) × (answer ≡ Shared outcome) × IsOver s.request outcome at put taken
@@ -127,13 +127,13 @@ module _ (s : SharedJob) (board : ℕ) (m : BoardMailbox) (uses : UsesMailbox s 
         let end = shares_ends (shared_next s made.given) answer (sym (own_next replies) ∙ ends) in
         (end.0, end.2, ends_in m board s.request (progress_of s made.given) at put taken end.0 stands end.1)
 
--- an entry that does not touch the mailbox
+-- an entry that does not touch the mailbox keeps the idle phase
 beside : (m : BoardMailbox) (given : Option Command) (reply : Reply) → ((c : Command) → given ≡ Some c → touches m c ≡ false)
     → after_command m (Some Idle) given reply ≡ Some Idle
 beside m None reply alone = refl
 beside m (Some c) reply alone = rw (alone c refl) refl
 
--- a transition of a line that leaves the mailbox alone
+-- a transition of a line that leaves the mailbox alone keeps the idle phase
 move_beside : (m : BoardMailbox) (board : ℕ) (who : ℕ) (event : Event) (reply : EventReply) (more : List (Entry BoardCmd Reply)) (wanted : Wanted)
     → ((c : Command) → call_of event ≡ OnBoard board (Some c) → touches m c ≡ false) → Through m (Some Idle) more wanted
     → Through m (Some Idle) (board_part board (move who event reply ∷ []) ++ more) wanted
@@ -153,7 +153,7 @@ move_beside m board who (events.Board x cmd) (event_replies.Board reply) more wa
       | inr other ↦ rw other through
     ]
 
--- all transitions of a line that leaves the mailbox alone
+-- all transitions of a line that leaves the mailbox alone keep the idle phase
 pub moves_beside : (config : Configuration) (who : ℕ) (line : Line) (board : ℕ) (m : BoardMailbox) (before : List EventReply) (run : List Transition)
     (replies : List EventReply) (more : List (Entry BoardCmd Reply)) (wanted : Wanted) → LeavesAlone config who line board m
     → Continues config who line before run replies → Through m (Some Idle) more wanted → Through m (Some Idle) (board_part board run ++ more) wanted

@@ -1,4 +1,4 @@
--- A put or a take of another mailbox stays among that mailbox's bytes, which share none with those of this one.
+-- A put or a take stays among the bytes of its mailbox, and different mailboxes share no byte.
 use Rattle.std.proofs.Common.{◌≡◌, ℕ, ◌+◌, ◌-◌, ◌*◌, ◌≤◌, true, false, List, length, Option, Some, None, Result, Ok, Err, ap, sym, subst, ◌∙◌, arith, inl, inr}
 use Rattle.std.specs.Prelude.{nat_le, ◌==◌, option_map, slice_get}
 use Rattle.std.proofs.lemmas.Bool.{and_parts, leb-true, eq-eqb, true≢false, false_from_ne_true}

@@ -37,7 +37,7 @@ record IsReached (am : ℕ) : Type 0 where
   alone : is_block row.kind ≡ false
   data_or_short : is_program row.kind ≡ false
 
--- each of these codes satisfies `IsReached`
+-- each code of a list satisfies `IsReached`
 abbrev EachReached : List ℕ → Type 0
 EachReached [] = Unit {0}
 EachReached (code ∷ more) = IsReached code × EachReached more
@@ -70,7 +70,7 @@ one_of am (code ∷ more) each is =
 reached : (am : ℕ) → is_mailbox_code am ≡ true → IsReached am
 reached am is = one_of am (0x09 ∷ 0x0d ∷ 0x29 ∷ 0x2d ∷ 0x39 ∷ 0x3d ∷ []) all_reached is
 
--- a request is not refused if no part of it is
+-- a request that meets each condition is not refused
 none_refused : (row : CodeRow) (request : Request) → read_code (code_of request) ≡ Ok row → is_block_request request ≡ false
     → is_block row.kind ≡ false → (is_some (function_of request) && is_program row.kind) ≡ false → is_counted request ≡ true
     → nat_lt (addresses_of row.space) (addr_of request + span_of request) ≡ false → is_none (first_location request) ≡ false

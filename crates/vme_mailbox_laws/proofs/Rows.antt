@@ -95,7 +95,7 @@ locks_found [] long = absurd (omega arith)
 locks_found (byte ∷ []) long = let is : byte ≡ 256 * 0 + byte = omega arith in ap (nat_le 128) is
 locks_found (byte ∷ other ∷ bytes) long = absurd (omega arith)
 
--- appending no words
+-- no words followed by no words are no words
 nothing : (words : List ℕ) → words ≡ [] → words ++ [] ≡ []
 nothing words none = ap (λ ws. ws ++ []) none
 
@@ -105,7 +105,7 @@ fine_four bytes long = rw long refl
 
 module _ (m : BoardMailbox) (request : SharedRequest) (mailbox : Mailbox) (is : mailbox_in request ≡ Some mailbox) (slots : m.slots ≡ mailbox.slots)
     (some : 1 ≤ m.slots) (put taken : List ℕ) where
-  -- the table of a put or a take
+  -- the step of a put or a take is that of `mailbox_step`
   own_step : (stage : Stage) (outcome : Outcome) → step_after request stage outcome ≡ mailbox_step request stage outcome
   own_step = by_request request is
     where
@@ -116,7 +116,7 @@ module _ (m : BoardMailbox) (request : SharedRequest) (mailbox : Mailbox) (is : 
       by_request (events.Put own word) is stage outcome = refl
       by_request (events.Take own) is stage outcome = refl
 
-  -- a stage goes on to a next phase by a step
+  -- a stage leads to a next phase, if its access and its step do
   goes_by : (stage : Stage) (phase : Phase) (reply : Reply) (next : Phase) (step : StageResult)
       → next_phase m phase (access_of (stage_command m stage) reply) ≡ Some next
       → mailbox_step request stage (expected_outcome (stage_expected stage) (reply_bytes reply)) ≡ step
@@ -152,7 +152,7 @@ module _ (m : BoardMailbox) (request : SharedRequest) (mailbox : Mailbox) (is : 
   row_reads_put_count Done fine none = let form = fine.form in absurd cc
   row_reads_put_count Berr fine none = absurd (fine.good refl)
 
-  -- the step after both counts are known
+  -- the phase after both counts are read is the one before the next stage
   counted : (p t : ℕ) → p < 2 ^ 32 → put ≡ [] → taken ≡ []
       → Before m request (counted_stage request p t) (Both p t) × Words request (counted_stage request p t) (put ++ []) (taken ++ [])
   counted p t small no_put no_taken = by_request request is
@@ -245,7 +245,7 @@ module _ (m : BoardMailbox) (request : SharedRequest) (mailbox : Mailbox) (is : 
       refl (λ count. (refl, (nothing put none.0, ap (λ ws. ws ++ word ∷ []) none.1)))
   row_raises_take_count t word Berr fine none = absurd (fine.good refl)
 
-  -- an unlock, from each phase that allows it
+  -- an unlock leads to the idle phase from each phase that allows it
   unlocked : (end : SharedOutcome) (phase : Phase) (reply : Reply) → IsFineEnd end → next_phase m phase (Writes (places.lock_at m) 1 0) ≡ Some Idle
       → put_by (Some phase) (Some Idle) ≡ [] → taken_by (Some phase) (Some Idle) ≡ []
       → IsFine m (Unlocks end) reply → Words request (Unlocks end) put taken → Went m request (Unlocks end) phase put taken reply

@@ -29,7 +29,7 @@ use Rattle.vme_mailbox_laws.proofs.Through.{Wanted, behind, Through}
 use Rattle.vme_mailbox_laws.specs.Runs.{AllTurned}
 use Rattle.vme_mailbox_laws.proofs.Lines.{line_begins, line_moves, line_over, moves_beside, part_cons}
 
--- a put of the mailbox uses it
+-- a put or a take of the mailbox uses it
 puts : (config : Configuration) (who box board word : ℕ) (m : BoardMailbox) → IsMailboxOf config box board m
     → UsesMailbox (shared_job config who (requests.Put (mailbox_at config box) word)) board m
 puts config who box board word m is =
@@ -40,7 +40,7 @@ takes : (config : Configuration) (who box board : ℕ) (m : BoardMailbox) → Is
 takes config who box board m is =
     record { mailbox = mailbox_at config box; asked = refl; lies = is.lies; formed = is.formed; started = is.lawful }
 
--- the word that a put reports
+-- the words that a put or a take reports are those that its line reports
 put_effect : (box word : ℕ) (mailbox : Mailbox) (outcome : SharedOutcome)
     → put_reported outcome (requests.Put mailbox word) ≡ reported_put (lines.Put box word) (Shared outcome)
 put_effect box word mailbox shared.Put = refl
@@ -55,7 +55,7 @@ taken_shows : (outcome : SharedOutcome) → taken_reported outcome ≡ reported_
 taken_shows (shared.Took word) = refl
 taken_shows outcome = refl
 
--- all replies of two runs satisfy `IsTurned`
+-- if all replies of a run in two parts satisfy `IsTurned`, those of each part do
 turned_parts : (a b : List Transition) → AllTurned (a ++ b) → AllTurned a × AllTurned b
 turned_parts [] b turned = (tt, turned)
 turned_parts (mv ∷ a) b turned = let parts = turned_parts a b turned.1 in ((turned.0, parts.0), parts.1)
@@ -79,7 +79,7 @@ module _ (config : Configuration) (who box board : ℕ) (m : BoardMailbox) (is :
       → Through m (Some Idle) rest (behind wanted (put_reported outcome request) (taken_reported outcome)) → Through m next rest (behind wanted ps ts)
   at_end request outcome next ps ts rest wanted over through = rw (over.is, over.put_is, over.taken_is) through
 
-  -- a line whose attempt is a put or a take
+  -- a line whose attempt is a put or a take follows the protocol and reaches the goal
   shared_line : (line : Line) (s : SharedJob) (uses : UsesMailbox s board m) (run : List Transition) (answer : LineReply)
       (rest : List (Entry BoardCmd Reply)) (wanted : Wanted) → line_attempt config who line ≡ Ok (Sharing s) → LineTrace config who line run answer
       → AllTurned run
@@ -92,7 +92,7 @@ module _ (config : Configuration) (who box board : ℕ) (m : BoardMailbox) (is :
       let over = line_over s board m uses config who line attempt trace.replies answer next ps ts stands trace.ends in
       at_end s.request over.0 next ps ts rest wanted over.2 (leads over.0 over.1))
 
-  -- any line
+  -- a line of any kind follows the protocol and reaches the goal
   one_line : (line : Line) (run : List Transition) (answer : LineReply) (rest : List (Entry BoardCmd Reply)) (wanted : Wanted)
       → (names box line ≡ false → LeavesAlone config who line board m) → LineTrace config who line run answer → AllTurned run
       → After line answer rest wanted → Through m (Some Idle) (board_part board run ++ rest) wanted
@@ -128,7 +128,7 @@ module _ (config : Configuration) (who box board : ℕ) (m : BoardMailbox) (is :
           (subst (λ a. Through m (Some Idle) rest (behind wanted (reported_put (lines.Take other) a) (reported_taken a))) reported after))
       by_name line run answer rest wanted named trace turned after = absurd cc
 
-  -- the whole script
+  -- the whole script follows the protocol and reaches the goal
   pub script : (ls : List Line) (run : List Transition) (answers : List LineReply) (wanted : Wanted) → AllLeave config who box board m ls
       → IsTrace config who ls run answers → AllTurned run → wanted (Some Idle) (lines_put box ls answers) (lines_taken box ls answers)
       → Through m (Some Idle) (board_part board run) wanted

@@ -35,7 +35,7 @@ use Rattle.vme_mailbox_laws.proofs.CallsApart.{JobCalls, SharedCalls, Calls}
 abbrev pub Among : Option BoardRange → ℕ → Command → Type 0
 Among named x c = (bytes : BoardRange) × (named ≡ Some bytes) × IsAmong bytes x c
 
--- a transfer over the bus
+-- a command of a transfer over the bus is among the bytes that its request names
 by_transfer : (config : Configuration) (who : ℕ) (request : Request) (x : ℕ) (c : Command) (t : Transfer)
     → transfer_of request ≡ Ok t → JobCalls (transfer_job config who t) (OnBoard x (Some c))
     → Among (request_bytes (entries_of config.boards) request) x c
@@ -64,7 +64,7 @@ await_sends config who request want x c calls = by_result (transfer_of request) 
     by_result (Ok t) is calls = by_transfer config who request x c t is calls
     by_result (Err fault) is calls = absurd calls
 
--- a command to the local port of the processor's own board
+-- a command to the local port of the processor's own board is among its own bytes
 local_one : (who offset len x : ℕ) (c own : Command) → offset_of own ≡ offset → len_of own ≡ len
     → OnBoard x (Some c) ≡ OnBoard who (Some own) → Among (Some (record { board = who; offset = offset; len = len })) x c
 local_one who offset len x c own at long same =
@@ -90,7 +90,7 @@ local_sends who (given.LocalModify offset n f) x c own calls =
     (local_calls (record { board = who; cmd = given.LocalModify offset n f }) calls.0 (OnBoard x (Some c)) calls.1)
 local_sends who (given.Cycle signals at f) x c own calls = absurd own
 
--- a call of a lock or a mailbox that is not refused
+-- a call of a lock or a mailbox is one of its job, and its request is not refused
 pub shared_calls : (config : Configuration) (who : ℕ) (request : SharedRequest) (call : Call)
     → Calls (shared_attempt config who request) call
     → SharedCalls (shared_job config who request) call × (shared_refusal request ≡ None)
@@ -136,7 +136,7 @@ goes_among entries request x command_at c each none to =
       record { there = refl; from = omega arith; upto = omega arith },
     )
 
--- the command that sets a lock
+-- the command that sets a lock is among the bytes of the read-modify-write
 pub lock_sends : (config : Configuration) (who am addr x : ℕ) (c : Command)
     → Calls (shared_attempt config who (events.Lock am addr)) (OnBoard x (Some c))
     → Among (request_bytes (entries_of config.boards) (set_lock am addr)) x c
@@ -145,7 +145,7 @@ lock_sends config who am addr x c calls =
     goes_among (entries_of config.boards) (set_lock am addr) x _ c (λ at. (refl, refl)) own.1
     (taken (shared_job config who (events.Lock am addr)) own.0.0 am addr x (Some c) refl own.0.1)
 
--- the command that clears a lock
+-- the command that clears a lock is among the bytes of the write
 pub unlock_sends : (config : Configuration) (who am addr x : ℕ) (c : Command)
     → Calls (shared_attempt config who (events.Unlock am addr)) (OnBoard x (Some c))
     → Among (request_bytes (entries_of config.boards) (clear_lock am addr)) x c

@@ -29,7 +29,7 @@ IsGoodTo (Invokes call) None = ⊥
 IsGoodTo (Invokes call) (Some reply) = IsTrue (fits call reply) × (reply ≢ replies.Board Berr) × (reply ≢ replies.Bus arb_replies.Denied)
 IsGoodTo (Returns outcome) last = Unit {0}
 
--- the datum has no reply yet: the job rests, requests the bus or looks, or sends its datum to the board
+-- the datum has no reply yet: the job rests, requests the bus, looks, or sends its datum to the board
 pub record Waits (job : BusJob) (g : Inputs) : Type 0 where
   pub none : data_in g ≡ 0
   pub bytes : bytes_in g ≡ []
@@ -45,11 +45,11 @@ pub record Answered (job : BusJob) (reply : Reply) (g : Inputs) : Type 0 where
   pub good : reply ≢ Berr
   pub next : next_of (Bus job) g ≡ Invokes (done_call job)
 
--- the job before its first call
+-- the datum of a job has no reply before the first call
 pub waits_fresh : (job : BusJob) → Waits job []
 waits_fresh job = record { none = refl; bytes = refl; next = inl refl }
 
--- the job at its first call
+-- the datum of a job has no reply at the first call
 pub waits_called : (job : BusJob) (g : Inputs) → Waits job g → next_of (Bus job) g ≡ NotStarted → Waits job (None ∷ g)
 waits_called job g waits rests = record { none = waits.none; bytes = waits.bytes; next = inr (inl (rw rests refl)) }
 
@@ -60,7 +60,7 @@ module _ (job : BusJob) (one : count_of job.transfer.request ≡ 1) where
   past_datum : (n : ℕ) → n ≡ 0 → datum_or_done job (n + 1) ≡ done_call job
   past_datum n none = rw none (rw one refl)
 
-  -- the arbiter replied to a request or a look
+  -- the datum has no reply after a reply of the arbiter to a request or a look
   pub waits_reported : (g : Inputs) (cmd : Call) (reply : ArbReply) → ((cmd ≡ ask_call job) ⊎ (cmd ≡ look_call job)) → Waits job g
       → next_of (Bus job) g ≡ Invokes cmd → IsGoodTo (Invokes cmd) (Some (replies.Bus reply)) → Waits job (Some (replies.Bus reply) ∷ g)
   waits_reported g cmd arb_replies.Granted which waits makes good = record {
@@ -77,7 +77,7 @@ module _ (job : BusJob) (one : count_of job.transfer.request ≡ 1) where
   waits_reported g cmd arb_replies.Freed (inr looks) waits makes good = let fit = ap (λ c. fits c (replies.Bus arb_replies.Freed)) (sym looks) ∙ good.0 in absurd cc
   waits_reported g cmd arb_replies.Denied which waits makes good = absurd (good.2 refl)
 
-  -- a board replied to the datum
+  -- the datum has its reply after a good reply of a board
   pub answered_by : (g : Inputs) (call : Call) (reply : Reply) → Waits job g → next_of (Bus job) g ≡ Invokes call
       → IsGoodTo (Invokes call) (Some (replies.Board reply)) → Answered job reply (Some (replies.Board reply) ∷ g)
   answered_by g call (Bytes datum) waits makes good = record {
@@ -96,7 +96,7 @@ module _ (job : BusJob) (one : count_of job.transfer.request ≡ 1) where
   }
   answered_by g call Berr waits makes good = absurd (good.1 refl)
 
-  -- the bus is free again, and the job has its outcome
+  -- the job ends with its outcome after the release of the bus
   ended_by : (g before : Inputs) (reply : Reply) (place : ℕ × ℕ) → job.place ≡ Some place → g ≡ Some (replies.Board reply) ∷ before → reply ≢ Berr
       → next_of (Bus job) g ≡ Invokes (done_call job)
       → next_of (Bus job) (Some (replies.Bus arb_replies.Freed) ∷ g) ≡ Returns (expected_outcome (request_expected job.transfer.request) (bytes_in g))

@@ -32,7 +32,7 @@ use Rattle.vme_shared.specs.Mailboxes.{raised, mailbox_request, stage_request}
 use Rattle.vme_shared.specs.Tables.{SharedJob, stage_job, transfer_job}
 use Rattle.vme_mailbox_laws.specs.Along.{mailbox_in, LiesAt}
 
--- the distance of a stage's transfer from the first byte
+-- the distance of a stage's transfer from the first byte of the mailbox
 abbrev pub distance : BoardMailbox → Stage → ℕ
 distance m Locks = 0
 distance m ReadsPutCount = 4

@@ -58,7 +58,7 @@ module _ (s : SharedJob) (board : ℕ) (m : BoardMailbox) (uses : UsesMailbox s 
       subst (λ r. IsGood (Invokes (OnBoard x (command_given cmd))) (Some (replies.Board r))) (sym is.replied)
       (subst (λ n. IsGood n (Some (replies.Board (command_step is.memory (command_given cmd)).1))) makes fine)
 
-  -- one transition, and the entries after it
+  -- one transition and the entries after it follow the protocol and reach the goal
   pub one_move : (given : Inputs) (at : Option Phase) (put taken : List ℕ) (who : ℕ) (event : Event) (reply : EventReply)
       (rest : List (Entry BoardCmd Reply)) (wanted : Wanted) → IsIn given at put taken → shared_next s given ≡ Invokes (call_of event) → IsTurned event reply
       → ((next : Option Phase) (a b : List ℕ) → IsIn (Some reply ∷ given) next (put ++ a) (taken ++ b) → Through m next rest (behind wanted a b))
@@ -89,7 +89,7 @@ module _ (s : SharedJob) (board : ℕ) (m : BoardMailbox) (uses : UsesMailbox s 
             fine after count),
       ))
 
-  -- one transition, by all words since the beginning
+  -- one transition and the entries after it reach the goal, by all words since the beginning
   pub move_on : (given : Inputs) (at : Option Phase) (put taken : List ℕ) (who : ℕ) (event : Event) (reply : EventReply)
       (rest : List (Entry BoardCmd Reply)) (wanted : Wanted) → IsIn given at put taken → shared_next s given ≡ Invokes (call_of event) → IsTurned event reply
       → ((next : Option Phase) (ps ts : List ℕ) → IsIn (Some reply ∷ given) next ps ts → Through m next rest (behind wanted ps ts))

@@ -47,7 +47,7 @@ through_map m at (e ∷ es) wanted less then through = λ answered.
           (first.1 count),
     )
 
--- entries, followed by other entries
+-- entries and the entries after them reach a goal together
 pub through_append : (m : BoardMailbox) (at : Option Phase) (es more : List (Entry BoardCmd Reply)) (wanted : Wanted)
     → Through m at es (λ p ps ts. Through m p more (behind wanted ps ts)) → Through m at (es ++ more) wanted
 through_append m at [] more wanted through = through

@@ -46,8 +46,7 @@ pub record UsesMailbox (s : SharedJob) (board : ℕ) (m : BoardMailbox) : Type 0
   pub formed : IsWellFormed s.request
   pub started : shared_refusal s.request ≡ None
 
--- a reply is good for the step before it: none before the first call; then it fits the call, and is neither a bus error
--- nor a denial
+-- a reply is good: it is absent at the first call; later it fits the call and is neither a bus error nor a denial
 abbrev pub IsGood : NextStep SharedOutcome → Option EventReply → Type 0
 IsGood NotStarted last = last ≡ None
 IsGood (Invokes call) None = ⊥
@@ -59,7 +58,7 @@ abbrev pub AllGood : SharedJob → Inputs → Type 0
 AllGood s [] = Unit {0}
 AllGood s (last ∷ before) = IsGood (shared_next s before) last × AllGood s before
 
--- the phase after a call and its reply: a command to the board moves it, and every other call leaves it
+-- the phase after a call and its reply: a command to the board changes the phase, and every other call keeps it
 abbrev pub phase_given : BoardMailbox → ℕ → NextStep SharedOutcome → Option EventReply → Option Phase → Option Phase
 phase_given m board (Invokes (OnBoard x command)) (Some (replies.Board reply)) phase =
     if x == board then after_command m phase command reply else phase

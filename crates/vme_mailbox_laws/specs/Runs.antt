@@ -18,7 +18,7 @@ use Rattle.vme_script.specs.Configurations.{Configuration}
 use Rattle.vme_line_task.specs.Scripts.{lines_at}
 use Rattle.vme_line_task.specs.Traces.{IsTrace}
 
--- a reply is of its event's kind; a reply of the arbiter also fits its command and is not a denial
+-- a reply is of its event's kind; a reply of the arbiter also fits its command and is no denial
 abbrev pub IsTurned : Event → EventReply → Type 0
 IsTurned (events.Bus cmd) (replies.Bus reply) = IsTrue (fits (OnBus cmd) (replies.Bus reply)) × (replies.Bus reply ≢ replies.Bus Denied)
 IsTurned (events.Board x cmd) (replies.Board reply) = Unit {0}

@@ -17,7 +17,7 @@ ghost use Rattle.vme_shared.specs.Tables.{SharedJob, shared_next};
 ghost use Rattle.vme_mailbox_laws.specs.Along.{mailbox_in, LiesAt, IsWithin, overlap, UsesMailbox, IsGood, AllGood, AllCounts, phase_along, words_given, put_reported, taken_reported, GoesTo};
 
 /// Each command that a put or a take sends to a board goes to the board of its mailbox and touches
-/// the mailbox. If the mailbox lies wholly in a board that answers quad bytes and
+/// the mailbox. If the mailbox lies wholly in a board that answers quad-byte cycles and
 /// read-modify-writes, the reply is good: it fits and is not a bus error.
 pub fn puts_and_takes_touch_their_mailbox_alone()
     ensures touches { (s : SharedJob) (given : Inputs) (board x : ℕ) (m : BoardMailbox)
@@ -45,10 +45,10 @@ pub fn puts_and_takes_stay_in_their_mailbox()
         shared_next s given ≡ Invokes (OnBoard x (Some command)) → touches other command ≡ false }
 {}
 
-/// With good replies, a put or a take follows the mailbox protocol: each of its commands, with its
-/// reply, is an access that may come next. When it ends, it has left the mailbox, its outcome is
-/// neither a bus error nor a denial, and the words that it has put or taken are those that its
-/// outcome reports.
+/// With good replies, and put counts below 2^32, a put or a take follows the mailbox protocol: each
+/// of its commands, with its reply, is an access that may come next. When it ends, it has left the
+/// mailbox, its outcome is neither a bus error nor a denial, and the words that it has put or taken
+/// are those that its outcome reports.
 pub fn puts_and_takes_go_by_the_rows()
     ensures rows { (s : SharedJob) (given : Inputs) (board : ℕ) (m : BoardMailbox) →
         UsesMailbox s board m → AllGood s given → AllCounts m board s given →
@@ -71,8 +71,9 @@ pub fn puts_and_takes_go_by_the_rows()
         words_given taken_by m board s given ≡ taken_reported outcome }
 {}
 
-/// The only commands that a lock sends to a board are the read-modify-write that sets its byte and
-/// the write of zero that clears it, at the board and the offset that its address selects.
+/// Each command that a lock sends to a board is the read-modify-write that sets bit 7 of its byte,
+/// and each command that an unlock sends is the write of zero over the byte. The board and the
+/// offset are those that its address selects.
 pub fn locks_touch_their_byte_alone()
     ensures taken { (s : SharedJob) (given : Inputs) (am addr board : ℕ) (command : Option Command) →
         s.request ≡ Lock am addr → shared_next s given ≡ Invokes (OnBoard board command) →

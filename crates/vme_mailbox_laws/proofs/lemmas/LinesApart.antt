@@ -41,7 +41,7 @@ use Rattle.vme_mailbox_laws.proofs.CallsApart.{Calls, line_calls}
 use Rattle.vme_mailbox_laws.proofs.SendsApart.{Among, bus_sends, await_sends, local_sends, lock_sends, unlock_sends}
 use Rattle.vme_mailbox_laws.proofs.MailboxesApart.{place_len, declared, others_apart, box_sends}
 
--- no element of a list passes a test that none passes
+-- if no element of a list passes a test, the element at an index does not pass it
 none_passes : {X : Type 0} (test : X → Bool) (xs : List X) (i : ℕ) (x : X) → slice_get xs i ≡ Some x → list_any test xs ≡ false
     → test x ≡ false
 none_passes test xs i x there none =
@@ -56,14 +56,14 @@ module _ (config : Configuration) (k who : ℕ) (mailbox : Mailbox) (lawful : Is
   abbrev file : Declaration
   file = record { entries = entries; mailboxes = config.mailboxes; board = who }
 
-  -- a command among bytes that share none with the mailbox
+  -- a command among bytes that share none with the mailbox does not touch it
   aside : (bytes : BoardRange) (c : Command) → IsAmong bytes fine.place.board c → share bytes fine.place ≡ false
       → touches (on_board mailbox fine.place) c ≡ false
   aside bytes c among apart =
       let len = place_len entries mailbox fine.place fine.placed in
       beside bytes fine.place (on_board mailbox fine.place) c among refl len apart
 
-  -- a command among the bytes that a line names, none of which is of a declared mailbox
+  -- a command among bytes that are those of no declared mailbox does not touch the mailbox
   by_bytes : (named : Option BoardRange) (c : Command) → option_map_or (are_of_mailboxes file) named false ≡ false
       → Among named fine.place.board c → touches (on_board mailbox fine.place) c ≡ false
   by_bytes named c free among =
@@ -74,7 +74,7 @@ module _ (config : Configuration) (k who : ℕ) (mailbox : Mailbox) (lawful : Is
       let apart : share among.0 fine.place ≡ false = ap (λ p. option_map_or (share among.0) p false) (sym fine.placed) ∙ one in
       aside among.0 c among.2 apart
 
-  -- a put or a take of another mailbox
+  -- a put or a take of another mailbox does not touch the mailbox
   by_box : (box : ℕ) (request : Mailbox → SharedRequest) (c : Command) → ((m : Mailbox) → mailbox_in (request m) ≡ Some m)
       → has_box (Declared (length config.mailboxes)) box ≡ true → (box == k + 1) ≡ false
       → Calls (shared_attempt config who (request (mailbox_at config box))) (OnBoard fine.place.board (Some c))
@@ -87,7 +87,7 @@ module _ (config : Configuration) (k who : ℕ) (mailbox : Mailbox) (lawful : Is
       (subst (λ m. Calls (shared_attempt config who (request m)) (OnBoard fine.place.board (Some c))) other.2 calls))
       (others_apart config lawful box k other.0 mailbox theirs fine other.1 other.3 here distinct)
 
-  -- any line
+  -- a line that does not name the mailbox does not touch it
   one_line : (line : Line) (c : Command) → IsOwnLine line → may_ask (Declared (length config.mailboxes)) line ≡ true
       → rules.touches (rules_of entries config.mailboxes who) line ≡ false → names (k + 1) line ≡ false
       → Calls (line_attempt config who line) (OnBoard fine.place.board (Some c)) → touches (on_board mailbox fine.place) c ≡ false
@@ -113,7 +113,7 @@ module _ (config : Configuration) (k who : ℕ) (mailbox : Mailbox) (lawful : Is
   leaves line own may free other = λ replies c made.
       one_line line c own may free other (line_calls config who line replies (OnBoard fine.place.board (Some c)) made)
 
-  -- all lines of a script
+  -- a script leaves the mailbox alone if each line that does not name the mailbox does
   script_leaves : (script : List ScriptLine)
       → ((j : ℕ) (line : ScriptLine) → slice_get script j ≡ Some line → names (k + 1) line.line ≡ false
       → LeavesAlone config who line.line fine.place.board (on_board mailbox fine.place))

@@ -1,4 +1,4 @@
--- Whichever stage a lock, a put or a take is in, its bus task is that stage's.
+-- At each stage of a lock, an unlock, a put or a take, the bus task at work is that of the stage.
 use Rattle.std.proofs.Common.{◌≡◌, [], ◌∷◌, Option, None, Result, Ok, Err, refl}
 use Rattle.vme_cycle.specs.declared.fault.CycleFault.{CycleFault}
 use Rattle.vme_core.specs.declared.event.EventReply.{EventReply}
@@ -33,7 +33,7 @@ own_by s stage job g NotStarted own = own
 own_by s stage job g (Invokes call) own = own
 own_by s stage job g (Returns outcome) own = own_stepped s (step_after s.request stage outcome)
 
--- each reply keeps this
+-- after one more reply, a stage at work has its own bus task
 own_given : (s : SharedJob) (last : Option EventReply) (progress : Progress) → OwnJob s progress → OwnJob s (progress_given s last progress)
 own_given s last (At stage job g) own = own_by s stage job (last ∷ g) (next_of job (last ∷ g)) own
 own_given s last (Over end) own = tt

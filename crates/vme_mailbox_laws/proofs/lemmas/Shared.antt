@@ -26,7 +26,7 @@ use Rattle.vme_mailbox_laws.proofs.Histories.{Led, led}
 use Rattle.vme_shared.proofs.lemmas.Opening.{opening}
 use Rattle.vme_mailbox_laws.proofs.Scripts.{script}
 
--- a number that is none of the callers' has no entry
+-- a number that is not below the number of callers has no entry
 none_own : (n who : ℕ) (h : List (Entry BoardCmd Reply)) → n ≤ who → All (λ e. e.who < n) h → own who h ≡ []
 none_own n who [] past known = refl
 none_own n who (e ∷ h) past known =
