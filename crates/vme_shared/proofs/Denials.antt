@@ -30,6 +30,7 @@ mailbox_denied request (ReadsWord t) = refl
 mailbox_denied request (RaisesTakeCount t word) = refl
 mailbox_denied request (Unlocks end) = refl
 
+-- a denied outcome of a stage's transfer ends the task with a denial
 step_denied : (request : SharedRequest) (stage : Stage) → step_after request stage outcomes.Denied ≡ Finish shared.Denied
 step_denied (Lock am addr) stage = refl
 step_denied (Unlock am addr) stage = refl
@@ -42,6 +43,7 @@ task_denied : (s : SharedJob) (stage : Stage) (job : Job) (given : Inputs) (last
 task_denied s stage job given last ends =
     ap (λ next. next_at (progress_by s stage job (last ∷ given) next)) ends ∙ ap (λ step. next_at (step_begun s step)) (step_denied s.request stage)
 
+-- at each progress a reply that does not fit the call ends the task with a denial
 misfit_at : (s : SharedJob) (p : Progress) (call : Call) (reply : EventReply) → next_at p ≡ Invokes call → fits call reply ≡ false
     → next_at (progress_given s (Some reply) p) ≡ Returns shared.Denied
 misfit_at s (At stage job given) call reply made misfit =
@@ -49,19 +51,23 @@ misfit_at s (At stage job given) call reply made misfit =
     task_denied s stage job given (Some reply) (rw (task, misfit) refl)
 misfit_at s (Over end) call reply made misfit = absurd cc
 
+-- a reply that does not fit the call ends the task with a denial
 pub misfit_denied : (s : SharedJob) (g : Inputs) (call : Call) (reply : EventReply) → shared_next s g ≡ Invokes call → fits call reply ≡ false
     → shared_next s (Some reply ∷ g) ≡ Returns shared.Denied
 misfit_denied s g call reply made misfit = misfit_at s (progress_of s g) call reply made misfit
 
+-- at each progress an absent reply to a call ends the task with a denial
 absent_at : (s : SharedJob) (p : Progress) (call : Call) → next_at p ≡ Invokes call → next_at (progress_given s None p) ≡ Returns shared.Denied
 absent_at s (At stage job given) call made =
     let task : next_of job given ≡ Invokes call = shown_makes (next_of job given) call made in
     task_denied s stage job given None (rw task refl)
 absent_at s (Over end) call made = absurd cc
 
+-- an absent reply to a call ends the task with a denial
 pub absent_denied : (s : SharedJob) (g : Inputs) (call : Call) → shared_next s g ≡ Invokes call → shared_next s (None ∷ g) ≡ Returns shared.Denied
 absent_denied s g call made = absent_at s (progress_of s g) call made
 
+-- a reply before the first call ends the task with a denial
 pub early_denied : (s : SharedJob) (reply : EventReply) → shared_refusal s.request ≡ None → shared_next s (Some reply ∷ []) ≡ Returns shared.Denied
 early_denied s reply none =
     let one = first_lawful s.request none in

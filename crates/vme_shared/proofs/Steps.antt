@@ -35,12 +35,14 @@ abbrev pub GoesSound : StageResult → Type 0
 GoesSound (Continue stage) = IsSound stage
 GoesSound (Finish end) = Unit {0}
 
+-- the first stage is sound
 pub first_sound : (request : SharedRequest) → IsSound (first_stage request)
 first_sound (Lock am addr) = tt
 first_sound (Unlock am addr) = λ same. absurd cc
 first_sound (Put mailbox word) = tt
 first_sound (Take mailbox) = tt
 
+-- the stage after both counts are read is sound
 counted_sound : (request : SharedRequest) (p t : ℕ) → IsSound (counted_stage request p t)
 counted_sound (Put mailbox word) p t =
     elim (cases_Bool (p == 2 ^ 32 - 1)) [
@@ -55,18 +57,22 @@ counted_sound (Take mailbox) p t = elim (cases_Bool (p == t)) [ inl empty ↦ rw
 counted_sound (Lock am addr) p t = elim (cases_Bool (p == t)) [ inl empty ↦ rw empty (λ same. absurd cc) | inr some ↦ rw some tt ]
 counted_sound (Unlock am addr) p t = elim (cases_Bool (p == t)) [ inl empty ↦ rw empty (λ same. absurd cc) | inr some ↦ rw some tt ]
 
+-- the stage after the put count is read is sound
 put_count_goes : (request : SharedRequest) (word : Option ℕ) → GoesSound (on_word word (λ p. Continue (ReadsTakeCount p)))
 put_count_goes request (Some p) = tt
 put_count_goes request None = tt
 
+-- the stage after the take count is read is sound
 take_count_goes : (request : SharedRequest) (p : ℕ) (word : Option ℕ) → GoesSound (on_word word (λ t. Continue (counted_stage request p t)))
 take_count_goes request p (Some t) = counted_sound request p t
 take_count_goes request p None = tt
 
+-- the stage after a word is read is sound
 word_goes : (t : ℕ) (word : Option ℕ) → GoesSound (on_word word (λ w. Continue (RaisesTakeCount t w)))
 word_goes t (Some w) = tt
 word_goes t None = tt
 
+-- no stage follows an unlock
 unlock_goes : (end : SharedOutcome) (outcome : Outcome) → GoesSound (unlock_step end outcome)
 unlock_goes end (outcomes.Read bytes) = tt
 unlock_goes end outcomes.Done = tt
@@ -91,6 +97,7 @@ mailbox_goes request (Unlocks end) outcome = unlock_goes end outcome
 mailbox_goes request stage (outcomes.Berr count bytes) = λ same. absurd cc
 mailbox_goes request stage outcome = tt
 
+-- no stage follows the transfer of a lock
 lock_goes : (outcome : Outcome) → GoesSound (lock_step outcome)
 lock_goes (outcomes.Read bytes) = tt
 lock_goes outcomes.Done = tt
@@ -98,6 +105,7 @@ lock_goes (outcomes.Old bytes) = tt
 lock_goes (outcomes.Berr count bytes) = tt
 lock_goes outcomes.Denied = tt
 
+-- the stage after any step is sound, whatever the outcome
 pub step_goes : (request : SharedRequest) (stage : Stage) (outcome : Outcome) → GoesSound (step_after request stage outcome)
 step_goes (Lock am addr) stage outcome = lock_goes outcome
 step_goes (Unlock am addr) stage outcome = unlock_goes shared.Unlocked outcome
@@ -108,6 +116,7 @@ step_goes (Take mailbox) stage outcome = mailbox_goes (Take mailbox) stage outco
 word_is : (bytes : List ℕ) → length bytes ≡ 4 → word_in bytes ≡ Some (number_of bytes)
 word_is bytes len = rw (eq-eqb (length bytes) 4 len) refl
 
+-- the end of a lock is no denial, if the outcome has its form and is no denial
 lock_good : (outcome : Outcome) → IsFormed (expected_replies.Modify 1) outcome → outcome ≢ outcomes.Denied → IsGood (lock_step outcome)
 lock_good (outcomes.Read bytes) formed good = absurd formed
 lock_good outcomes.Done formed good = absurd formed
@@ -116,6 +125,7 @@ lock_good (outcomes.Old old) formed good =
 lock_good (outcomes.Berr count bytes) formed good = λ same. absurd cc
 lock_good outcomes.Denied formed good = absurd (good refl)
 
+-- the end of an unlock is no denial, if the outcome has its form and is no denial
 unlock_good : (end : SharedOutcome) (outcome : Outcome) → end ≢ shared.Denied → IsFormed expected_replies.Write outcome → outcome ≢ outcomes.Denied
     → IsGood (unlock_step end outcome)
 unlock_good end (outcomes.Read bytes) sound formed good = absurd formed
@@ -142,6 +152,7 @@ mailbox_good m request stage (outcomes.Berr count bytes) sound formed good = λ 
 mailbox_good m request stage outcomes.Denied sound formed good = absurd (good refl)
 mailbox_good m request stage outcome sound formed good = absurd formed
 
+-- a step is good, if the outcome has its form and is no denial
 pub step_good : (request : SharedRequest) (stage : Stage) (outcome : Outcome) → IsSound stage
     → IsFormed (request_expected (stage_request request stage)) outcome → outcome ≢ outcomes.Denied → IsGood (step_after request stage outcome)
 step_good (Lock am addr) stage outcome sound formed good = lock_good outcome formed good

@@ -28,9 +28,11 @@ use Rattle.vme_master.specs.Machine.{expected_len}
 use Rattle.vme_master.proofs.lemmas.Expected.{datum_len_wanted}
 use Rattle.vme_shared.proofs.lemmas.Granted.{outcome_granted}
 
+-- two equal ends have the same outcome
 same_end : (a b : Outcome) → Returns a ≡ Returns b → a ≡ b
 same_end a b same = cc
 
+-- the row of a reply that is no denial ends with no denial
 row_granted : (j : BusJob) (g : Inputs) (reply : EventReply) (outcome : Outcome) → reply ≢ replies.Bus arb_replies.Denied
     → bus_row j reply g ≡ Returns outcome → outcome ≢ outcomes.Denied
 row_granted j g (replies.Bus arb_replies.Waiting) outcome good row = λ denied. absurd cc
@@ -56,11 +58,13 @@ IsFormed expected (outcomes.Berr count bytes) = Unit {0}
 IsFormed expected outcomes.Denied = Unit {0}
 IsFormed expected outcome = ⊥
 
+-- a bus error has the form of any outcome
 berr_formed : (expected : ExpectedReply) (count : ℕ) (bytes : List ℕ) → IsFormed expected (outcomes.Berr count (record { items = bytes }))
 berr_formed (expected_replies.Read n) count bytes = tt
 berr_formed (expected_replies.Modify n) count bytes = tt
 berr_formed expected_replies.Write count bytes = tt
 
+-- a denial has the form of any outcome
 denied_formed : (expected : ExpectedReply) → IsFormed expected outcomes.Denied
 denied_formed (expected_replies.Read n) = tt
 denied_formed (expected_replies.Modify n) = tt
@@ -85,6 +89,7 @@ datum_formed : (j : BusJob) (place : Option (ℕ × ℕ)) (g : Inputs) → j.pla
 datum_formed j None g placed bare = rw placed (berr_formed (request_expected j.transfer.request) 0 [])
 datum_formed j (Some p) g placed bare = (bare, rw placed refl, datum_len_wanted j.transfer.request 0 _)
 
+-- the first datum has its form
 first_formed : (j : BusJob) (g : Inputs) → count_of j.transfer.request ≡ 1 → IsBare g → Formed j g (Invokes (datum_or_done j 0))
 first_formed j g single bare = rw single (datum_formed j j.place g refl bare)
 
@@ -100,11 +105,13 @@ expected_formed (expected_replies.Read m) bytes wanted same n is len = let one :
 expected_formed (expected_replies.Modify m) bytes wanted same n is len = let one : Some m ≡ Some n = sym same ∙ is in cc
 expected_formed expected_replies.Write bytes wanted same n is len = let one : None ≡ Some n = sym same ∙ is in absurd cc
 
+-- the outcome of bytes that fit has its form
 bytes_formed : (expected : ExpectedReply) (wanted : Option ℕ) (datum : ArrayVec ℕ) → wanted ≡ expected_len expected → has_form wanted (Bytes datum) ≡ true
     → IsFormed expected (expected_outcome expected datum.items)
 bytes_formed expected None datum same form = absurd cc
 bytes_formed expected (Some n) datum same form = expected_formed expected datum.items (Some n) same n refl (eqb-true (length datum.items) n form)
 
+-- the outcome of a write that fits has its form
 done_formed : (expected : ExpectedReply) (wanted : Option ℕ) → wanted ≡ expected_len expected → has_form wanted Done ≡ true → IsFormed expected (expected_outcome expected [])
 done_formed (expected_replies.Read n) None same form = absurd cc
 done_formed (expected_replies.Modify n) None same form = absurd cc
@@ -165,6 +172,7 @@ step_formed j g (Invokes (OnBoard board command)) (Some (replies.Board reply)) s
     ]
 step_formed j g (Returns outcome) last single formed = formed
 
+-- what a transfer does next after any replies has its form
 next_formed : (j : BusJob) (g : Inputs) → count_of j.transfer.request ≡ 1 → Formed j g (next_of (Bus j) g)
 next_formed j [] single = refl
 next_formed j (last ∷ g) single = step_formed j g (next_of (Bus j) g) last single (next_formed j g single)

@@ -26,7 +26,8 @@ const WORD_LEN: u32 = 4;
 ///
 /// The lock byte lies at `addr`, the count of words put at `addr + 4`, the count of words taken at
 /// `addr + 8`, and the words from `addr + 16` on. Each count and each word has four bytes, the most
-/// significant first.
+/// significant first. A put or a take requires that `addr` is a multiple of four, that `slots` is 1
+/// to 64, and that the mailbox ends within the 32-bit addresses.
 #[derive(Clone, Copy, Debug, PartialEq, Eq)]
 pub struct Mailbox {
     pub am: u8,

@@ -95,6 +95,7 @@ set_byte (byte ∷ []) long (inl zero_byte) = let is : byte ≡ 0 = omega arith 
 set_byte (byte ∷ []) long (inr held) = let is : byte ≡ 128 = omega arith in rw is refl
 set_byte (byte ∷ other ∷ bytes) long is = absurd (omega arith)
 
+-- the byte with bit 7 set is one byte
 set_len : (one : List ℕ) → length one ≡ 1 → length (with_top_bit one) ≡ 1
 set_len [] long = long
 set_len (byte ∷ bytes) long = long

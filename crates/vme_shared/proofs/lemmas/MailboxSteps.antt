@@ -79,10 +79,12 @@ value_len (Compare expect put) old len fits long =
 abbrev pub Changes : List ℕ → ℕ → ℕ → List ℕ → Type 0
 Changes bytes at len after = (after ≡ bytes) ⊎ Overwrites bytes at len after
 
+-- a write changes at most the bytes that it writes
 write_changes : (board : Board) (at : ℕ) (new : List ℕ) → fits board at (length new) ≡ true
     → Changes board.bytes at (length new) (bytes_after_write board.bytes at new)
 write_changes board at new fit = inr (record { new = new; count = refl; within = leb-true _ _ fit; is = refl })
 
+-- a read-modify-write changes at most the bytes that it reads
 modify_changes : (board : Board) (at len : ℕ) (f : functions.Modify) → fits board at len ≡ true → has_len f len ≡ true
     → Changes board.bytes at len (bytes_after_write board.bytes at (value f (bytes_at board at len)))
 modify_changes board at len f fit has =

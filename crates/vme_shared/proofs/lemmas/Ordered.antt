@@ -37,9 +37,11 @@ module _ (m : BoardMailbox) (some : 1 ≤ m.slots) (who : ℕ) (given : Option C
   abbrev moved : ℕ → Option Phase
   moved w = if who == w then after_command m (phases w) given reply else phases w
 
+  -- the phase of the master after its command
   moved_own : moved who ≡ after_command m (phases who) given reply
   moved_own = let same : (who == who) ≡ true = eq-eqb who who refl in rw same refl
 
+  -- the phase of another master is unchanged
   moved_other : (w : ℕ) → (who ≡ w → ⊥) → moved w ≡ phases w
   moved_other w apart = let other : (who == w) ≡ false = ne_eqb who w apart in rw other refl
 
@@ -47,6 +49,7 @@ module _ (m : BoardMailbox) (some : 1 ≤ m.slots) (who : ℕ) (given : Option C
   abbrev puts_by : List ℕ
   puts_by = put_by (phases who) (after_command m (phases who) given reply)
 
+  -- the words that the command takes
   abbrev takes_by : List ℕ
   takes_by = taken_by (phases who) (after_command m (phases who) given reply)
 
@@ -180,6 +183,7 @@ none_after : (m : BoardMailbox) (h : List (Entry BoardCmd Reply)) → phase_afte
 none_after m [] = refl
 none_after m (e ∷ h) = none_after m h
 
+-- a history that keeps the protocol starts from a phase
 some_before : (m : BoardMailbox) (phase : Option Phase) (h : List (Entry BoardCmd Reply)) → is_some (phase_after m phase h) ≡ true → is_some phase ≡ true
 some_before m None h goes = let stays = ap (λ p. is_some p) (none_after m h) in sym stays ∙ goes
 some_before m (Some phase) h goes = refl
@@ -209,6 +213,7 @@ pub record IsQueue (m : BoardMailbox) (put taken : List ℕ) : Type 0 where
   pub order : IsPrefix taken put
   pub capacity : length put ≤ length taken + m.slots
 
+-- the words of a mailbox that is kept are those of a queue
 kept_queue : (m : BoardMailbox) (bytes put taken : List ℕ) → Kept m bytes put taken → IsQueue m put taken
 kept_queue m bytes put taken kept = record {
   order = (drop (length taken) put, sym (take-append-drop (length taken) put) ∙ ap (λ prefix. prefix ++ drop (length taken) put) kept.prefix);

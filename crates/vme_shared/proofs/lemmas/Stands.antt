@@ -30,24 +30,29 @@ abbrev current_of : Progress → CurrentTransfer
 current_of (At stage job given) = currents.Running stage (task_given job given)
 current_of (Over end) = currents.Finished end
 
+-- a stage before its first call is the transfer at work of its progress
 fresh_is : (stage : Stage) (job : Result Job CycleFault) → stage_fresh stage job ≡ current_of (stage_begun stage [] job)
 fresh_is stage (Ok job) = refl
 fresh_is stage (Err fault) = refl
 
+-- a stage after its first call is the transfer at work of its progress
 called_is : (stage : Stage) (job : Result Job CycleFault) → stage_called stage job ≡ current_of (stage_begun stage (None ∷ []) job)
 called_is stage (Ok job) = refl
 called_is stage (Err fault) = refl
 
+-- what follows a transfer is the transfer at work of its progress
 stepped_is : (s : SharedJob) (step : StageResult) → current_stepped s step ≡ current_of (step_begun s step)
 stepped_is s (Continue stage) = called_is stage (stage_job s stage)
 stepped_is s (Finish end) = refl
 
+-- what the bus task does next leads the state machine and the table to the same transfer at work
 by_is : (s : SharedJob) (stage : Stage) (job : Job) (given : Inputs) (next : NextStep Outcome)
     → current_by s stage (task_given job given) next ≡ current_of (progress_by s stage job given next)
 by_is s stage job given NotStarted = refl
 by_is s stage job given (Invokes call) = refl
 by_is s stage job given (Returns outcome) = stepped_is s (step_after s.request stage outcome)
 
+-- one more reply leads the state machine and the table to the same transfer at work
 after_is : (s : SharedJob) (p : Progress) (last : Option EventReply) → current_after s (current_of p) last ≡ current_of (progress_given s last p)
 after_is s (At stage job given) last =
     ap (current_by s stage (task_given job (last ∷ given))) (by_the_table job (last ∷ given))
@@ -59,12 +64,14 @@ pub given_job : (s : SharedJob) (g : Inputs) → (shared_given s g).job ≡ s
 given_job s [] = refl
 given_job s (last ∷ g) = given_job s g
 
+-- the transfer at work is the one that all given replies lead to
 given_work : (s : SharedJob) (g : Inputs) → (shared_given s g).current ≡ current_of (progress_of s g)
 given_work s [] = fresh_is (first_stage s.request) (stage_job s (first_stage s.request))
 given_work s (last ∷ g) =
     ap (λ (t : SharedJob). current_after t (shared_given s g).current last) (given_job s g)
     ∙ ap (λ current. current_after s current last) (given_work s g) ∙ after_is s (progress_of s g) last
 
+-- the transfer at work does next what the progress states
 shows : (p : Progress) → current_to_do (current_of p) ≡ next_at p
 shows (At stage job given) = ap task_shown (by_the_table job given)
 shows (Over end) = refl

@@ -33,11 +33,13 @@ use Rattle.vme_shared.specs.Tables.{SharedJob, transfer_job, stage_job, stage_be
 abbrev pub IsLawfulRequest : Request → Type 0
 IsLawfulRequest request = (t : Transfer) × (transfer_of request ≡ Ok t)
 
+-- a request without a refusal is lawful
 no_refusal : (request : Request) (found : Result Transfer CycleFault) → transfer_of request ≡ found → refusal_in found ≡ None
     → IsLawfulRequest request
 no_refusal request (Ok t) is none = (t, is)
 no_refusal request (Err fault) is none = absurd cc
 
+-- if two refusals have no first one, both are none
 both_none : (a b : Option CycleFault) → first_of (a ∷ b ∷ []) ≡ None → (a ≡ None) × (b ≡ None)
 both_none (Some fault) b none = absurd cc
 both_none None (Some fault) none = absurd cc
@@ -48,6 +50,7 @@ record Looked (m : Mailbox) : Type 0 where
   lock : IsLawfulRequest (set_lock m.am m.addr)
   last : IsLawfulRequest (read_word m.am (word_at m (m.slots - 1)))
 
+-- an accepted mailbox has a lawful lock and a lawful read of its last word
 looked : (m : Mailbox) → mailbox_refusal m ≡ None → Looked m
 looked m none =
     let both = both_none (refusal_in (transfer_of (set_lock m.am m.addr))) (refusal_in (transfer_of (read_word m.am (word_at m (m.slots - 1))))) none in
@@ -62,6 +65,7 @@ unfolding transfer_of first_refusal
 lawful_by row request code alone kind program counted within found =
     (record { am = row; request = request }, rw (code, kind, program, counted, within, found, alone) refl)
 
+-- a number up to a limit is not above the limit
 within_by : (limit last : ℕ) → last ≤ limit → nat_lt limit last ≡ false
 within_by limit last less = elim (leb_tells (suc limit) last) [ inl more ↦ absurd (omega (arith, more.1, less)) | inr is ↦ is.0 ]
 
@@ -80,6 +84,7 @@ placed_by m t is lawful =
     let last : (m.slots - 1) % m.slots ≡ m.slots - 1 = mod-eq_of_lt (omega (arith, is.some_slot)) in
     record { row = t.am; code = from.row; kind = parts.kind; within = omega (arith, parts.within, is.some_slot, last) }
 
+-- the row and the place of an accepted mailbox
 placed : (m : Mailbox) → IsMailbox m → Looked m → Placed m
 placed m is look = placed_by m look.last.0 is look.last.1
 
@@ -90,6 +95,7 @@ quad_read m addr at aligned less =
     (within_by (addresses_of at.row.space) (addr + 4) (omega (arith, at.within, less)))
     (rw (own_found Bytes03 addr (sym aligned)) refl)
 
+-- a write of four bytes of a mailbox at a multiple of four is lawful
 quad_write : (m : Mailbox) (addr n : ℕ) → Placed m → addr % 4 ≡ 0 → addr + 4 ≤ m.addr + 16 + 4 * m.slots
     → IsLawfulRequest (write_word m.am addr n)
 quad_write m addr n at aligned less =
@@ -111,6 +117,7 @@ word_place m n is = by_rest (n % m.slots) (mod_below n m.slots (omega (arith, is
     by_rest : (rest : ℕ) → rest < m.slots → ((m.addr + 16 + 4 * rest) % 4 ≡ 0) × (m.addr + 16 + 4 * rest + 4 ≤ m.addr + 16 + 4 * m.slots)
     by_rest rest less = (omega (arith, is.aligned), omega (arith, less))
 
+-- each transfer of an accepted mailbox is lawful
 mailbox_lawful : (m : Mailbox) (stage : Stage) → IsMailbox m → Looked m → Placed m → IsLawfulRequest (mailbox_request m stage)
 mailbox_lawful m stages.Locks is looked at = looked.lock
 mailbox_lawful m stages.ReadsPutCount is looked at = quad_read m (put_count_at m) at (omega (arith, is.aligned)) (omega arith)

@@ -50,24 +50,29 @@ record AtWork (s : SharedJob) (stage : Stage) (job : Job) (given : Inputs) : Typ
   sound : IsSound stage
   going : (outcome : Outcome) → next_of job given ≢ Returns outcome
 
+-- a progress at a stage has its own bus job, which has not ended
 abbrev Standing : SharedJob → Progress → Type 0
 Standing s (At stage job given) = AtWork s stage job given
 Standing s (Over end) = Unit {0}
 
+-- a stage before its first call has its own bus job
 fresh_standing : (s : SharedJob) (stage : Stage) (job : Result Job CycleFault) → stage_job s stage ≡ job → IsSound stage
     → Standing s (stage_begun stage [] job)
 fresh_standing s stage (Ok job) own sound = record { own = own; sound = sound; going = λ outcome ends. absurd cc }
 fresh_standing s stage (Err fault) own sound = tt
 
+-- a stage after its first call has its own bus job
 called_standing : (s : SharedJob) (stage : Stage) (job : Result Job CycleFault) → stage_job s stage ≡ job → IsSound stage
     → Standing s (stage_begun stage (None ∷ []) job)
 called_standing s stage (Ok job) own sound = record { own = own; sound = sound; going = λ outcome ends. absurd cc }
 called_standing s stage (Err fault) own sound = tt
 
+-- the stage that follows a transfer has its own bus job
 step_standing : (s : SharedJob) (step : StageResult) → GoesSound step → Standing s (step_begun s step)
 step_standing s (Continue stage) sound = called_standing s stage (stage_job s stage) refl sound
 step_standing s (Finish end) sound = tt
 
+-- whatever its bus job does next, a stage at work has its own bus job
 by_standing : (s : SharedJob) (stage : Stage) (job : Job) (given : Inputs) (next : NextStep Outcome) → next_of job given ≡ next
     → stage_job s stage ≡ Ok job → IsSound stage → Standing s (progress_by s stage job given next)
 by_standing s stage job given NotStarted is own sound =
@@ -80,11 +85,13 @@ by_standing s stage job given (Invokes call) is own sound = record {
 by_standing s stage job given (Returns outcome) is own sound =
     step_standing s (step_after s.request stage outcome) (step_goes s.request stage outcome)
 
+-- after one more reply, a stage at work has its own bus job
 given_standing : (s : SharedJob) (p : Progress) (last : Option EventReply) → Standing s p → Standing s (progress_given s last p)
 given_standing s (At stage job given) last at =
     by_standing s stage job (last ∷ given) (next_of job (last ∷ given)) refl at.own at.sound
 given_standing s (Over end) last at = tt
 
+-- after any replies, a stage at work has its own bus job
 standing : (s : SharedJob) (g : Inputs) → Standing s (progress_of s g)
 standing s [] = fresh_standing s (first_stage s.request) (stage_job s (first_stage s.request)) refl (first_sound s.request)
 standing s (last ∷ g) = given_standing s (progress_of s g) last (standing s g)
@@ -98,9 +105,11 @@ record OwnTask (s : SharedJob) (stage : Stage) (job : Job) : Type 0 where
   below : IsBelow (length s.map) (Bus bus)
   request : bus.transfer.request ≡ stage_request s.request stage
 
+-- the bus job of a lawful transfer is one of the slot, on its level
 same_job : (s : SharedJob) (t : Transfer) (job : Job) → transfer_job s (Ok t) ≡ Ok job → job ≡ bus_job s.map s.slot s.level t
 same_job s t job same = cc
 
+-- the bus job of a lawful transfer is one for the transfer, over the boards of the map
 own_by : (s : SharedJob) (stage : Stage) (transfer : Result Transfer CycleFault) (job : Job)
     → transfer_of (stage_request s.request stage) ≡ transfer → transfer_job s transfer ≡ Ok job → OwnTask s stage job
 own_by s stage (Err fault) job from own = absurd cc
@@ -113,6 +122,7 @@ own_by s stage (Ok t) job from own = record {
   request = (comes_from (stage_request s.request stage) t from).same;
 }
 
+-- the bus job of a stage satisfies `OwnTask`
 own_task : (s : SharedJob) (stage : Stage) (job : Job) → stage_job s stage ≡ Ok job → OwnTask s stage job
 own_task s stage job own = own_by s stage (transfer_of (stage_request s.request stage)) job refl own
 
@@ -127,6 +137,7 @@ mailbox_single m (stages.ReadsWord t) = refl
 mailbox_single m (stages.RaisesTakeCount t word) = refl
 mailbox_single m (stages.Unlocks end) = refl
 
+-- each transfer of a lock, an unlock, a put or a take has one datum
 single : (request : SharedRequest) (stage : Stage) → count_of (stage_request request stage) ≡ 1
 single (Lock am addr) stage = refl
 single (Unlock am addr) stage = refl
@@ -198,6 +209,7 @@ called_reported : (stage : Stage) (job : Result Job CycleFault) → reported_at 
 called_reported stage (Ok job) = refl
 called_reported stage (Err fault) = refl
 
+-- after a transfer, there is no reply of the arbiter
 step_reported : (s : SharedJob) (step : StageResult) → reported_at (step_begun s step) ≡ None
 step_reported s (Continue stage) = called_reported stage (stage_job s stage)
 step_reported s (Finish end) = refl
@@ -207,6 +219,7 @@ record EndsWell (s : SharedJob) (stage : Stage) (reply : EventReply) (outcome : 
   freed : reply ≡ replies.Bus arb_replies.Freed
   good : IsGood (step_after s.request stage outcome)
 
+-- a transfer that ends after a good reply ends well
 task_ends : (s : SharedJob) (stage : Stage) (job : Job) (given : Inputs) (call : Call) (reply : EventReply) (outcome : Outcome)
     → AtWork s stage job given → next_of job given ≡ Invokes call → fits call reply ≡ true → reply ≢ replies.Bus arb_replies.Denied
     → next_of job (Some reply ∷ given) ≡ Returns outcome → EndsWell s stage reply outcome
@@ -236,6 +249,7 @@ turn_by s stage job given reply bus slot (Returns outcome) freed stands =
     subst (StandsAsReplied bus slot) (sym (step_reported s (step_after s.request stage outcome)))
     (subst (λ (r : ArbReply). StandsAsReplied bus slot (Some r)) free stands)
 
+-- at each progress the slot stands as the last reply states after a good reply of the arbiter
 turn_at : (s : SharedJob) (p : Progress) (cmd : ArbCmd) (reply : ArbReply) (bus : Arbitration) (slot : ℕ) → Standing s p
     → next_at p ≡ Invokes (OnBus cmd) → fits (OnBus cmd) (replies.Bus reply) ≡ true → replies.Bus reply ≢ replies.Bus arb_replies.Denied
     → StandsAsReplied bus slot (Some reply) → StandsAsReplied bus slot (reported_at (progress_given s (Some (replies.Bus reply)) p))
@@ -261,6 +275,7 @@ datum_by s stage job given reply NotStarted freed = refl
 datum_by s stage job given reply (Invokes call) freed = refl
 datum_by s stage job given reply (Returns outcome) freed = let one = freed outcome refl in absurd cc
 
+-- at each progress a good reply of a board leaves the arbiter's last reply the same
 datum_at : (s : SharedJob) (p : Progress) (call : Call) (reply : Reply) → Standing s p → next_at p ≡ Invokes call
     → fits call (replies.Board reply) ≡ true → reported_at (progress_given s (Some (replies.Board reply)) p) ≡ reported_at p
 datum_at s (At stage job given) call reply at made fit =
@@ -281,16 +296,19 @@ pub record GoodEnd (reply : EventReply) (end : SharedOutcome) (last : Option Arb
   pub freed : reply ≡ replies.Bus arb_replies.Freed
   pub nothing : last ≡ None
 
+-- a task that ends at the first call of a stage ends with a bus error
 called_ends : (stage : Stage) (job : Result Job CycleFault) (end : SharedOutcome) → next_at (stage_begun stage (None ∷ []) job) ≡ Returns end
     → end ≡ shared.Berr
 called_ends stage (Ok job) end ends = absurd cc
 called_ends stage (Err fault) end ends = cc
 
+-- a good step ends with no denial
 step_ends : (s : SharedJob) (step : StageResult) (end : SharedOutcome) → IsGood step → next_at (step_begun s step) ≡ Returns end
     → end ≢ shared.Denied
 step_ends s (Continue stage) end good ends = λ denied. let berr = called_ends stage (stage_job s stage) end ends in absurd cc
 step_ends s (Finish stop) end good ends = λ denied. let same : stop ≡ end = cc in good (same ∙ denied)
 
+-- a task that ends after a good reply at a stage has a good end
 ends_by : (s : SharedJob) (stage : Stage) (job : Job) (given : Inputs) (reply : EventReply) (end : SharedOutcome) (next : NextStep Outcome)
     → next_of job (Some reply ∷ given) ≡ next → ((outcome : Outcome) → next ≡ Returns outcome → EndsWell s stage reply outcome)
     → next_at (progress_by s stage job (Some reply ∷ given) next) ≡ Returns end
@@ -307,6 +325,7 @@ ends_by s stage job given reply end (Returns outcome) is well ends =
       nothing = step_reported s (step_after s.request stage outcome);
     }
 
+-- at each progress an end after a good reply is a good end
 ends_at : (s : SharedJob) (p : Progress) (call : Call) (reply : EventReply) (end : SharedOutcome) → Standing s p → next_at p ≡ Invokes call
     → fits call reply ≡ true → reply ≢ replies.Bus arb_replies.Denied → next_at (progress_given s (Some reply) p) ≡ Returns end
     → GoodEnd reply end (reported_at (progress_given s (Some reply) p))
