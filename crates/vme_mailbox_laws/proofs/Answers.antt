@@ -21,6 +21,7 @@ use Rattle.vme_mailbox_laws.proofs.Stages.{stage_command}
 read_answered : (board : Board) (at len : ℕ) → can_answer board (Read at len) ≡ true → (step board (Read at len)).0 ≢ Berr
 read_answered board at len can error = let is = rw can at error in cc
 
+-- the reply to a write that the board can answer is no bus error
 write_answered : (board : Board) (at : ℕ) (new : List ℕ) → can_answer board (Write at new) ≡ true → (step board (Write at new)).0 ≢ Berr
 write_answered board at new can error = let is = rw can at error in cc
 
@@ -29,11 +30,13 @@ module _ (board : Board) (m : BoardMailbox) (lies : LiesIn board m) where
   quad_there : (at : ℕ) → at % 4 ≡ 0 → location_at at 4 ≡ Some Bytes03
   quad_there at place = own_found Bytes03 at (sym place)
 
+  -- the board can answer a read of four bytes of the mailbox at a multiple of four
   quad : (at : ℕ) → at % 4 ≡ 0 → at + 4 ≤ end_of m → can_answer board (Read at 4) ≡ true
   quad at place below =
       let within = lies.within in
       and_from _ _ (le-leb (at + 4) (length board.bytes) (omega arith)) (rw (quad_there at place) (rw lies.width refl))
 
+  -- the board can answer a write of four bytes of the mailbox at a multiple of four
   quad_written : (at n : ℕ) → at % 4 ≡ 0 → at + 4 ≤ end_of m → can_answer board (Write at (number_bytes 4 n)) ≡ true
   quad_written at n place below =
       let within = lies.within in
@@ -43,6 +46,7 @@ module _ (board : Board) (m : BoardMailbox) (lies : LiesIn board m) where
   byte_there : (at : ℕ) → at % 4 ≡ 0 → location_at at 1 ≡ Some Byte0
   byte_there at place = own_found Byte0 at (sym place)
 
+  -- the board can answer the read-modify-write that sets the lock
   set_answered : can_answer board (Modify (places.lock_at m) 1 Set) ≡ true
   set_answered =
       let within = lies.within in
@@ -51,6 +55,7 @@ module _ (board : Board) (m : BoardMailbox) (lies : LiesIn board m) where
       let whole : places.lock_at m % 1 ≡ 0 = omega arith in
       and_from _ _ (and_from _ _ (and_from _ _ (and_from _ _ fit cycle) (eq-eqb (places.lock_at m % 1) 0 whole)) lies.rmw) refl
 
+  -- the board can answer the write that clears the lock
   clear_answered : can_answer board (Write (places.lock_at m) (0 ∷ [])) ≡ true
   clear_answered =
       let within = lies.within in

@@ -21,6 +21,7 @@ share_by a b board some_a some_b before behind =
     let both : max a.offset b.offset < min (a.offset + a.len) (b.offset + b.len) = omega arith in
     and_from _ _ (eq-eqb a.board b.board board) (lt-ltb _ _ both)
 
+-- a command among the bytes of a range that shares none with a mailbox does not touch the mailbox
 pub beside : (bytes mine : BoardRange) (m : BoardMailbox) (c : Command) → IsAmong bytes mine.board c → mine.offset ≡ m.offset
     → mine.len ≡ mailbox_len m.slots → share bytes mine ≡ false → touches m c ≡ false
 beside bytes mine m c among at long apart =

@@ -28,6 +28,7 @@ Calls (Ok (Awaiting job want)) call = JobCalls job call
 Calls (Ok (Sharing s)) call = SharedCalls s call
 Calls (Err fault) call = ⊥
 
+-- each call of an attempt that may be made again is a call of the attempt
 lawful_calls : (tries : ℕ) (attempt : Result Attempt CycleFault) (given : Inputs) (call : Call)
     → lawful_next tries attempt given ≡ Invokes call → Calls attempt call
 lawful_calls tries (Ok (Transferring job)) given call made =
@@ -38,6 +39,7 @@ lawful_calls tries (Ok (Sharing s)) given call made =
     let g = (attempts_of (Sharing s) tries given).given in (g, shares_makes (shared_next s g) call made)
 lawful_calls tries (Err fault) given call made = absurd cc
 
+-- each call of a line is a call of its attempt
 pub line_calls : (config : Configuration) (who : ℕ) (line : Line) (replies : List EventReply) (call : Call)
     → line_next config who line replies ≡ Invokes call → Calls (line_attempt config who line) call
 unfolding next_given

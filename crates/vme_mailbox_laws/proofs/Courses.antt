@@ -81,6 +81,7 @@ asked_slot (events.Unlock am addr) mailbox is formed = absurd cc
 asked_slot (events.Put own word) mailbox is formed = let same : own ≡ mailbox = cc in subst (λ (o : Mailbox). 1 ≤ o.slots) same formed.some_slot
 asked_slot (events.Take own) mailbox is formed = let same : own ≡ mailbox = cc in subst (λ (o : Mailbox). 1 ≤ o.slots) same formed.some_slot
 
+-- the mailbox that a put or a take uses has a slot
 pub some_slot : (s : SharedJob) (board : ℕ) (m : BoardMailbox) → UsesMailbox s board m → 1 ≤ m.slots
 some_slot s board m uses = rw uses.lies.slots (asked_slot s.request uses.mailbox uses.asked uses.formed)
 
@@ -124,6 +125,7 @@ module _ (s : SharedJob) (board : ℕ) (m : BoardMailbox) (uses : UsesMailbox s 
       Stands m board s.request (progress_given s last progress) (phase_given m board (next_at progress) last at)
       (put ++ put_by at (phase_given m board (next_at progress) last at)) (taken ++ taken_by at (phase_given m board (next_at progress) last at))
 
+  -- the progress matches after a reply, if the progress that the reply leads to matches
   moved_to : (progress to : Progress) (last : Option EventReply) (at next : Option Phase) (put taken : List ℕ) → progress_given s last progress ≡ to
       → phase_given m board (next_at progress) last at ≡ next
       → Stands m board s.request to next (put ++ put_by at next) (taken ++ taken_by at next) → Moved progress last at put taken
@@ -278,10 +280,12 @@ module _ (s : SharedJob) (board : ℕ) (m : BoardMailbox) (uses : UsesMailbox s 
   before_count (stages.Unlocks shared.Spent) phase before = subst (λ q. IsCount (Some q)) (sym before.2) tt
   before_count (stages.Unlocks end) phase before = absurd before
 
+  -- in the phase of a step, a put count that was read is a number of four bytes
   leads_count : (step : StageResult) (phase : Phase) (put taken : List ℕ) → Leads m s.request step phase put taken → IsCount (Some phase)
   leads_count (Continue stage) phase put taken leads = before_count stage phase leads.0
   leads_count (Finish end) phase put taken leads = subst (λ p. IsCount (Some p)) (sym leads.0) tt
 
+  -- in the phase of a progress, a put count that was read is a number of four bytes
   pub stands_count : (progress : Progress) (at : Option Phase) (put taken : List ℕ) → Stands m board s.request progress at put taken → IsCount at
   stands_count (Over end) at put taken stands = subst IsCount (sym stands.is) tt
   stands_count (At stage job g) at put taken stands =
@@ -303,6 +307,7 @@ module _ (s : SharedJob) (board : ℕ) (m : BoardMailbox) (uses : UsesMailbox s 
       goes m s.request uses.mailbox uses.asked uses.lies.slots (some_slot s board m uses) put taken stage stands.phase reply before.0 before.1 fine_reply in
       rw stands.is (rw went.is refl)
 
+  -- at each progress a command with a good reply follows the protocol
   pub command_goes : (progress : Progress) (at : Option Phase) (put taken : List ℕ) (x : ℕ) (command : Option Command) (reply : Reply)
       → Stands m board s.request progress at put taken → next_at progress ≡ Invokes (OnBoard x command)
       → IsGood (Invokes (OnBoard x command)) (Some (replies.Board reply)) → is_some (after_command m at command reply) ≡ true

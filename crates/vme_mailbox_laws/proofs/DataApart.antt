@@ -34,6 +34,7 @@ at_place (requests.BlockWrite am addr n bytes) i at = refl
 at_place (requests.BlockFill am addr n count bytes) i at = refl
 at_place (requests.Modify am addr n f) i at = refl
 
+-- a part of a list has at most the length of its range
 cut_most : (bytes : List ℕ) (from n : ℕ) → length (slice_range bytes from (from + n)) ≤ n
 cut_most bytes from n = grind (arith, common_steps)
 
@@ -57,6 +58,7 @@ upto_span i n count less =
     let split : n * suc i ≡ i * n + n = grind arith in
     omega (arith, upto, split)
 
+-- two equal commands to a board are the same command
 same_command : (c d : Command) → Some c ≡ Some d → c ≡ d
 same_command c d same = cc
 

@@ -48,6 +48,7 @@ record Sent (s : SharedJob) (request : Request) (x : ℕ) (command : Option Comm
   selected : selection_at s.map code (addr_of request) ≡ Some (x, offset)
   own : command ≡ Some (datum_command request 0 offset)
 
+-- the command of a bus job with one datum is that datum, at the selected board and offset
 sent_by : (s : SharedJob) (request : Request) (t : Transfer) (g : Inputs) (x : ℕ) (command : Option Command) → count_of request ≡ 1
     → transfer_of request ≡ Ok t → next_of (bus_job s.map s.slot s.level t) g ≡ Invokes (OnBoard x command) → Sent s request x command
 sent_by s request t g x command one lawful makes =
@@ -68,6 +69,7 @@ sent_by s request t g x command one lawful makes =
           ∙ ap (λ r. Some (datum_command r 0 next.offset)) from.same;
     }
 
+-- the command of a bus job for a request with one datum is that datum
 sent_in : (s : SharedJob) (request : Request) (result : Result Transfer CycleFault) (job : Job) (g : Inputs) (x : ℕ) (command : Option Command)
     → count_of request ≡ 1 → transfer_of request ≡ result → transfer_job s result ≡ Ok job → next_of job g ≡ Invokes (OnBoard x command)
     → Sent s request x command
@@ -83,6 +85,7 @@ single (events.Unlock am addr) stage = refl
 single (events.Put mailbox word) stage = (shape mailbox (record { offset = 0; slots = mailbox.slots }) stage refl).count
 single (events.Take mailbox) stage = (shape mailbox (record { offset = 0; slots = mailbox.slots }) stage refl).count
 
+-- at each progress the command to a board is the datum of a stage
 sent_at : (s : SharedJob) (progress : Progress) (x : ℕ) (command : Option Command) → OwnJob s progress → next_at progress ≡ Invokes (OnBoard x command)
     → (stage : Stage) × Sent s (stage_request s.request stage) x command
 sent_at s (At stage job g) x command own makes = (
@@ -97,6 +100,7 @@ sent : (s : SharedJob) (given : Inputs) (x : ℕ) (command : Option Command) →
     → (stage : Stage) × Sent s (stage_request s.request stage) x command
 sent s given x command makes = sent_at s (progress_of s given) x command (own_job s given) makes
 
+-- two equal places are the same place
 same_place : (p q : ℕ × ℕ) → Some p ≡ Some q → p ≡ q
 same_place p q same = cc
 
@@ -125,11 +129,13 @@ stage_commands s given mailbox board x m command asks lies some makes =
     let is = mailbox_sent s mailbox board x m out.0 command lies some (subst (λ r. Sent s r x command) own out.1) in
     (is.0, (out.0, is.1))
 
+-- the board of the mailbox that is used gets the commands of the stages
 pub commands : (s : SharedJob) (given : Inputs) (board x : ℕ) (m : BoardMailbox) (command : Option Command) → UsesMailbox s board m
     → shared_next s given ≡ Invokes (OnBoard x command) → (x ≡ board) × ((stage : Stage) × (command ≡ Some (stage_command m stage)))
 commands s given board x m command uses makes =
     stage_commands s given uses.mailbox board x m command uses.asked uses.lies (some_slot s board m uses) makes
 
+-- each command to a board goes to the board of the mailbox that is used and touches the mailbox
 pub touching : (s : SharedJob) (given : Inputs) (board x : ℕ) (m : BoardMailbox) (command : Option Command) → UsesMailbox s board m
     → shared_next s given ≡ Invokes (OnBoard x command) → (x ≡ board) × ((c : Command) × (command ≡ Some c) × (touches m c ≡ true))
 touching s given board x m command uses makes =
@@ -149,7 +155,7 @@ answered s given board x m command memory uses lies makes =
     ) in
     rw makes (rw own.1.1 fine)
 
--- the command of a lock
+-- each command of a lock is the read-modify-write that sets it
 pub taken : (s : SharedJob) (given : Inputs) (am addr board : ℕ) (command : Option Command) → s.request ≡ events.Lock am addr
     → shared_next s given ≡ Invokes (OnBoard board command) → GoesTo s.map am addr board (λ offset. Modify offset 1 Set) command
 taken s given am addr board command is makes =
@@ -157,6 +163,7 @@ taken s given am addr board command is makes =
     let own : Sent s (set_lock am addr) board command = subst (λ r. Sent s (stage_request r out.0) board command) is out.1 in
     record { code = own.code; row = own.row; offset = own.offset; selected = own.selected; own = own.own }
 
+-- each command of an unlock is the write that clears the lock
 pub given_back : (s : SharedJob) (given : Inputs) (am addr board : ℕ) (command : Option Command) → s.request ≡ events.Unlock am addr
     → shared_next s given ≡ Invokes (OnBoard board command) → GoesTo s.map am addr board (λ offset. Write offset (0 ∷ [])) command
 given_back s given am addr board command is makes =

@@ -47,9 +47,11 @@ ends_in m board request (Over end) at put taken outcome stands is =
 
 module _ (s : SharedJob) (given : Inputs) (board : ℕ) (m : BoardMailbox) (uses : UsesMailbox s board m) (good : AllGood s given)
     (counts : AllCounts m board s given) where
+  -- with good replies, a put or a take follows the protocol
   pub goes_on : is_some (phase_along m board s given) ≡ true
   goes_on = some_phase m board s.request (progress_of s given) _ _ _ (stands_along s board m uses given good counts)
 
+  -- with good replies, a put or a take leaves the mailbox at its end and reports its words
   pub ends : (outcome : SharedOutcome) → shared_next s given ≡ Returns outcome
       → IsOver s.request outcome (phase_along m board s given) (words_given put_by m board s given) (words_given taken_by m board s given)
   ends outcome is_end = ends_in m board s.request (progress_of s given) _ _ _ outcome (stands_along s board m uses given good counts) is_end

@@ -30,6 +30,7 @@ count_is m bytes put taken (Written p x) kept stands = tt
 count_is m bytes put taken (Fetched t x) kept stands = tt
 count_is m bytes put taken Counted kept stands = tt
 
+-- each put count that a master has read is a number of four bytes
 counts_are : (m : BoardMailbox) (bytes put taken : List ℕ) (phases : ℕ → Option Phase) → Holds m bytes put taken phases → (who : ℕ) → IsCount (phases who)
 counts_are m bytes put taken phases holds who =
     elim (cases_eq holds.owner who) [
@@ -37,6 +38,7 @@ counts_are m bytes put taken phases holds who =
       | inr apart ↦ subst IsCount (sym (holds.others who apart)) tt
     ]
 
+-- each master is in some phase
 some_phase : (m : BoardMailbox) (bytes put taken : List ℕ) (phases : ℕ → Option Phase) → Holds m bytes put taken phases → (who : ℕ)
     → is_some (phases who) ≡ true
 some_phase m bytes put taken phases holds who =
@@ -59,9 +61,11 @@ same_class board command = elim (cases_Bool (can_answer board command)) [ inl ca
     by_effect (BlockRead at len) = refl
     by_effect (BlockWrite at new) = refl
 
+-- a board has as many bytes after a write
 overwritten_len : (bytes new : List ℕ) (at : ℕ) → at + length new ≤ length bytes → length (bytes_after_write bytes at new) ≡ length bytes
 overwritten_len bytes new at within = grind (arith, common_steps)
 
+-- a board has as many bytes after a change of a range
 changed_len : (bytes after : List ℕ) (at len : ℕ) → Changes bytes at len after → length after ≡ length bytes
 changed_len bytes after at len (inl same) = ap length same
 changed_len bytes after at len (inr over) =
@@ -69,6 +73,7 @@ changed_len bytes after at len (inr over) =
     let count = over.count in
     ap length over.is ∙ overwritten_len bytes over.new at (omega arith)
 
+-- a mailbox lies in its board after any command
 lies_on : (m : BoardMailbox) (board : Board) (given : Option Command) → LiesIn board m → LiesIn (answer board given).1 m
 lies_on m board None lies = lies
 lies_on m board (Some command) lies =
@@ -84,6 +89,7 @@ lies_on m board (Some command) lies =
       within = omega arith;
     }
 
+-- a mailbox lies in its board after any entry's command
 lies_after : (m : BoardMailbox) (board : Board) (cmd : BoardCmd) → LiesIn board m → LiesIn (board_step board cmd).0 m
 unfolding answer_given
 lies_after m board cmd lies = lies_on m board (command_given cmd) lies
@@ -109,11 +115,13 @@ abbrev choose : Bool → Wanted → Wanted → Wanted
 choose true own other = own
 choose false own other = other
 
+-- the goals of all callers after an entry
 abbrev wanted_after : BoardMailbox → (ℕ → Option Phase) → Entry BoardCmd Reply → (ℕ → Wanted) → ℕ → Wanted
 wanted_after m phases e wanted who =
     choose (e.who == who) (behind (wanted who) (put_by (phases who) (after_entry m (phases who) e)) (taken_by (phases who) (after_entry m (phases who) e)))
     (wanted who)
 
+-- after an entry, the later entries of each caller reach the goal that remains
 through_after : (m : BoardMailbox) (phases : ℕ → Option Phase) (e : Entry BoardCmd Reply) (h : List (Entry BoardCmd Reply)) (wanted : ℕ → Wanted)
     → IsAnswered m e → IsCount (phases_after m phases e e.who) → ((who : ℕ) → Through m (phases who) (own who (e ∷ h)) (wanted who)) → (who : ℕ)
     → Through m (phases_after m phases e who) (own who h) (wanted_after m phases e wanted who)

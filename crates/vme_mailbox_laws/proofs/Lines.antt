@@ -92,11 +92,13 @@ module _ (s : SharedJob) (board : ℕ) (m : BoardMailbox) (uses : UsesMailbox s 
     abbrev pub InLine : List EventReply → Option Phase → List ℕ → List ℕ → Type 0
     InLine replies at put taken = IsIn s board m uses (attempts_of (Sharing s) config.tries (given_of replies)).given at put taken
 
+    -- a line does next what its current attempt does next
     own_next : (replies : List EventReply)
         → line_next config who line replies ≡ shares_next (shared_next s (attempts_of (Sharing s) config.tries (given_of replies)).given)
     unfolding next_given
     own_next replies = ap (λ a. lawful_next config.tries a (given_of replies)) is
 
+    -- a line begins in the idle phase
     pub line_begins : InLine [] (Some Idle) [] []
     line_begins = settles (record { given = None ∷ []; left = config.tries }) (Some Idle) [] [] begins
 

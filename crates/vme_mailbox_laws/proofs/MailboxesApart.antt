@@ -35,11 +35,13 @@ found_len (Some one) len place is =
     let same : record { board = one.0; offset = one.1; len = len } ≡ place = cc in
     ap (λ (p : BoardRange). p.len) (sym same)
 
+-- the range of a mailbox by its code has all its bytes
 row_len : (entries : List Entry) (row : Result CodeRow AmFault) (addr len : ℕ) (place : BoardRange)
     → range_by entries row addr len ≡ Some place → place.len ≡ len
 row_len entries (Ok code) addr len place is = found_len (selection_at entries code addr) len place is
 row_len entries (Err fault) addr len place is = absurd cc
 
+-- the range of a mailbox has the lock, the counts and all words
 pub place_len : (entries : List Entry) (mailbox : Mailbox) (place : BoardRange) → range_of entries mailbox ≡ Some place
     → place.len ≡ 16 + 4 * mailbox.slots
 unfolding range_at

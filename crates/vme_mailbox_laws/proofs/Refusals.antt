@@ -59,6 +59,7 @@ all_reached =
     let extended_high = reached_at (row 0x0d A32 DataAccess true false) refl refl refl in
     (extended, (extended_high, (short, (short_high, (standard, (standard_high, tt))))))
 
+-- if each code of a list satisfies `IsReached`, a code that is in the list does
 one_of : (am : ℕ) (codes : List ℕ) → EachReached codes → list_any (λ code. code == am) codes ≡ true → IsReached am
 one_of am [] each is = absurd cc
 one_of am (code ∷ more) each is =
@@ -67,6 +68,7 @@ one_of am (code ∷ more) each is =
       | inr later ↦ one_of am more each.1 later
     ]
 
+-- a code that may reach a mailbox satisfies `IsReached`
 reached : (am : ℕ) → is_mailbox_code am ≡ true → IsReached am
 reached am is = one_of am (0x09 ∷ 0x0d ∷ 0x29 ∷ 0x2d ∷ 0x39 ∷ 0x3d ∷ []) all_reached is
 
@@ -78,9 +80,11 @@ none_refused : (row : CodeRow) (request : Request) → read_code (code_of reques
 unfolding transfer_of first_refusal
 none_refused row request code alone kind program counted within found = rw (code, kind, program, counted, within, found, alone) refl
 
+-- a number up to a limit is not above the limit
 not_past : (limit last : ℕ) → last ≤ limit → nat_lt limit last ≡ false
 not_past limit last less = elim (leb_tells (suc limit) last) [ inl more ↦ absurd (omega (arith, more.1, less)) | inr is ↦ is.0 ]
 
+-- if two refusals are none, there is no first refusal
 no_first : (a b : Option CycleFault) → a ≡ None → b ≡ None → first_of (a ∷ b ∷ []) ≡ None
 no_first a b first second = rw (first, second) refl
 
@@ -106,6 +110,7 @@ no_other None None more none = (refl, none)
 no_other None (Some fault) more none = absurd cc
 no_other (Some fault) b more none = absurd cc
 
+-- an entry that is not refused as outside its space ends in the space
 not_outside : (limit last : ℕ) → where_true (nat_lt limit last) OutsideSpace ≡ None → last ≤ limit
 not_outside limit last none =
     elim (cases_Bool (nat_lt limit last)) [
@@ -113,6 +118,7 @@ not_outside limit last none =
       | inr within ↦ ltb-false limit last within
     ]
 
+-- the first entry of a lawful map ends in its address space
 own_end : (e : Entry) (more : List (Option MapFault)) → first_of (maps.entry_refusals e ++ more) ≡ None
     → (end_of e ≤ addresses_of e.space) × (first_of more ≡ None)
 own_end e more none =
@@ -120,6 +126,7 @@ own_end e more none =
     (where_true (nat_lt (addresses_of e.space) (end_of e)) OutsideSpace) more none in
     (not_outside (addresses_of e.space) (end_of e) rest.0, rest.1)
 
+-- each entry of a list without a refusal ends in its address space
 ends_in : (entries : List Entry) (more : List (Option MapFault)) (place : ℕ) (entry : Entry)
     → first_of (flat_map maps.entry_refusals entries ++ more) ≡ None → slice_get entries place ≡ Some entry
     → end_of entry ≤ addresses_of entry.space
@@ -130,6 +137,7 @@ ends_in (e ∷ entries) more zero entry none there =
 ends_in (e ∷ entries) more (suc k) entry none there =
     ends_in entries more k entry (own_end e (flat_map maps.entry_refusals entries ++ more) none).1 there
 
+-- each entry of a lawful map ends in its address space
 ends : (entries : List Entry) (place : ℕ) (entry : Entry) → maps.first_refusal entries ≡ None
     → slice_get entries place ≡ Some entry → end_of entry ≤ addresses_of entry.space
 unfolding maps.first_refusal
@@ -154,6 +162,7 @@ module _ (map : List Entry) (mailbox : Mailbox) (board : ℕ) (m : BoardMailbox)
       let below = falls.within in
       omega arith
 
+  -- a mailbox with a code of data or short access is not refused
   pub not_refused : is_mailbox_code mailbox.am ≡ true → mailbox_refusal mailbox ≡ None
   not_refused code =
       let is = reached mailbox.am code in

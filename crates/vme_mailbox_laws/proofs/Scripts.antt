@@ -29,28 +29,31 @@ use Rattle.vme_mailbox_laws.proofs.Through.{Wanted, behind, Through}
 use Rattle.vme_mailbox_laws.specs.Runs.{AllTurned}
 use Rattle.vme_mailbox_laws.proofs.Lines.{line_begins, line_moves, line_over, moves_beside, part_cons}
 
--- a put or a take of the mailbox uses it
+-- a put of the mailbox uses it
 puts : (config : Configuration) (who box board word : ℕ) (m : BoardMailbox) → IsMailboxOf config box board m
     → UsesMailbox (shared_job config who (requests.Put (mailbox_at config box) word)) board m
 puts config who box board word m is =
     record { mailbox = mailbox_at config box; asked = refl; lies = is.lies; formed = is.formed; started = is.lawful }
 
+-- a take of the mailbox uses it
 takes : (config : Configuration) (who box board : ℕ) (m : BoardMailbox) → IsMailboxOf config box board m
     → UsesMailbox (shared_job config who (requests.Take (mailbox_at config box))) board m
 takes config who box board m is =
     record { mailbox = mailbox_at config box; asked = refl; lies = is.lies; formed = is.formed; started = is.lawful }
 
--- the words that a put or a take reports are those that its line reports
+-- the word that a put reports is the one that its line reports
 put_effect : (box word : ℕ) (mailbox : Mailbox) (outcome : SharedOutcome)
     → put_reported outcome (requests.Put mailbox word) ≡ reported_put (lines.Put box word) (Shared outcome)
 put_effect box word mailbox shared.Put = refl
 put_effect box word mailbox outcome = refl
 
+-- a take reports no word as put
 take_puts_nothing : (box : ℕ) (mailbox : Mailbox) (outcome : SharedOutcome)
     → put_reported outcome (requests.Take mailbox) ≡ reported_put (lines.Take box) (Shared outcome)
 take_puts_nothing box mailbox shared.Put = refl
 take_puts_nothing box mailbox outcome = refl
 
+-- the words that a take reports are those that its line reports
 taken_shows : (outcome : SharedOutcome) → taken_reported outcome ≡ reported_taken (Shared outcome)
 taken_shows (shared.Took word) = refl
 taken_shows outcome = refl
@@ -60,6 +63,7 @@ turned_parts : (a b : List Transition) → AllTurned (a ++ b) → AllTurned a ×
 turned_parts [] b turned = (tt, turned)
 turned_parts (mv ∷ a) b turned = let parts = turned_parts a b turned.1 in ((turned.0, parts.0), parts.1)
 
+-- a board's part of two runs is its part of the first followed by its part of the second
 part_append : (x : ℕ) (a b : List Transition) → board_part x (a ++ b) ≡ board_part x a ++ board_part x b
 part_append x [] b = refl
 part_append x (mv ∷ a) b =

@@ -42,6 +42,7 @@ by_transfer : (config : Configuration) (who : ℕ) (request : Request) (x : ℕ)
 by_transfer config who request x c t is calls =
     sent (entries_of config.boards) (slot_at config who) (level_at config who) request t calls.0 x c is calls.1
 
+-- a command of a line that is a transfer is among the bytes that its request names
 pub bus_sends : (config : Configuration) (who : ℕ) (request : Request) (x : ℕ) (c : Command)
     → Calls (request_attempt (λ t. Transferring (transfer_job config who t)) (transfer_of request)) (OnBoard x (Some c))
     → Among (request_bytes (entries_of config.boards) request) x c
@@ -53,6 +54,7 @@ bus_sends config who request x c calls = by_result (transfer_of request) refl ca
     by_result (Ok t) is calls = by_transfer config who request x c t is calls
     by_result (Err fault) is calls = absurd calls
 
+-- a command of a line that waits for bytes is among the bytes that its request names
 pub await_sends : (config : Configuration) (who : ℕ) (request : Request) (want : List ℕ) (x : ℕ) (c : Command)
     → Calls (request_attempt (λ t. Awaiting (transfer_job config who t) want) (transfer_of request)) (OnBoard x (Some c))
     → Among (request_bytes (entries_of config.boards) request) x c
@@ -77,6 +79,7 @@ local_one who offset len x c own at long same =
       record { there = sym here; from = omega arith; upto = omega arith },
     )
 
+-- a command of a line for the local port is among the bytes that the line names
 pub local_sends : (who : ℕ) (cmd : BoardCmd) (x : ℕ) (c : Command) → IsOwnLine (lines.Local cmd)
     → JobCalls (local_job who cmd) (OnBoard x (Some c)) → Among (local_bytes who cmd) x c
 local_sends who (given.LocalRead offset n) x c own calls =

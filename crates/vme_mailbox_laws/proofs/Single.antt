@@ -54,9 +54,11 @@ pub waits_called : (job : BusJob) (g : Inputs) → Waits job g → next_of (Bus 
 waits_called job g waits rests = record { none = waits.none; bytes = waits.bytes; next = inr (inl (rw rests refl)) }
 
 module _ (job : BusJob) (one : count_of job.transfer.request ≡ 1) where
+  -- the first call for data is the datum
   first_datum : datum_or_done job 0 ≡ datum_call job job.place 0
   first_datum = rw one refl
 
+  -- the call after the datum is the release of the bus
   past_datum : (n : ℕ) → n ≡ 0 → datum_or_done job (n + 1) ≡ done_call job
   past_datum n none = rw none (rw one refl)
 
@@ -104,6 +106,7 @@ module _ (job : BusJob) (one : count_of job.transfer.request ≡ 1) where
   ended_by g before Done place placed is good next = rw next (rw placed (rw is refl))
   ended_by g before Berr place placed is good next = absurd (good refl)
 
+  -- after the datum and a good reply, the bus is free and the job has its outcome
   pub ended : (g : Inputs) (last : Option EventReply) (reply : Reply) (place : ℕ × ℕ) → job.place ≡ Some place → Answered job reply g
       → IsGoodTo (next_of (Bus job) g) last
       → (last ≡ Some (replies.Bus arb_replies.Freed))

@@ -81,6 +81,7 @@ touches_by : (m : BoardMailbox) (c : Command) → 0 < len_of c → offset_of c <
 touches_by m c some before behind =
     and_from _ _ (and_from _ _ (lt-ltb 0 (len_of c) some) (lt-ltb (offset_of c) (end_of m) before)) (lt-ltb m.offset (offset_of c + len_of c) behind)
 
+-- the command of each stage touches the mailbox
 pub stage_touches : (m : BoardMailbox) (stage : Stage) → 1 ≤ m.slots → touches m (stage_command m stage) ≡ true
 stage_touches m Locks some = touches_by m (stage_command m Locks) (omega arith) (omega arith) (omega arith)
 stage_touches m ReadsPutCount some = touches_by m (stage_command m ReadsPutCount) (omega arith) (omega arith) (omega arith)
@@ -101,6 +102,7 @@ pub record Shape (mailbox : Mailbox) (m : BoardMailbox) (stage : Stage) (request
   pub expected : request_expected request ≡ stage_expected stage
   pub own : datum_command request 0 (m.offset + distance m stage) ≡ stage_command m stage
 
+-- the request of each stage has the stage's place, datum and expected reply
 pub shape : (mailbox : Mailbox) (m : BoardMailbox) (stage : Stage) → m.slots ≡ mailbox.slots → Shape mailbox m stage (mailbox_request mailbox stage)
 shape mailbox m Locks slots =
     let here : m.offset + 0 ≡ m.offset = omega arith in
@@ -139,6 +141,7 @@ pub record IsStage (m : BoardMailbox) (board : ℕ) (stage : Stage) (job : Job) 
   pub datum : datum_call bus bus.place 0 ≡ OnBoard board (Some (stage_command m stage))
   pub expected : request_expected bus.transfer.request ≡ stage_expected stage
 
+-- the bus job of a lawful transfer of a stage is a bus job of the stage
 by_transfer : (s : SharedJob) (mailbox : Mailbox) (board : ℕ) (m : BoardMailbox) (stage : Stage) (request : Request) (t : Transfer)
     → 1 ≤ m.slots → LiesAt s.map mailbox board m → Shape mailbox m stage request → transfer_of request ≡ Ok t
     → IsStage m board stage (bus_job s.map s.slot s.level t)
@@ -161,6 +164,7 @@ by_transfer s mailbox board m stage request t some lies form lawful =
       expected = ap request_expected from.same ∙ form.expected;
     }
 
+-- the bus job of a transfer that is not refused is a bus job of the stage
 by_result : (s : SharedJob) (mailbox : Mailbox) (board : ℕ) (m : BoardMailbox) (stage : Stage) (request : Request) (job : Job)
     (result : Result Transfer CycleFault) → 1 ≤ m.slots → LiesAt s.map mailbox board m → Shape mailbox m stage request → transfer_of request ≡ result
     → transfer_job s result ≡ Ok job → IsStage m board stage job
@@ -169,6 +173,7 @@ by_result s mailbox board m stage request job (Ok t) some lies form is made =
     subst (λ j. IsStage m board stage j) same (by_transfer s mailbox board m stage request t some lies form is)
 by_result s mailbox board m stage request job (Err fault) some lies form is made = absurd cc
 
+-- the bus job of a stage of a put or a take is a bus job of the stage
 pub is_stage : (s : SharedJob) (mailbox : Mailbox) (board : ℕ) (m : BoardMailbox) (stage : Stage) (job : Job)
     → 1 ≤ m.slots → mailbox_in s.request ≡ Some mailbox → LiesAt s.map mailbox board m → stage_job s stage ≡ Ok job → IsStage m board stage job
 is_stage s mailbox board m stage job some is lies made =

@@ -27,6 +27,7 @@ stage_within m (ReadsWord t) some = let rest = rest_below t m.slots some in reco
 stage_within m (RaisesTakeCount t word) some = record { from = omega arith; to = omega arith }
 stage_within m (Unlocks end) some = record { from = omega arith; to = omega arith }
 
+-- each command of a put or a take goes to its board and is within the mailbox
 pub within : (s : SharedJob) (given : Inputs) (mailbox : Mailbox) (board x : ℕ) (mine : BoardMailbox) (command : Option Command)
     → mailbox_in s.request ≡ Some mailbox → LiesAt s.map mailbox board mine → 1 ≤ mailbox.slots
     → shared_next s given ≡ Invokes (OnBoard x command)
@@ -61,6 +62,7 @@ beside mine other c inside apart =
       | inr free ↦ free
     ]
 
+-- no command of a put or a take touches a mailbox that shares no byte with its own
 pub others : (s : SharedJob) (given : Inputs) (mailbox : Mailbox) (board x : ℕ) (mine other : BoardMailbox) (command : Command)
     → mailbox_in s.request ≡ Some mailbox → LiesAt s.map mailbox board mine → 1 ≤ mailbox.slots → overlap mine other ≡ false
     → shared_next s given ≡ Invokes (OnBoard x (Some command)) → touches other command ≡ false

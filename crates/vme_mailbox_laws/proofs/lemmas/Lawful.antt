@@ -26,6 +26,7 @@ use Rattle.vme_script.specs.Boards.{entries_of}
 use Rattle.vme_script.specs.Configurations.{Configuration, opening_memory}
 use Rattle.vme_script.specs.Lawful.{IsLawful, IsLawfulMailbox}
 
+-- there are as many zero bytes as asked for
 zeros_len : (size : ℕ) → length (zeros size) ≡ size
 unfolding zeros
 zeros_len size = length-replicate size 0
@@ -59,6 +60,7 @@ quads D16 able = absurd cc
 quads D32 able = refl
 
 module _ (config : Configuration) (lawful : IsLawful config) (mailbox : Mailbox) (fine : IsLawfulMailbox config.boards mailbox) where
+  -- the range of a mailbox has the lock, the counts and all words
   len_is : fine.place.len ≡ 16 + 4 * mailbox.slots
   unfolding range_at
   len_is = by_found (read_code mailbox.am) fine.placed

@@ -53,6 +53,7 @@ module _ (config : Configuration) (k who : ℕ) (mailbox : Mailbox) (lawful : Is
   abbrev entries : List Entry
   entries = entries_of config.boards
 
+  -- the declared map and mailboxes, with the board of the processor
   abbrev file : Declaration
   file = record { entries = entries; mailboxes = config.mailboxes; board = who }
 
@@ -107,6 +108,7 @@ module _ (config : Configuration) (k who : ℕ) (mailbox : Mailbox) (lawful : Is
   one_line (lines.Take box) c own may free other calls =
       by_box box (λ m. events.Take m) c (λ m. refl) may other calls
 
+  -- a line that does not name the mailbox leaves it alone
   leaves : (line : Line) → IsOwnLine line → may_ask (Declared (length config.mailboxes)) line ≡ true
       → rules.touches (rules_of entries config.mailboxes who) line ≡ false → names (k + 1) line ≡ false
       → LeavesAlone config who line fine.place.board (on_board mailbox fine.place)

@@ -39,6 +39,7 @@ none_put : (box : ℕ) (ls : List Line) → lines_put box ls [] ≡ []
 none_put box [] = refl
 none_put box (line ∷ ls) = refl
 
+-- without replies, no word is reported as taken
 none_taken : (box : ℕ) (ls : List Line) → lines_taken box ls [] ≡ []
 none_taken box [] = refl
 none_taken box (line ∷ ls) = refl
@@ -52,6 +53,7 @@ module _ (config : Configuration) (box board : ℕ) (m : BoardMailbox) (memory :
       (ps ≡ lines_put box (lines_at config who) (slice_index_or answers who []))
       × (ts ≡ lines_taken box (lines_at config who) (slice_index_or answers who []))
 
+  -- the entries of each processor follow the protocol and reach its goal
   through : (who : ℕ) → Through m (Some Idle) (own who h) (Reported who)
   through who =
       elim (cases_lt who (length runs)) [
@@ -64,6 +66,7 @@ module _ (config : Configuration) (box board : ℕ) (m : BoardMailbox) (memory :
             rw (none_own (length runs) who h past share.known) (rw no_answers (sym (none_put box (lines_at config who)), sym (none_taken box (lines_at config who))))
       ]
 
+  -- the entries of each processor reach its goal in the shared history
   each_led : (who : ℕ) → Led m (Some Idle) (own who h) (Reported who)
   each_led who =
       led m new.lies.some_slot memory [] [] all_idle h (λ w. Reported w) new.lies (opening memory m new) legal (λ w. through w) who
