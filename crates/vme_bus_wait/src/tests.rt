@@ -150,7 +150,7 @@ fn last_round<R: Wait + Clock>(
     Ok(last)
 }
 
-/// Lets the other processor sleep for a millisecond, sets the flag, and wakes it.
+/// Lets the other processor sleep for a millisecond, sets the flag, and wakes that processor.
 fn wake<R: Wait + Clock>(rt: &R, waiters: &BusWaiters, sign: &AtomicBool, waking: Waking) {
     for _ in rt.forever() {
         if waiters.counts.asleep() > 0 && waiters.counts.awake() == 0 {

@@ -26,8 +26,8 @@ const ALONE: usize = 2;
 /// The number of times that a processor that defers to the other polls for that one's releases.
 const LOOKS_ASIDE: u32 = 16;
 
-/// The number of pauses before each of these polls. Each poll delays the other processor by a cache
-/// line transfer.
+/// The number of pauses before each poll of a processor that defers. Each poll delays the other
+/// processor by a cache line transfer.
 const PAUSES_ASIDE: u32 = 32;
 
 /// The state that the processors of one bus share while they wait for it. A waiting processor polls
@@ -88,7 +88,7 @@ impl BusWaiters {
 
     /// Waits for one round, after the arbiter replied `Waiting`: until the number of releases
     /// differs from `seen`, or for a bounded time. `who` is the processor's place among the `count`
-    /// processors.
+    /// processors, from 0 on. A processor whose place is not below `count` never sleeps.
     #[cold]
     #[inline(never)]
     pub fn wait<R: Wait>(&self, rt: &R, who: usize, seen: u64, wait_state: &mut WaitState)

@@ -39,6 +39,7 @@ module _ {S C R : Type 0} (step : S → C → S × R) (start : S) (k : ℕ) wher
     found_legal : IsLegal step start (a.seen ++ t.others)
     found_legal = subst (λ s. IsLegal step s (a.seen ++ t.others)) t.opens.0 t.legal
 
+    -- the object that was taken is the replay of the history that the take found
     found_object : t.home.object ≡ replay step start (a.seen ++ t.others)
     found_object = t.object ∙ ap (λ s. replay step s (a.seen ++ t.others)) t.opens.0
 

@@ -101,7 +101,7 @@ fn work_four<R: Threads + Wait + Abort + Sync>(
     Some((left?, right?))
 }
 
-/// Appends the replies of one thread to the others, and returns the thread's pass.
+/// Appends the replies of one thread to `replies`, and returns the thread's pass.
 fn take_in(rt: &impl Abort, worked: Worked, replies: &mut Vec<u64>) -> Pass<Counter>
     ensures { result ≡ worked.pass }
 {

@@ -36,7 +36,7 @@ pub fn next_pass<O: Object>(rt: &impl Abort, port: &Port<O>, passes: &mut Vec<Pa
     }
 }
 
-/// Appends one pass to the others.
+/// Appends a pass to `passes`, and panics if that fails.
 pub fn add_pass<O: Object>(
     rt: &impl Abort,
     port: &Port<O>,

@@ -40,8 +40,8 @@ pub fn shared_tasks_go_by_the_table()
         shared_next s (last ∷ given) ≡ Returns end }
 {}
 
-/// A request that is not refused at the start rests until its first call, which requests the bus.
-/// None of its transfers is refused later.
+/// A request that is not refused at the start requests the bus at the task's first call, and does
+/// nothing before. None of its transfers is refused later.
 pub fn shared_tasks_are_refused_at_the_start()
     ensures rests { (s : SharedJob) → shared_refusal s.request ≡ None → shared_next s [] ≡ NotStarted }
     ensures asks { (s : SharedJob) → shared_refusal s.request ≡ None →

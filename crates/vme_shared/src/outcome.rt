@@ -20,6 +20,7 @@ pub enum SharedOutcome {
     /// A bus error of a board or of the bus timer:
     /// IEEE 1014-1987, 2.3.3 (bus timer).
     Berr,
-    /// The arbiter denied a command, or a reply did not fit, was absent or came too early.
+    /// The arbiter denied a command, or a reply did not fit, was absent or came before the first
+    /// call.
     Denied,
 }

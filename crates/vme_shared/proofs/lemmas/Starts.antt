@@ -76,6 +76,7 @@ record Placed (m : Mailbox) : Type 0 where
   kind : is_block row.kind ≡ false
   within : m.addr + 16 + 4 * m.slots ≤ addresses_of row.space
 
+-- the row and the place of a mailbox whose last word has a lawful read
 placed_by : (m : Mailbox) (t : Transfer) → IsMailbox m → transfer_of (read_word m.am (word_at m (m.slots - 1))) ≡ Ok t → Placed m
 placed_by m t is lawful =
     let request : Request = read_word m.am (word_at m (m.slots - 1)) in
