@@ -60,7 +60,7 @@ impl Counts {
         self.asleep.fetch_sub(1, Ordering::SeqCst);
     }
 
-    /// Marks one of two processors as deferring to the other. Returns whether one was marked before.
+    /// Marks one of two processors as deferring to the other. Returns whether one already defers.
     pub(crate) fn step_aside(&self) -> bool {
         self.aside.swap(true, Ordering::SeqCst)
     }

@@ -104,8 +104,8 @@ impl WaitState {
     }
 
     /// Records a round in which the bus was not released. Returns whether the sleepers are to be
-    /// woken, because one of them may have the bus: after 8, 16, 32, .. consecutive rounds without a
-    /// release.
+    /// woken, because one of them may have the bus: after 8, 16, 32, .. consecutive rounds without
+    /// a release.
     pub(crate) fn note_none(&mut self) -> bool
         ensures state { self.new ≡ after_no_release self.old }
         ensures wake { result ≡ is_time_to_wake (still_rounds_of self.new) }

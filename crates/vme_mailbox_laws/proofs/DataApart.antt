@@ -58,7 +58,7 @@ upto_span i n count less =
     let split : n * suc i ≡ i * n + n = grind arith in
     omega (arith, upto, split)
 
--- two equal commands to a board are the same command
+-- equal options of a command have equal commands
 same_command : (c d : Command) → Some c ≡ Some d → c ≡ d
 same_command c d same = cc
 

@@ -100,7 +100,7 @@ sent : (s : SharedJob) (given : Inputs) (x : ℕ) (command : Option Command) →
     → (stage : Stage) × Sent s (stage_request s.request stage) x command
 sent s given x command makes = sent_at s (progress_of s given) x command (own_job s given) makes
 
--- two equal places are the same place
+-- equal options of a place have equal places
 same_place : (p q : ℕ × ℕ) → Some p ≡ Some q → p ≡ q
 same_place p q same = cc
 

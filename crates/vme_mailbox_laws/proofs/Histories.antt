@@ -61,11 +61,11 @@ same_class board command = elim (cases_Bool (can_answer board command)) [ inl ca
     by_effect (BlockRead at len) = refl
     by_effect (BlockWrite at new) = refl
 
--- a board has as many bytes after a write
+-- a write keeps the number of bytes
 overwritten_len : (bytes new : List ℕ) (at : ℕ) → at + length new ≤ length bytes → length (bytes_after_write bytes at new) ≡ length bytes
 overwritten_len bytes new at within = grind (arith, common_steps)
 
--- a board has as many bytes after a change of a range
+-- a change of a range keeps the number of bytes
 changed_len : (bytes after : List ℕ) (at len : ℕ) → Changes bytes at len after → length after ≡ length bytes
 changed_len bytes after at len (inl same) = ap length same
 changed_len bytes after at len (inr over) =

@@ -128,7 +128,7 @@ module _ (m : BoardMailbox) (request : SharedRequest) (mailbox : Mailbox) (is : 
     leads = λ count. rw (own_step stage (expected_outcome (stage_expected stage) (reply_bytes reply))) (rw table (leads count));
   }
 
-  -- the read-modify-write of the lock leads from the idle phase
+  -- the read-modify-write of the lock leads from the idle phase to the next phase
   row_locks : (reply : Reply) → IsFine m Locks reply → Words request Locks put taken → Went m request Locks Idle put taken reply
   row_locks (Bytes datum) fine none =
       let long : length datum.items ≡ 1 = eqb-true _ _ fine.form in
@@ -144,7 +144,7 @@ module _ (m : BoardMailbox) (request : SharedRequest) (mailbox : Mailbox) (is : 
   row_locks Done fine none = let form = fine.form in absurd cc
   row_locks Berr fine none = absurd (fine.good refl)
 
-  -- the read of the put count leads from the locked phase
+  -- the read of the put count leads from the locked phase to the next phase
   row_reads_put_count : (reply : Reply) → IsFine m ReadsPutCount reply → Words request ReadsPutCount put taken
       → Went m request ReadsPutCount Locked put taken reply
   row_reads_put_count (Bytes datum) fine none =
@@ -184,7 +184,7 @@ module _ (m : BoardMailbox) (request : SharedRequest) (mailbox : Mailbox) (is : 
             | inr other ↦ rw other ((p, refl, other), (nothing put no_put, nothing taken no_taken))
           ]
 
-  -- the read of the take count leads from the phase after the put count
+  -- the read of the take count leads from the phase after the put count to the next phase
   row_reads_take_count : (p : ℕ) (reply : Reply) → p < 2 ^ 32 → IsFine m (ReadsTakeCount p) reply → Words request (ReadsTakeCount p) put taken
       → Went m request (ReadsTakeCount p) (First p) put taken reply
   row_reads_take_count p (Bytes datum) small fine none =
@@ -194,7 +194,7 @@ module _ (m : BoardMailbox) (request : SharedRequest) (mailbox : Mailbox) (is : 
   row_reads_take_count p Done small fine none = let form = fine.form in absurd cc
   row_reads_take_count p Berr small fine none = absurd (fine.good refl)
 
-  -- the read of a word leads from the phase after both counts
+  -- the read of a word leads from the phase after both counts to the next phase
   row_reads_word : (p t : ℕ) (reply : Reply) → (p == t) ≡ false → IsFine m (ReadsWord t) reply → Words request (ReadsWord t) put taken
       → Went m request (ReadsWord t) (Both p t) put taken reply
   row_reads_word p t (Bytes datum) other fine none =
@@ -207,7 +207,7 @@ module _ (m : BoardMailbox) (request : SharedRequest) (mailbox : Mailbox) (is : 
   no_unlock : (n x : ℕ) → is_unlock m (places.word_at m n) 4 x ≡ false
   no_unlock n x = and_left _ _ (and_left _ _ (ne_eqb (places.word_at m n) (places.lock_at m) (λ same. omega arith)))
 
-  -- the write of a word leads from the phase after both counts
+  -- the write of a word leads from the phase after both counts to the next phase
   row_writes_word : (p t word : ℕ) (own : Mailbox) (reply : Reply) → has_space m p t ≡ true → request ≡ events.Put own word
       → IsFine m (WritesWord p word) reply → Words request (WritesWord p word) put taken
       → Went m request (WritesWord p word) (Both p t) put taken reply
@@ -222,7 +222,7 @@ module _ (m : BoardMailbox) (request : SharedRequest) (mailbox : Mailbox) (is : 
       refl (λ count. ((word, own, refl, below, is_put), (nothing put none.0, nothing taken none.1)))
   row_writes_word p t word own Berr has is_put fine none = absurd (fine.good refl)
 
-  -- the write of the put count leads from the phase after the written word
+  -- the write of the put count leads from the phase after the written word to the next phase
   row_raises_put_count : (p word : ℕ) (own : Mailbox) (reply : Reply) → p < 2 ^ 32 - 1 → request ≡ events.Put own word
       → IsFine m (RaisesPutCount p) reply → Words request (RaisesPutCount p) put taken
       → Went m request (RaisesPutCount p) (Written p (word % 2 ^ 32)) put taken reply
@@ -238,7 +238,7 @@ module _ (m : BoardMailbox) (request : SharedRequest) (mailbox : Mailbox) (is : 
       (λ count. (refl, (ap (λ ws. ws ++ (word % 2 ^ 32) ∷ []) none.0 ∙ ap (put_reported shared.Put) (sym is_put), nothing taken none.1)))
   row_raises_put_count p word own Berr below is_put fine none = absurd (fine.good refl)
 
-  -- the write of the take count leads from the phase after the read word
+  -- the write of the take count leads from the phase after the read word to the next phase
   row_raises_take_count : (t word : ℕ) (reply : Reply) → IsFine m (RaisesTakeCount t word) reply → Words request (RaisesTakeCount t word) put taken
       → Went m request (RaisesTakeCount t word) (Fetched t word) put taken reply
   row_raises_take_count t word (Bytes datum) fine none = let form = fine.form in absurd cc
@@ -267,17 +267,17 @@ module _ (m : BoardMailbox) (request : SharedRequest) (mailbox : Mailbox) (is : 
       ))
   unlocked end phase Berr ok goes no_put no_taken fine reported = absurd (fine.good refl)
 
-  -- an unlock leads from the phase after both counts
+  -- an unlock leads from the phase after both counts to the idle phase
   row_unlocks_both : (end : SharedOutcome) (p t : ℕ) (reply : Reply) → IsFineEnd end → IsFine m (Unlocks end) reply → Words request (Unlocks end) put taken
       → Went m request (Unlocks end) (Both p t) put taken reply
   row_unlocks_both end p t reply ok fine reported = unlocked end (Both p t) reply ok (rw (same_place (places.lock_at m)) refl) refl refl fine reported
 
-  -- an unlock leads from the phase after the raised count
+  -- an unlock leads from the phase after the raised count to the idle phase
   row_unlocks_counted : (end : SharedOutcome) (reply : Reply) → IsFineEnd end → IsFine m (Unlocks end) reply → Words request (Unlocks end) put taken
       → Went m request (Unlocks end) Counted put taken reply
   row_unlocks_counted end reply ok fine reported = unlocked end Counted reply ok (rw (same_place (places.lock_at m)) refl) refl refl fine reported
 
-  -- an unlock leads from the phase before it
+  -- an unlock leads from the phase before it to the idle phase
   row_unlocks : (end : SharedOutcome) (phase : Phase) (reply : Reply) → BeforeUnlock end phase → IsFine m (Unlocks end) reply
       → Words request (Unlocks end) put taken → Went m request (Unlocks end) phase put taken reply
   row_unlocks shared.Put phase reply at fine reported = subst (λ p. Went m request (Unlocks shared.Put) p put taken reply) (sym at) (row_unlocks_counted shared.Put reply (λ same. absurd cc, λ same. absurd cc) fine reported)

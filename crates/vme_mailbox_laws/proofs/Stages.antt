@@ -131,7 +131,7 @@ own_request (events.Unlock am addr) mailbox stage is = absurd cc
 own_request (events.Put own word) mailbox stage is = let same : own ≡ mailbox = cc in ap (λ o. mailbox_request o stage) same
 own_request (events.Take own) mailbox stage is = let same : own ≡ mailbox = cc in ap (λ o. mailbox_request o stage) same
 
--- the bus job of a stage
+-- a bus job of one datum, which sends the command of a stage to the board of the mailbox
 pub record IsStage (m : BoardMailbox) (board : ℕ) (stage : Stage) (job : Job) : Type 0 where
   pub bus : BusJob
   pub is : job ≡ Bus bus
@@ -141,7 +141,7 @@ pub record IsStage (m : BoardMailbox) (board : ℕ) (stage : Stage) (job : Job) 
   pub datum : datum_call bus bus.place 0 ≡ OnBoard board (Some (stage_command m stage))
   pub expected : request_expected bus.transfer.request ≡ stage_expected stage
 
--- the bus job of a lawful transfer of a stage is a bus job of the stage
+-- the bus job of a lawful transfer with the shape of a stage satisfies `IsStage`
 by_transfer : (s : SharedJob) (mailbox : Mailbox) (board : ℕ) (m : BoardMailbox) (stage : Stage) (request : Request) (t : Transfer)
     → 1 ≤ m.slots → LiesAt s.map mailbox board m → Shape mailbox m stage request → transfer_of request ≡ Ok t
     → IsStage m board stage (bus_job s.map s.slot s.level t)
@@ -164,7 +164,7 @@ by_transfer s mailbox board m stage request t some lies form lawful =
       expected = ap request_expected from.same ∙ form.expected;
     }
 
--- the bus job of a transfer that is not refused is a bus job of the stage
+-- the bus job of a request with the shape of a stage, if it is not refused, satisfies `IsStage`
 by_result : (s : SharedJob) (mailbox : Mailbox) (board : ℕ) (m : BoardMailbox) (stage : Stage) (request : Request) (job : Job)
     (result : Result Transfer CycleFault) → 1 ≤ m.slots → LiesAt s.map mailbox board m → Shape mailbox m stage request → transfer_of request ≡ result
     → transfer_job s result ≡ Ok job → IsStage m board stage job
@@ -173,7 +173,7 @@ by_result s mailbox board m stage request job (Ok t) some lies form is made =
     subst (λ j. IsStage m board stage j) same (by_transfer s mailbox board m stage request t some lies form is)
 by_result s mailbox board m stage request job (Err fault) some lies form is made = absurd cc
 
--- the bus job of a stage of a put or a take is a bus job of the stage
+-- the bus job of each stage of a put or a take satisfies `IsStage`
 pub is_stage : (s : SharedJob) (mailbox : Mailbox) (board : ℕ) (m : BoardMailbox) (stage : Stage) (job : Job)
     → 1 ≤ m.slots → mailbox_in s.request ≡ Some mailbox → LiesAt s.map mailbox board m → stage_job s stage ≡ Ok job → IsStage m board stage job
 is_stage s mailbox board m stage job some is lies made =

@@ -71,8 +71,8 @@ impl<O: Object> Port<O> {
         Ok((port, passes))
     }
 
-    /// Returns whether a call may be waiting, or be about to wait, for the object. Other threads may
-    /// change this at any time, so no clause describes the result.
+    /// Returns whether a call may be waiting, or be about to wait, for the object. Other threads
+    /// may change this at any time, so no clause describes the result.
     pub fn is_wanted(&self) -> bool {
         self.table.shared.peek(0) == WANTED
     }

@@ -32,7 +32,7 @@ use Rattle.vme_shared.proofs.lemmas.Granted.{outcome_granted}
 same_end : (a b : Outcome) → Returns a ≡ Returns b → a ≡ b
 same_end a b same = cc
 
--- the row of a reply that is no denial ends with no denial
+-- a transfer that ends by a reply that is no denial ends with no denial
 row_granted : (j : BusJob) (g : Inputs) (reply : EventReply) (outcome : Outcome) → reply ≢ replies.Bus arb_replies.Denied
     → bus_row j reply g ≡ Returns outcome → outcome ≢ outcomes.Denied
 row_granted j g (replies.Bus arb_replies.Waiting) outcome good row = λ denied. absurd cc

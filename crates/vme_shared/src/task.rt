@@ -18,8 +18,8 @@ use vme_decode::AddressMap;
 
 /// The task of a lock, an unlock, a put or a take, call by call.
 ///
-/// Each of its transfers is a bus task, which begins when the bus task before it ends. A shared task
-/// allocates nothing.
+/// Each of its transfers is a bus task, which begins when the bus task before it ends. A shared
+/// task allocates nothing.
 #[derive(Debug, Drop)]
 pub struct SharedTask<'a> {
     job: Job<'a>,
