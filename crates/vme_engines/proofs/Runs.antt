@@ -11,7 +11,8 @@ use Rattle.vme_stepper.specs.Schedules.{file_turns}
 use Rattle.vme_stepper.specs.Reports.{run_text}
 use Rattle.vme_threads.specs.declared.report.Report.{Report}
 use Rattle.vme_threads.specs.Reports.{IsReportOf}
-use Rattle.vme_engines.specs.RunTexts.{reported_report, IsRunText, IsSomeRunText, IsStepText, WritesPrefix}
+use Rattle.vme_threads.specs.ReportTexts.{reported_report}
+use Rattle.vme_engines.specs.RunTexts.{IsRunText, IsSomeRunText, IsStepText, WritesPrefix}
 
 -- the text of a report was written
 pub text_written : (reported old new : Option (List ℕ)) (config : Configuration) (report : Report) (status : Status) → IfSome reported (λ input. Configures input config)

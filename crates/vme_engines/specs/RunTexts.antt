@@ -1,28 +1,15 @@
 -- The text of a run on threads.
-use Rattle.std.specs.Prelude.{ℕ, ◌≡◌, List, [], ◌∷◌, ◌⊎◌, Option, map}
+use Rattle.std.specs.Prelude.{ℕ, ◌≡◌, List, [], ◌⊎◌, Option}
 use Rattle.vme_io.specs.Prefixes.{AppendsPrefix}
-use Rattle.vme_shared.specs.declared.reply.LineReply.{LineReply}
 use Rattle.vme_shared.specs.declared.status.Status.{Status}
-use Rattle.vme_report.specs.Boards.{BoardText}
 use Rattle.vme_report.specs.Reports.{report_text, report_status}
 use Rattle.vme_script.specs.Configurations.{Configuration}
 use Rattle.vme_engines.specs.Files.{Configures}
 use Rattle.vme_stepper.specs.Schedules.{file_turns}
 use Rattle.vme_stepper.specs.Reports.{run_text}
-use Rattle.vme_threads.specs.declared.report.BoardReport.{BoardReport}
 use Rattle.vme_threads.specs.declared.report.Report.{Report}
 use Rattle.vme_threads.specs.Reports.{IsReportOf}
-
--- the boards of a report, from the boards' ends and the replies to their processors' lines
-abbrev pub ends_reported : List BoardReport → List (List (ℕ × LineReply)) → List BoardText
-ends_reported (end ∷ ends) (lines ∷ more) =
-    record { slot = end.slot; lines = lines; bytes = end.memory.bytes; steps = end.steps; made = end.made.items }
-    ∷ ends_reported ends more
-ends_reported ends lines = []
-
--- the boards of a report
-abbrev pub reported_report : Report → List BoardText
-reported_report report = ends_reported report.boards.items (map (λ lines. lines.items) report.lines.items)
+use Rattle.vme_threads.specs.ReportTexts.{reported_report}
 
 -- a text and a status are those of some report of a run of the configuration that the bytes of a file are
 pub record IsRunText (input text : List ℕ) (status : Status) : Type 0 where

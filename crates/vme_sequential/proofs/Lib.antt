@@ -4,5 +4,3 @@ pub mod Turns
 pub mod MachineRuns
 pub mod Reports
 pub mod Histories
-pub mod Settlements
-pub mod Gathering

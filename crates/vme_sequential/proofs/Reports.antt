@@ -23,9 +23,9 @@ use Rattle.vme_bus_objects.specs.Runs.{transitions_of}
 use Rattle.vme_threads.specs.declared.report.BoardReport.{BoardReport}
 use Rattle.vme_threads.specs.declared.report.Report.{Report}
 use Rattle.vme_threads.specs.Rans.{numbers_in, answers_in}
-use Rattle.vme_engines.specs.RunTexts.{ends_reported, reported_report}
+use Rattle.vme_threads.specs.ReportTexts.{ends_reported, reported_report}
 use Rattle.vme_sequential.specs.Orders.{IsOneOrder, ended_state}
-use Rattle.vme_sequential.specs.Reports.{IsEntryOfBoard, IsReportOfOneOrder}
+use Rattle.vme_threads.specs.OneOrder.{IsEntryOfBoard, IsReportOfOneOrder}
 use Rattle.vme_sequential.proofs.Lists.{element_at, map_at, same_elements, related_at}
 use Rattle.vme_sequential.proofs.Turns.{one_order}
 use Rattle.vme_sequential.proofs.MachineRuns.{Legal, performed, IsPerformed, is_performed}

@@ -7,3 +7,5 @@ pub mod Lines
 pub mod Runs
 pub mod Once
 pub mod Collects
+pub mod Settlements
+pub mod Gathering

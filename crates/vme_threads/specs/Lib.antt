@@ -6,4 +6,8 @@ pub mod PassSets
 pub mod Rans
 pub mod Gathers
 pub mod Reports
+pub mod OneOrder
+pub mod ReportTexts
+pub mod Settlements
+pub mod Gatherings
 pub mod Threads

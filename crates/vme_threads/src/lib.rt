@@ -5,6 +5,7 @@
 
 mod gate;
 mod gather_report;
+mod laws;
 mod line;
 mod open;
 mod pass_set;
@@ -17,6 +18,7 @@ mod workers;
 
 pub use gate::Gate;
 pub use gather_report::gather;
+pub use laws::{a_settled_array_is_a_run, what_is_gathered_is_one_order};
 pub use pass_set::PassSet;
 pub use ports::{BoardPort, Ports};
 pub use report::{BoardReport, Report};

@@ -16,11 +16,11 @@ use Rattle.vme_bus_objects.specs.Runs.{run_of, transitions_of}
 use Rattle.vme_threads.specs.declared.report.BoardReport.{BoardReport}
 use Rattle.vme_threads.specs.declared.report.Report.{Report}
 use Rattle.vme_threads.specs.Rans.{answers_in}
-use Rattle.vme_sequential.specs.Reports.{IsEntryOfBoard, IsReportOfOneOrder}
-use Rattle.vme_sequential.specs.Settlements.{BusPass, IsRunOfArray}
-use Rattle.vme_sequential.specs.Gatherings.{IsGathered}
-use Rattle.vme_sequential.proofs.Histories.{part_of, board_whose, bus_whose}
-use Rattle.vme_sequential.proofs.Settlements.{run_of_array}
+use Rattle.vme_threads.specs.OneOrder.{IsEntryOfBoard, IsReportOfOneOrder}
+use Rattle.vme_threads.specs.Settlements.{BusPass, IsRunOfArray}
+use Rattle.vme_threads.specs.Gatherings.{IsGathered}
+use Rattle.vme_threads.proofs.lemmas.Parts.{part_of, board_whose, bus_whose}
+use Rattle.vme_threads.proofs.Settlements.{run_of_array}
 
 -- an element of a list that has an index within
 some_at : {X : Type 0} (xs : List X) (i : ℕ) → i < length xs → X

@@ -15,7 +15,7 @@ use Rattle.vme_bus_objects.specs.Runs.{run_of}
 use Rattle.vme_threads.specs.declared.report.BoardReport.{BoardReport}
 use Rattle.vme_threads.specs.declared.report.Report.{Report}
 use Rattle.vme_threads.specs.Rans.{numbers_in, answers_in}
-use Rattle.vme_sequential.specs.Settlements.{BusPass, IsSettled}
+use Rattle.vme_threads.specs.Settlements.{BusPass, IsSettled}
 
 -- the entry of board x has the memory and the steps of object x, and of each processor as many steps as its pass made
 -- there

@@ -21,7 +21,7 @@ use Rattle.vme_bus_objects.specs.declared.command.BusCommand.{BusCommand}
 use Rattle.vme_bus_objects.specs.declared.command.BusCommand.TheVariants as commands
 use Rattle.vme_bus_objects.specs.Runs.{BusEntry, event_at, transition_of, run_of, transitions_of, MatchesKindAt, MatchesKind}
 use Rattle.vme_bus_objects.proofs.lemmas.Histories.{board_history, arbiter_history, transitions_of_run}
-use Rattle.vme_sequential.specs.Settlements.{BusPass, IsSettled, IsRunOfArray}
+use Rattle.vme_threads.specs.Settlements.{BusPass, IsSettled, IsRunOfArray}
 
 -- object x is the memory of board x
 board_at : (config : Configuration) (boards : List BoardConfig) (x : ℕ) (own : BoardConfig) → slice_get boards x ≡ Some own
