@@ -21,8 +21,8 @@ use Rattle.vme_core.specs.Machines.{IsThere}
 use Rattle.vme_core.proofs.lemmas.Calls.{did_call}
 use Rattle.vme_core.proofs.lemmas.Dones.{did_nil, did_trans}
 use Rattle.vme_line_task.specs.Events.{IsEventBelow}
-use Rattle.vme_sequential.specs.Orders.{Performs}
-use Rattle.vme_sequential.proofs.Lists.{set_here, set_elsewhere}
+use Rattle.vme_sequential.specs.Orders.{Performs, performed}
+use Rattle.vme_sequential.proofs.lemmas.Lists.{set_here, set_elsewhere}
 
 -- the part of each object in a run is legal from the object's state
 pub record Legal (machine : Machine) (run : List Transition) : Type 0 where
@@ -83,11 +83,6 @@ step_legal who (events.Bus cmd) (replies.Bus reply) run machine fit there legal 
 event_there : (machine : Machine) (event : Event) → IsEventBelow (length machine.boards) event → IsThere machine (target_of event)
 event_there machine (events.Board x cmd) below = below
 event_there machine (events.Bus cmd) below = tt
-
--- the machine after a run
-abbrev pub performed : Machine → List Transition → Machine
-performed machine [] = machine
-performed machine (m ∷ run) = performed (machine_step machine m.who (call_of m.event)).0 run
 
 -- the machine performs a run, and each object goes through its own part
 pub record IsPerformed (machine : Machine) (run : List Transition) : Type 0 where

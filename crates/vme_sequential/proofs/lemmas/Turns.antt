@@ -18,9 +18,9 @@ use Rattle.vme_line_task.specs.Scripts.{slot_at, lines_at}
 use Rattle.vme_line_task.specs.Traces.{ScriptState}
 use Rattle.vme_stepper.specs.Turns.{SystemState, script_state, script_state_turn, lines_left, turn_in, turn_at, board_in_slot, turn, run as take_turns, initial_state, state_after}
 use Rattle.vme_bus_objects.specs.Runs.{transitions_of}
-use Rattle.vme_sequential.specs.Orders.{Performs, IsOneOrder, ended_state}
-use Rattle.vme_sequential.proofs.Lists.{set_here, set_elsewhere, map_at, same_elements}
-use Rattle.vme_sequential.proofs.ScriptTurns.{CanEnd, Turned, leads_first, turned, finished}
+use Rattle.vme_sequential.specs.Orders.{Performs, slots_of, IsOneOrder, ended_state}
+use Rattle.vme_sequential.proofs.lemmas.Lists.{set_here, set_elsewhere, map_at, same_elements}
+use Rattle.vme_sequential.proofs.lemmas.ScriptTurns.{CanEnd, Turned, leads_first, turned, finished}
 
 -- the transitions of the processor that makes the first
 pub transitions_own : (m : Transition) (moves : List Transition) → transitions_of m.who (m ∷ moves) ≡ m ∷ transitions_of m.who moves
@@ -31,7 +31,7 @@ pub transitions_other : (b : ℕ) (m : Transition) (moves : List Transition) →
 transitions_other b m moves other = rw (ne_eqb m.who b other) refl
 
 -- the board in the slot of a board is that board
-own_board : (config : Configuration) (lawful : IsLawful config) (b : ℕ) → b < length config.boards → board_in_slot config (slot_at config b) ≡ Some b
+pub own_board : (config : Configuration) (lawful : IsLawful config) (b : ℕ) → b < length config.boards → board_in_slot config (slot_at config b) ≡ Some b
 own_board config lawful b within = elim (slice_get_cases config.boards b).1 [
   | inl at ↦
       let slot_is : slot_at config b ≡ at.0.slot =
@@ -67,7 +67,7 @@ module _ (config : Configuration) (lawful : IsLawful config) (answers : List (Li
     pub ready : Ready (turn config system (slot_at config m.who)) moves
 
   -- one transition is one turn
-  one_turn : (system : SystemState) (m : Transition) (moves : List Transition) → length answers ≡ length config.boards → m.who < length config.boards
+  pub one_turn : (system : SystemState) (m : Transition) (moves : List Transition) → length answers ≡ length config.boards → m.who < length config.boards
       → m.reply ≡ (machine_step system.machine m.who (call_of m.event)).1 → Ready system (m ∷ moves) → OneTurn system m moves
   one_turn system m moves all there reply ready = record {
     machine_is = ap (λ (w : SystemState). w.machine) now ∙ did.machine_is;
@@ -120,14 +120,10 @@ module _ (config : Configuration) (lawful : IsLawful config) (answers : List (Li
             (ready.each p one own (sym (set_elsewhere system.script_states b p next.1 (λ same. other (sym same))) ∙ at) its)
       ]
 
-  -- the slots of the processors that make these transitions
-  abbrev pub slots_of : List Transition → List ℕ
-  slots_of moves = map (λ m. slot_at config m.who) moves
-
   -- turns make all transitions
   pub record AllTurns (system : SystemState) (moves : List Transition) (machine : Machine) : Type 0 where
-    pub machine_is : (take_turns config system (slots_of moves)).machine ≡ machine
-    pub ready : Ready (take_turns config system (slots_of moves)) []
+    pub machine_is : (take_turns config system (slots_of config moves)).machine ≡ machine
+    pub ready : Ready (take_turns config system (slots_of config moves)) []
 
   -- a run of transitions is as many turns
   all_turns : (moves : List Transition) (system : SystemState) (machine : Machine) → length answers ≡ length config.boards
@@ -233,19 +229,24 @@ state_begun [] b c found = absurd (cc found)
 state_begun (script ∷ scripts) zero c found = same_Some (script_state [] []) c found
 state_begun (script ∷ scripts) (suc b) c found = state_begun scripts b c found
 
+-- before the first turn the transitions of each processor lead it to the replies of its lines
+pub begun : (config : Configuration) (moves : List Transition) (answers : List (List LineReply)) (machine : Machine) (lawful : IsLawful config)
+    → IsOneOrder config moves answers machine → Ready config lawful answers (initial_state config) moves
+begun config moves answers machine lawful order = record {
+  count = length-map config.scripts (λ script. script_state [] []) ∙ lawful.scripts;
+  each = λ b c own found its.
+      subst (λ (c : ScriptState). CanEnd config b c (transitions_of b moves) own) (state_begun config.scripts b c found)
+      (record { more = own; split = refl; leads = leads_first config b (lines_at config b) (transitions_of b moves) own (order.traces b own its) });
+}
+
 -- one order of the transitions of all processors is the order of some turns
 pub one_order : (config : Configuration) (moves : List Transition) (answers : List (List LineReply)) (machine : Machine) → IsLawful config
     → IsOneOrder config moves answers machine → (slots : List ℕ) × (state_after config slots ≡ ended_state machine answers)
 unfolding state_after
 one_order config moves answers machine lawful order =
-    let ready : Ready config lawful answers (initial_state config) moves = record {
-      count = length-map config.scripts (λ script. script_state [] []) ∙ lawful.scripts;
-      each = λ b c own found its.
-          subst (λ (c : ScriptState). CanEnd config b c (transitions_of b moves) own) (state_begun config.scripts b c found)
-          (record { more = own; split = refl; leads = leads_first config b (lines_at config b) (transitions_of b moves) own (order.traces b own its) });
-    } in
+    let ready = begun config moves answers machine lawful order in
     let made = all_turns config lawful answers moves (initial_state config) machine order.count order.known order.performed ready in
-    let before : List ℕ = slots_of config lawful answers moves in
+    let before : List ℕ = slots_of config moves in
     let system : SystemState = take_turns config (initial_state config) before in
     let round : List ℕ = last_round config lawful answers 0 (length config.boards) in
     let ending : Ending config lawful answers 0 system = record {

@@ -24,11 +24,11 @@ use Rattle.vme_threads.specs.declared.report.BoardReport.{BoardReport}
 use Rattle.vme_threads.specs.declared.report.Report.{Report}
 use Rattle.vme_threads.specs.Rans.{numbers_in, answers_in}
 use Rattle.vme_threads.specs.ReportTexts.{ends_reported, reported_report}
-use Rattle.vme_sequential.specs.Orders.{IsOneOrder, ended_state}
+use Rattle.vme_sequential.specs.Orders.{performed, IsOneOrder, ended_state}
 use Rattle.vme_threads.specs.OneOrder.{IsEntryOfBoard, IsReportOfOneOrder}
-use Rattle.vme_sequential.proofs.Lists.{element_at, map_at, same_elements, related_at}
-use Rattle.vme_sequential.proofs.Turns.{one_order}
-use Rattle.vme_sequential.proofs.MachineRuns.{Legal, performed, IsPerformed, is_performed}
+use Rattle.vme_sequential.proofs.lemmas.Lists.{element_at, map_at, same_elements, related_at}
+use Rattle.vme_sequential.proofs.lemmas.Turns.{one_order}
+use Rattle.vme_sequential.proofs.lemmas.MachineRuns.{Legal, IsPerformed, is_performed}
 
 -- the report's lines of a script with these replies
 lines_are : (script : List ScriptLine) (lines : List (ℕ × LineReply)) → numbers_in lines ≡ map (λ one. one.number) script
@@ -92,7 +92,7 @@ module _ (config : Configuration) (report : Report) (lawful : IsLawful config) (
   k = length config.boards
 
   -- the machine before the first turn
-  abbrev first : Machine
+  abbrev pub first : Machine
   first = (initial_state config).machine
 
   -- the machine has a board for each that is configured
@@ -124,23 +124,23 @@ module _ (config : Configuration) (report : Report) (lawful : IsLawful config) (
   }
 
   -- the machine performs the run
-  one : IsPerformed first is.run
+  pub one : IsPerformed first is.run
   one = is_performed is.run first k first_count is.fitting is.within legal
 
   -- the machine after the run
-  abbrev last : Machine
+  abbrev pub last : Machine
   last = performed first is.run
 
   -- the replies to all lines
-  abbrev answers : List (List LineReply)
+  abbrev pub answers : List (List LineReply)
   answers = map (λ (lines : Vec (ℕ × LineReply)). answers_in lines.items) report.lines.items
 
   -- the lines of the processor at an index
-  lines_of : (x : ℕ) → x < k → (lines : Vec (ℕ × LineReply)) × (slice_get report.lines.items x ≡ Some lines)
+  pub lines_of : (x : ℕ) → x < k → (lines : Vec (ℕ × LineReply)) × (slice_get report.lines.items x ≡ Some lines)
   lines_of x less = element_at report.lines.items x (rw is.trace.count less)
 
   -- the run is one order of the transitions of all processors
-  order : IsOneOrder config is.run answers last
+  pub order : IsOneOrder config is.run answers last
   order = record {
     known = is.known;
     performed = one.performs;

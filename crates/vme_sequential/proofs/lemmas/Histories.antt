@@ -20,10 +20,10 @@ use Rattle.vme_threads.specs.Rans.{answers_in}
 use Rattle.vme_threads.specs.Reports.{HasHistory, IsReportOf}
 use Rattle.vme_threads.specs.OneOrder.{LeadsTo, IsReportOfOneOrder}
 use Rattle.vme_threads.proofs.lemmas.Parts.{part_of, board_whose, bus_whose}
-use Rattle.vme_sequential.proofs.Lists.{values, values_count, values_map, each_value, all_values, value_pairs}
+use Rattle.vme_sequential.proofs.lemmas.Lists.{values, values_count, values_map, each_value, all_values, value_pairs}
 
 -- the transitions of a processor are its own
-transitions_whose : (who : ℕ) (run : List Transition) → All (λ m. m.who ≡ who) (transitions_of who run)
+pub transitions_whose : (who : ℕ) (run : List Transition) → All (λ m. m.who ≡ who) (transitions_of who run)
 transitions_whose who [] = All-nil (λ (m : Transition). m.who ≡ who)
 transitions_whose who (m ∷ run) = elim (cases_eq m.who who) [
   | inl same ↦ rw (eq-eqb m.who who same) (All-cons (λ (m : Transition). m.who ≡ who) m (transitions_of who run) same (transitions_whose who run))
@@ -31,7 +31,7 @@ transitions_whose who (m ∷ run) = elim (cases_eq m.who who) [
 ]
 
 -- a fact of all transitions of a run is one of those of a processor
-transitions_all : (P : Transition → Type 0) (who : ℕ) (run : List Transition) → All P run → All P (transitions_of who run)
+pub transitions_all : (P : Transition → Type 0) (who : ℕ) (run : List Transition) → All P run → All P (transitions_of who run)
 transitions_all P who [] all = All-nil P
 transitions_all P who (m ∷ run) all = elim (cases_eq m.who who) [
   | inl same ↦ rw (eq-eqb m.who who same) (All-cons P m (transitions_of who run) (All-head P m run all) (transitions_all P who run (All-tail P m run all)))
@@ -40,7 +40,7 @@ transitions_all P who (m ∷ run) all = elim (cases_eq m.who who) [
 
 module _ {C R : Type 0} (f : Transition → Option (Entry C R)) (whose : (m : Transition) (e : Entry C R) → f m ≡ Some e → e.who ≡ m.who) where
   -- the callers of a history are among the processors of the run
-  known_of : (n : ℕ) (run : List Transition) → All (λ m. m.who < n) run → All (λ e. e.who < n) (filter_map f run)
+  pub known_of : (n : ℕ) (run : List Transition) → All (λ m. m.who < n) run → All (λ e. e.who < n) (filter_map f run)
   known_of n [] all = All-nil (λ (e : Entry C R). e.who < n)
   known_of n (m ∷ run) all = by_found (f m) refl (All-head (λ (m : Transition). m.who < n) m run all) (known_of n run (All-tail (λ (m : Transition). m.who < n) m run all))
     where
