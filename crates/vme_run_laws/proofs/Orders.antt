@@ -60,7 +60,7 @@ Along config system (m ∷ run) = AtTurn config system m × Along config (turn c
 
 module _ (config : Configuration) (lawful : IsLawful config) (reported : List (List LineReply)) where
   call_there : (system : SystemState) (m : Transition) (moves : List Transition) → length reported ≡ length config.boards → m.who < length config.boards
-      → Ready config lawful reported system (m ∷ moves) → turn_call config system (slot_at config m.who) ≡ Some (m.who, call_of m.event)
+      → Ready config reported system (m ∷ moves) → turn_call config system (slot_at config m.who) ≡ Some (m.who, call_of m.event)
   unfolding turn_call
   call_there system m moves all there ready =
       let b : ℕ = m.who in
@@ -73,7 +73,7 @@ module _ (config : Configuration) (lawful : IsLawful config) (reported : List (L
       (first_leads config b (lines_left config b c.0) c.0.replies m (transitions_of b moves) can.more can.leads)
 
   along : (moves : List Transition) (system : SystemState) (machine : Machine) → length reported ≡ length config.boards
-      → All (λ m. m.who < length config.boards) moves → Performs system.machine moves machine → Ready config lawful reported system moves
+      → All (λ m. m.who < length config.boards) moves → Performs system.machine moves machine → Ready config reported system moves
       → Along config system moves
   along [] system machine all known plays ready = tt
   along (m ∷ moves) system machine all known plays ready =

@@ -48,30 +48,31 @@ own_board config lawful b within = elim (slice_get_cases config.boards b).1 [
   | inr past ↦ absurd (omega (arith, past.0, within))
 ]
 
-module _ (config : Configuration) (lawful : IsLawful config) (answers : List (List LineReply)) where
-  -- its own transitions lead each processor to the replies of its lines
-  pub record Ready (system : SystemState) (moves : List Transition) : Type 0 where
-    pub count : length system.script_states ≡ length config.boards
-    pub each : (b : ℕ) (c : ScriptState) (own : List LineReply) → slice_get system.script_states b ≡ Some c → slice_get answers b ≡ Some own
-        → CanEnd config b c (transitions_of b moves) own
+-- its own transitions lead each processor to the replies of its lines
+pub record Ready (config : Configuration) (answers : List (List LineReply)) (system : SystemState) (moves : List Transition) : Type 0 where
+  pub count : length system.script_states ≡ length config.boards
+  pub each : (b : ℕ) (c : ScriptState) (own : List LineReply) → slice_get system.script_states b ≡ Some c → slice_get answers b ≡ Some own
+      → CanEnd config b c (transitions_of b moves) own
 
+-- a turn makes the transition m, and the others lead all processors on
+pub record OneTurn (config : Configuration) (answers : List (List LineReply)) (system : SystemState) (m : Transition) (moves : List Transition)
+    : Type 0 where
+  pub machine_is : (turn config system (slot_at config m.who)).machine ≡ (machine_step system.machine m.who (call_of m.event)).0
+  pub ready : Ready config answers (turn config system (slot_at config m.who)) moves
+
+module _ (config : Configuration) (lawful : IsLawful config) (answers : List (List LineReply)) where
   -- a turn of a board's slot is a turn of its processor
   turn_is : (system : SystemState) (b : ℕ) (c : ScriptState) → b < length config.boards → slice_get system.script_states b ≡ Some c
       → turn config system (slot_at config b) ≡ turn_in config system b (Some c)
   unfolding turn
   turn_is system b c there found = ap (turn_at config system) (own_board config lawful b there) ∙ ap (turn_in config system b) found
 
-  -- a turn makes the transition m, and the others lead all processors on
-  pub record OneTurn (system : SystemState) (m : Transition) (moves : List Transition) : Type 0 where
-    pub machine_is : (turn config system (slot_at config m.who)).machine ≡ (machine_step system.machine m.who (call_of m.event)).0
-    pub ready : Ready (turn config system (slot_at config m.who)) moves
-
   -- one transition is one turn
   pub one_turn : (system : SystemState) (m : Transition) (moves : List Transition) → length answers ≡ length config.boards → m.who < length config.boards
-      → m.reply ≡ (machine_step system.machine m.who (call_of m.event)).1 → Ready system (m ∷ moves) → OneTurn system m moves
+      → m.reply ≡ (machine_step system.machine m.who (call_of m.event)).1 → Ready config answers system (m ∷ moves) → OneTurn config answers system m moves
   one_turn system m moves all there reply ready = record {
     machine_is = ap (λ (w : SystemState). w.machine) now ∙ did.machine_is;
-    ready = subst (λ (w : SystemState). Ready w moves) (sym now) (record { count = length-set system.script_states b next.1 ∙ ready.count; each = each });
+    ready = subst (λ (w : SystemState). Ready config answers w moves) (sym now) (record { count = length-set system.script_states b next.1 ∙ ready.count; each = each });
   }
     where
       b : ℕ
@@ -121,13 +122,13 @@ module _ (config : Configuration) (lawful : IsLawful config) (answers : List (Li
       ]
 
   -- turns make all transitions
-  pub record AllTurns (system : SystemState) (moves : List Transition) (machine : Machine) : Type 0 where
-    pub machine_is : (take_turns config system (slots_of config moves)).machine ≡ machine
-    pub ready : Ready (take_turns config system (slots_of config moves)) []
+  record AllTurns (system : SystemState) (moves : List Transition) (machine : Machine) : Type 0 where
+    machine_is : (take_turns config system (slots_of config moves)).machine ≡ machine
+    ready : Ready config answers (take_turns config system (slots_of config moves)) []
 
   -- a run of transitions is as many turns
   all_turns : (moves : List Transition) (system : SystemState) (machine : Machine) → length answers ≡ length config.boards
-      → All (λ m. m.who < length config.boards) moves → Performs system.machine moves machine → Ready system moves → AllTurns system moves machine
+      → All (λ m. m.who < length config.boards) moves → Performs system.machine moves machine → Ready config answers system moves → AllTurns system moves machine
   all_turns [] system machine all known plays ready = record { machine_is = plays; ready = ready }
   all_turns (m ∷ moves) system machine all known plays ready =
       let there : m.who < length config.boards = All-head (λ (m : Transition). m.who < length config.boards) m moves known in
@@ -142,17 +143,17 @@ module _ (config : Configuration) (lawful : IsLawful config) (answers : List (Li
   last_round i (suc n) = slot_at config i ∷ last_round (suc i) n
 
   -- the processors before i have recorded the replies of all lines, and the others have no transition left
-  pub record Ending (i : ℕ) (system : SystemState) : Type 0 where
-    pub count : length system.script_states ≡ length config.boards
-    pub done : (b : ℕ) (own : List LineReply) → b < i → slice_get answers b ≡ Some own → slice_get system.script_states b ≡ Some (script_state own [])
-    pub left : (b : ℕ) (c : ScriptState) (own : List LineReply) → i ≤ b → slice_get system.script_states b ≡ Some c → slice_get answers b ≡ Some own
+  record Ending (i : ℕ) (system : SystemState) : Type 0 where
+    count : length system.script_states ≡ length config.boards
+    done : (b : ℕ) (own : List LineReply) → b < i → slice_get answers b ≡ Some own → slice_get system.script_states b ≡ Some (script_state own [])
+    left : (b : ℕ) (c : ScriptState) (own : List LineReply) → i ≤ b → slice_get system.script_states b ≡ Some c → slice_get answers b ≡ Some own
         → CanEnd config b c [] own
 
   -- all processors have recorded the replies of all lines
-  pub record Ended (system : SystemState) (after : SystemState) : Type 0 where
-    pub machine_is : after.machine ≡ system.machine
-    pub count : length after.script_states ≡ length config.boards
-    pub done : (b : ℕ) (own : List LineReply) → slice_get answers b ≡ Some own → slice_get after.script_states b ≡ Some (script_state own [])
+  record Ended (system : SystemState) (after : SystemState) : Type 0 where
+    machine_is : after.machine ≡ system.machine
+    count : length after.script_states ≡ length config.boards
+    done : (b : ℕ) (own : List LineReply) → slice_get answers b ≡ Some own → slice_get after.script_states b ≡ Some (script_state own [])
 
   -- the last turns record the replies of all lines
   last_turns : (n i : ℕ) (system : SystemState) → i + n ≡ length config.boards → length answers ≡ length config.boards → Ending i system
@@ -231,7 +232,7 @@ state_begun (script ∷ scripts) (suc b) c found = state_begun scripts b c found
 
 -- before the first turn the transitions of each processor lead it to the replies of its lines
 pub begun : (config : Configuration) (moves : List Transition) (answers : List (List LineReply)) (machine : Machine) (lawful : IsLawful config)
-    → IsOneOrder config moves answers machine → Ready config lawful answers (initial_state config) moves
+    → IsOneOrder config moves answers machine → Ready config answers (initial_state config) moves
 begun config moves answers machine lawful order = record {
   count = length-map config.scripts (λ script. script_state [] []) ∙ lawful.scripts;
   each = λ b c own found its.
