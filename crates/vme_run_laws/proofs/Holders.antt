@@ -95,17 +95,17 @@ same_who config a b lawful first second same =
 -- a transition that moves data over the bus is its holder's
 over_bus : (config : Configuration) (system : SystemState) (who : ℕ) (event : Event) (reply : EventReply) → IsLawful config → AllStand config system
     → AtTurn config system (move who event reply) → IsOverBus (call_of event) → system.machine.bus.object.holder ≡ Some (slot_at config who)
-over_bus config system who (events.Board x cmd) reply lawful stand at data =
+over_bus config system who (events.Board x cmd) reply lawful stand at over =
     elim (holder_is config system (slot_at config who) who x (command_given cmd) lawful stand at.call) [
-      | inl local ↦ absurd (data local)
+      | inl local ↦ absurd (over local)
       | inr held ↦ held
     ]
-over_bus config system who (events.Bus cmd) reply lawful stand at data = absurd data
+over_bus config system who (events.Bus cmd) reply lawful stand at over = absurd over
 
 -- it does not give the bus back
 no_release : (event : Event) → IsOverBus (call_of event) → IsRelease event → ⊥
-no_release (events.Board x cmd) data release = release
-no_release (events.Bus cmd) data release = data
+no_release (events.Board x cmd) over release = release
+no_release (events.Bus cmd) over release = over
 
 -- a transition that does not give the bus back leaves its holder
 held_after : (config : Configuration) (system : SystemState) (who : ℕ) (event : Event) (reply : EventReply) (slot : ℕ) → IsLawful config
@@ -144,10 +144,10 @@ order_orderly config report is before after lawful whole =
 -- each transition of a report that moves data over the bus is the holder's
 pub order_holder : (config : Configuration) (report : Report) (is : IsReportOfOneOrder config report) (before after : List Transition) (m : Transition)
     → IsLawful config → is.run ≡ before ++ m ∷ after → MovesData m → (machine_after config before).bus.object.holder ≡ Some (slot_at config m.who)
-order_holder config report is before after m lawful whole data =
+order_holder config report is before after m lawful whole over =
     let place = place_in config report is before (m ∷ after) lawful whole in
     ap (λ (w : Machine). w.bus.object.holder) (sym place.machine)
-    ∙ over_bus config (take_turns config (initial_state config) (slots_of config before)) m.who m.event m.reply lawful place.stand place.along.0 data
+    ∙ over_bus config (take_turns config (initial_state config) (slots_of config before)) m.who m.event m.reply lawful place.stand place.along.0 over
 
 -- from data over the bus until its processor gives the bus back, all data over the bus are that processor's
 pub order_apart : (config : Configuration) (report : Report) (is : IsReportOfOneOrder config report) (before between after : List Transition)
