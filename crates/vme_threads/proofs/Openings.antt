@@ -1,5 +1,5 @@
 -- The objects of a configuration, one by one.
-use Rattle.std.proofs.Common.{◌≡◌, ℕ, ◌+◌, ◌≤◌, List, [], ◌∷◌, ◌++◌, length, map, take, Some, ap, ◌∙◌, arith}
+use Rattle.std.proofs.Common.{◌≡◌, ℕ, ◌+◌, ◌≤◌, List, [], ◌∷◌, ◌++◌, length, map, take, Some, ap, sym, ◌∙◌, arith}
 use Rattle.std.specs.List.{slice_get}
 use Rattle.std.proofs.lemmas.List.{map-append}
 use Rattle.vme_memory.specs.Boards.{Board}
@@ -25,7 +25,7 @@ one_more_object config n memory os new there was is =
     let more : map f (take (n + 1) memories) ≡ map f (take n memories) ++ f memory ∷ [] =
     ap (map f) (take_one memories n memory there) ∙ map-append f (take n memories) (memory ∷ [])
     in
-    is ∙ ap (λ (l : List BusObject). l ++ f memory ∷ []) was ∙ (λ i. more (~ i))
+    is ∙ ap (λ (l : List BusObject). l ++ f memory ∷ []) was ∙ sym more
 
 -- all boards, and the arbiter after them
 pub all_objects :

@@ -1,6 +1,5 @@
 -- Runs that a processor makes with its pass.
-use Rattle.std.proofs.Common.{◌≡◌, ℕ, ◌+◌, ◌<◌, List, [], ◌∷◌, ◌++◌, length, map, replicate, slice_index_or, set, All, Result, Ok, Err, refl, ap, sym, subst, ◌∙◌, arith}
-use Rattle.std.specs.Prelude.{IfOk}
+use Rattle.std.proofs.Common.{◌≡◌, ℕ, ◌+◌, ◌<◌, List, [], ◌∷◌, ◌++◌, length, slice_index_or, set, All, refl, ap, sym, subst, ◌∙◌, arith}
 use Rattle.std.proofs.lemmas.List.{map-append, get_or-replicate, length-replicate}
 use Rattle.std.proofs.lemmas.List.Elements.{All-nil, All-cons, All-append}
 use mathlib.Core.Option.{some}
@@ -8,13 +7,9 @@ use lib.ListN.{get_elem?}
 use Rattle.vme_object.specs.History.{entry}
 use Rattle.vme_arbiter.specs.Arbitration.{Arbitration, opening_bus}
 use Rattle.vme_core.specs.declared.event.EventReply.{EventReply}
-use Rattle.vme_core.specs.declared.event.EventReply.TheVariants as replies
 use Rattle.vme_core.specs.Runs.{Transition, move}
 use Rattle.vme_memory.specs.declared.command.BoardCmd.{BoardCmd}
-use Rattle.vme_memory.specs.declared.reply.Reply.{Reply}
-use Rattle.vme_memory.specs.Boards.{Board}
 use Rattle.vme_arbiter.specs.declared.command.ArbCmd.{ArbCmd}
-use Rattle.vme_arbiter.specs.declared.command.ArbReply.{ArbReply}
 use Rattle.vme_port.proofs.lemmas.OneHistory.{makes_none, makes_more}
 use Rattle.vme_port_array.specs.Parts.{indexed, part}
 use Rattle.vme_port_array.specs.Arrays.{opening}
@@ -30,7 +25,6 @@ use Rattle.vme_script.specs.Configurations.{Configuration, opening_memory}
 use Rattle.vme_threads.specs.declared.pass_set.PassSet.{PassSet}
 use Rattle.vme_threads.specs.declared.worker.Worker.{Worker}
 use Rattle.vme_threads.specs.declared.ports.Ports.{Ports}
-use Rattle.vme_threads.specs.Settlements.{opening_objects}
 use Rattle.vme_threads.specs.Ports.{IsBuilt, IsWorkerOf}
 use Rattle.vme_threads.specs.PassSets.{MatchesPorts, CountsMore, AddsTransitions}
 use Rattle.vme_threads.proofs.Places.{line_there}

@@ -6,7 +6,7 @@ use mathlib.Core.Option.{some}
 use lib.ListN.{get_elem?}
 use Rattle.vme_object.specs.Each.{Each, AllAt}
 use Rattle.vme_object.proofs.lemmas.Eachs.{Each-nil, Each-push}
-use Rattle.vme_core.specs.Runs.{board_part, bus_part}
+use Rattle.vme_arbiter.specs.Arbitration.{opening_bus}
 use Rattle.vme_shared.specs.declared.reply.LineReply.{LineReply}
 use Rattle.vme_port.specs.declared.home.Home.{Home}
 use Rattle.vme_port_array.specs.Parts.{part}
@@ -59,6 +59,10 @@ module _ (config : Configuration) (ports : Ports) (rans : List Ran) (can : CanGa
   pub passes_all : length passes ≡ passes_of ports.array
   passes_all = same_count (λ (r : Ran). r.pass_set.pass) rans ∙ can.count ∙ sym can.built.passes
 
+  -- there is a slot for each board
+  pub slots_count : length ports.slots.items ≡ length config.boards
+  slots_count = ap length can.built.slots ∙ same_count (λ (own : BoardConfig). own.slot) config.boards
+
   -- each worker has a count for each board and one for the arbiter
   count_each : (k : ℕ) (r : Ran) → k < length rans → length (slice_index_or rans k r).pass_set.made.items ≡ length config.boards + 1
   count_each k r k< = let run = can.runs k r k< in omega (arith, run.fits.made_count, run.fits.object_count, can.built.object_count)
@@ -101,7 +105,7 @@ module _ (config : Configuration) (ports : Ports) (rans : List Ran) (can : CanGa
     -- the objects before the last are as many as there are boards
     pub boards_count : length boards ≡ length config.boards
     boards_count =
-        let opens = length-append (map (λ (own : BoardConfig). objects.Board (opening_memory own)) config.boards) _ in
+        let opens = length-append (map (λ (own : BoardConfig). objects.Board (opening_memory own)) config.boards) (objects.Arbiter (opening_bus config.arbiter) ∷ []) in
         let mapped = same_count (λ (own : BoardConfig). objects.Board (opening_memory own)) config.boards in
         omega (arith, is_settled.settles.ends.count, ap length split, length-append boards (arbiter ∷ []), opens, mapped)
 
@@ -146,8 +150,7 @@ module _ (config : Configuration) (ports : Ports) (rans : List Ran) (can : CanGa
           → IsGatheredFrom config rans report
       gathered_from lines steps made =
           let n = length config.boards in
-          let slots : length ports.slots.items ≡ n = ap length can.built.slots ∙ same_count (λ (own : BoardConfig). own.slot) config.boards in
-          let made_is = made ∙ ap (λ x. map (λ (own : Vec ℕ). slice_index_or own.items x 0) counts) slots in
+          let made_is = made ∙ ap (λ x. map (λ (own : Vec ℕ). slice_index_or own.items x 0) counts) slots_count in
           record {
             lines = lines;
             homes = homes;

@@ -5,7 +5,6 @@ use Rattle.vme_object.specs.Each.{Each}
 use Rattle.vme_object.proofs.lemmas.Eachs.{Each-push}
 use Rattle.vme_port.specs.Passes.{IsUnused}
 use Rattle.vme_port_array.specs.Arrays.{array_id}
-use Rattle.vme_line_task.specs.Scripts.{script_at}
 use Rattle.vme_line_task.specs.ReadBuffers.{buffers_of}
 use Rattle.vme_threads.specs.Settlements.{BusPass}
 use Rattle.vme_threads.specs.Ports.{IsNewWorker}
