@@ -1,5 +1,5 @@
 -- The entries of the boards, one by one.
-use Rattle.std.proofs.Common.{◌≡◌, ℕ, ◌<◌, ◌≤◌, List, [], ◌∷◌, ◌++◌, length, slice_index_or, set, All, refl, ap, sym, subst, ◌∙◌, arith}
+use Rattle.std.proofs.Common.{◌≡◌, ℕ, ◌<◌, ◌≤◌, List, [], ◌∷◌, ◌++◌, length, slice_index_or, set, vec_len, vec_capacity, All, refl, ap, sym, subst, ◌∙◌, arith}
 use Rattle.std.specs.Global.{Vec}
 use Rattle.std.proofs.lemmas.List.{append-nil, append_assoc, get_or_default, get_or-set_other, length-set, length-append}
 use Rattle.std.proofs.Math.Seq.{get_or-append_seam}
@@ -8,6 +8,7 @@ use Rattle.vme_object.proofs.lemmas.Eachs.{AllAt-push}
 use Rattle.vme_port.specs.declared.home.Home.{Home}
 use Rattle.vme_bus_objects.specs.declared.object.BusObject.{BusObject}
 use Rattle.vme_threads.specs.declared.report.BoardReport.{BoardReport}
+use Rattle.vme_threads.specs.RunBuffers.{AreForCounts}
 use Rattle.vme_threads.specs.Gatherings.{IsBoardHome, IsEntryOfHome}
 use Rattle.vme_threads.proofs.Places.{nil_of}
 
@@ -61,11 +62,13 @@ module _
       let here = home_here all have.taken home rest split in
       subst IsBoardHome here.0 (boards (length have.taken) home here.1)
 
-  -- the next buffer is unchanged
-  pub next_buffer_is : (n : ℕ) (buffer d : Vec ℕ) → length all ≤ length old → n ≡ length ends → buffer ≡ slice_index_or now n buffer → buffer ≡ slice_index_or old n d
-  next_buffer_is n buffer d within at is =
+  -- the next buffer is unchanged: it is empty, and has capacity for the counts
+  pub next_buffer : (k n : ℕ) (buffer : Vec ℕ) → AreForCounts k old → length all ≤ length old → n ≡ length ends → buffer ≡ slice_index_or now n buffer → (vec_len buffer ≡ 0) × (k ≤ vec_capacity buffer)
+  next_buffer k n buffer buffers within at is =
       let here = home_here all have.taken home rest split in
-      is ∙ have.later n buffer d (omega (arith, at, have.entries.count)) (omega (arith, at, have.entries.count, here.1, within))
+      let below : n < length old = omega (arith, at, have.entries.count, here.1, within) in
+      let same : buffer ≡ slice_index_or old n buffer = is ∙ have.later n buffer buffer (omega (arith, at, have.entries.count)) below in
+      subst (λ (b : Vec ℕ). (vec_len b ≡ 0) × (k ≤ vec_capacity b)) (sym same) (buffers n buffer below)
 
   -- one more board has its entry
   pub entries_more :

@@ -2,7 +2,7 @@ use Rattle.std.proofs.Common.{◌≡◌, ℕ, ◌<◌, ◌≤◌, length, sym, s
 use Rattle.std.specs.Global.{Vec}
 use Rattle.std.specs.Vec.Iter.{into_iter_items}
 use Rattle.std.proofs.lemmas.List.{get_or_default}
-use Rattle.vme_threads.proofs.Entries.{entries_begin, fewer_entries, next_is_board, next_buffer_is, entries_more, entries_end}
+use Rattle.vme_threads.proofs.Entries.{entries_begin, fewer_entries, next_is_board, next_buffer, entries_more, entries_end}
 use Rattle.vme_threads.proofs.gather_report.report_boards.Goals as goal
 
 pub loop-home-init : goal.loop-home-init
@@ -24,27 +24,18 @@ report_board-requires-clause-within c =
 -- the buffer of the board is unchanged
 pub report_board-requires-clause-none : goal.report_board-requires-clause-none
 report_board-requires-clause-none c =
-    let have = c.loop-home.invariant.have in
-    let step = c.in-Some.ensures.steps.0 in
-    let n = c.len-board.result in
-    let buffer = c.index_mut.result.now in
-    let at : n ≡ length c.loop-home.ends.items = c.len-board.ensures ∙ c.loop-home.ends.ok.0 in
-    let fewer = fewer_entries _ _ _ _ _ _ _ _ c.in-Some.home have step in
     let within : length c.args.homes.items ≤ length c.args.made.now.items = omega (arith, c.requires.made_count, c.args.homes.ok.0, c.args.made.now.ok.0) in
-    let its = next_buffer_is _ _ _ _ _ _ _ _ c.in-Some.home have step n buffer buffer within at c.index_mut.ensures.value in
-    subst (λ (b : Vec ℕ). vec_len b ≡ 0) (sym (c.replace-made.ensures.value ∙ its)) (c.requires.made n buffer (omega (arith, at, fewer, within))).0
+    subst (λ (b : Vec ℕ). vec_len b ≡ 0) (sym c.replace-made.ensures.value)
+    (next_buffer _ _ _ _ _ _ _ _ c.in-Some.home c.loop-home.invariant.have c.in-Some.ensures.steps.0 (vec_len c.args.counts.now) c.len-board.result
+    c.index_mut.result.now c.requires.made within (c.len-board.ensures ∙ c.loop-home.ends.ok.0) c.index_mut.ensures.value).0
 
 pub report_board-requires-clause-capacity : goal.report_board-requires-clause-capacity
 report_board-requires-clause-capacity c =
+    let all : length c.args.homes.items ≤ length c.args.made.now.items = omega (arith, c.requires.made_count, c.args.homes.ok.0, c.args.made.now.ok.0) in
     let have = c.loop-home.invariant.have in
-    let step = c.in-Some.ensures.steps.0 in
-    let n = c.len-board.result in
-    let buffer = c.index_mut.result.now in
-    let at : n ≡ length c.loop-home.ends.items = c.len-board.ensures ∙ c.loop-home.ends.ok.0 in
-    let fewer = fewer_entries _ _ _ _ _ _ _ _ c.in-Some.home have step in
-    let within : length c.args.homes.items ≤ length c.args.made.now.items = omega (arith, c.requires.made_count, c.args.homes.ok.0, c.args.made.now.ok.0) in
-    let its = next_buffer_is _ _ _ _ _ _ _ _ c.in-Some.home have step n buffer buffer within at c.index_mut.ensures.value in
-    subst (λ (b : Vec ℕ). vec_len c.args.counts.now ≤ vec_capacity b) (sym (c.replace-made.ensures.value ∙ its)) (c.requires.made n buffer (omega (arith, at, fewer, within))).1
+    subst (λ (b : Vec ℕ). vec_len c.args.counts.now ≤ vec_capacity b) (sym c.replace-made.ensures.value)
+    (next_buffer _ _ _ _ _ _ _ _ c.in-Some.home have c.in-Some.ensures.steps.0 (vec_len c.args.counts.now) c.len-board.result c.index_mut.result.now
+    c.requires.made all (c.len-board.ensures ∙ c.loop-home.ends.ok.0) c.index_mut.ensures.value).1
 
 -- one more board has its entry
 pub loop-home-preserved : goal.loop-home-preserved

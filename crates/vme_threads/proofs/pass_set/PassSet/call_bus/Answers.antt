@@ -5,7 +5,7 @@ use Rattle.vme_threads.specs.PassSets.{AddsTransitions}
 use Rattle.vme_threads.proofs.Counts.{count_fits}
 use Rattle.vme_threads.proofs.PassSets.{made_by_bus}
 use Rattle.vme_threads.proofs.pass_set.PassSet.call_bus.Goals as goal
-use Rattle.vme_threads.proofs.pass_set.PassSet.call_bus.Goals.{in-Bus-Waiting, in-Bus-Granted, in-Bus-Freed, in-Bus+in-Denied-1, in-Board-1}
+use Rattle.vme_threads.proofs.pass_set.PassSet.call_bus.Goals.{in-Bus-Waiting, in-Bus-Granted, in-Bus-Freed, in-Bus-Denied, in-Board}
 
 -- the count can rise
 pub overflow_add-index_mut : goal.overflow_add-index_mut
@@ -31,6 +31,6 @@ returns g c =
       | in-Bus-Waiting w ↦ subst is (sym w.self-is) (made_by_bus ports d _ was c.args.cmd.now reply c.requires c.index_mut.ensures.value added kind refl refl refl)
       | in-Bus-Granted w ↦ subst is (sym w.self-is) (made_by_bus ports d _ was c.args.cmd.now reply c.requires c.index_mut.ensures.value added kind refl refl refl)
       | in-Bus-Freed w ↦ subst is (sym w.self-is) (made_by_bus ports d _ was c.args.cmd.now reply c.requires c.index_mut.ensures.value added kind refl refl refl)
-      | in-Bus+in-Denied-1 w ↦ subst is (sym w.self-is) (made_by_bus ports d _ was c.args.cmd.now reply c.requires c.index_mut.ensures.value added kind refl refl refl)
-      | in-Board-1 w ↦ subst is (sym w.self-is) (made_by_bus ports d _ was c.args.cmd.now reply c.requires c.index_mut.ensures.value added kind refl refl refl)
+      | in-Bus-Denied w ↦ subst is (sym w.self-is) (made_by_bus ports d _ was c.args.cmd.now reply c.requires c.index_mut.ensures.value added kind refl refl refl)
+      | in-Board w ↦ subst is (sym w.self-is) (made_by_bus ports d _ was c.args.cmd.now reply c.requires c.index_mut.ensures.value added kind refl refl refl)
     ]
