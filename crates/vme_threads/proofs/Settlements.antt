@@ -24,14 +24,14 @@ use Rattle.vme_bus_objects.proofs.lemmas.Histories.{board_history, arbiter_histo
 use Rattle.vme_threads.specs.Settlements.{BusPass, IsSettled, IsRunOfArray}
 
 -- object x is the memory of board x
-board_at : (config : Configuration) (boards : List BoardConfig) (x : ℕ) (own : BoardConfig) → slice_get boards x ≡ Some own
+pub board_at : (config : Configuration) (boards : List BoardConfig) (x : ℕ) (own : BoardConfig) → slice_get boards x ≡ Some own
     → get_elem? (map (λ own. objects.Board (opening_memory own)) boards ++ objects.Arbiter (opening_bus config.arbiter) ∷ []) x ≡ some (objects.Board (opening_memory own))
 board_at config [] x own found = absurd (cc found)
 board_at config (b ∷ boards) zero own found = ap (λ (b : BoardConfig). some (objects.Board (opening_memory b))) (same_Some b own found)
 board_at config (b ∷ boards) (suc x) own found = board_at config boards x own found
 
 -- the object after the boards is the arbiter
-bus_at : (config : Configuration) (boards : List BoardConfig)
+pub bus_at : (config : Configuration) (boards : List BoardConfig)
     → get_elem? (map (λ own. objects.Board (opening_memory own)) boards ++ objects.Arbiter (opening_bus config.arbiter) ∷ []) (length boards) ≡ some (objects.Arbiter (opening_bus config.arbiter))
 bus_at config [] = refl
 bus_at config (b ∷ boards) = bus_at config boards

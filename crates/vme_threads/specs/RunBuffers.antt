@@ -1,5 +1,5 @@
 -- Defines the buffers that are allocated before a run and used at its end.
-use Rattle.std.specs.Prelude.{ℕ, ◌≡◌, ◌≤◌, List, length, vec_len, vec_capacity, All}
+use Rattle.std.specs.Prelude.{ℕ, ◌≡◌, ◌≤◌, List, vec_len, vec_capacity, All}
 use Rattle.std.specs.Global.{Vec}
 use Rattle.vme_threads.specs.declared.run_buffers.ReportBuffers.{ReportBuffers}
 

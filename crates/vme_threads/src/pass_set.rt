@@ -59,9 +59,7 @@ impl PassSet {
         replies_have_their_kind();
         let releases = ports.waiters.releases();
         let command = BusCommand::Arbiter(*cmd);
-        let reply = ports
-            .array
-            .call(rt, &mut self.pass, self.boards, &command)?;
+        let reply = ports.array.call(rt, &mut self.pass, self.boards, &command)?;
         self.made[self.boards] += 1;
         match &reply {
             EventReply::Bus(ArbReply::Waiting) => ports
@@ -69,7 +67,8 @@ impl PassSet {
                 .wait(rt, self.who, releases, &mut self.wait_state),
             EventReply::Bus(ArbReply::Granted) => ports.waiters.leave(&mut self.wait_state),
             EventReply::Bus(ArbReply::Freed) => ports.waiters.release(&mut self.wait_state),
-            _ => {}
+            EventReply::Bus(ArbReply::Denied) => {}
+            EventReply::Board(_) => {}
         }
         Ok(reply)
     }
