@@ -1,6 +1,6 @@
 -- The transitions of one order are the calls of turns.
 use Rattle.std.proofs.Common.{◌≡◌, ℕ, ◌<◌, List, [], ◌∷◌, ◌++◌, length, Option, Some, All, refl, ap, sym, subst, ◌∙◌}
-use Rattle.std.specs.Prelude.{slice_get, option_map}
+use Rattle.std.specs.Prelude.{option_map}
 use Rattle.std.proofs.lemmas.List.Elements.{All-head, All-tail}
 use Rattle.vme_core.specs.declared.event.EventReply.{EventReply}
 use Rattle.vme_core.specs.Runs.{Machine, Transition}
@@ -12,9 +12,9 @@ use Rattle.vme_script.specs.Configurations.{Configuration}
 use Rattle.vme_script.specs.Lawful.{IsLawful}
 use Rattle.vme_line_task.specs.Scripts.{slot_at}
 use Rattle.vme_line_task.specs.Tables.{line_next}
-use Rattle.vme_line_task.specs.Traces.{Continues, IsTrace, ScriptState}
+use Rattle.vme_line_task.specs.Traces.{Continues, IsTrace}
 use Rattle.vme_bus_objects.specs.Runs.{transitions_of}
-use Rattle.vme_stepper.specs.Turns.{SystemState, lines_left, board_in_slot, turn, run as take_turns, initial_state, state_after}
+use Rattle.vme_stepper.specs.Turns.{SystemState, lines_left, turn, run as take_turns, initial_state, state_after}
 use Rattle.vme_threads.specs.declared.report.Report.{Report}
 use Rattle.vme_threads.specs.OneOrder.{IsReportOfOneOrder}
 use Rattle.vme_sequential.specs.Orders.{Performs, performed, machine_after, slots_of}

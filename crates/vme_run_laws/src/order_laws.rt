@@ -1,4 +1,4 @@
-ghost use Rattle.std.specs.Prelude.{◌≡◌, ◌++◌, ◌∷◌, ℕ, List, Some, All};
+ghost use Rattle.std.specs.Prelude.{◌≡◌, ◌++◌, ◌∷◌, List, Some, All};
 ghost use Rattle.vme_arbiter.specs.Orderly.{IsOrderly};
 ghost use Rattle.vme_core.specs.Runs.{Transition};
 ghost use Rattle.vme_script.specs.Configurations.{Configuration};
