@@ -20,9 +20,9 @@ ghost use Rattle.vme_engines.specs.RunTexts.{IsRunText};
 ghost use Rattle.vme_run_laws.specs.Declared.{IsDeclaredIn};
 
 /// In every report of one order of a lawful configuration, each declared mailbox is a queue. The
-/// part of its board in that order is proper for it. The words taken are a prefix of the words put, and at most as many more
-/// words are put as the mailbox has slots. The words of each processor's own puts and takes, in
-/// order, are those that the report's lines show.
+/// part of its board in that order is proper for it. The words taken are a prefix of the words put,
+/// and at most as many more words are put as the mailbox has slots. The words of each processor's
+/// own puts and takes, in order, are those that the report's lines show.
 pub fn declared_mailboxes_are_queues()
     ensures each { (config : Configuration) (report : Report) (is : IsReportOfOneOrder config report) (k : ℕ) →
         IsLawful config → k < length config.mailboxes →
