@@ -1,6 +1,7 @@
 //! Command lines: those of the three forms, and others.
 use std::alloc::{AllocError, Global};
 use std::process::Abort;
+use std::test::Fail;
 use vme_engines::{Form, WordsFault, read_words};
 
 /// Returns the words of a line, which single spaces separate.
@@ -12,52 +13,40 @@ fn words_of(alloc: Global, line: &str) -> Result<Vec<String>, AllocError> {
     Ok(words)
 }
 
-/// Returns the command of a form, and its path.
-fn parts_of(form: &Form) -> (&'static str, &str) {
-    match form {
-        Form::Cycles => ("cycles", ""),
-        Form::Step(path) => ("step", path.as_str()),
-        Form::Run(path) => ("run", path.as_str()),
-    }
-}
-
-/// Checks what some words are read as: a command and its path, or a fault.
-fn check(
+/// Checks what the words of a line are read as.
+fn expect(
     rt: &impl Abort,
     alloc: Global,
-    words: &[String],
-    wanted: Result<(&'static str, &'static str), WordsFault>,
-) {
-    let read = read_words(alloc, words);
-    let parts = match &read {
-        Ok(form) => Ok(parts_of(form)),
-        Err(fault) => Err(*fault),
-    };
-    assert_eq!(rt; parts, wanted, "{words:?}");
+    line: &str,
+    read: Result<Form, WordsFault>,
+) -> Result<(), AllocError> {
+    let words = words_of(alloc, line)?;
+    assert_eq!(rt; read_words(alloc, words.as_slice()), read, "{line}");
+    Ok(())
 }
 
-/// Command lines of the three forms, each with the command and the path.
-static FORMS: [(&str, (&str, &str)); 12] = [
-    ("vme cycles", ("cycles", "")),
-    ("vme cycles --", ("cycles", "")),
-    ("./vme cycles", ("cycles", "")),
-    ("vme step a.toml", ("step", "a.toml")),
-    ("vme step -- a.toml", ("step", "a.toml")),
-    ("vme step a.toml --", ("step", "a.toml")),
-    ("vme step -- --help", ("step", "--help")),
-    ("vme step -- --", ("step", "--")),
-    ("vme step -", ("step", "-")),
-    ("vme step ", ("step", "")),
-    ("vme step step", ("step", "step")),
-    ("vme run a.toml", ("run", "a.toml")),
-];
-
 #[test]
-fn reads_the_three_forms(rt: HostRuntime) {
-    for (line, form) in &FORMS {
-        let words = words_of(rt.alloc(), line).expect(&rt, "no memory");
-        check(&rt, rt.alloc(), words.as_slice(), Ok(*form));
+fn reads_the_three_forms(rt: HostRuntime) -> Result<(), Fail> {
+    let alloc = rt.alloc();
+    for line in ["vme cycles", "vme cycles --", "./vme cycles"] {
+        expect(&rt, alloc, line, Ok(Form::Cycles))?;
     }
+    for (line, path) in [
+        ("vme step a.toml", "a.toml"),
+        ("vme step -- a.toml", "a.toml"),
+        ("vme step a.toml --", "a.toml"),
+        ("vme step -- --help", "--help"),
+        ("vme step -- --", "--"),
+        ("vme step -", "-"),
+        ("vme step ", ""),
+        ("vme step step", "step"),
+    ] {
+        let path = String::from_str(alloc, path)?;
+        expect(&rt, alloc, line, Ok(Form::Step(path)))?;
+    }
+    let path = String::from_str(alloc, "a.toml")?;
+    expect(&rt, alloc, "vme run a.toml", Ok(Form::Run(path)))?;
+    Ok(())
 }
 
 /// Command lines that have none of the forms.
@@ -82,12 +71,16 @@ static OTHERS: [&str; 17] = [
 ];
 
 #[test]
-fn reports_usage_for_others(rt: HostRuntime) {
+fn reports_usage_for_others(rt: HostRuntime) -> Result<(), Fail> {
     for line in &OTHERS {
-        let words = words_of(rt.alloc(), line).expect(&rt, "no memory");
-        check(&rt, rt.alloc(), words.as_slice(), Err(WordsFault::Usage));
+        expect(&rt, rt.alloc(), line, Err(WordsFault::Usage))?;
     }
-    check(&rt, rt.alloc(), &[], Err(WordsFault::Usage));
+    let none = Vec::new(rt.alloc());
+    assert_eq!(&rt;
+        read_words(rt.alloc(), none.as_slice()),
+        Err(WordsFault::Usage)
+    );
+    Ok(())
 }
 
 /// Faults, each with its text and the status that the program ends with.
@@ -101,9 +94,10 @@ static FAULTS: [(WordsFault, &str, u8); 2] = [
 ];
 
 #[test]
-fn reports_faults(rt: HostRuntime) {
-    for (fault, wanted, status) in &FAULTS {
-        let text = fault.to_string(rt.alloc()).expect(&rt, "no memory");
-        assert_eq!(rt; (text.as_str(), fault.exit_status()), (*wanted, *status));
+fn reports_faults(rt: HostRuntime) -> Result<(), Fail> {
+    for (fault, text, status) in &FAULTS {
+        assert_eq!(rt; fault.to_string(rt.alloc())?.as_str(), *text);
+        assert_eq!(rt; fault.exit_status(), *status);
     }
+    Ok(())
 }

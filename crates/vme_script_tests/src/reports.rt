@@ -2,9 +2,9 @@
 ghost use Rattle.std.specs.Prelude.{◌≡◌, false};
 ghost use Rattle.vme_io.specs.Devices.{is_marked_sink};
 
-use crate::support::{expect_prefix, expect_text, expect_text_or_refusal, sink_of};
+use crate::support::{expect_prefix, expect_text, expect_text_or_refusal};
 use std::alloc::{AllocError, Global};
-use std::process::Abort;
+use std::test::Fail;
 use vme_io::RoomSink;
 use vme_lanes::Datum;
 use vme_master::Outcome;
@@ -61,38 +61,10 @@ fn board<'a>(
     }
 }
 
-/// Writes the report of two boards with these memories into `sink`. `ended` says whether the last
-/// line has ended.
-fn write(
-    alloc: Global,
-    first: &ByteMemory,
-    second: &ByteMemory,
-    ended: bool,
-    sink: &mut RoomSink,
-) -> Result<Status, RunFault>
-    requires { is_marked_sink sink.old ≡ false }
-{
-    let lines = [(1, LineReply::Transfer(Outcome::Done)), (3, LineReply::Met)];
-    let more = [(2, last_reply(ended))];
-    let boards = [
-        board(1, &lines, first, u64::MAX, &[3, 0]),
-        board(2, &more, second, 0, &[0, 0]),
-    ];
-    write_report(alloc, &boards, sink).map_err(RunFault::from)
-}
-
-fn last_reply(ended: bool) -> LineReply {
-    if ended {
-        LineReply::Transfer(Outcome::Done)
-    } else {
-        LineReply::Unfinished
-    }
-}
-
-/// Writes the report of the two boards into `sink`. `ended` says whether the last line has ended.
+/// Writes the report of the two boards into `sink`. `last` is the reply to the last line.
 fn report(
     alloc: Global,
-    ended: bool,
+    last: LineReply,
     sink: &mut RoomSink,
 ) -> Result<Result<Status, RunFault>, AllocError>
     requires { is_marked_sink sink.old ≡ false }
@@ -100,7 +72,12 @@ fn report(
     let mut first = memory(alloc, 36, 15, 1)?;
     set(&mut first, 32, 0xaa);
     let second = memory(alloc, 32, 0, 0xaa)?;
-    Ok(write(alloc, &first, &second, ended, sink))
+    let lines = [(1, LineReply::Transfer(Outcome::Done)), (3, LineReply::Met)];
+    let more = [(2, last)];
+    let mut boards = Vec::new(alloc);
+    boards.push(board(1, &lines, &first, u64::MAX, &[3, 0]))?;
+    boards.push(board(2, &more, &second, 0, &[0, 0]))?;
+    Ok(write_report(alloc, boards.as_slice(), sink).map_err(RunFault::from))
 }
 
 /// The report where the last line has not ended.
@@ -114,26 +91,27 @@ mem 1 00000020 aa000000
 mem 2 00000000 aa000000000000000000000000000000
 ";
 
-/// Checks the whole report.
-fn check_report(rt: &impl Abort, alloc: Global, ended: bool, status: Status, text: &str) {
-    let mut sink = sink_of(rt, alloc, usize::MAX, 4096);
-    let end = report(alloc, ended, &mut sink).expect(rt, "no memory");
-    expect_text(rt, end, status, &sink, text);
+#[test]
+fn reports_two_boards(rt: HostRuntime) -> Result<(), Fail> {
+    for (last, status, text) in [
+        (LineReply::Transfer(Outcome::Done), Status::Clean, TEXT),
+        (LineReply::Unfinished, Status::Marked, UNFINISHED),
+    ] {
+        let mut sink = RoomSink::new(rt.alloc(), usize::MAX, 4096)?;
+        let end = report(rt.alloc(), last, &mut sink)?;
+        expect_text(&rt, end, status, &sink, text);
+    }
+    Ok(())
 }
 
 #[test]
-fn reports_two_boards(rt: HostRuntime) {
-    check_report(&rt, rt.alloc(), true, Status::Clean, TEXT);
-    check_report(&rt, rt.alloc(), false, Status::Marked, UNFINISHED);
-}
-
-#[test]
-fn stops_where_the_sink_fails(rt: HostRuntime) {
+fn stops_where_the_sink_fails(rt: HostRuntime) -> Result<(), Fail> {
     for capacity in 0..TEXT.len() {
-        let mut sink = sink_of(&rt, rt.alloc(), 1, capacity);
-        let end = report(rt.alloc(), true, &mut sink).expect(&rt, "no memory");
+        let mut sink = RoomSink::new(rt.alloc(), 1, capacity)?;
+        let end = report(rt.alloc(), LineReply::Transfer(Outcome::Done), &mut sink)?;
         expect_prefix(&rt, end, &sink, TEXT, capacity);
     }
+    Ok(())
 }
 
 #[test]
@@ -141,7 +119,8 @@ fn is_written_or_lacks_memory(rt: HostRuntime) {
     let Ok(mut sink) = RoomSink::new(rt.alloc(), usize::MAX, 4096) else {
         return;
     };
-    if let Ok(end) = report(rt.alloc(), true, &mut sink) {
+    let done = LineReply::Transfer(Outcome::Done);
+    if let Ok(end) = report(rt.alloc(), done, &mut sink) {
         expect_text_or_refusal(&rt, end, Status::Clean, &sink, TEXT);
     }
 }
