@@ -1,0 +1,36 @@
+//! Why the program ends early.
+use std::alloc::AllocError;
+use std::io;
+use thiserror::Error;
+use vme_io::Failed;
+
+/// Why the program ended early. Its `Display` text is what it reports.
+#[derive(Clone, Copy, Debug, PartialEq, Eq, Error)]
+pub(crate) enum Fault {
+    /// The output cannot be written.
+    #[error("write")]
+    Write,
+    /// An allocation failed.
+    #[error("memory")]
+    Memory,
+}
+
+impl From<AllocError> for Fault {
+    fn from(_error: AllocError) -> Fault {
+        Fault::Memory
+    }
+}
+
+impl From<Failed> for Fault {
+    fn from(_failed: Failed) -> Fault {
+        Fault::Write
+    }
+}
+
+/// The fault of a call that prints.
+pub(crate) fn fault_of(error: &io::Error) -> Fault {
+    match error.kind() {
+        io::ErrorKind::OutOfMemory => Fault::Memory,
+        _ => Fault::Write,
+    }
+}

@@ -1,0 +1,131 @@
+//! Which texts a line asks for.
+use crate::entry::Text;
+use crate::tables::{FAULTS, FILES, LINES, REPLIES, REQUESTS};
+use std::alloc::{AllocError, Global};
+
+/// What a line asks for.
+#[derive(Debug, Drop)]
+pub enum Asked {
+    /// The texts, in the order of their codes in the line.
+    Texts(Vec<Text>),
+    /// A word that no text is about.
+    Unknown(String),
+}
+
+/// Returns all texts: those of requests, lines, files, faults and replies.
+pub fn all() -> [&'static [Text]; 5] {
+    [
+        REQUESTS.as_slice(),
+        LINES.as_slice(),
+        FILES.as_slice(),
+        FAULTS.as_slice(),
+        REPLIES.as_slice(),
+    ]
+}
+
+/// Returns the texts that a line asks for: codes in any case, or a reply, a refusal or a fault as
+/// `vme` printed it.
+///
+/// # Errors
+///
+/// An allocation failed.
+pub fn texts_in(alloc: Global, line: &str) -> Result<Asked, AllocError> {
+    let mut texts = Vec::new(alloc);
+    if let Some(text) = fault_in(line) {
+        texts.push(text)?;
+        return Ok(Asked::Texts(texts));
+    }
+    for word in line.split(' ') {
+        if is_plain_part(word) {
+            continue;
+        }
+        let Some(text) = text_of(word) else {
+            return Ok(Asked::Unknown(String::from_str(alloc, word)?));
+        };
+        add(&mut texts, text)?;
+        if has_data(&text) {
+            break;
+        }
+    }
+    if texts.is_empty() {
+        return Ok(Asked::Unknown(String::from_str(alloc, line)?));
+    }
+    Ok(Asked::Texts(texts))
+}
+
+/// The text of a code, if there is one.
+fn text_of(code: &str) -> Option<Text> {
+    for table in all() {
+        if let Some(text) = text_in(table, code) {
+            return Some(text);
+        }
+    }
+    None
+}
+
+/// The text of a code in a table.
+fn text_in(table: &[Text], code: &str) -> Option<Text> {
+    for text in table {
+        if is_named(text, code) {
+            return Some(*text);
+        }
+    }
+    None
+}
+
+fn is_named(text: &Text, code: &str) -> bool {
+    text.code.eq_ignore_ascii_case(code) || is_among(text.others, code)
+}
+
+fn is_among(names: &[&str], code: &str) -> bool {
+    for name in names {
+        if name.eq_ignore_ascii_case(code) {
+            return true;
+        }
+    }
+    false
+}
+
+/// The text of a fault as `vme` printed it.
+fn fault_in(line: &str) -> Option<Text> {
+    let printed = line.strip_prefix("vme: ")?;
+    if printed.starts_with("usage") {
+        return text_of("usage");
+    }
+    for text in &FAULTS {
+        if text.title.eq_ignore_ascii_case(printed) {
+            return Some(*text);
+        }
+    }
+    None
+}
+
+/// Whether a word of a printed line has no text of its own: a place, a number, or a word beside one.
+fn is_plain_part(word: &str) -> bool {
+    word.is_empty()
+        || word.starts_with(|c: char| c.is_ascii_digit())
+        || word == "vme:"
+        || word == "slot"
+        || word == "line"
+}
+
+/// Whether the words after a code are its data.
+fn has_data(text: &Text) -> bool {
+    text.code == "done" || text.code == "berr"
+}
+
+/// Adds a text that is not there yet. `refused` gives way to the refusal that it names.
+fn add(texts: &mut Vec<Text>, text: Text) -> Result<(), AllocError> {
+    if let Some(last) = texts.last()
+        && last.code == "refused"
+    {
+        let _ = texts.pop();
+    }
+    for known in texts.iter() {
+        if known.code == text.code {
+            return Ok(());
+        }
+    }
+    texts.push(text)?;
+    Ok(())
+}

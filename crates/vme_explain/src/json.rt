@@ -1,0 +1,72 @@
+//! A text as a JSON object.
+use crate::entry::{Example, Text};
+use std::alloc::AllocError;
+
+/// Appends a text as one line: a JSON object of strings and a list. An absent part has no key.
+///
+/// # Errors
+///
+/// An allocation failed.
+pub(crate) fn write_json(text: &Text, to: &mut String) -> Result<(), AllocError> {
+    to.push_str("{\"code\":")?;
+    quoted(text.code, to)?;
+    to.push_str(",\"others\":[")?;
+    let mut separator = "";
+    for other in text.others {
+        to.push_str(separator)?;
+        quoted(other, to)?;
+        separator = ",";
+    }
+    to.push(']')?;
+    field("title", text.title, to)?;
+    field("cause", text.cause, to)?;
+    field("sections", text.sections, to)?;
+    field("mend", text.mend, to)?;
+    if let Some(example) = &text.example {
+        shown(example, to)?;
+    }
+    to.push_str("}\n")
+}
+
+/// The keys of an example: what is run, on which input, and the line that it answers.
+fn shown(example: &Example, to: &mut String) -> Result<(), AllocError> {
+    field("form", example.form(), to)?;
+    to.push_str(",\"input\":\"")?;
+    for (text, times) in example.parts() {
+        for _ in 0..times {
+            escaped(text, to)?;
+        }
+    }
+    to.push('"')?;
+    field("shows", example.shows, to)
+}
+
+/// A further key, unless its text is empty.
+fn field(key: &str, text: &str, to: &mut String) -> Result<(), AllocError> {
+    if text.is_empty() {
+        return Ok(());
+    }
+    to.push(',')?;
+    quoted(key, to)?;
+    to.push(':')?;
+    quoted(text, to)
+}
+
+fn quoted(text: &str, to: &mut String) -> Result<(), AllocError> {
+    to.push('"')?;
+    escaped(text, to)?;
+    to.push('"')
+}
+
+/// The characters of a JSON string. The texts have no control character but line ends.
+fn escaped(text: &str, to: &mut String) -> Result<(), AllocError> {
+    for c in text.chars() {
+        match c {
+            '"' => to.push_str("\\\"")?,
+            '\\' => to.push_str("\\\\")?,
+            '\n' => to.push_str("\\n")?,
+            _ => to.push(c)?,
+        }
+    }
+    Ok(())
+}

@@ -1,0 +1,18 @@
+//! The texts of `bendrika explain`: what each code and reply of `vme` means, the rule behind it, an
+//! example, and what to do.
+//!
+//! Each code has one text in one of five tables. [`explain`] returns the texts that a line asks for,
+//! and [`explain_all`] the table of docs/GUIDE.md.
+#![tactic(auto)]
+
+mod answer;
+mod entry;
+mod find;
+mod json;
+mod markdown;
+mod plain;
+mod tables;
+
+pub use answer::{Answer, explain, explain_all};
+pub use entry::{Example, Input, Text};
+pub use find::{Asked, all, texts_in};

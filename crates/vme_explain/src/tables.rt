@@ -1,0 +1,13 @@
+//! The texts, one table for each kind of code.
+
+mod faults;
+mod files;
+mod lines;
+mod replies;
+mod requests;
+
+pub(crate) use faults::FAULTS;
+pub(crate) use files::FILES;
+pub(crate) use lines::LINES;
+pub(crate) use replies::REPLIES;
+pub(crate) use requests::REQUESTS;

@@ -1,0 +1,154 @@
+//! The replies to lines.
+use crate::entry::{Example, Input, Text};
+
+pub(crate) static REPLIES: [Text; 10] = [
+    Text {
+        code: "done",
+        others: &["read", "old", "met", "taken", "put", "took"],
+        title: "a good reply",
+        cause: "The line ended as it should: `read`, `old` and `took` have bytes, `done` follows a \
+            write, `met` an `await`, `taken` a `lock`, `put` a `put`.",
+        sections: "",
+        mend: "",
+        example: Some(Example {
+            brief: "w 0d 00000000 05",
+            input: Input::Line,
+            shows: "done",
+        }),
+    },
+    Text {
+        code: "unfinished",
+        others: &[],
+        title: "line without an end",
+        cause: "The turns of `vme step` ended before this line did. A transfer takes a turn to \
+            request the bus, one for each datum and one to end, and one for each look at a bus \
+            that another board holds. A local line takes one.",
+        sections: "",
+        mend: "Add `rounds = 100` above the first [[board]], or turns to `schedule`.",
+        example: Some(Example {
+            brief: "no `schedule` and no `rounds`",
+            input: Input::File(
+                "[[board]]\nslot = 1\nbase = 0\nsize = 16\nscript = \"lr 00000000 1\"\n",
+            ),
+            shows: "1:1 unfinished",
+        }),
+    },
+    Text {
+        code: "timeout",
+        others: &[],
+        title: "await gave up",
+        cause: "The bytes were read `tries` times and never had the value.",
+        sections: "",
+        mend: "Raise `tries`, or look for the line that should write them.",
+        example: Some(Example {
+            brief: "await 09 00000000 01, tries = 2",
+            input: Input::File(
+                "tries = 2\nrounds = 20\n[[board]]\nslot = 1\nbase = 0\nsize = 64\n\
+                script = \"await 09 00000000 01\"\n",
+            ),
+            shows: "1:1 timeout",
+        }),
+    },
+    Text {
+        code: "busy",
+        others: &[],
+        title: "lock held",
+        cause: "Bit 7 of the lock byte was set in each of `tries` read-modify-writes. `lock`, `put` \
+            and `take` end so.",
+        sections: "",
+        mend: "Raise `tries`. Check that each `lock` has its `unlock`.",
+        example: Some(Example {
+            brief: "lock 09 00000000 twice, tries = 1",
+            input: Input::File(
+                "tries = 1\nrounds = 20\n[[board]]\nslot = 1\nbase = 0\nsize = 64\n\
+                script = \"\"\"\nlock 09 00000000\nlock 09 00000000\n\"\"\"\n",
+            ),
+            shows: "1:2 busy",
+        }),
+    },
+    Text {
+        code: "full",
+        others: &[],
+        title: "mailbox full",
+        cause: "`put` found as many words in the mailbox as it has slots, in each of `tries` \
+            attempts.",
+        sections: "",
+        mend: "Raise `tries` or `slots`. Check that another processor takes.",
+        example: Some(Example {
+            brief: "two puts, slots = 1, tries = 1",
+            input: Input::File(
+                "tries = 1\nrounds = 99\n[[board]]\nslot = 1\nbase = 0\nsize = 64\n\
+                script = \"\"\"\nput 1 00000001\nput 1 00000002\n\"\"\"\n[[mailbox]]\n\
+                am = 9\naddr = 0\nslots = 1\n",
+            ),
+            shows: "1:2 full",
+        }),
+    },
+    Text {
+        code: "empty",
+        others: &[],
+        title: "mailbox empty",
+        cause: "`take` found no word in the mailbox, in each of `tries` attempts.",
+        sections: "",
+        mend: "Raise `tries`. Check that another processor puts.",
+        example: Some(Example {
+            brief: "take 1 alone, tries = 1",
+            input: Input::File(
+                "tries = 1\nrounds = 20\n[[board]]\nslot = 1\nbase = 0\nsize = 64\n\
+                script = \"take 1\"\n[[mailbox]]\nam = 9\naddr = 0\nslots = 1\n",
+            ),
+            shows: "1:1 empty",
+        }),
+    },
+    Text {
+        code: "spent",
+        others: &[],
+        title: "mailbox used up",
+        cause: "2^32 - 1 words were put into this mailbox, and it takes no more. The fault `vme: \
+            spent` is F6.",
+        sections: "",
+        mend: "Declare another mailbox.",
+        example: None,
+    },
+    Text {
+        code: "berr",
+        others: &[],
+        title: "bus error",
+        cause: "BERR* was driven after C data: no board has the address (C is 0), the board lacks \
+            what the cycle needs, or the next datum lies past its end. The bytes that a read got \
+            before it follow. The refused datum changes nothing. On the local port: the bytes \
+            lie past the end of the board.",
+        sections: "2.3.3 (bus timer)",
+        mend: "Compare code, address and size with the board's `space`, `base`, `size`, `width`, \
+            `uat`, `blt`, `rmw` and `supervisory`.",
+        example: Some(Example {
+            brief: "r 39 00000000 1",
+            input: Input::Line,
+            shows: "berr 0",
+        }),
+    },
+    Text {
+        code: "denied",
+        others: &[],
+        title: "protocol broken",
+        cause: "A reply of the arbiter did not fit the call. It is proved that neither `vme step` \
+            nor `vme run` answers a line so.",
+        sections: "",
+        mend: "Report it.",
+        example: None,
+    },
+    Text {
+        code: "refused",
+        others: &[],
+        title: "request refused",
+        cause: "The master sends no such cycle, or reads no such line. The reply names the K or S \
+            number.",
+        sections: "",
+        mend: "See that number.",
+        example: Some(Example {
+            brief: "r 40 00000000 1",
+            input: Input::Line,
+            shows: "refused K9",
+        }),
+    },
+];
