@@ -5,12 +5,11 @@ ghost use Rattle.vme_core.specs.Machines.{process_count, IsThere};
 
 use crate::support::{WHOLE, datum};
 use std::process::Abort;
-use std::test::Fail;
 use vme_arbiter::{ArbCmd, ArbReply, Arbiter};
-use vme_core::{Core, Event, EventReply, OutOfMemory, RunStop, Target};
+use vme_core::{Core, Event, EventReply, OutOfMemory, RunStop, Spent, Target};
 use vme_memory::{BoardCmd, ByteMemory, Reply};
 
-/// The memory of one board of 16 bytes.
+/// Returns the memory of one board of 16 bytes.
 fn memories(rt: &HostRuntime) -> Result<Vec<ByteMemory>, OutOfMemory>
     ensures { IfOk result (λ memories. length memories.items ≡ 1) }
 {
@@ -23,7 +22,7 @@ fn memories(rt: &HostRuntime) -> Result<Vec<ByteMemory>, OutOfMemory>
     Ok(memories)
 }
 
-/// A core of one board, for two processes.
+/// Returns a core of one board, for two processes.
 fn one_board(rt: &HostRuntime) -> Result<Core, OutOfMemory>
     ensures boards { IfOk result (λ core. length core.boards ≡ 1) }
     ensures process_count { IfOk result (λ core. process_count core ≡ 2) }
@@ -31,7 +30,7 @@ fn one_board(rt: &HostRuntime) -> Result<Core, OutOfMemory>
     Core::new(rt.alloc(), memories(rt)?, 2)
 }
 
-/// A core of one board with a rotating arbiter, for two processors.
+/// Returns a core of one board with a rotating arbiter, for two processes.
 fn rotating(rt: &HostRuntime) -> Result<Core, OutOfMemory>
     ensures boards { IfOk result (λ core. length core.boards ≡ 1) }
     ensures process_count { IfOk result (λ core. process_count core ≡ 2) }
@@ -39,7 +38,7 @@ fn rotating(rt: &HostRuntime) -> Result<Core, OutOfMemory>
     Core::with_arbiter(rt.alloc(), memories(rt)?, Arbiter::rotating(), 2)
 }
 
-/// A write of one byte by processor 0, a read of it by processor 1, and a request for the bus by
+/// Returns a write of one byte by process 0, a read of it by process 1, and a request for the bus by
 /// slot 2.
 fn events() -> [(usize, Event); 3]
     ensures process_count { All (λ e. e.0 < 2) result }
@@ -67,21 +66,23 @@ fn events() -> [(usize, Event); 3]
     ]
 }
 
-#[test]
-fn answers_events_in_order(rt: HostRuntime) {
-    let Ok(mut core) = one_board(&rt) else {
-        panic!(&rt; "no core")
-    };
-    let mut replies = Vec::new(rt.alloc());
-    assert!(&rt; core.run(&events(), &mut replies).is_ok());
-    match replies.as_slice() {
+/// Checks the replies to the events of `events`.
+fn check_replies(rt: &impl Abort, replies: &[EventReply]) {
+    match replies {
         [
             EventReply::Board(Reply::Done),
             EventReply::Board(Reply::Bytes(read)),
             EventReply::Bus(ArbReply::Granted),
-        ] => assert_eq!(&rt; read.as_slice(), &[0x7f][..]),
-        _ => panic!(&rt; "{replies:?}"),
+        ] => assert_eq!(rt; read.as_slice(), &[0x7f][..]),
+        _ => panic!(rt; "{replies:?}"),
     }
+}
+
+/// Checks the counts of steps and the written byte after the events of `events`.
+fn check_counts(rt: &impl Abort, core: &Core)
+    requires boards { length core.now.boards ≡ 1 }
+    requires process_count { process_count core.now ≡ 2 }
+{
     let board = Target::Board(0);
     let counts = [
         core.steps(board),
@@ -90,11 +91,33 @@ fn answers_events_in_order(rt: HostRuntime) {
         core.steps(Target::Bus),
         core.made(0, Target::Bus),
     ];
-    assert_eq!(&rt; counts, [2, 1, 1, 1, 0]);
-    assert_eq!(&rt; core.memory(0).byte(0), Some(0x7f));
+    assert_eq!(rt; counts, [2, 1, 1, 1, 0]);
+    assert_eq!(rt; core.memory(0).byte(0), Some(0x7f));
 }
 
-/// Runs also with failing allocations: either all events are performed, or none.
+#[test]
+fn answers_events_in_order(rt: HostRuntime) {
+    let Ok(mut core) = one_board(&rt) else {
+        panic!(&rt; "no core")
+    };
+    let mut replies = Vec::new(rt.alloc());
+    assert!(&rt; core.run(&events(), &mut replies).is_ok());
+    check_replies(&rt, replies.as_slice());
+    check_counts(&rt, &core);
+}
+
+/// Checks the end of a run of `events`, with the numbers of replies, of steps of the board and of
+/// steps of the arbiter, and the written byte.
+fn check_ran(rt: &impl Abort, ran: Result<(), RunStop>, counts: [u64; 4]) {
+    let wanted = match ran {
+        Ok(()) => [3, 2, 1, 0x7f],
+        Err(_) => [0, 0, 0, 0],
+    };
+    assert!(rt; matches!(ran, Ok(()) | Err(RunStop::OutOfMemory)));
+    assert_eq!(rt; counts, wanted);
+}
+
+/// Either all events are performed or, if an allocation fails, none.
 #[test]
 fn runs_all_events_or_none(rt: HostRuntime) {
     let Ok(mut core) = one_board(&rt) else {
@@ -108,24 +131,24 @@ fn runs_all_events_or_none(rt: HostRuntime) {
         core.steps(Target::Bus),
         u64::from(core.memory(0).byte(0).unwrap_or(1)),
     ];
-    match ran {
-        Ok(()) => assert_eq!(&rt; counts, [3, 2, 1, 0x7f]),
-        Err(stop) => {
-            assert_eq!(&rt; stop, RunStop::OutOfMemory);
-            assert_eq!(&rt; counts, [0, 0, 0, 0]);
-        }
+    check_ran(&rt, ran, counts);
+}
+
+/// Checks the reply of the arbiter to a command.
+fn check_reply(rt: &impl Abort, reply: &Result<EventReply, Spent>, wanted: ArbReply) {
+    match reply {
+        Ok(EventReply::Bus(reply)) => assert_eq!(rt; *reply, wanted),
+        other => panic!(rt; "{other:?}"),
     }
 }
 
-/// One event on its own.
 #[test]
 fn applies_an_event(rt: HostRuntime) {
     let Ok(mut core) = one_board(&rt) else {
         panic!(&rt; "no core")
     };
     let look = Event::Bus(ArbCmd::Look { slot: 2 });
-    let reply = core.apply(0, &look);
-    assert!(&rt; matches!(reply, Ok(EventReply::Bus(ArbReply::Denied))));
+    check_reply(&rt, &core.apply(0, &look), ArbReply::Denied);
     assert_eq!(&rt; core.made(0, Target::Bus), 1);
 }
 
@@ -140,16 +163,13 @@ static LOOKS: [(ArbCmd, ArbReply); 6] = [
     (ArbCmd::Look { slot: 3 }, ArbReply::Granted),
 ];
 
-/// A core has the given arbiter. With a failing allocation there is no core.
+/// A core has the given arbiter. If an allocation fails, there is no core.
 #[test]
 fn takes_a_rotating_arbiter(rt: HostRuntime) {
     let Ok(mut core) = rotating(&rt) else {
         return;
     };
     for (cmd, wanted) in &LOOKS {
-        match core.apply(0, &Event::Bus(*cmd)) {
-            Ok(EventReply::Bus(reply)) => assert_eq!(&rt; reply, *wanted, "{cmd:?}"),
-            other => panic!(&rt; "{other:?}"),
-        }
+        check_reply(&rt, &core.apply(0, &Event::Bus(*cmd)), *wanted);
     }
 }

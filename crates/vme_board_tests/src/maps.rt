@@ -1,13 +1,12 @@
 //! Address maps: the entries that cycles select, and the refusals of maps.
-use crate::support::signals_of;
-use std::alloc::Global;
+use crate::support::{map_of, signals_of};
+use std::alloc::{AllocError, Global};
 use std::process::Abort;
-use std::test::Fail;
 use vme_am::Space;
 use vme_cycle::Request;
 use vme_decode::{AddressMap, Entry, MapFault};
 
-/// An entry that admits all codes.
+/// Returns an entry that admits all codes.
 fn entry(space: Space, base: u32, size: u32) -> Entry {
     Entry {
         space,
@@ -17,11 +16,12 @@ fn entry(space: Space, base: u32, size: u32) -> Entry {
     }
 }
 
-/// The fault of some entries, if there is no map of them.
+/// Returns the fault of some entries, or `None` where they make a map.
 fn fault(alloc: Global, entries: &[Entry]) -> Option<MapFault> {
     AddressMap::new(alloc, entries).err()
 }
 
+/// One entry in each space. Only supervisory codes select the second.
 static MIXED: [Entry; 3] = [
     Entry {
         space: Space::A32,
@@ -43,7 +43,7 @@ static MIXED: [Entry; 3] = [
     },
 ];
 
-/// Reads on that map, by code, address and length, and what they select.
+/// Reads on the map of `MIXED`, by code, address and length, and what they select.
 static BYTES: [(u8, u32, u8, Option<(usize, u32)>); 5] = [
     (0x39, 0x20_0004, 1, None),
     (0x3d, 0x20_0004, 1, Some((1, 4))),
@@ -80,7 +80,7 @@ static UNSORTED: [Entry; 4] = [
     },
 ];
 
-/// Reads on that map.
+/// Reads on the map of `UNSORTED`, by code, address and length, and what they select.
 static PLACES: [(u8, u32, u8, Option<(usize, u32)>); 5] = [
     (0x09, 0x1008, 1, Some((1, 8))),
     (0x39, 0x1008, 1, Some((2, 8))),
@@ -89,6 +89,7 @@ static PLACES: [(u8, u32, u8, Option<(usize, u32)>); 5] = [
     (0x09, 0x0fff, 1, None),
 ];
 
+/// Entries of a few bytes, one of them at the end of the space.
 static SMALL: [Entry; 4] = [
     Entry {
         space: Space::A32,
@@ -116,7 +117,7 @@ static SMALL: [Entry; 4] = [
     },
 ];
 
-/// Reads on that map, which the first byte selects.
+/// Reads on the map of `SMALL`, by code, address and length, and what their first byte selects.
 static READS: [(u8, u32, u8, Option<(usize, u32)>); 9] = [
     (0x09, 3, 1, None),
     (0x09, 4, 4, Some((0, 0))),
@@ -129,28 +130,35 @@ static READS: [(u8, u32, u8, Option<(usize, u32)>); 9] = [
     (0x09, 0xffff_ffff, 1, Some((3, 3))),
 ];
 
-#[test]
-fn the_first_byte_selects_by_space_range_and_privilege(rt: HostRuntime) -> Result<(), Fail> {
-    for (entries, reads) in [
-        (&MIXED[..], &BYTES[..]),
-        (&UNSORTED[..], &PLACES[..]),
-        (&SMALL[..], &READS[..]),
-    ] {
-        let map = AddressMap::new(rt.alloc(), entries)?;
-        for (am, addr, n, place) in reads {
-            let request = Request::Read {
-                am: *am,
-                addr: *addr,
-                n: *n,
-            };
-            assert_eq!(&rt;
-                map.select(&signals_of(&rt, &request)),
-                *place,
-                "{am:02x} {addr:x} {n}"
-            );
-        }
+/// Reads by code, address and length, each with the index of the selected entry and the offset.
+type Reads = &'static [(u8, u32, u8, Option<(usize, u32)>)];
+
+/// Checks what a read selects.
+fn check_read(
+    rt: &impl Abort,
+    map: &AddressMap,
+    am: u8,
+    addr: u32,
+    n: u8,
+    place: Option<(usize, u32)>,
+) {
+    let signals = signals_of(rt, &Request::Read { am, addr, n });
+    assert_eq!(rt; map.select(&signals), place, "{am:02x} {addr:x} {n}");
+}
+
+/// Checks what some reads select on a map of these entries.
+fn check_reads(rt: &impl Abort, alloc: Global, entries: &[Entry], reads: Reads) {
+    let map = map_of(rt, alloc, entries);
+    for (am, addr, n, place) in reads {
+        check_read(rt, &map, *am, *addr, *n, *place);
     }
-    Ok(())
+}
+
+#[test]
+fn the_first_byte_selects_by_space_range_and_privilege(rt: HostRuntime) {
+    check_reads(&rt, rt.alloc(), &MIXED, &BYTES);
+    check_reads(&rt, rt.alloc(), &UNSORTED, &PLACES);
+    check_reads(&rt, rt.alloc(), &SMALL, &READS);
 }
 
 /// Entries by space, base and size, and the fault of their map.
@@ -193,19 +201,24 @@ static MAPS: [(&[(Space, u32, u32)], Option<MapFault>); 13] = [
     ),
 ];
 
-#[test]
-fn refuses_entries_in_order(rt: HostRuntime) -> Result<(), Fail> {
-    for (places, wanted) in &MAPS {
-        let mut entries = Vec::new(rt.alloc());
-        for (space, base, size) in *places {
-            entries.push(entry(*space, *base, *size))?;
-        }
-        assert_eq!(rt; fault(rt.alloc(), entries.as_slice()), *wanted);
+/// Returns the entries of these spaces, bases and sizes.
+fn entries_of(alloc: Global, places: &[(Space, u32, u32)]) -> Result<Vec<Entry>, AllocError> {
+    let mut entries = Vec::new(alloc);
+    for (space, base, size) in places {
+        entries.push(entry(*space, *base, *size))?;
     }
-    Ok(())
+    Ok(entries)
 }
 
-/// A number of equal entries, and the fault of their map.
+#[test]
+fn refuses_entries_in_order(rt: HostRuntime) {
+    for (places, wanted) in &MAPS {
+        let entries = entries_of(rt.alloc(), places).expect(&rt, "no memory");
+        assert_eq!(rt; fault(rt.alloc(), entries.as_slice()), *wanted);
+    }
+}
+
+/// Numbers of equal entries, with their base, and the fault of their map.
 static COUNTS: [(usize, u32, Option<MapFault>); 3] = [
     (21, 0, None),
     (22, 0, Some(MapFault::TooMany)),
@@ -213,10 +226,10 @@ static COUNTS: [(usize, u32, Option<MapFault>); 3] = [
 ];
 
 #[test]
-fn a_map_has_21_entries_at_most(rt: HostRuntime) -> Result<(), Fail> {
+fn a_map_has_21_entries_at_most(rt: HostRuntime) {
     for (count, base, wanted) in &COUNTS {
-        let entries = vec![in rt.alloc(); entry(Space::A24, *base, 0); *count]?;
+        let entries = vec![in rt.alloc(); entry(Space::A24, *base, 0); *count];
+        let entries = entries.expect(&rt, "no memory");
         assert_eq!(rt; fault(rt.alloc(), entries.as_slice()), *wanted);
     }
-    Ok(())
 }

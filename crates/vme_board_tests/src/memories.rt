@@ -1,7 +1,7 @@
 //! The replies of boards of several classes.
 use crate::support::{NARROW, WHOLE, datum, memory_of, signals_of};
+use std::alloc::Global;
 use std::process::Abort;
-use std::test::Fail;
 use vme_cycle::{Block, Modify, Plan, Request};
 use vme_lanes::Datum;
 use vme_memory::{BoardCmd, ByteMemory, MemoryFault, Reply};
@@ -27,22 +27,40 @@ fn block_read(addr: u32, n: u8, count: u16) -> Request {
     }
 }
 
-/// The replies of a board at address 0 to the data of a request, up to the first bus error. A
-/// letter stands for each: `r`, `w` or `b`.
+/// A transfer, with its bytes as a slice.
+enum Transfer {
+    Read(u32, u8),
+    Write(u32, &'static [u8]),
+    BlockRead(u32, u8, u16),
+}
+
+fn request_of(transfer: &Transfer) -> Request {
+    match transfer {
+        Transfer::Read(addr, n) => read(*addr, *n),
+        Transfer::Write(addr, bytes) => write(*addr, bytes),
+        Transfer::BlockRead(addr, n, count) => block_read(*addr, *n, *count),
+    }
+}
+
+/// Returns the letter that stands for a reply: `r`, `w` or `b`.
+fn letter_of(reply: &Reply) -> u8 {
+    match reply {
+        Reply::Bytes(_) => b'r',
+        Reply::Done => b'w',
+        Reply::Berr => b'b',
+    }
+}
+
+/// Returns the letters of the replies of a board at address 0 to the data of a request, up to the
+/// first bus error.
 fn answers(rt: &impl Abort, memory: &mut ByteMemory, request: &Request) -> Datum {
     let mut letters = Datum::new();
-    let Ok(plan) = Plan::of(request) else {
-        panic!(rt; "refused")
-    };
+    let plan = Plan::of(request).expect(rt, "refused");
     for i in 0..plan.len() {
         let at = plan
             .addr()
-            .wrapping_add(u32::from(i) * u32::from(plan.datum_len()));
-        let letter = match memory.cycle(&plan.signals(i), at, plan.modify()) {
-            Reply::Bytes(_) => b'r',
-            Reply::Done => b'w',
-            Reply::Berr => b'b',
-        };
+            .wrapping_add(u32::from(i).wrapping_mul(u32::from(plan.datum_len())));
+        let letter = letter_of(&memory.cycle(&plan.signals(i), at, plan.modify()));
         assert!(rt; letters.try_push(letter).is_ok());
         if letter == b'b' {
             break;
@@ -51,54 +69,50 @@ fn answers(rt: &impl Abort, memory: &mut ByteMemory, request: &Request) -> Datum
     letters
 }
 
-#[test]
-fn a_narrow_board_lacks_cycles(rt: HostRuntime) -> Result<(), Fail> {
-    let mut memory = memory_of(&rt, rt.alloc(), 16, NARROW);
-    let cases = [
-        (read(0, 4), b"b".as_slice()),
-        (read(1, 2), b"b"),
-        (read(0, 3), b"b"),
-        (write(2, &[1, 2]), b"w"),
-        (read(3, 1), b"r"),
-        (block_read(0, 1, 4), b"b"),
-        (read(16, 1), b"b"),
-    ];
-    for (request, letters) in &cases {
-        assert_eq!(&rt; answers(&rt, &mut memory, request).as_slice(), *letters);
-    }
-    assert_eq!(&rt; memory.byte(2), Some(1));
-    assert_eq!(&rt; memory.byte(3), Some(2));
-    assert_eq!(&rt; memory.byte(16), None);
-    Ok(())
+/// Checks the letters of the replies of a board at address 0 to a request.
+fn check_answers(rt: &impl Abort, memory: &mut ByteMemory, request: &Request, letters: &[u8]) {
+    assert_eq!(rt; answers(rt, memory, request).as_slice(), letters);
 }
 
+/// Transfers in order to one narrow board of 16 bytes, each with the letters of the replies.
+static TRANSFERS: [(Transfer, &[u8]); 7] = [
+    (Transfer::Read(0, 4), b"b"),
+    (Transfer::Read(1, 2), b"b"),
+    (Transfer::Read(0, 3), b"b"),
+    (Transfer::Write(2, &[1, 2]), b"w"),
+    (Transfer::Read(3, 1), b"r"),
+    (Transfer::BlockRead(0, 1, 4), b"b"),
+    (Transfer::Read(16, 1), b"b"),
+];
+
 #[test]
-fn a_block_ends_at_the_end_of_a_board(rt: HostRuntime) -> Result<(), Fail> {
-    let mut memory = memory_of(&rt, rt.alloc(), 20, WHOLE);
-    assert_eq!(&rt;
-        answers(&rt, &mut memory, &block_read(16, 4, 2)).as_slice(),
-        b"rb".as_slice()
-    );
-    assert_eq!(&rt;
-        answers(&rt, &mut memory, &block_read(15, 1, 9)).as_slice(),
-        b"rrrrrb".as_slice()
-    );
-    let Ok(bytes) = Block::from_slice(rt.alloc(), &[1u8, 2, 3, 4, 5, 6]) else {
-        panic!(&rt; "no memory")
-    };
-    let block = Request::BlockWrite {
+fn a_narrow_board_lacks_cycles(rt: HostRuntime) {
+    let mut memory = memory_of(&rt, rt.alloc(), 16, NARROW);
+    for (transfer, letters) in &TRANSFERS {
+        check_answers(&rt, &mut memory, &request_of(transfer), letters);
+    }
+    let bytes = (memory.byte(2), memory.byte(3), memory.byte(16));
+    assert_eq!(&rt; bytes, (Some(1), Some(2), None));
+}
+
+/// Returns a block write of three data of two bytes from address 18 on.
+fn block_write(rt: &impl Abort, alloc: Global) -> Request {
+    let bytes = Block::from_slice(alloc, &[1u8, 2, 3, 4, 5, 6]);
+    Request::BlockWrite {
         am: 0x0f,
         addr: 18,
         n: 2,
-        bytes,
-    };
-    assert_eq!(&rt;
-        answers(&rt, &mut memory, &block).as_slice(),
-        b"wb".as_slice()
-    );
-    assert_eq!(&rt; memory.byte(18), Some(1));
-    assert_eq!(&rt; memory.byte(19), Some(2));
-    Ok(())
+        bytes: bytes.expect(rt, "no memory"),
+    }
+}
+
+#[test]
+fn a_block_ends_at_the_end_of_a_board(rt: HostRuntime) {
+    let mut memory = memory_of(&rt, rt.alloc(), 20, WHOLE);
+    check_answers(&rt, &mut memory, &block_read(16, 4, 2), b"rb");
+    check_answers(&rt, &mut memory, &block_read(15, 1, 9), b"rrrrrb");
+    check_answers(&rt, &mut memory, &block_write(&rt, rt.alloc()), b"wb");
+    assert_eq!(&rt; (memory.byte(18), memory.byte(19)), (Some(1), Some(2)));
 }
 
 static SIZES: [(u32, Option<MemoryFault>); 5] = [
@@ -110,15 +124,14 @@ static SIZES: [(u32, Option<MemoryFault>); 5] = [
 ];
 
 #[test]
-fn sizes_of_boards(rt: HostRuntime) -> Result<(), Fail> {
+fn sizes_of_boards(rt: HostRuntime) {
     for (size, wanted) in &SIZES {
         let fault = ByteMemory::new(rt.alloc(), *size, WHOLE).err();
         assert_eq!(&rt; fault, *wanted);
     }
-    Ok(())
 }
 
-/// The bytes of the reply to a command, empty after a write, or `None` for a bus error.
+/// Returns the bytes of the reply to a command, empty after a write, or `None` for a bus error.
 fn answer(memory: &mut ByteMemory, command: &BoardCmd) -> Option<Datum> {
     match memory.local(command) {
         Reply::Bytes(datum) => Some(datum),
@@ -165,21 +178,31 @@ static LOCALS: [(u32, Local, Option<&[u8]>, u8); 5] = [
     (12, Local::Exchange(4, &[1, 2]), None, 0),
 ];
 
-#[test]
-fn the_local_port_takes_any_offset(rt: HostRuntime) -> Result<(), Fail> {
-    let mut memory = memory_of(&rt, rt.alloc(), 16, NARROW);
-    for (offset, local, wanted, byte) in &LOCALS {
-        let answered = answer(&mut memory, &command(*offset, local));
-        assert_eq!(&rt; answered.is_some(), wanted.is_some());
-        if let (Some(bytes), Some(wanted)) = (&answered, wanted) {
-            assert_eq!(&rt; bytes.as_slice(), *wanted);
-        }
-        assert_eq!(&rt; memory.byte(*offset), Some(*byte));
-    }
-    Ok(())
+/// Checks the bytes of the reply to a command: empty after a write, `None` for a bus error.
+fn check_answer(
+    rt: &impl Abort,
+    memory: &mut ByteMemory,
+    command: &BoardCmd,
+    wanted: Option<&[u8]>,
+) {
+    let answered = answer(memory, command);
+    let bytes = match &answered {
+        Some(bytes) => Some(bytes.as_slice()),
+        None => None,
+    };
+    assert_eq!(rt; bytes, wanted);
 }
 
-/// A read of four bytes by the bus.
+#[test]
+fn the_local_port_takes_any_offset(rt: HostRuntime) {
+    let mut memory = memory_of(&rt, rt.alloc(), 16, NARROW);
+    for (offset, local, wanted, byte) in &LOCALS {
+        check_answer(&rt, &mut memory, &command(*offset, local), *wanted);
+        assert_eq!(&rt; memory.byte(*offset), Some(*byte));
+    }
+}
+
+/// Returns a read of four bytes over the bus.
 fn read_quad(rt: &impl Abort, addr: u32) -> BoardCmd {
     BoardCmd::Cycle {
         signals: signals_of(rt, &read(addr, 4)),
@@ -188,9 +211,9 @@ fn read_quad(rt: &impl Abort, addr: u32) -> BoardCmd {
     }
 }
 
-/// Commands of the local port in order to one board of 16 bytes, or reads of four bytes by the bus
-/// where there is no command. Each has the bytes of its reply, empty after a write. They reach over
-/// two words.
+/// Commands in order to one board of 16 bytes, which reach over two words: offset, command to the
+/// local port or, where there is none, a read of four bytes over the bus, and the bytes of the
+/// reply, empty after a write.
 static ACROSS: [(u32, Option<Local>, &[u8]); 5] = [
     (3, Some(Local::Write(&[0xa1, 0xa2, 0xa3, 0xa4])), &[]),
     (0, None, &[0, 0, 0, 0xa1]),
@@ -204,23 +227,19 @@ static ACROSS: [(u32, Option<Local>, &[u8]); 5] = [
 ];
 
 #[test]
-fn bytes_lie_across_words(rt: HostRuntime) -> Result<(), Fail> {
+fn bytes_lie_across_words(rt: HostRuntime) {
     let mut memory = memory_of(&rt, rt.alloc(), 16, WHOLE);
     for (offset, local, wanted) in &ACROSS {
         let command = match local {
             Some(local) => command(*offset, local),
             None => read_quad(&rt, *offset),
         };
-        let Some(bytes) = answer(&mut memory, &command) else {
-            panic!(&rt; "a bus error")
-        };
-        assert_eq!(&rt; bytes.as_slice(), *wanted);
+        check_answer(&rt, &mut memory, &command, Some(*wanted));
     }
-    Ok(())
 }
 
 #[test]
-fn functions_want_their_switch(rt: HostRuntime) -> Result<(), Fail> {
+fn functions_want_their_switch(rt: HostRuntime) {
     let request = Request::Modify {
         am: 0x0d,
         addr: 4,
@@ -229,22 +248,28 @@ fn functions_want_their_switch(rt: HostRuntime) -> Result<(), Fail> {
     };
     for (class, letters) in [(NARROW, b"b".as_slice()), (WHOLE, b"r")] {
         let mut memory = memory_of(&rt, rt.alloc(), 16, class);
-        assert_eq!(&rt; answers(&rt, &mut memory, &request).as_slice(), letters);
+        check_answers(&rt, &mut memory, &request, letters);
     }
-    Ok(())
 }
 
+/// Returns the cycle of a request for one datum at offset 4, with a function.
+fn modifying(rt: &impl Abort, request: &Request) -> BoardCmd {
+    BoardCmd::Cycle {
+        signals: signals_of(rt, request),
+        at: 4,
+        f: Some(Modify::Set),
+    }
+}
+
+/// Transfers of one byte at address 4 that have no read half.
+static NO_READ_HALF: [Transfer; 2] = [Transfer::Write(4, &[1]), Transfer::BlockRead(4, 1, 1)];
+
 #[test]
-fn a_function_comes_with_a_read_half_alone(rt: HostRuntime) -> Result<(), Fail> {
+fn a_function_comes_with_a_read_half_alone(rt: HostRuntime) {
     let mut memory = memory_of(&rt, rt.alloc(), 16, WHOLE);
-    for request in [write(4, &[1]), block_read(4, 1, 1)] {
-        let cycle = BoardCmd::Cycle {
-            signals: signals_of(&rt, &request),
-            at: 4,
-            f: Some(Modify::Set),
-        };
-        assert!(&rt; answer(&mut memory, &cycle).is_none());
+    for transfer in &NO_READ_HALF {
+        let cycle = modifying(&rt, &request_of(transfer));
+        check_answer(&rt, &mut memory, &cycle, None);
         assert_eq!(&rt; memory.byte(4), Some(0));
     }
-    Ok(())
 }

@@ -2,7 +2,6 @@
 //! replies and the memories are those of an array of bytes.
 use crate::support::{WHOLE, datum, memory_of, reply};
 use std::process::Abort;
-use std::test::Fail;
 use vme_cycle::{Modify, Plan, Request, Signals};
 use vme_lanes::{Datum, copy_bytes};
 use vme_memory::{BoardCmd, ByteMemory, Reply};
@@ -22,7 +21,7 @@ impl Random {
         (self.state >> 33) as u32 % count.max(1)
     }
 
-    /// `n` bytes, at most four.
+    /// Returns `n` bytes, at most four.
     fn bytes(&mut self, n: u8) -> Datum {
         let mut bytes = Datum::new();
         for _ in 0..n.min(4) {
@@ -31,7 +30,7 @@ impl Random {
         bytes
     }
 
-    /// What a command with data of `n` bytes does.
+    /// Returns what a command with data of `n` bytes does.
     fn action(&mut self, n: u8) -> Action {
         match self.below(6) {
             0 | 1 => Action::Read,
@@ -41,6 +40,40 @@ impl Random {
             _ => Action::Modify(Modify::Add(self.bytes(n))),
         }
     }
+
+    fn way(&mut self) -> Way {
+        match self.below(3) {
+            0 => Way::Local,
+            1 => Way::Single,
+            _ => Way::Block,
+        }
+    }
+
+    /// Returns the number of bytes of a datum: three only in a single transfer.
+    fn datum_len(&mut self, way: Way) -> u8 {
+        match (self.below(4), way) {
+            (0, _) => 1,
+            (1, _) => 2,
+            (2, Way::Single) => 3,
+            _ => 4,
+        }
+    }
+
+    /// Returns the number of data: more than one only in a block.
+    fn count(&mut self, way: Way) -> u16 {
+        match way {
+            Way::Block => 1 + (self.below(5) & 7) as u16,
+            Way::Local | Way::Single => 1,
+        }
+    }
+}
+
+/// The way of a command to a board: by the local port, or over the bus.
+#[derive(Clone, Copy)]
+enum Way {
+    Local,
+    Single,
+    Block,
 }
 
 /// What a command does with the bytes at its offset.
@@ -51,7 +84,7 @@ enum Action {
     Modify(Modify),
 }
 
-/// The number of which the bytes are the digits, the most significant first.
+/// Returns the number of which the bytes are the digits, the most significant first.
 fn number(bytes: &[u8]) -> u32 {
     let mut number = 0u32;
     for byte in bytes {
@@ -60,44 +93,70 @@ fn number(bytes: &[u8]) -> u32 {
     number
 }
 
-/// The bytes that a function writes in place of some bytes.
+/// Returns the bytes with bit 7 of the first one set.
+fn with_top_bit(bytes: &[u8]) -> Datum {
+    let mut new = datum(bytes);
+    if let Some(first) = new.as_mut_slice().first_mut() {
+        *first |= 0x80;
+    }
+    new
+}
+
+/// Returns the sum of two numbers, in as many digits as the first has.
+fn sum_of(bytes: &[u8], by: &[u8]) -> Datum {
+    let digits = number(bytes).wrapping_add(number(by)).to_be_bytes();
+    datum(&digits[digits.len().saturating_sub(bytes.len())..])
+}
+
+/// Returns the bytes that a function writes in place of some bytes.
 fn modified(old: &[u8], f: &Modify) -> Datum {
     match f {
-        Modify::Set => {
-            let mut new = datum(old);
-            if let Some(first) = new.as_mut_slice().first_mut() {
-                *first |= 0x80;
-            }
-            new
-        }
+        Modify::Set => with_top_bit(old),
         Modify::Exchange(put) => copy_bytes(put),
-        Modify::Add(by) => {
-            let sum = number(old).wrapping_add(number(by.as_slice()));
-            let digits = sum.to_be_bytes();
-            datum(&digits[digits.len().saturating_sub(old.len())..])
-        }
-        Modify::Compare { expect, put } if expect.as_slice() == old => copy_bytes(put),
-        Modify::Compare { .. } => datum(old),
+        Modify::Add(by) => sum_of(old, by.as_slice()),
+        Modify::Compare { expect, put } => datum(if expect.as_slice() == old {
+            put.as_slice()
+        } else {
+            old
+        }),
     }
 }
 
-/// The reply of an array to a command, which it changes as the command says.
+fn overwrite(place: &mut [u8], bytes: &[u8]) {
+    for (byte, put) in place.iter_mut().zip(bytes) {
+        *byte = *put;
+    }
+}
+
+/// Changes bytes as a command says, and returns the reply.
+fn changed(place: &mut [u8], action: &Action) -> Reply {
+    match action {
+        Action::Read => Reply::Bytes(datum(place)),
+        Action::Write(put) => {
+            overwrite(place, put.as_slice());
+            Reply::Done
+        }
+        Action::Modify(f) => {
+            let old = datum(place);
+            overwrite(place, modified(old.as_slice(), f).as_slice());
+            Reply::Bytes(old)
+        }
+    }
+}
+
+/// Changes an array as a command to `n` bytes at `at` says, and returns the reply.
 fn answer(bytes: &mut [u8], at: u32, n: u8, action: &Action) -> Reply {
     let (first, len) = (at as usize, usize::from(n));
     if first > bytes.len() || len > bytes.len() - first {
         return Reply::Berr;
     }
-    let place = &mut bytes[first..first + len];
-    let old = datum(place);
-    let (new, reply) = match action {
-        Action::Read => return Reply::Bytes(old),
-        Action::Write(put) => (copy_bytes(put), Reply::Done),
-        Action::Modify(f) => (modified(old.as_slice(), f), Reply::Bytes(old)),
-    };
-    for (byte, put) in place.iter_mut().zip(new.as_slice()) {
-        *byte = *put;
-    }
-    reply
+    changed(&mut bytes[first..first + len], action)
+}
+
+/// Checks the replies of both boards.
+fn check_replies(rt: &impl Abort, by_signals: &Reply, by_commands: &Reply, wanted: &Reply) {
+    assert_eq!(rt; *by_signals, *wanted);
+    assert_eq!(rt; *by_commands, *wanted);
 }
 
 /// The number of bytes of each board.
@@ -105,7 +164,7 @@ const SIZE: u32 = 32;
 
 const COMMANDS: u32 = 2_000;
 
-/// An array of bytes, and two boards that go through the same commands.
+/// An array of bytes, and two boards that receive the same commands.
 #[derive(Drop)]
 struct Trio {
     bytes: [u8; SIZE as usize],
@@ -116,58 +175,80 @@ struct Trio {
 impl Trio {
     /// Gives a command to the local port of both boards.
     fn local(&mut self, rt: &impl Abort, offset: u32, n: u8, action: &Action) {
-        let command = match action {
-            Action::Read => BoardCmd::LocalRead { offset, n },
-            Action::Write(bytes) => BoardCmd::LocalWrite {
-                offset,
-                bytes: copy_bytes(bytes),
-            },
-            Action::Modify(f) => BoardCmd::LocalModify {
-                offset,
-                n,
-                f: f.copy(),
-            },
-        };
+        let command = local_command(offset, n, action);
         let wanted = answer(&mut self.bytes, offset, n, action);
-        assert_eq!(rt; self.by_signals.local(&command), wanted);
-        assert_eq!(rt; reply(&mut self.by_commands, &command), wanted);
+        let by_signals = self.by_signals.local(&command);
+        let by_commands = reply(&mut self.by_commands, &command);
+        check_replies(rt, &by_signals, &by_commands, &wanted);
+    }
+
+    /// Makes the cycle of one datum of a transfer with the function `f`. Returns whether it ends
+    /// without a bus error.
+    fn cycle(
+        &mut self,
+        rt: &impl Abort,
+        (signals, at): (Signals, u32),
+        f: Option<&Modify>,
+        n: u8,
+        action: &Action,
+    ) -> bool {
+        let wanted = answer(&mut self.bytes, at, n, action);
+        let shown = shown_again(rt, &signals);
+        let by_signals = self.by_signals.cycle(&shown, at, f);
+        let f = function_of(action);
+        let command = BoardCmd::Cycle { signals, at, f };
+        let by_commands = reply(&mut self.by_commands, &command);
+        check_replies(rt, &by_signals, &by_commands, &wanted);
+        !matches!(wanted, Reply::Berr)
     }
 
     /// Makes the transfer of a request, whose data have `n` bytes, up to the first bus error.
     fn transfer(&mut self, rt: &impl Abort, request: &Request, n: u8, action: &Action) {
-        let Ok(plan) = Plan::of(request) else {
-            return;
-        };
-        for i in 0..plan.len() {
-            let signals = plan.signals(i);
-            let at = plan
-                .addr()
-                .wrapping_add(u32::from(i).wrapping_mul(u32::from(n)));
-            let wanted = answer(&mut self.bytes, at, n, action);
-            let shown = shown_again(rt, &signals);
-            assert_eq!(rt; self.by_signals.cycle(&shown, at, plan.modify()), wanted);
-            let f = match action {
-                Action::Modify(f) => Some(f.copy()),
-                Action::Read | Action::Write(_) => None,
-            };
-            let command = BoardCmd::Cycle { signals, at, f };
-            assert_eq!(rt; reply(&mut self.by_commands, &command), wanted);
-            if wanted == Reply::Berr {
-                break;
+        if let Ok(plan) = Plan::of(request) {
+            for i in 0..plan.len() {
+                let at = plan
+                    .addr()
+                    .wrapping_add(u32::from(i).wrapping_mul(u32::from(n)));
+                if !self.cycle(rt, (plan.signals(i), at), plan.modify(), n, action) {
+                    break;
+                }
             }
         }
     }
 
-    /// Both boards have the bytes of the array.
+    /// Gives the next random command to both boards.
+    fn step(&mut self, rt: &impl Abort, random: &mut Random) {
+        let offset = random.below(SIZE + 4);
+        let way = random.way();
+        let n = random.datum_len(way);
+        let action = random.action(n);
+        let count = random.count(way);
+        self.give(rt, way, offset, n, count, &action);
+    }
+
+    /// Gives a command to both boards.
+    fn give(&mut self, rt: &impl Abort, way: Way, offset: u32, n: u8, count: u16, action: &Action) {
+        match way {
+            Way::Local => self.local(rt, offset, n, action),
+            Way::Single => self.transfer(rt, &single(offset, n, action), n, action),
+            Way::Block => {
+                if let Some(request) = block(offset, n, count, action) {
+                    self.transfer(rt, &request, n, action);
+                }
+            }
+        }
+    }
+
+    /// Checks that both boards have the bytes of the array.
     fn check(&self, rt: &impl Abort) {
         for (offset, byte) in (0..SIZE).zip(&self.bytes) {
-            assert_eq!(rt; self.by_signals.byte(offset), Some(*byte));
-            assert_eq!(rt; self.by_commands.byte(offset), Some(*byte));
+            let found = (self.by_signals.byte(offset), self.by_commands.byte(offset));
+            assert_eq!(rt; found, (Some(*byte), Some(*byte)));
         }
     }
 }
 
-/// The signals that a slave sees on the lines that other signals drive.
+/// Returns the signals that a slave sees on the lines that other signals drive.
 fn shown_again(rt: &impl Abort, signals: &Signals) -> Signals {
     let shown = Signals::from_lines(
         signals.am(),
@@ -176,13 +257,34 @@ fn shown_again(rt: &impl Abort, signals: &Signals) -> Signals {
         signals.write(),
         signals.lines(),
     );
-    match shown {
-        Some(shown) => shown,
-        None => panic!(rt; "the strobes select no bytes"),
+    shown.expect(rt, "the strobes select no bytes")
+}
+
+/// Returns a copy of the function of a read-modify-write, and `None` for every other command.
+fn function_of(action: &Action) -> Option<Modify> {
+    match action {
+        Action::Modify(f) => Some(f.copy()),
+        Action::Read | Action::Write(_) => None,
     }
 }
 
-/// A request for one datum.
+/// Returns the command to the local port.
+fn local_command(offset: u32, n: u8, action: &Action) -> BoardCmd {
+    match action {
+        Action::Read => BoardCmd::LocalRead { offset, n },
+        Action::Write(bytes) => BoardCmd::LocalWrite {
+            offset,
+            bytes: copy_bytes(bytes),
+        },
+        Action::Modify(f) => BoardCmd::LocalModify {
+            offset,
+            n,
+            f: f.copy(),
+        },
+    }
+}
+
+/// Returns a request for one datum.
 fn single(addr: u32, n: u8, action: &Action) -> Request {
     match action {
         Action::Read => Request::Read { am: 0x09, addr, n },
@@ -200,7 +302,7 @@ fn single(addr: u32, n: u8, action: &Action) -> Request {
     }
 }
 
-/// A request for a block of equal data, or none if there is no such block.
+/// Returns a request for a block of equal data, or `None` if there is no such block.
 fn block(addr: u32, n: u8, count: u16, action: &Action) -> Option<Request> {
     match action {
         Action::Read => Some(Request::BlockRead {
@@ -221,7 +323,7 @@ fn block(addr: u32, n: u8, count: u16, action: &Action) -> Option<Request> {
 }
 
 #[test]
-fn boards_agree_with_an_array_of_bytes(rt: HostRuntime) -> Result<(), Fail> {
+fn boards_agree_with_an_array_of_bytes(rt: HostRuntime) {
     let mut random = Random { state: 1014 };
     let mut trio = Trio {
         bytes: [0; SIZE as usize],
@@ -229,26 +331,7 @@ fn boards_agree_with_an_array_of_bytes(rt: HostRuntime) -> Result<(), Fail> {
         by_commands: memory_of(&rt, rt.alloc(), SIZE, WHOLE),
     };
     for _ in 0..COMMANDS {
-        let offset = random.below(SIZE + 4);
-        let by = random.below(3);
-        let n = match random.below(4) {
-            0 => 1,
-            1 => 2,
-            2 if by == 1 => 3,
-            _ => 4,
-        };
-        let action = random.action(n);
-        match by {
-            0 => trio.local(&rt, offset, n, &action),
-            1 => trio.transfer(&rt, &single(offset, n, &action), n, &action),
-            _ => {
-                let count = 1 + (random.below(5) & 7) as u16;
-                if let Some(request) = block(offset, n, count, &action) {
-                    trio.transfer(&rt, &request, n, &action);
-                }
-            }
-        }
+        trio.step(&rt, &mut random);
         trio.check(&rt);
     }
-    Ok(())
 }

@@ -27,8 +27,8 @@ pub static BOARDS: [Entry; 2] = [
 
 const BASE: u32 = 0x1000;
 
-/// The offset of the mailbox in the second board. Its counts are at 12 and 16, its words at 24 and
-/// 28.
+/// The offset of the mailbox, and so of its lock, in the second board. The counts of the mailbox are
+/// at 12 and 16, its words at 24 and 28.
 const LOCK_AT: u32 = 8;
 
 pub const MAILBOX: Mailbox = Mailbox {
@@ -37,7 +37,7 @@ pub const MAILBOX: Mailbox = Mailbox {
     slots: 2,
 };
 
-/// A cycle on the second board, at an offset.
+/// A cycle on the second board, at the lock or at an offset.
 #[derive(Clone, Copy, Debug)]
 pub enum Cycle {
     /// The read-modify-write of the lock.
@@ -77,7 +77,7 @@ impl Cycle {
         }
     }
 
-    /// The command of the cycle.
+    /// Returns the command of the cycle.
     fn command(self, rt: &impl Abort) -> BoardCmd {
         let f = match self {
             Cycle::Set => Some(Modify::Set),
@@ -119,6 +119,7 @@ impl<'a> SharedMachine for TakeTask<'a> {
     }
 }
 
+/// Checks that a task's next step is this command to the arbiter.
 pub fn expect_turn(rt: &impl Abort, todo: &SharedTodo, wanted: ArbCmd) {
     match todo {
         SharedTodo::Call(Event::Bus(cmd)) => assert_eq!(rt; *cmd, wanted),
@@ -126,6 +127,7 @@ pub fn expect_turn(rt: &impl Abort, todo: &SharedTodo, wanted: ArbCmd) {
     }
 }
 
+/// Checks that a task's next step is this cycle.
 fn expect_cycle(rt: &impl Abort, todo: &SharedTodo, wanted: Cycle) {
     match todo {
         SharedTodo::Call(Event::Board { board, cmd }) => {
@@ -136,6 +138,7 @@ fn expect_cycle(rt: &impl Abort, todo: &SharedTodo, wanted: Cycle) {
     }
 }
 
+/// Returns the outcome of a task that has ended.
 pub fn expect_end(rt: &impl Abort, todo: &SharedTodo) -> SharedOutcome {
     match todo {
         SharedTodo::Finished(outcome) => *outcome,
@@ -143,21 +146,29 @@ pub fn expect_end(rt: &impl Abort, todo: &SharedTodo) -> SharedOutcome {
     }
 }
 
+/// Leads a task through one cycle, a transfer of its own. `given` is the reply to the call before.
+fn lead(
+    rt: &impl Abort,
+    task: &mut impl SharedMachine,
+    given: Given,
+    cycle: Cycle,
+    answered: Given,
+) {
+    expect_turn(rt, &task.call(replied(given)), ASK);
+    expect_turn(rt, &task.call(replied(WAITING)), LOOK);
+    expect_cycle(rt, &task.call(replied(GRANTED)), cycle);
+    expect_turn(rt, &task.call(replied(answered)), DONE);
+}
+
 /// Leads a task of slot 2 on level 3 through its cycles, each a transfer of its own, and returns
 /// its outcome. A further call has the same outcome.
 pub fn outcome(rt: &impl Abort, task: &mut impl SharedMachine, course: Course) -> SharedOutcome {
-    let mut todo = task.call(None);
-    for (cycle, given) in course {
-        expect_turn(rt, &todo, ASK);
-        todo = task.call(replied(WAITING));
-        expect_turn(rt, &todo, LOOK);
-        todo = task.call(replied(GRANTED));
-        expect_cycle(rt, &todo, *cycle);
-        todo = task.call(replied(*given));
-        expect_turn(rt, &todo, DONE);
-        todo = task.call(replied(FREED));
+    let mut given = Given::Nothing;
+    for (cycle, answered) in course {
+        lead(rt, task, given, *cycle, *answered);
+        given = FREED;
     }
-    let first = expect_end(rt, &todo);
+    let first = expect_end(rt, &task.call(replied(given)));
     let again = expect_end(rt, &task.call(replied(GRANTED)));
     assert_eq!(rt; first, again);
     first

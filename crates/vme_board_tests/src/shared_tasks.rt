@@ -1,8 +1,9 @@
 //! The outcomes of locks, puts and takes, cycle by cycle.
+ghost use Rattle.vme_shared.specs.Mailboxes.{IsMailbox};
+
 use crate::shared_course::{BOARDS, Course, Cycle, MAILBOX, outcome};
-use crate::support::Given;
+use crate::support::{Given, map_of};
 use std::process::Abort;
-use std::test::Fail;
 use vme_cycle::CycleFault;
 use vme_decode::AddressMap;
 use vme_shared::{LockTask, Mailbox, PutTask, SharedOutcome, TakeTask};
@@ -11,8 +12,8 @@ const FREE: (Cycle, Given) = (Cycle::Set, Given::Bytes(&[0]));
 
 const UNLOCKED: (Cycle, Given) = (Cycle::Clear, Given::Done);
 
-/// What is asked for.
-#[derive(Clone, Copy, Debug)]
+/// The job of a task.
+#[derive(Clone, Copy)]
 enum Job {
     Lock,
     Unlock,
@@ -20,7 +21,7 @@ enum Job {
     Take,
 }
 
-/// Jobs, each with what it comes to by its cycles and the replies to them.
+/// Jobs, each with its outcome, its cycles and the replies to them.
 static COURSES: [(Job, SharedOutcome, Course); 24] = [
     (
         Job::Put(0xdead_beef),
@@ -222,44 +223,62 @@ static COURSES: [(Job, SharedOutcome, Course); 24] = [
     ),
 ];
 
-/// What a job comes to.
-fn outcome_of(
-    rt: &impl Abort,
-    map: &AddressMap,
-    job: Job,
-    course: Course,
-) -> Result<SharedOutcome, CycleFault> {
-    Ok(match job {
-        Job::Lock => outcome(rt, &mut LockTask::lock(map, 2, 3, 0x0d, 0x1008)?, course),
-        Job::Unlock => outcome(rt, &mut LockTask::unlock(map, 2, 3, 0x0d, 0x1008)?, course),
-        Job::Put(word) => outcome(rt, &mut PutTask::start(map, 2, 3, MAILBOX, word)?, course),
-        Job::Take => outcome(rt, &mut TakeTask::start(map, 2, 3, MAILBOX)?, course),
-    })
-}
-
-#[test]
-fn each_job_goes_cycle_by_cycle(rt: HostRuntime) -> Result<(), Fail> {
-    let map = AddressMap::new(rt.alloc(), &BOARDS)?;
-    for (job, wanted, course) in &COURSES {
-        assert_eq!(&rt;
-            outcome_of(&rt, &map, *job, course)?,
-            *wanted,
-            "{job:?} {course:?}"
-        );
+/// Returns the outcome of a job.
+fn outcome_of(rt: &impl Abort, map: &AddressMap, job: Job, course: Course) -> SharedOutcome {
+    match job {
+        Job::Lock => lock(rt, map, course),
+        Job::Unlock => unlock(rt, map, course),
+        Job::Put(word) => put(rt, map, word, course),
+        Job::Take => take(rt, map, course),
     }
-    Ok(())
+}
+
+fn lock(rt: &impl Abort, map: &AddressMap, course: Course) -> SharedOutcome {
+    let mut task = LockTask::lock(map, 2, 3, 0x0d, 0x1008).expect(rt, "refused");
+    outcome(rt, &mut task, course)
+}
+
+fn unlock(rt: &impl Abort, map: &AddressMap, course: Course) -> SharedOutcome {
+    let mut task = LockTask::unlock(map, 2, 3, 0x0d, 0x1008).expect(rt, "refused");
+    outcome(rt, &mut task, course)
+}
+
+fn put(rt: &impl Abort, map: &AddressMap, word: u32, course: Course) -> SharedOutcome {
+    let mut task = PutTask::start(map, 2, 3, MAILBOX, word).expect(rt, "refused");
+    outcome(rt, &mut task, course)
+}
+
+fn take(rt: &impl Abort, map: &AddressMap, course: Course) -> SharedOutcome {
+    let mut task = TakeTask::start(map, 2, 3, MAILBOX).expect(rt, "refused");
+    outcome(rt, &mut task, course)
+}
+
+fn check(rt: &impl Abort, outcome: SharedOutcome, wanted: SharedOutcome, course: Course) {
+    assert_eq!(rt; outcome, wanted, "{course:?}");
 }
 
 #[test]
-fn a_lock_is_refused_as_its_transfer_is(rt: HostRuntime) -> Result<(), Fail> {
-    let map = AddressMap::new(rt.alloc(), &BOARDS)?;
-    let program = LockTask::lock(&map, 2, 3, 0x0e, 0x1008);
-    assert!(&rt; matches!(program, Err(CycleFault::ProgramModify)));
-    let block = LockTask::unlock(&map, 2, 3, 0x0b, 0x1008);
-    assert!(&rt; matches!(block, Err(CycleFault::WrongKindOfCode)));
-    let program = LockTask::unlock(&map, 2, 3, 0x0e, 0x1008);
-    assert!(&rt; program.is_ok());
-    Ok(())
+fn each_job_goes_cycle_by_cycle(rt: HostRuntime) {
+    let map = map_of(&rt, rt.alloc(), &BOARDS);
+    for (job, wanted, course) in &COURSES {
+        check(&rt, outcome_of(&rt, &map, *job, course), *wanted, course);
+    }
+}
+
+#[test]
+fn a_lock_is_refused_as_its_transfer_is(rt: HostRuntime) {
+    let map = map_of(&rt, rt.alloc(), &BOARDS);
+    let program = LockTask::lock(&map, 2, 3, 0x0e, 0x1008).err();
+    let block = LockTask::unlock(&map, 2, 3, 0x0b, 0x1008).err();
+    let program_write = LockTask::unlock(&map, 2, 3, 0x0e, 0x1008).err();
+    assert_eq!(&rt;
+        (program, block, program_write),
+        (
+            Some(CycleFault::ProgramModify),
+            Some(CycleFault::WrongKindOfCode),
+            None
+        )
+    );
 }
 
 /// A mailbox that ends with the short space.
@@ -284,20 +303,19 @@ const PROGRAM: Mailbox = Mailbox {
     slots: 3,
 };
 
+/// Checks the fault of a put and of a take with a mailbox.
+fn check_fault(rt: &impl Abort, map: &AddressMap, mailbox: Mailbox, wanted: Option<CycleFault>)
+    requires { IsMailbox mailbox }
+{
+    let put = PutTask::start(map, 2, 3, mailbox, 0).err();
+    let take = TakeTask::start(map, 2, 3, mailbox).err();
+    assert_eq!(rt; (put, take), (wanted, wanted));
+}
+
 #[test]
-fn a_mailbox_is_refused_by_its_lock_or_its_last_word(rt: HostRuntime) -> Result<(), Fail> {
-    let map = AddressMap::new(rt.alloc(), &BOARDS)?;
-    assert!(&rt; PutTask::start(&map, 2, 3, LAST, 0).is_ok());
-    assert!(&rt; TakeTask::start(&map, 2, 3, LAST).is_ok());
-    let put = PutTask::start(&map, 2, 3, BEHIND, 0);
-    assert!(&rt; matches!(put, Err(CycleFault::OutsideSpace)));
-    let take = TakeTask::start(&map, 2, 3, BEHIND);
-    assert!(&rt; matches!(take, Err(CycleFault::OutsideSpace)));
-    assert!(&rt;
-        matches!(
-            TakeTask::start(&map, 2, 3, PROGRAM),
-            Err(CycleFault::ProgramModify)
-        )
-    );
-    Ok(())
+fn a_mailbox_is_refused_by_its_lock_or_its_last_word(rt: HostRuntime) {
+    let map = map_of(&rt, rt.alloc(), &BOARDS);
+    check_fault(&rt, &map, LAST, None);
+    check_fault(&rt, &map, BEHIND, Some(CycleFault::OutsideSpace));
+    check_fault(&rt, &map, PROGRAM, Some(CycleFault::ProgramModify));
 }

@@ -1,10 +1,11 @@
-//! What the tests of boards share: memories, data, replies given by hand, and the trait of objects.
-use arrayvec::ArrayVec;
+//! What the tests of boards share: memories, data, maps, replies given by hand, and the trait of
+//! objects.
 use std::alloc::Global;
 use std::process::Abort;
 use vme_arbiter::{ArbCmd, ArbReply};
 use vme_core::EventReply;
-use vme_cycle::{Block, Plan, Request, Signals};
+use vme_cycle::{Plan, Request, Signals};
+use vme_decode::{AddressMap, Entry};
 use vme_lanes::Datum;
 use vme_memory::{ByteMemory, Class, Reply, Width8To32};
 use vme_object::Object;
@@ -25,28 +26,24 @@ pub const NARROW: Class = Class {
     rmw: false,
 };
 
-/// A memory of a board, all zero.
+/// Returns the memory of a board, all zero.
 pub fn memory_of(rt: &impl Abort, alloc: Global, size: u32, class: Class) -> ByteMemory {
-    match ByteMemory::new(alloc, size, class) {
-        Ok(memory) => memory,
-        Err(_) => panic!(rt; "no memory"),
-    }
+    ByteMemory::new(alloc, size, class).expect(rt, "no memory")
+}
+
+/// Returns the map of some entries.
+pub fn map_of(rt: &impl Abort, alloc: Global, entries: &[Entry]) -> AddressMap {
+    AddressMap::new(alloc, entries).expect(rt, "no map")
 }
 
 pub fn datum(bytes: &[u8]) -> Datum {
     Datum::try_from(bytes).unwrap_or_default()
 }
 
-pub fn block(bytes: &[u8]) -> Block {
-    Block::from_short_slice(ArrayVec::try_from(bytes).unwrap_or_default())
-}
-
-/// The signals of the one datum of a request.
+/// Returns the signals of the one datum of a request.
 pub fn signals_of(rt: &impl Abort, request: &Request) -> Signals {
-    let Ok(plan) = Plan::of(request) else {
-        panic!(rt; "refused")
-    };
-    assert_eq!(rt; plan.len(), 1);
+    let plan = Plan::of(request).expect(rt, "refused");
+    assert!(rt; plan.len() == 1);
     plan.signals(0)
 }
 
@@ -55,7 +52,7 @@ pub fn reply<O: Object>(object: &mut O, cmd: &O::Cmd) -> O::Reply {
     object.apply(cmd)
 }
 
-/// The commands of slot 2, which asks on level 3.
+/// The request for the bus by slot 2, on level 3.
 pub const ASK: ArbCmd = ArbCmd::Ask { slot: 2, level: 3 };
 
 pub const LOOK: ArbCmd = ArbCmd::Look { slot: 2 };
@@ -67,7 +64,7 @@ pub const DONE: ArbCmd = ArbCmd::Done { slot: 2 };
 pub enum Given {
     Nothing,
     Turn(ArbReply),
-    /// These bytes of a board.
+    /// Bytes that a board has read.
     Bytes(&'static [u8]),
     /// That a board has written its bytes.
     Done,
@@ -82,7 +79,7 @@ pub const FREED: Given = Given::Turn(ArbReply::Freed);
 
 pub const DENIED: Given = Given::Turn(ArbReply::Denied);
 
-/// The reply that is given.
+/// Returns the reply that `given` stands for.
 pub fn replied(given: Given) -> Option<EventReply> {
     match given {
         Given::Nothing => None,

@@ -1,6 +1,6 @@
 //! The next step of a task after each reply.
 use crate::support;
-use crate::support::{FREED, GRANTED, Given, WAITING, block, datum, replied};
+use crate::support::{DENIED, FREED, GRANTED, Given, WAITING, datum, map_of, replied};
 use std::alloc::Global;
 use std::process::Abort;
 use std::test::Fail;
@@ -20,7 +20,7 @@ static BOARDS: [Entry; 1] = [Entry {
     supervisory: false,
 }];
 
-/// A step of a task, without the lines of a cycle.
+/// A step of a task, without the signals of a cycle.
 #[derive(Clone, Copy, Debug, PartialEq, Eq)]
 enum Step {
     Bus(ArbCmd),
@@ -51,152 +51,172 @@ const DONE: Step = Step::Bus(support::DONE);
 /// The replies that a task receives, each with the step to which it leads.
 type Course = &'static [(Given, Step)];
 
-/// Leads a task through replies and steps, and returns its outcome.
-fn outcome(rt: &impl Abort, mut task: Task<'_>, course: Course) -> Outcome {
+/// Gives a task a reply, and checks the step to which it leads.
+fn check_step(rt: &impl Abort, task: &mut Task<'_>, given: Given, wanted: Step) {
+    let step = step_of(&task.next(replied(given)));
+    assert_eq!(rt; step, wanted, "{given:?}");
+}
+
+/// Leads a task through replies and steps. It has no outcome before the last of them.
+fn lead(rt: &impl Abort, task: &mut Task<'_>, course: Course) {
     for (given, wanted) in course {
-        assert_eq!(rt; task.outcome(), None);
-        let todo = task.next(replied(*given));
-        assert_eq!(rt; step_of(&todo), *wanted, "{given:?}");
+        assert!(rt; task.outcome().is_none());
+        check_step(rt, task, *given, *wanted);
     }
-    let Some(outcome) = kept_outcome(rt, task) else {
-        panic!(rt; "not ended")
+}
+
+/// Checks the outcome that a task lends.
+fn check_lent(rt: &impl Abort, task: &Task<'_>, wanted: OutcomeRef<'static>) {
+    assert_eq!(rt; task.outcome(), Some(wanted));
+}
+
+/// Checks an outcome that a task has given up.
+fn check_taken(rt: &impl Abort, outcome: &Option<Outcome>, wanted: OutcomeRef<'static>) {
+    let lent = match outcome {
+        Some(outcome) => Some(borrowed(outcome)),
+        None => None,
     };
-    outcome
+    assert_eq!(rt; lent, Some(wanted));
 }
 
-/// Returns the outcome of a task that has ended. The task lends it before and after one call more.
-fn kept_outcome(rt: &impl Abort, mut task: Task<'_>) -> Option<Outcome> {
-    let lent = owned(task.outcome()?);
-    assert!(rt; matches!(task.next(replied(GRANTED)), Todo::Finished));
-    assert_eq!(rt; owned(task.outcome()?), lent);
-    let outcome = task.into_outcome()?;
-    assert_eq!(rt; outcome, lent);
-    Some(outcome)
-}
-
-/// The outcome that is borrowed.
-fn owned(outcome: OutcomeRef<'_>) -> Outcome {
+/// Returns an outcome by reference.
+fn borrowed(outcome: &Outcome) -> OutcomeRef<'_> {
     match outcome {
-        OutcomeRef::Read(bytes) => Outcome::Read(block(bytes)),
-        OutcomeRef::Done => Outcome::Done,
-        OutcomeRef::Old(bytes) => Outcome::Old(datum(bytes)),
-        OutcomeRef::Berr { count, bytes } => Outcome::Berr {
-            count,
-            bytes: block(bytes),
+        Outcome::Read(bytes) => OutcomeRef::Read(bytes.as_slice()),
+        Outcome::Done => OutcomeRef::Done,
+        Outcome::Old(bytes) => OutcomeRef::Old(bytes.as_slice()),
+        Outcome::Berr { count, bytes } => OutcomeRef::Berr {
+            count: *count,
+            bytes: bytes.as_slice(),
         },
-        OutcomeRef::Denied => Outcome::Denied,
+        Outcome::Denied => OutcomeRef::Denied,
     }
 }
 
-/// The task of a request of slot 2 on level 3, with a buffer for the bytes that it reads.
-fn start<'a>(alloc: Global, map: &AddressMap, request: &'a Request) -> Result<Task<'a>, Fail> {
-    let plan = Plan::of(request)?;
-    let buffer = BlockBuffer::with_capacity(alloc, plan.read_len())?;
-    Ok(Task::start(map, 2, 3, request, buffer)?)
+/// Leads a task through replies and steps, and checks its outcome. The task lends the outcome
+/// before and after one call more, and then gives it up.
+fn check(rt: &impl Abort, mut task: Task<'_>, course: Course, wanted: OutcomeRef<'static>) {
+    lead(rt, &mut task, course);
+    check_lent(rt, &task, wanted);
+    check_step(rt, &mut task, GRANTED, Step::End);
+    check_lent(rt, &task, wanted);
+    check_taken(rt, &task.into_outcome(), wanted);
 }
 
-/// Leads a request through replies and steps.
-fn run(
-    rt: &impl Abort,
-    alloc: Global,
-    map: &AddressMap,
-    request: &Request,
-    course: Course,
-) -> Result<Outcome, Fail> {
-    let task = start(alloc, map, request)?;
-    Ok(outcome(rt, task, course))
+/// Returns the task of a request of slot 2 on level 3, with a buffer for the bytes that it reads.
+fn start<'a>(rt: &impl Abort, alloc: Global, map: &AddressMap, request: &'a Request) -> Task<'a> {
+    let Ok(plan) = Plan::of(request) else {
+        panic!(rt; "refused")
+    };
+    let Ok(buffer) = BlockBuffer::with_capacity(alloc, plan.read_len()) else {
+        panic!(rt; "no memory")
+    };
+    let Ok(task) = Task::start(map, 2, 3, request, buffer) else {
+        panic!(rt; "refused")
+    };
+    task
 }
 
-static TWO_READ: [(Given, Step); 6] = [
-    (Given::Nothing, ASK),
-    (WAITING, LOOK),
-    (GRANTED, Step::Cycle(0, 8)),
-    (Given::Bytes(&[1, 2, 3, 4]), Step::Cycle(0, 12)),
-    (Given::Bytes(&[5, 6, 7, 8]), DONE),
-    (FREED, Step::End),
+/// The map of the one board.
+fn map(rt: &impl Abort, alloc: Global) -> AddressMap {
+    map_of(rt, alloc, &BOARDS)
+}
+
+/// Courses of a read of two data, each with the outcome.
+static TWO_DATA: [(Course, OutcomeRef<'static>); 8] = [
+    (
+        &[
+            (Given::Nothing, ASK),
+            (WAITING, LOOK),
+            (GRANTED, Step::Cycle(0, 8)),
+            (Given::Bytes(&[1, 2, 3, 4]), Step::Cycle(0, 12)),
+            (Given::Bytes(&[5, 6, 7, 8]), DONE),
+            (FREED, Step::End),
+        ],
+        OutcomeRef::Read(&[1, 2, 3, 4, 5, 6, 7, 8]),
+    ),
+    // A bus error of the second datum.
+    (
+        &[
+            (Given::Nothing, ASK),
+            (GRANTED, Step::Cycle(0, 8)),
+            (Given::Bytes(&[1, 2, 3, 4]), Step::Cycle(0, 12)),
+            (Given::Berr, DONE),
+            (FREED, Step::End),
+        ],
+        OutcomeRef::Berr {
+            count: 1,
+            bytes: &[1, 2, 3, 4],
+        },
+    ),
+    // A reply of the wrong length, of the wrong kind and of another object.
+    (
+        &[
+            (Given::Nothing, ASK),
+            (GRANTED, Step::Cycle(0, 8)),
+            (Given::Bytes(&[1, 2]), Step::End),
+        ],
+        OutcomeRef::Denied,
+    ),
+    (
+        &[
+            (Given::Nothing, ASK),
+            (GRANTED, Step::Cycle(0, 8)),
+            (Given::Done, Step::End),
+        ],
+        OutcomeRef::Denied,
+    ),
+    (
+        &[
+            (Given::Nothing, ASK),
+            (GRANTED, Step::Cycle(0, 8)),
+            (GRANTED, Step::End),
+        ],
+        OutcomeRef::Denied,
+    ),
+    // A denial, no reply, and a reply that comes early.
+    (
+        &[(Given::Nothing, ASK), (DENIED, Step::End)],
+        OutcomeRef::Denied,
+    ),
+    (
+        &[(Given::Nothing, ASK), (Given::Nothing, Step::End)],
+        OutcomeRef::Denied,
+    ),
+    (&[(GRANTED, Step::End)], OutcomeRef::Denied),
 ];
-
-static SECOND_BERR: [(Given, Step); 5] = [
-    (Given::Nothing, ASK),
-    (GRANTED, Step::Cycle(0, 8)),
-    (Given::Bytes(&[1, 2, 3, 4]), Step::Cycle(0, 12)),
-    (Given::Berr, DONE),
-    (FREED, Step::End),
-];
-
-static WRONG_LENGTH: [(Given, Step); 3] = [
-    (Given::Nothing, ASK),
-    (GRANTED, Step::Cycle(0, 8)),
-    (Given::Bytes(&[1, 2]), Step::End),
-];
-
-static WRONG_KIND: [(Given, Step); 3] = [
-    (Given::Nothing, ASK),
-    (GRANTED, Step::Cycle(0, 8)),
-    (Given::Done, Step::End),
-];
-
-static OTHER_OBJECT: [(Given, Step); 3] = [
-    (Given::Nothing, ASK),
-    (GRANTED, Step::Cycle(0, 8)),
-    (GRANTED, Step::End),
-];
-
-static DENIED: [(Given, Step); 2] = [(Given::Nothing, ASK), (support::DENIED, Step::End)];
-
-static NO_REPLY: [(Given, Step); 2] = [(Given::Nothing, ASK), (Given::Nothing, Step::End)];
-
-static EARLY: [(Given, Step); 1] = [(GRANTED, Step::End)];
 
 #[test]
-fn reads_two_data_in_order(rt: HostRuntime) -> Result<(), Fail> {
-    let map = AddressMap::new(rt.alloc(), &BOARDS)?;
+fn reads_two_data_in_order(rt: HostRuntime) {
+    let map = map(&rt, rt.alloc());
     let request = Request::BlockRead {
         am: 0x0b,
         addr: 0x1008,
         n: 4,
         count: 2,
     };
-    let read = Outcome::Read(block(&[1, 2, 3, 4, 5, 6, 7, 8]));
-    assert_eq!(&rt; run(&rt, rt.alloc(), &map, &request, &TWO_READ)?, read);
-    let berr = Outcome::Berr {
-        count: 1,
-        bytes: block(&[1, 2, 3, 4]),
-    };
-    assert_eq!(&rt; run(&rt, rt.alloc(), &map, &request, &SECOND_BERR)?, berr);
-    for course in [
-        &WRONG_LENGTH[..],
-        &WRONG_KIND[..],
-        &OTHER_OBJECT[..],
-        &DENIED[..],
-        &NO_REPLY[..],
-        &EARLY[..],
-    ] {
-        assert_eq!(&rt;
-            run(&rt, rt.alloc(), &map, &request, course)?,
-            Outcome::Denied,
-            "{course:?}"
-        );
+    for (course, wanted) in &TWO_DATA {
+        check(&rt, start(&rt, rt.alloc(), &map, &request), course, *wanted);
     }
-    Ok(())
 }
 
 static NOWHERE: [(Given, Step); 3] = [(Given::Nothing, ASK), (GRANTED, DONE), (FREED, Step::End)];
 
+/// A bus error of the first datum.
+const BERR: OutcomeRef<'static> = OutcomeRef::Berr {
+    count: 0,
+    bytes: &[],
+};
+
 #[test]
-fn no_board_selected_is_a_bus_error(rt: HostRuntime) -> Result<(), Fail> {
-    let map = AddressMap::new(rt.alloc(), &BOARDS)?;
+fn no_board_selected_is_a_bus_error(rt: HostRuntime) {
+    let map = map(&rt, rt.alloc());
     let request = Request::Read {
         am: 0x09,
         addr: 0x2000,
         n: 1,
     };
-    let berr = Outcome::Berr {
-        count: 0,
-        bytes: block(&[]),
-    };
-    assert_eq!(&rt; run(&rt, rt.alloc(), &map, &request, &NOWHERE)?, berr);
-    Ok(())
+    check(&rt, start(&rt, rt.alloc(), &map, &request), &NOWHERE, BERR);
 }
 
 static MODIFIED: [(Given, Step); 4] = [
@@ -206,6 +226,9 @@ static MODIFIED: [(Given, Step); 4] = [
     (FREED, Step::End),
 ];
 
+/// The byte that the read-modify-write finds.
+const OLD: OutcomeRef<'static> = OutcomeRef::Old(&[0x7f]);
+
 static WRITTEN: [(Given, Step); 4] = [
     (Given::Nothing, ASK),
     (GRANTED, Step::Cycle(0, 6)),
@@ -213,34 +236,37 @@ static WRITTEN: [(Given, Step); 4] = [
     (FREED, Step::End),
 ];
 
-#[test]
-fn a_modify_is_one_call_and_a_write_too(rt: HostRuntime) -> Result<(), Fail> {
-    let map = AddressMap::new(rt.alloc(), &BOARDS)?;
-    let modify = Request::Modify {
+/// Sets the top bit of the byte at offset 8.
+fn modify() -> Request {
+    Request::Modify {
         am: 0x09,
         addr: 0x1008,
         n: 1,
         f: Modify::Set,
-    };
-    assert_eq!(&rt;
-        run(&rt, rt.alloc(), &map, &modify, &MODIFIED)?,
-        Outcome::Old(datum(&[0x7f]))
-    );
+    }
+}
+
+#[test]
+fn a_modify_is_one_call_and_a_write_too(rt: HostRuntime) {
+    let map = map(&rt, rt.alloc());
+    let modify = modify();
+    check(&rt, start(&rt, rt.alloc(), &map, &modify), &MODIFIED, OLD);
     let write = Request::Write {
         am: 0x09,
         addr: 0x1006,
         bytes: datum(&[1, 2]),
     };
-    assert_eq!(&rt;
-        run(&rt, rt.alloc(), &map, &write, &WRITTEN)?,
-        Outcome::Done
+    check(
+        &rt,
+        start(&rt, rt.alloc(), &map, &write),
+        &WRITTEN,
+        OutcomeRef::Done,
     );
-    Ok(())
 }
 
 #[test]
-fn a_fill_of_256_data_calls_the_board_256_times(rt: HostRuntime) -> Result<(), Fail> {
-    let map = AddressMap::new(rt.alloc(), &BOARDS)?;
+fn a_fill_of_256_data_calls_the_board_256_times(rt: HostRuntime) {
+    let map = map(&rt, rt.alloc());
     let request = Request::BlockFill {
         am: 0x0b,
         addr: 0x1000,
@@ -248,20 +274,15 @@ fn a_fill_of_256_data_calls_the_board_256_times(rt: HostRuntime) -> Result<(), F
         count: 256,
         bytes: datum(&[7]),
     };
-    let mut task = start(rt.alloc(), &map, &request)?;
-    assert_eq!(&rt; step_of(&task.next(None)), ASK);
-    let mut given = GRANTED;
-    let mut calls = 0u32;
-    for at in 0..256u32 {
-        assert_eq!(&rt; step_of(&task.next(replied(given))), Step::Cycle(0, at));
-        given = Given::Done;
-        calls = at + 1;
+    let mut task = start(&rt, rt.alloc(), &map, &request);
+    check_step(&rt, &mut task, Given::Nothing, ASK);
+    check_step(&rt, &mut task, GRANTED, Step::Cycle(0, 0));
+    for at in 1..256u32 {
+        check_step(&rt, &mut task, Given::Done, Step::Cycle(0, at));
     }
-    assert_eq!(&rt; calls, 256);
-    assert_eq!(&rt; step_of(&task.next(replied(Given::Done))), DONE);
-    assert!(&rt; matches!(task.next(replied(FREED)), Todo::Finished));
-    assert_eq!(&rt; task.into_outcome(), Some(Outcome::Done));
-    Ok(())
+    check_step(&rt, &mut task, Given::Done, DONE);
+    check_step(&rt, &mut task, FREED, Step::End);
+    check_taken(&rt, &task.into_outcome(), OutcomeRef::Done);
 }
 
 static LOCAL_READ: [(Given, Step); 2] = [
@@ -274,34 +295,27 @@ static LOCAL_BERR: [(Given, Step); 2] = [
     (Given::Berr, Step::End),
 ];
 
+/// Returns the task of a read of two bytes by the local port of the fourth board.
+fn local_task() -> Task<'static> {
+    Task::local(3, BoardCmd::LocalRead { offset: 1, n: 2 })
+}
+
 #[test]
 fn a_local_command_is_one_call(rt: HostRuntime) {
-    let task = Task::local(3, BoardCmd::LocalRead { offset: 1, n: 2 });
-    assert_eq!(&rt;
-        outcome(&rt, task, &LOCAL_READ),
-        Outcome::Read(block(&[1, 2]))
-    );
-    let task = Task::local(3, BoardCmd::LocalRead { offset: 1, n: 2 });
-    let berr = Outcome::Berr {
-        count: 0,
-        bytes: block(&[]),
-    };
-    assert_eq!(&rt; outcome(&rt, task, &LOCAL_BERR), berr);
+    check(&rt, local_task(), &LOCAL_READ, OutcomeRef::Read(&[1, 2]));
+    check(&rt, local_task(), &LOCAL_BERR, BERR);
 }
 
 #[test]
 fn a_task_runs_again_after_its_end(rt: HostRuntime) {
-    let mut task = Task::local(3, BoardCmd::LocalRead { offset: 1, n: 2 });
+    let mut task = local_task();
     task.advance(None);
     task.advance(replied(Given::Bytes(&[7, 8])).as_ref());
     assert!(&rt; task.is_finished());
-    assert_eq!(&rt; task.outcome(), Some(OutcomeRef::Read(&[7, 8])));
+    check_lent(&rt, &task, OutcomeRef::Read(&[7, 8]));
     task.restart();
     assert!(&rt; !task.is_finished());
-    assert_eq!(&rt;
-        outcome(&rt, task, &LOCAL_READ),
-        Outcome::Read(block(&[1, 2]))
-    );
+    check(&rt, task, &LOCAL_READ, OutcomeRef::Read(&[1, 2]));
 }
 
 #[test]
@@ -327,6 +341,6 @@ fn a_request_of_its_own_goes_the_same_way(rt: HostRuntime) -> Result<(), Fail> {
         f: Modify::Set,
     };
     let task = Task::start_owned(&map, 2, 3, request)?;
-    assert_eq!(&rt; outcome(&rt, task, &MODIFIED), Outcome::Old(datum(&[0x7f])));
+    check(&rt, task, &MODIFIED, OLD);
     Ok(())
 }

@@ -1,7 +1,10 @@
 //! Worked rows of `vme cycles`: inputs with their outputs and statuses, with values from the tables
 //! of the standard and of this project's profile.
 use crate::support::{Engine, check, check_rows};
-use std::test::Fail;
+use std::alloc::{AllocError, Global};
+use std::process::Abort;
+use std::sync::Wait;
+use std::thread::Threads;
 use vme_engines::Status;
 
 static ANSWERED: [(&str, &str, Status); 18] = [
@@ -270,31 +273,38 @@ static REFUSED: [(&str, &str); 71] = [
 ];
 
 #[test]
-fn answers_worked_rows(rt: HostRuntime) -> Result<(), Fail> {
-    check_rows(&rt, rt.alloc(), Engine::Cycles, &ANSWERED)?;
-    Ok(())
+fn answers_worked_rows(rt: HostRuntime) {
+    check_rows(&rt, rt.alloc(), Engine::Cycles, &ANSWERED);
 }
 
 #[test]
-fn refuses_requests_and_lines(rt: HostRuntime) -> Result<(), Fail> {
+fn refuses_requests_and_lines(rt: HostRuntime) {
     for (input, text) in &REFUSED {
-        check(&rt, rt.alloc(), Engine::Cycles, input, text, Status::Marked)?;
+        check(&rt, rt.alloc(), Engine::Cycles, input, text, Status::Marked);
     }
-    Ok(())
 }
 
-#[test]
-fn fills_a_whole_unit(rt: HostRuntime) -> Result<(), Fail> {
-    let mut text = String::new(rt.alloc());
-    for i in 0..256u16 {
-        let odd = i % 2 == 1;
-        text.push_str(if odd {
-            "am=0b a=00000000 ds1=1 ds0=0 a01=0 lword=1 write=0 data=------5a\n"
-        } else {
-            "am=0b a=00000000 ds1=0 ds0=1 a01=0 lword=1 write=0 data=----5a--\n"
-        })?;
+/// The signals of a write of one byte at an even address, and of one at an odd address.
+static ONE_BYTE: [&str; 2] = [
+    "am=0b a=00000000 ds1=0 ds0=1 a01=0 lword=1 write=0 data=----5a--\n",
+    "am=0b a=00000000 ds1=1 ds0=0 a01=0 lword=1 write=0 data=------5a\n",
+];
+
+/// Returns what is written of a fill of a whole unit by single bytes.
+fn whole_unit(alloc: Global) -> Result<String, AllocError> {
+    let mut text = String::new(alloc);
+    for _pair in 0..128u16 {
+        for signals in &ONE_BYTE {
+            text.push_str(signals)?;
+        }
     }
     text.push_str("done\n")?;
+    Ok(text)
+}
+
+#[test]
+fn fills_a_whole_unit(rt: HostRuntime) {
+    let text = whole_unit(rt.alloc()).expect(&rt, "no memory");
     let input = "bf 0b 00000000 1 256 5a\n";
     check(
         &rt,
@@ -303,11 +313,10 @@ fn fills_a_whole_unit(rt: HostRuntime) -> Result<(), Fail> {
         input,
         text.as_str(),
         Status::Clean,
-    )?;
-    Ok(())
+    );
 }
 
-/// The outcome of a read of one byte with each code of a range.
+/// Ranges of codes, each with the outcome of a read of one byte with its codes.
 static CODES: [(u8, u8, &str); 18] = [
     (0x00, 0x07, "refused K1"),
     (0x08, 0x08, "refused K5"),
@@ -329,33 +338,47 @@ static CODES: [(u8, u8, &str); 18] = [
     (0x40, 0xff, "refused K9"),
 ];
 
+/// Returns a read of one byte with a code.
+fn read_with(alloc: Global, code: u8) -> Result<String, AllocError> {
+    format!(in alloc; "r {code:02x} 00000001 1\n")
+}
+
+/// Returns what is written of that read: the signals with these digits on D07-D00, and the outcome.
+fn read_signals(alloc: Global, code: u8, digits: &str, end: &str) -> Result<String, AllocError> {
+    format!(in alloc;
+        "am={code:02x} a=00000000 ds1=1 ds0=0 a01=0 lword=1 write=1 data=------{digits}\n{end}\n"
+    )
+}
+
+/// Returns what is written of a read that is refused.
+fn refusal(alloc: Global, end: &str) -> Result<String, AllocError> {
+    format!(in alloc; "{end}\n")
+}
+
+/// Checks the outcome of a read of one byte with a code.
+fn check_code<T: Threads + Wait + Abort + Sync>(rt: &T, alloc: Global, code: u8, end: &str) {
+    let input = read_with(alloc, code).expect(rt, "no memory");
+    let (text, status) = match end {
+        "read 00" => (read_signals(alloc, code, "00", end), Status::Clean),
+        "berr 0" => (read_signals(alloc, code, "--", end), Status::Marked),
+        _ => (refusal(alloc, end), Status::Marked),
+    };
+    let text = text.expect(rt, "no memory");
+    check(
+        rt,
+        alloc,
+        Engine::Cycles,
+        input.as_str(),
+        text.as_str(),
+        status,
+    );
+}
+
 #[test]
-fn knows_eighteen_codes(rt: HostRuntime) -> Result<(), Fail> {
-    let lines = "a=00000000 ds1=1 ds0=0 a01=0 lword=1 write=1 data=------";
+fn knows_eighteen_codes(rt: HostRuntime) {
     for (first, last, end) in &CODES {
         for code in *first..=*last {
-            let input = format!(in rt.alloc(); "r {code:02x} 00000001 1\n")?;
-            let (signals, status) = match *end {
-                "read 00" => (
-                    format!(in rt.alloc(); "am={code:02x} {lines}00\n")?,
-                    Status::Clean,
-                ),
-                "berr 0" => (
-                    format!(in rt.alloc(); "am={code:02x} {lines}--\n")?,
-                    Status::Marked,
-                ),
-                _ => (String::new(rt.alloc()), Status::Marked),
-            };
-            let text = format!(in rt.alloc(); "{signals}{end}\n")?;
-            check(
-                &rt,
-                rt.alloc(),
-                Engine::Cycles,
-                input.as_str(),
-                text.as_str(),
-                status,
-            )?;
+            check_code(&rt, rt.alloc(), code, end);
         }
     }
-    Ok(())
 }

@@ -1,7 +1,8 @@
 //! Worked rows of `vme cycles` for the 64-bit multiplexed block transfer (MBLT) of VME64 (ANSI/VITA
 //! 1-1994), in this project's profile.
 use crate::support::{Engine, check, check_rows};
-use std::test::Fail;
+use std::alloc::{AllocError, Global};
+use std::process::Abort;
 use vme_engines::Status;
 
 static ANSWERED: [(&str, &str, Status); 5] = [
@@ -75,47 +76,53 @@ static REFUSED: [(&str, &str); 13] = [
 ];
 
 #[test]
-fn answers_blocks_of_eight_bytes(rt: HostRuntime) -> Result<(), Fail> {
-    check_rows(&rt, rt.alloc(), Engine::Cycles, &ANSWERED)?;
-    Ok(())
+fn answers_blocks_of_eight_bytes(rt: HostRuntime) {
+    check_rows(&rt, rt.alloc(), Engine::Cycles, &ANSWERED);
 }
 
 #[test]
-fn refuses_blocks_of_eight_bytes(rt: HostRuntime) -> Result<(), Fail> {
+fn refuses_blocks_of_eight_bytes(rt: HostRuntime) {
     for (input, text) in &REFUSED {
-        check(&rt, rt.alloc(), Engine::Cycles, input, text, Status::Marked)?;
+        check(&rt, rt.alloc(), Engine::Cycles, input, text, Status::Marked);
+    }
+}
+
+/// Appends 256 copies of a part.
+fn push_all(text: &mut String, part: &str) -> Result<(), AllocError> {
+    for _datum in 0..256u16 {
+        text.push_str(part)?;
     }
     Ok(())
 }
+
+/// Returns what is written of a fill of a whole unit and a read of it.
+fn whole_unit(alloc: Global) -> Result<String, AllocError> {
+    let mut text = String::new(alloc);
+    push_all(&mut text, WRITE)?;
+    text.push_str("done\n")?;
+    push_all(&mut text, READ)?;
+    text.push_str("read ")?;
+    push_all(&mut text, "a1a2a3a4a5a6a7a8")?;
+    text.push_str("\n")?;
+    Ok(text)
+}
+
+static WRITE: &str = "am=08 a=00000800 ds1=0 ds0=0 a01=0 lword=0 write=0 data=a1a2a3a4a5a6a7a8\n";
+
+static READ: &str = "am=08 a=00000800 ds1=0 ds0=0 a01=0 lword=0 write=1 data=a1a2a3a4a5a6a7a8\n";
+
+static UNIT: &str = "bf 08 00000800 8 256 a1a2a3a4a5a6a7a8\nbr 08 00000800 8 256\n";
 
 /// All 2,048 bytes of a unit in one transfer.
 #[test]
-fn reads_a_whole_unit(rt: HostRuntime) -> Result<(), Fail> {
-    let mut text = String::new(rt.alloc());
-    for _i in 0..256u16 {
-        text.push_str(
-            "am=08 a=00000800 ds1=0 ds0=0 a01=0 lword=0 write=0 data=a1a2a3a4a5a6a7a8\n",
-        )?;
-    }
-    text.push_str("done\n")?;
-    for _i in 0..256u16 {
-        text.push_str(
-            "am=08 a=00000800 ds1=0 ds0=0 a01=0 lword=0 write=1 data=a1a2a3a4a5a6a7a8\n",
-        )?;
-    }
-    text.push_str("read ")?;
-    for _i in 0..256u16 {
-        text.push_str("a1a2a3a4a5a6a7a8")?;
-    }
-    text.push_str("\n")?;
-    let input = "bf 08 00000800 8 256 a1a2a3a4a5a6a7a8\nbr 08 00000800 8 256\n";
+fn reads_a_whole_unit(rt: HostRuntime) {
+    let text = whole_unit(rt.alloc()).expect(&rt, "no memory");
     check(
         &rt,
         rt.alloc(),
         Engine::Cycles,
-        input,
+        UNIT,
         text.as_str(),
         Status::Clean,
-    )?;
-    Ok(())
+    );
 }

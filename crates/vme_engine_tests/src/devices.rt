@@ -1,73 +1,80 @@
 //! Devices that fail after any number of bytes, or that move one byte a call.
 use crate::support::{ROWS, Row, run};
-use std::alloc::{AllocError, Global};
+use std::alloc::Global;
 use std::io;
 use std::process::Abort;
 use std::sync::Wait;
-use std::test::Fail;
 use std::thread::Threads;
 use vme_engines::{ProgramFault, Status};
 use vme_io::{Io, RoomSink, SliceSource};
 
-/// Reads the input of a row, a byte a call, from a reader that fails after a number of bytes.
-/// Nothing is written.
+/// Reads the input of a row, a byte a call, from a reader that fails after a number of bytes, and
+/// checks that the run ends with `Read` and writes nothing.
 fn expect_read_fault<R: Threads + Wait + Abort + Sync>(
     rt: &R,
     alloc: Global,
     row: &Row,
     bytes: usize,
-) -> Result<(), AllocError> {
+) {
     let mut source = SliceSource::new(row.input.as_bytes(), 1, bytes);
-    let mut sink = RoomSink::new(alloc, usize::MAX, 4096)?;
+    let Ok(mut sink) = RoomSink::new(alloc, usize::MAX, 4096) else {
+        panic!(rt; "no memory")
+    };
     let end = run(rt, alloc, row.engine, &mut source, &mut sink);
     assert_eq!(rt; end, Err(ProgramFault::Read), "{bytes}");
     assert!(rt; sink.bytes().is_empty());
-    Ok(())
 }
 
 #[test]
-fn a_reader_fails_after_any_byte(rt: HostRuntime) -> Result<(), Fail> {
+fn a_reader_fails_after_any_byte(rt: HostRuntime) {
     for row in &ROWS {
         for bytes in 0..=row.input.len() {
-            expect_read_fault(&rt, rt.alloc(), row, bytes)?;
+            expect_read_fault(&rt, rt.alloc(), row, bytes);
         }
     }
-    Ok(())
 }
 
-/// The end of a row's run if only `capacity` bytes of its text can be written.
-fn end_of(row: &Row, capacity: usize) -> Result<Status, ProgramFault> {
-    if capacity < row.text.len() {
+/// Checks the end of a row's run and what it wrote, if only `capacity` bytes of its text can be
+/// written: exactly these bytes.
+fn check_prefix(
+    rt: &impl Abort,
+    row: &Row,
+    capacity: usize,
+    end: Result<Status, ProgramFault>,
+    written: &[u8],
+) {
+    let wanted = if capacity < row.text.len() {
         Err(ProgramFault::Write)
     } else {
         Ok(Status::Clean)
-    }
+    };
+    assert_eq!(rt; end, wanted, "{capacity}");
+    assert_eq!(rt; Some(written), row.text.as_bytes().get(..capacity));
 }
 
-/// Writes the text of a row, a byte a call, to a writer that fails after a number of bytes. Exactly
-/// these bytes are written. The input is read a byte a call.
+/// Runs a row with a writer that takes a byte a call and fails after a number of bytes. The input is
+/// read a byte a call.
 fn expect_prefix<R: Threads + Wait + Abort + Sync>(
     rt: &R,
     alloc: Global,
     row: &Row,
     capacity: usize,
-) -> Result<(), AllocError> {
+) {
     let mut source = SliceSource::new(row.input.as_bytes(), 1, usize::MAX);
-    let mut sink = RoomSink::new(alloc, 1, capacity)?;
+    let Ok(mut sink) = RoomSink::new(alloc, 1, capacity) else {
+        panic!(rt; "no memory")
+    };
     let end = run(rt, alloc, row.engine, &mut source, &mut sink);
-    assert_eq!(rt; end, end_of(row, capacity), "{capacity}");
-    assert_eq!(rt; Some(sink.bytes()), row.text.as_bytes().get(..capacity));
-    Ok(())
+    check_prefix(rt, row, capacity, end, sink.bytes());
 }
 
 #[test]
-fn a_writer_fails_after_any_byte(rt: HostRuntime) -> Result<(), Fail> {
+fn a_writer_fails_after_any_byte(rt: HostRuntime) {
     for row in &ROWS {
         for capacity in 0..=row.text.len() {
-            expect_prefix(&rt, rt.alloc(), row, capacity)?;
+            expect_prefix(&rt, rt.alloc(), row, capacity);
         }
     }
-    Ok(())
 }
 
 /// A writer of std that accepts no byte once its capacity is full.
@@ -90,13 +97,13 @@ impl io::Write for Narrow {
     }
 }
 
-/// Writes the text of a row to a writer that accepts a number of bytes and then none.
+/// Runs a row with a writer that accepts a number of bytes and then none.
 fn expect_narrow<R: Threads + Wait + Abort + Sync>(
     rt: &R,
     alloc: Global,
     row: &Row,
     capacity: usize,
-) -> Result<(), AllocError> {
+) {
     let mut narrow = Narrow {
         taken: Vec::new(alloc),
         capacity,
@@ -104,20 +111,14 @@ fn expect_narrow<R: Threads + Wait + Abort + Sync>(
     let mut reader = Io::new(row.input.as_bytes());
     let mut writer = Io::new(&mut narrow);
     let end = run(rt, alloc, row.engine, &mut reader, &mut writer);
-    assert_eq!(rt; end, end_of(row, capacity), "{capacity}");
-    assert_eq!(rt;
-        Some(narrow.taken.as_slice()),
-        row.text.as_bytes().get(..capacity)
-    );
-    Ok(())
+    check_prefix(rt, row, capacity, end, narrow.taken.as_slice());
 }
 
 #[test]
-fn a_writer_takes_no_byte_after_any(rt: HostRuntime) -> Result<(), Fail> {
+fn a_writer_takes_no_byte_after_any(rt: HostRuntime) {
     for row in &ROWS {
         for capacity in 0..=row.text.len() {
-            expect_narrow(&rt, rt.alloc(), row, capacity)?;
+            expect_narrow(&rt, rt.alloc(), row, capacity);
         }
     }
-    Ok(())
 }

@@ -4,63 +4,66 @@ use crate::support::{Engine, check, run_on, torn_block};
 use std::alloc::{AllocError, Global};
 use std::process::Abort;
 use std::sync::Wait;
-use std::test::Fail;
 use std::thread::Threads;
 use vme_engines::{ProgramFault, Status, exit_status};
 
-/// Runs a damaged file. The result is a report, or a refusal with nothing written.
-fn expect_report_or_refusal<T: Threads + Wait + Abort + Sync>(
-    rt: &T,
-    alloc: Global,
-    file: &[u8],
-) -> Result<(), AllocError> {
-    let (end, sink) = run_on(rt, alloc, Engine::Step, file)?;
+/// Runs a damaged file, and checks that it is run or is refused with nothing written.
+fn expect_report_or_refusal<T: Threads + Wait + Abort + Sync>(rt: &T, alloc: Global, file: &[u8]) {
+    let (end, sink) = run_on(rt, alloc, Engine::Step, file).expect(rt, "no memory");
     assert!(rt; matches!(end, Ok(_) | Err(ProgramFault::Config(_))));
     assert_eq!(rt; sink.bytes().is_empty(), end.is_err());
-    Ok(())
 }
 
 #[test]
-fn each_prefix_is_run_or_refused(rt: HostRuntime) -> Result<(), Fail> {
+fn each_prefix_is_run_or_refused(rt: HostRuntime) {
     let file = torn_block().input.as_bytes();
     for end in 0..=file.len() {
-        expect_report_or_refusal(&rt, rt.alloc(), &file[..end])?;
+        expect_report_or_refusal(&rt, rt.alloc(), &file[..end]);
     }
-    Ok(())
+}
+
+/// Runs a file with each byte in turn replaced.
+fn change_each<T: Threads + Wait + Abort + Sync>(rt: &T, alloc: Global, file: &mut [u8], byte: u8) {
+    for at in 0..file.len() {
+        let kept = file[at];
+        file[at] = byte;
+        expect_report_or_refusal(rt, alloc, file);
+        file[at] = kept;
+    }
 }
 
 #[test]
-fn with_each_byte_changed_is_run_or_refused(rt: HostRuntime) -> Result<(), Fail> {
-    let mut file = Vec::from_slice(rt.alloc(), torn_block().input.as_bytes())?;
+fn with_each_byte_changed_is_run_or_refused(rt: HostRuntime) {
+    let file = Vec::from_slice(rt.alloc(), torn_block().input.as_bytes());
+    let mut file = file.expect(&rt, "no memory");
     for byte in [0x00, 0x0a, 0x22, 0xff] {
-        for at in 0..file.len() {
-            let kept = file[at];
-            file[at] = byte;
-            expect_report_or_refusal(&rt, rt.alloc(), file.as_slice())?;
-            file[at] = kept;
-        }
+        change_each(&rt, rt.alloc(), &mut file, byte);
     }
-    Ok(())
 }
 
-/// Runs a file that is refused: what is reported of it, with nothing written.
+/// Checks the text of a fault.
+fn check_text(rt: &impl Abort, alloc: Global, fault: &ProgramFault, wanted: &str) {
+    let text = fault.to_string(alloc).expect(rt, "no memory");
+    assert_eq!(rt; text.as_str(), wanted);
+}
+
+/// Runs a file, and checks that it is refused with this text, and that nothing is written.
 fn expect_refusal<T: Threads + Wait + Abort + Sync>(
     rt: &T,
     alloc: Global,
     file: &[u8],
     reported: &str,
-) -> Result<(), AllocError> {
-    let (end, sink) = run_on(rt, alloc, Engine::Step, file)?;
+) {
+    let (end, sink) = run_on(rt, alloc, Engine::Step, file).expect(rt, "no memory");
     assert_eq!(rt; exit_status(&end), 2, "{reported}");
     assert!(rt; sink.bytes().is_empty());
-    let Err(fault) = end else {
-        panic!(rt; "{reported} is run")
-    };
-    assert_eq!(rt; fault.to_string(alloc)?.as_str(), reported);
-    Ok(())
+    match end {
+        Ok(_) => panic!(rt; "{reported} is run"),
+        Err(fault) => check_text(rt, alloc, &fault, reported),
+    }
 }
 
-/// Files of one board or none, and what is reported of them.
+/// Files that are refused, each with the text of the fault.
 static REFUSED: [(&str, &str); 18] = [
     ("", "C11"),
     (
@@ -116,47 +119,54 @@ static REFUSED: [(&str, &str); 18] = [
 ];
 
 #[test]
-fn refuses_what_is_no_configuration(rt: HostRuntime) -> Result<(), Fail> {
+fn refuses_what_is_no_configuration(rt: HostRuntime) {
     for (file, reported) in &REFUSED {
-        expect_refusal(&rt, rt.alloc(), file.as_bytes(), reported)?;
+        expect_refusal(&rt, rt.alloc(), file.as_bytes(), reported);
     }
-    expect_refusal(&rt, rt.alloc(), b"# \xff\n", "C6")?;
-    Ok(())
+    expect_refusal(&rt, rt.alloc(), b"# \xff\n", "C6");
 }
 
-/// A file of one board, with a script that repeats one line.
-fn script_of(alloc: Global, line: &str, times: usize) -> Result<String, AllocError> {
+/// Returns a file of one board with a script: `line`, and then `part` `times` times.
+fn script_of(alloc: Global, line: &str, part: &str, times: usize) -> Result<String, AllocError> {
     let mut text = String::new(alloc);
     text.push_str("[[board]]\nslot = 1\nbase = 0\nsize = 16\nscript = '''\n")?;
+    text.push_str(line)?;
     for _ in 0..times {
-        text.push_str(line)?;
+        text.push_str(part)?;
     }
     text.push_str("'''\n")?;
     Ok(text)
 }
 
+/// Scripts past a limit: line, part, number of times that the part is repeated, and the refusal.
+static LONG: [(&str, &str, usize, &str); 2] = [
+    ("", "\n", 1001, "C14 slot 1 line 1001 S8"),
+    ("\n", "#", 81, "C14 slot 1 line 2 S1"),
+];
+
 #[test]
-fn limits_scripts(rt: HostRuntime) -> Result<(), Fail> {
-    let whole = script_of(rt.alloc(), "\n", 1000)?;
-    let (end, _) = run_on(&rt, rt.alloc(), Engine::Step, whole.as_bytes())?;
-    assert_eq!(rt; end, Ok(Status::Clean));
-    let long = script_of(rt.alloc(), "\n", 1001)?;
-    expect_refusal(&rt, rt.alloc(), long.as_bytes(), "C14 slot 1 line 1001 S8")?;
-    let mut wide = String::new(rt.alloc());
-    wide.push('\n')?;
-    for _ in 0..81 {
-        wide.push('#')?;
+fn limits_scripts(rt: HostRuntime) {
+    let whole = script_of(rt.alloc(), "", "\n", 1000).expect(&rt, "no memory");
+    let text = "board 1 steps 0 made 0\n";
+    check(
+        &rt,
+        rt.alloc(),
+        Engine::Step,
+        whole.as_str(),
+        text,
+        Status::Clean,
+    );
+    for (line, part, times, reported) in &LONG {
+        let long = script_of(rt.alloc(), line, part, *times).expect(&rt, "no memory");
+        expect_refusal(&rt, rt.alloc(), long.as_bytes(), reported);
     }
-    let wide = script_of(rt.alloc(), wide.as_str(), 1)?;
-    expect_refusal(&rt, rt.alloc(), wide.as_bytes(), "C14 slot 1 line 2 S1")?;
-    Ok(())
 }
 
 /// A board whose last byte is the last of its space.
 static AT_THE_END: &str = "[[board]]\nslot = 1\nbase = 0xfffffffc\nsize = 4\n";
 
 #[test]
-fn runs_a_board_at_the_end_of_its_space(rt: HostRuntime) -> Result<(), Fail> {
+fn runs_a_board_at_the_end_of_its_space(rt: HostRuntime) {
     let text = "board 1 steps 0 made 0\n";
     check(
         &rt,
@@ -165,6 +175,5 @@ fn runs_a_board_at_the_end_of_its_space(rt: HostRuntime) -> Result<(), Fail> {
         AT_THE_END,
         text,
         Status::Clean,
-    )?;
-    Ok(())
+    );
 }

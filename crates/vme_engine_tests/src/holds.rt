@@ -1,17 +1,16 @@
 //! One processor is held before or after a line until the other has finished its script. The report
 //! is the same at each of these points.
 use crossbeam_utils::Backoff;
-use std::alloc::{AllocError, Global};
+use std::alloc::Global;
 use std::process::Abort;
 use std::sync::Wait;
 use std::sync::atomic::{AtomicBool, Ordering};
-use std::test::Fail;
 use std::thread::Threads;
 use vme_io::RoomSink;
 use vme_runner::{Gate, RunFault, Status, report_text, run_threads};
 use vme_script::Config;
 
-/// Both processors write to the first board.
+/// A file of two boards. Both processors write to the first board.
 static TWO_BOARDS: &str = "[[board]]
 slot = 1
 base = 0
@@ -95,35 +94,45 @@ impl Gate for Hold {
     }
 }
 
-/// Runs both processors with this gate, and returns the report's text.
-fn report_at<R: Threads + Wait + Abort + Sync>(
+/// Runs both processors with a gate, and checks the report's text.
+fn check_report<R: Threads + Wait + Abort + Sync>(
     rt: &R,
     alloc: Global,
     config: &Config,
     gate: &Hold,
-) -> Result<RoomSink, AllocError> {
-    let mut sink = RoomSink::new(alloc, usize::MAX, REPORT.len())?;
-    let Ok(report) = run_threads(rt, alloc, config, gate) else {
-        panic!(rt; "no report")
+) {
+    let Ok(mut sink) = RoomSink::new(alloc, usize::MAX, REPORT.len()) else {
+        panic!(rt; "no memory")
     };
+    let report = run_threads(rt, alloc, config, gate).expect(rt, "no report");
     assert_eq!(rt; report.lines.len(), report.boards.len());
     let end: Result<Status, RunFault> = report_text(alloc, &report, &mut sink);
     assert_eq!(rt; end, Ok(Status::Clean));
-    Ok(sink)
+    assert_eq!(rt; sink.bytes(), REPORT.as_bytes());
+}
+
+/// Holds one processor at one point, and checks the report.
+fn check_hold<R: Threads + Wait + Abort + Sync>(
+    rt: &R,
+    alloc: Global,
+    config: &Config,
+    slot: u16,
+    line: u16,
+) {
+    for after in [false, true] {
+        let gate = Hold::at(slot, line, after);
+        check_report(rt, alloc, config, &gate);
+        assert!(rt; !gate.missed.load(Ordering::SeqCst));
+    }
 }
 
 #[test]
-fn each_hold_comes_to_the_same(rt: HostRuntime) -> Result<(), Fail> {
-    let config = Config::read(rt.alloc(), TWO_BOARDS.as_bytes())?;
+fn each_hold_comes_to_the_same(rt: HostRuntime) {
+    let config = Config::read(rt.alloc(), TWO_BOARDS.as_bytes());
+    let config = config.expect(&rt, "refused");
     for slot in [1, 2] {
         for line in [1, LAST_LINE] {
-            for after in [false, true] {
-                let gate = Hold::at(slot, line, after);
-                let sink = report_at(&rt, rt.alloc(), &config, &gate)?;
-                assert!(&rt; !gate.missed.load(Ordering::SeqCst));
-                assert_eq!(&rt; sink.bytes(), REPORT.as_bytes());
-            }
+            check_hold(&rt, rt.alloc(), &config, slot, line);
         }
     }
-    Ok(())
 }

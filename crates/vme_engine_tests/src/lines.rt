@@ -1,126 +1,139 @@
 //! Lines that are read and texts that are printed, with values of this project's profile.
-use std::test::Fail;
+use std::alloc::AllocError;
+use std::process::Abort;
 use vme_cycle::{Modify, Request};
 use vme_grammar::{Line, LineFault, parse_line, print_berr};
 use vme_lexer::Lines;
 use vme_memory::BoardCmd;
 
 #[test]
-fn cuts_lines(rt: HostRuntime) -> Result<(), Fail> {
-    let lines: Vec<&[u8]> = Lines::new(b"r\r\n\n  w ").collect(rt.alloc())?;
+fn cuts_lines(rt: HostRuntime) {
+    let lines: Result<Vec<&[u8]>, AllocError> = Lines::new(b"r\r\n\n  w ").collect(rt.alloc());
     assert_eq!(rt;
-        lines.as_slice(),
+        lines.expect(&rt, "no memory").as_slice(),
         [b"r".as_slice(), b"", b"  w "].as_slice()
     );
     assert!(rt; Lines::new(b"").next().is_none());
-    Ok(())
+}
+
+/// Parses a line that asks for something.
+fn line_of(rt: &impl Abort, text: &str) -> Line {
+    let line = parse_line(text.as_bytes()).expect(rt, "refused");
+    line.expect(rt, "an empty line")
+}
+
+fn check_read(rt: &impl Abort, line: &Line) {
+    let Line::Bus(Request::Read { am, addr, n }) = line else {
+        panic!(rt; "{line:?}")
+    };
+    assert_eq!(rt; (*am, *addr, *n), (0x0d, 0xffe, 2));
+}
+
+fn check_write(rt: &impl Abort, line: &Line) {
+    let Line::Bus(Request::Write { bytes, .. }) = line else {
+        panic!(rt; "{line:?}")
+    };
+    assert_eq!(rt; bytes.as_slice(), [0x5a, 0xa5].as_slice());
+}
+
+fn check_block_write(rt: &impl Abort, line: &Line) {
+    let Line::Bus(Request::BlockWrite { n, bytes, .. }) = line else {
+        panic!(rt; "{line:?}")
+    };
+    assert_eq!(rt; (*n, bytes.as_slice()), (1, [7, 8, 9].as_slice()));
+}
+
+/// Checks that a line asks for nothing.
+fn check_empty(rt: &impl Abort, text: &str) {
+    assert!(rt; matches!(parse_line(text.as_bytes()), Ok(None)));
 }
 
 #[test]
-fn reads_requests(rt: HostRuntime) -> Result<(), Fail> {
-    let read = parse_line(b"r 0d 00000FFe 2");
-    assert!(rt;
-        matches!(
-            &read,
-            Ok(Some(Line::Bus(Request::Read {
-                am: 0x0d,
-                addr: 0xffe,
-                n: 2
-            })))
-        )
+fn reads_requests(rt: HostRuntime) {
+    check_read(&rt, &line_of(&rt, "r 0d 00000FFe 2"));
+    check_write(&rt, &line_of(&rt, "w 0d 00000004 5aA5"));
+    check_block_write(&rt, &line_of(&rt, "bw 0b 00000009 1 070809"));
+    check_empty(&rt, "# r 0d 00000000 1");
+}
+
+fn check_local_read(rt: &impl Abort, line: &Line) {
+    let Line::Local(BoardCmd::LocalRead { offset, n }) = line else {
+        panic!(rt; "{line:?}")
+    };
+    assert_eq!(rt; (*offset, *n), (0x0c, 4));
+}
+
+fn check_local_write(rt: &impl Abort, line: &Line) {
+    let Line::Local(BoardCmd::LocalWrite { offset, bytes }) = line else {
+        panic!(rt; "{line:?}")
+    };
+    assert_eq!(rt; (*offset, bytes.as_slice()), (15, [0xaa, 0xbb].as_slice()));
+}
+
+fn check_local_modify(rt: &impl Abort, line: &Line) {
+    let Line::Local(BoardCmd::LocalModify { offset, n, f }) = line else {
+        panic!(rt; "{line:?}")
+    };
+    assert_eq!(rt; (*offset, *n), (8, 1));
+    check_compare(rt, f);
+}
+
+fn check_compare(rt: &impl Abort, f: &Modify) {
+    let Modify::Compare { expect, put } = f else {
+        panic!(rt; "{f:?}")
+    };
+    assert_eq!(rt;
+        (expect.as_slice(), put.as_slice()),
+        ([1].as_slice(), [2].as_slice())
     );
-    match &parse_line(b"w 0d 00000004 5aA5") {
-        Ok(Some(Line::Bus(Request::Write { bytes, .. }))) => assert_eq!(rt;
-            bytes.as_slice(),
-            [0x5a, 0xa5].as_slice()
-        ),
-        _ => assert!(rt; false),
-    }
-    match &parse_line(b"bw 0b 00000009 1 070809") {
-        Ok(Some(Line::Bus(Request::BlockWrite { n, bytes, .. }))) => {
-            assert_eq!(rt; *n, 1);
-            assert_eq!(rt; bytes.as_slice(), [7, 8, 9].as_slice());
-        }
-        _ => assert!(rt; false),
-    }
-    assert!(rt; matches!(&parse_line(b"# r 0d 00000000 1"), Ok(None)));
-    assert!(rt; matches!(&parse_line(b"x"), Err(LineFault::UnknownWord)));
-    Ok(())
+}
+
+fn check_await(rt: &impl Abort, line: &Line) {
+    let Line::Await { am, addr, bytes } = line else {
+        panic!(rt; "{line:?}")
+    };
+    assert_eq!(rt; (*am, *addr, bytes.len()), (9, 0x1000, 8));
 }
 
 #[test]
 fn reads_lines_of_scripts(rt: HostRuntime) {
-    assert!(rt;
-        matches!(
-            &parse_line(b"lr 0000000C 4"),
-            Ok(Some(Line::Local(BoardCmd::LocalRead { offset: 0x0c, n: 4 })))
-        )
-    );
-    match &parse_line(b"lw 0000000f aabb") {
-        Ok(Some(Line::Local(BoardCmd::LocalWrite { offset, bytes }))) => {
-            assert_eq!(rt; *offset, 15);
-            assert_eq!(rt; bytes.as_slice(), [0xaa, 0xbb].as_slice());
-        }
-        _ => assert!(rt; false),
-    }
-    match &parse_line(b"lm 00000008 1 cas 01 02") {
-        Ok(
-            Some(
-                Line::Local(
-                    BoardCmd::LocalModify {
-                        offset: 8,
-                        n: 1,
-                        f: Modify::Compare { expect, put },
-                    },
-                ),
-            ),
-        ) => {
-            assert_eq!(rt; expect.as_slice(), [1].as_slice());
-            assert_eq!(rt; put.as_slice(), [2].as_slice());
-        }
-        _ => assert!(rt; false),
-    }
-    match &parse_line(b"await 09 00001000 0102030405060708") {
-        Ok(Some(Line::Await { am, addr, bytes })) => {
-            assert_eq!(rt; *am, 9);
-            assert_eq!(rt; *addr, 0x1000);
-            assert_eq!(rt; bytes.len(), 8);
-        }
-        _ => assert!(rt; false),
+    check_local_read(&rt, &line_of(&rt, "lr 0000000C 4"));
+    check_local_write(&rt, &line_of(&rt, "lw 0000000f aabb"));
+    check_local_modify(&rt, &line_of(&rt, "lm 00000008 1 cas 01 02"));
+    check_await(&rt, &line_of(&rt, "await 09 00001000 0102030405060708"));
+}
+
+/// Lines of locks and mailboxes, each with its word, its code or the number of its mailbox, and its
+/// address or the word that is put.
+static SHARED_LINES: [(&str, (&str, u8, u32)); 5] = [
+    ("lock 09 0000100F", ("lock", 9, 0x100f)),
+    ("unlock 2d 00000003", ("unlock", 0x2d, 3)),
+    ("put 16 0102fffE", ("put", 16, 0x0102_fffe)),
+    ("take 07", ("take", 7, 0)),
+    ("take 0", ("take", 0, 0)),
+];
+
+/// Returns the word of a lock or a mailbox and its numbers, as in `SHARED_LINES`.
+fn parts_of(line: &Line) -> Option<(&'static str, u8, u32)> {
+    match line {
+        Line::Lock { am, addr } => Some(("lock", *am, *addr)),
+        Line::Unlock { am, addr } => Some(("unlock", *am, *addr)),
+        Line::Put { mailbox, word } => Some(("put", *mailbox, *word)),
+        Line::Take { mailbox } => Some(("take", *mailbox, 0)),
+        _ => None,
     }
 }
 
 #[test]
 fn reads_locks_and_mailboxes(rt: HostRuntime) {
-    assert!(rt;
-        matches!(
-            &parse_line(b"lock 09 0000100F"),
-            Ok(Some(Line::Lock {
-                am: 9,
-                addr: 0x100f
-            }))
-        )
-    );
-    assert!(rt;
-        matches!(
-            &parse_line(b"unlock 2d 00000003"),
-            Ok(Some(Line::Unlock { am: 0x2d, addr: 3 }))
-        )
-    );
-    assert!(rt;
-        matches!(
-            &parse_line(b"put 16 0102fffE"),
-            Ok(Some(Line::Put {
-                mailbox: 16,
-                word: 0x0102_fffe
-            }))
-        )
-    );
-    assert!(rt; matches!(&parse_line(b"take 07"), Ok(Some(Line::Take { mailbox: 7 }))));
-    assert!(rt; matches!(&parse_line(b"take 0"), Ok(Some(Line::Take { mailbox: 0 }))));
+    for (text, parts) in &SHARED_LINES {
+        assert_eq!(rt; parts_of(&line_of(&rt, text)), Some(*parts), "{text}");
+    }
 }
 
-static REFUSED_LINES: [(&str, LineFault); 30] = [
+/// Lines that are refused, each with its fault.
+static REFUSED_LINES: [(&str, LineFault); 31] = [
+    ("x", LineFault::UnknownWord),
     ("lr", LineFault::WordCount),
     ("lm 00000008 1", LineFault::WordCount),
     ("lm 00000008 3 swap", LineFault::UnknownWord),
@@ -156,13 +169,11 @@ static REFUSED_LINES: [(&str, LineFault); 30] = [
 #[test]
 fn refuses_lines_of_scripts(rt: HostRuntime) {
     for (line, fault) in &REFUSED_LINES {
-        match parse_line(line.as_bytes()) {
-            Err(reported) => assert_eq!(rt; reported, *fault, "{line}"),
-            Ok(_) => assert!(rt; false, "{line}"),
-        }
+        assert_eq!(rt; parse_line(line.as_bytes()).err(), Some(*fault), "{line}");
     }
 }
 
+/// Bus errors, by the number of data and the bytes that were read before, each with its line.
 static BUS_ERRORS: [(u16, &[u8], &str); 3] = [
     (0, &[], "berr 0\n"),
     (1, &[0, 0, 0, 0], "berr 1 00000000\n"),
@@ -170,15 +181,15 @@ static BUS_ERRORS: [(u16, &[u8], &str); 3] = [
 ];
 
 #[test]
-fn reports_what_was_read_before_a_bus_error(rt: HostRuntime) -> Result<(), Fail> {
+fn reports_what_was_read_before_a_bus_error(rt: HostRuntime) {
     for (count, bytes, line) in &BUS_ERRORS {
         let mut text = Vec::new(rt.alloc());
-        print_berr(&mut text, *count, bytes)?;
+        assert!(rt; print_berr(&mut text, *count, bytes).is_ok());
         assert_eq!(rt; text.as_slice(), line.as_bytes());
     }
-    Ok(())
 }
 
+/// Faults of lines, each with its text.
 static LINE_FAULTS: [(LineFault, &str); 8] = [
     (LineFault::LineTooLong, "S1"),
     (LineFault::UnknownWord, "S2"),
@@ -191,9 +202,9 @@ static LINE_FAULTS: [(LineFault, &str); 8] = [
 ];
 
 #[test]
-fn reports_line_faults(rt: HostRuntime) -> Result<(), Fail> {
-    for (fault, text) in &LINE_FAULTS {
-        assert_eq!(rt; fault.to_string(rt.alloc())?.as_str(), *text);
+fn reports_line_faults(rt: HostRuntime) {
+    for (fault, wanted) in &LINE_FAULTS {
+        let text = fault.to_string(rt.alloc()).expect(&rt, "no memory");
+        assert_eq!(rt; text.as_str(), *wanted);
     }
-    Ok(())
 }

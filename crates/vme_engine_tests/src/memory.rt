@@ -6,8 +6,8 @@ use std::sync::Wait;
 use std::thread::Threads;
 use vme_engines::{ProgramFault, Status};
 
-/// Runs a row: all of its text is written, or it is reported that there is no memory, or that a
-/// thread has none, and a prefix of the text is written.
+/// Runs a row, and checks that the run writes all of the text or ends with `Memory` or `Thread` and
+/// writes a prefix of it.
 fn expect_text_or_refusal<T: Threads + Wait + Abort + Sync>(rt: &T, alloc: Global, row: &Row) {
     let Ok((end, sink)) = run_on(rt, alloc, row.engine, row.input.as_bytes()) else {
         return;

@@ -1,8 +1,7 @@
 //! Runs on threads whose reports vary in some lines: the beginning and the end of each report.
-use crate::support::{Engine, run_on};
+use crate::support::{Engine, check_ends};
 use std::alloc::{AllocError, Global};
-use std::test::Fail;
-use vme_engines::Status;
+use std::process::Abort;
 
 /// Two processors that wait for each other's byte.
 static WAITING: &str = "tries = 1000000
@@ -22,7 +21,7 @@ await 09 00000000 01
 w 09 00000001 01'''
 ";
 
-/// The replies to both.
+/// The replies to both scripts.
 static MET: &str = "1:1 done
 1:2 met
 2:1 met
@@ -30,11 +29,8 @@ static MET: &str = "1:1 done
 ";
 
 #[test]
-fn two_wait_for_each_other(rt: HostRuntime) -> Result<(), Fail> {
-    let (end, sink) = run_on(&rt, rt.alloc(), Engine::Run, WAITING.as_bytes())?;
-    assert_eq!(&rt; end, Ok(Status::Clean));
-    assert!(&rt; sink.bytes().starts_with(MET.as_bytes()));
-    Ok(())
+fn two_wait_for_each_other(rt: HostRuntime) {
+    check_ends(&rt, rt.alloc(), Engine::Run, WAITING, (MET, ""));
 }
 
 /// Four boards. The first has the word to which all processors add.
@@ -48,7 +44,7 @@ static BOARDS: [&str; 4] = [
 /// The number of times that each processor adds one: the greatest number of lines of a script.
 const LINES: usize = 1000;
 
-/// The end of the report.
+/// The end of the report of the four boards.
 static SUM: &str = "
 board 1 steps 4000 made 1000 1000 1000 1000
 board 2 steps 0 made 0 0 0 0
@@ -57,7 +53,7 @@ board 4 steps 0 made 0 0 0 0
 mem 1 00000010 00000fa0000000000000000000000000
 ";
 
-/// A file of these boards.
+/// Returns a file of the four boards, each with a script that adds `LINES` times.
 fn adding(alloc: Global) -> Result<String, AllocError> {
     let mut text = String::new(alloc);
     for board in &BOARDS {
@@ -73,10 +69,7 @@ fn adding(alloc: Global) -> Result<String, AllocError> {
 }
 
 #[test]
-fn four_add_to_one_word(rt: HostRuntime) -> Result<(), Fail> {
-    let text = adding(rt.alloc())?;
-    let (end, sink) = run_on(&rt, rt.alloc(), Engine::Run, text.as_bytes())?;
-    assert_eq!(&rt; end, Ok(Status::Clean));
-    assert!(&rt; sink.bytes().ends_with(SUM.as_bytes()));
-    Ok(())
+fn four_add_to_one_word(rt: HostRuntime) {
+    let file = adding(rt.alloc()).expect(&rt, "no memory");
+    check_ends(&rt, rt.alloc(), Engine::Run, file.as_str(), ("", SUM));
 }

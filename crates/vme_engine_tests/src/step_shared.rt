@@ -1,6 +1,5 @@
 //! Files whose processors share a lock or a mailbox, with what `vme step` reports of their runs.
 use crate::support::{Engine, check_rows};
-use std::test::Fail;
 use vme_engines::Status;
 
 static ROWS: [(&str, &str, Status); 5] = [
@@ -174,7 +173,6 @@ board 1 steps 1 made 1
 ];
 
 #[test]
-fn processors_share_locks_and_mailboxes(rt: HostRuntime) -> Result<(), Fail> {
-    check_rows(&rt, rt.alloc(), Engine::Step, &ROWS)?;
-    Ok(())
+fn processors_share_locks_and_mailboxes(rt: HostRuntime) {
+    check_rows(&rt, rt.alloc(), Engine::Step, &ROWS);
 }

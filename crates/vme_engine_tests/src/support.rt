@@ -1,5 +1,5 @@
 //! What the tests of the engines share: a run of an engine over bytes in memory, and tables of
-//! inputs with what is written of them.
+//! inputs with the texts that the runs write.
 ghost use Rattle.std.specs.Prelude.{◌≡◌, false};
 
 use std::alloc::{AllocError, Global};
@@ -35,7 +35,7 @@ pub fn run<T: Threads + Wait + Sync, R: Source, W: Sink>(
     }
 }
 
-/// The end of a run over this input, and what it has written.
+/// Runs an engine over an input. Returns how the run ends, and the sink with what it wrote.
 pub fn run_on<T: Threads + Wait + Sync>(
     rt: &T,
     alloc: Global,
@@ -48,7 +48,7 @@ pub fn run_on<T: Threads + Wait + Sync>(
     Ok((end, sink))
 }
 
-/// Runs an engine over an input: it ends so, and has written this text.
+/// Runs an engine over an input, and checks the status and the text that it writes.
 pub fn check<T: Threads + Wait + Abort + Sync>(
     rt: &T,
     alloc: Global,
@@ -56,27 +56,40 @@ pub fn check<T: Threads + Wait + Abort + Sync>(
     input: &str,
     text: &str,
     status: Status,
-) -> Result<(), AllocError> {
-    let (end, sink) = run_on(rt, alloc, engine, input.as_bytes())?;
+) {
+    let (end, sink) = run_on(rt, alloc, engine, input.as_bytes()).expect(rt, "no memory");
     assert_eq!(rt; end, Ok(status), "{input}");
     assert_eq!(rt; sink.bytes(), text.as_bytes(), "{input}");
-    Ok(())
 }
 
-/// Inputs of an engine, each with what is written of it and how the run ends.
+/// Inputs of an engine, each with the text that a run writes and its status.
 pub type Rows<'a> = &'a [(&'static str, &'static str, Status)];
 
-/// Runs an engine over each of them.
+/// Runs an engine over each input of a table, and checks the texts and the statuses.
 pub fn check_rows<T: Threads + Wait + Abort + Sync>(
     rt: &T,
     alloc: Global,
     engine: Engine,
     rows: Rows<'_>,
-) -> Result<(), AllocError> {
+) {
     for (input, text, status) in rows {
-        check(rt, alloc, engine, input, text, *status)?;
+        check(rt, alloc, engine, input, text, *status);
     }
-    Ok(())
+}
+
+/// Runs an engine over an input, and checks that the status is `Clean` and that the text begins
+/// with `first` and ends with `last`.
+pub fn check_ends<T: Threads + Wait + Abort + Sync>(
+    rt: &T,
+    alloc: Global,
+    engine: Engine,
+    input: &str,
+    (first, last): (&str, &str),
+) {
+    let (end, sink) = run_on(rt, alloc, engine, input.as_bytes()).expect(rt, "no memory");
+    assert_eq!(rt; end, Ok(Status::Clean));
+    assert!(rt; sink.bytes().starts_with(first.as_bytes()));
+    assert!(rt; sink.bytes().ends_with(last.as_bytes()));
 }
 
 /// An input of an engine, and its output, which is the same in every run.
@@ -162,12 +175,12 @@ mem 1 00000000 01020000030400000000000000000000
     },
 ];
 
-/// The row of `vme step`.
+/// Returns the row for `vme step`.
 pub fn torn_block() -> &'static Row {
     &ROWS[1]
 }
 
-/// That of `vme run`.
+/// Returns the row for `vme run`.
 pub fn two_writers() -> &'static Row {
     &ROWS[2]
 }

@@ -17,7 +17,6 @@ use crate::support::torn_block;
 use std::alloc::{AllocError, Global};
 use std::process::Abort;
 use std::sync::Wait;
-use std::test::Fail;
 use std::thread::Threads;
 use vme_am::{Am, AmFault, Kind, Space};
 use vme_arbiter::{ArbCmd, ArbReply, Arbiter};
@@ -335,44 +334,71 @@ fn laws() {
     texts_show_queues();
 }
 
-#[test]
-fn each_name_is_in_its_crate(rt: HostRuntime) -> Result<(), Fail> {
-    let alloc = rt.alloc();
-    assert!(&rt; code(0x0d).is_ok());
-    assert_eq!(&rt; location(4, 4), Some((0, 4)));
+/// A board of 16 bytes at address 0.
+const ENTRY: Entry = Entry {
+    space: Space::A32,
+    base: 0,
+    size: 16,
+    supervisory: false,
+};
+
+/// Returns the signals of a write of two bytes at address 0.
+fn signals(rt: &impl Abort) -> Signals {
     let request = Request::Write {
         am: 0x0d,
         addr: 0,
         bytes: datum(&[1, 2]),
     };
-    let Ok(Some(signals)) = first_signals(&request) else {
-        panic!(&rt; "no signals")
-    };
-    let entry = Entry {
-        space: Space::A32,
-        base: 0,
-        size: 16,
-        supervisory: false,
-    };
-    assert_eq!(&rt; selected(alloc, entry, &signals).ok(), Some(Some((0, 0))));
-    let Ok(mut memory) = board(alloc) else {
-        panic!(&rt; "no memory")
-    };
-    assert_eq!(&rt; cycle(&mut memory, &signals), None);
-    assert!(&rt; core_of(alloc, memory).is_ok());
-    assert_eq!(&rt; ask(&mut Arbiter::new()), ArbReply::Granted);
-    assert!(&rt; port_of(alloc, 2).is_ok());
-    assert!(&rt; local_task().is_some());
-    assert!(&rt; locks(&AddressMap::new(alloc, &[entry])?).is_ok());
-    assert!(&rt; line(b"take 1").is_ok());
-    assert!(&rt; script(alloc, b"take 1").is_ok());
-    assert_eq!(&rt; replied(alloc)?.as_slice(), b"1:2 met\n".as_slice());
-    let mut sink = RoomSink::new(alloc, usize::MAX, 16)?;
-    assert!(&rt; copy(&mut Io::new(&b"abc"[..]), &mut sink, &mut [0; 4]).is_ok());
-    let config = config(alloc, torn_block().input.as_bytes())?;
-    assert!(&rt; built(alloc, &config).is_ok());
-    assert_eq!(&rt; stepped(alloc, &config), Ok(Status::Marked));
-    assert_eq!(&rt; reported(&rt, alloc, &config), Ok(Status::Clean));
+    let signals = first_signals(&request).expect(rt, "refused");
+    signals.expect(rt, "no signals")
+}
+
+fn check_bus(rt: &impl Abort, alloc: Global) {
+    assert!(rt; code(0x0d).is_ok());
+    assert_eq!(rt; location(4, 4), Some((0, 4)));
+    assert_eq!(rt; selected(alloc, ENTRY, &signals(rt)), Ok(Some((0, 0))));
+    assert_eq!(rt; ask(&mut Arbiter::new()), ArbReply::Granted);
+}
+
+fn check_objects(rt: &impl Abort, alloc: Global) {
+    let mut memory = board(alloc).expect(rt, "no memory");
+    assert_eq!(rt; cycle(&mut memory, &signals(rt)), None);
+    assert!(rt; core_of(alloc, memory).is_ok());
+    assert!(rt; port_of(alloc, 2).is_ok());
+}
+
+fn check_tasks(rt: &impl Abort, alloc: Global) {
+    let map = AddressMap::new(alloc, &[ENTRY]).expect(rt, "no map");
+    assert!(rt; local_task().is_some());
+    assert!(rt; locks(&map).is_ok());
+}
+
+fn check_scripts(rt: &impl Abort, alloc: Global) {
+    assert!(rt; line(b"take 1").is_ok());
+    assert!(rt; script(alloc, b"take 1").is_ok());
+    let text = replied(alloc).expect(rt, "no memory");
+    assert_eq!(rt; text.as_slice(), b"1:2 met\n".as_slice());
+}
+
+fn check_copy(rt: &impl Abort, alloc: Global) {
+    let mut sink = RoomSink::new(alloc, usize::MAX, 16).expect(rt, "no memory");
+    assert!(rt; copy(&mut Io::new(&b"abc"[..]), &mut sink, &mut [0; 4]).is_ok());
+}
+
+fn check_runs<R: Threads + Wait + Abort + Sync>(rt: &R, alloc: Global) {
+    let config = config(alloc, torn_block().input.as_bytes()).expect(rt, "refused");
+    assert!(rt; built(alloc, &config).is_ok());
+    assert_eq!(rt; stepped(alloc, &config), Ok(Status::Marked));
+    assert_eq!(rt; reported(rt, alloc, &config), Ok(Status::Clean));
+}
+
+#[test]
+fn each_name_is_in_its_crate(rt: HostRuntime) {
+    check_bus(&rt, rt.alloc());
+    check_objects(&rt, rt.alloc());
+    check_tasks(&rt, rt.alloc());
+    check_scripts(&rt, rt.alloc());
+    check_copy(&rt, rt.alloc());
+    check_runs(&rt, rt.alloc());
     laws();
-    Ok(())
 }

@@ -1,39 +1,29 @@
--- The text of a run on threads.
-use Rattle.std.specs.Prelude.{ℕ, ◌≡◌, List, [], ◌∷◌, ◌⊎◌, Option, map}
+-- The text of a run on threads, and of one on one thread.
+use Rattle.std.specs.Prelude.{ℕ, ◌≡◌, List, [], ◌⊎◌, Option}
 use Rattle.vme_io.specs.Prefixes.{AppendsPrefix}
-use Rattle.vme_shared.specs.declared.reply.LineReply.{LineReply}
 use Rattle.vme_shared.specs.declared.status.Status.{Status}
-use Rattle.vme_report.specs.Boards.{BoardText}
-use Rattle.vme_report.specs.Reports.{report_text, report_status}
 use Rattle.vme_script.specs.Configurations.{Configuration}
-use Rattle.vme_engines.specs.Files.{Configures}
+use Rattle.vme_stepper.specs.Turns.{state_after}
 use Rattle.vme_stepper.specs.Schedules.{file_turns}
-use Rattle.vme_stepper.specs.Reports.{run_text}
-use Rattle.vme_threads.specs.declared.report.BoardReport.{BoardReport}
+use Rattle.vme_stepper.specs.Reports.{reported_system, run_text, run_status}
 use Rattle.vme_threads.specs.declared.report.Report.{Report}
-use Rattle.vme_threads.specs.Reports.{IsReportOf}
+use Rattle.vme_threads.specs.OneOrder.{IsReportOfOneOrder}
+use Rattle.vme_threads.specs.ReportTexts.{reported_report}
+use Rattle.vme_engines.specs.Files.{Configures}
 
--- the boards of a report, from the boards' ends and the replies to their processors' lines
-abbrev pub ends_reported : List BoardReport → List (List (ℕ × LineReply)) → List BoardText
-ends_reported (end ∷ ends) (lines ∷ more) =
-    record { slot = end.slot; lines = lines; bytes = end.memory.bytes; steps = end.steps; made = end.made.items }
-    ∷ ends_reported ends more
-ends_reported ends lines = []
-
--- the boards of a report
-abbrev pub reported_report : Report → List BoardText
-reported_report report = ends_reported report.boards.items (map (λ lines. lines.items) report.lines.items)
-
--- a text and a status are those of some report of a run of the configuration that the bytes of a file are
+-- a text and a status are those of some turns of slots, on one thread, of the configuration that the bytes of a file
+-- are; after these turns each line has its reply, as in the report of one order that has the same entries
 pub record IsRunText (input text : List ℕ) (status : Status) : Type 0 where
   pub config : Configuration
   pub configures : Configures input config
+  pub slots : List ℕ
+  pub whole : text ≡ run_text config slots
+  pub good : status ≡ run_status config slots
   pub report : Report
-  pub run : IsReportOf config report
-  pub whole : text ≡ report_text (reported_report report)
-  pub good : status ≡ report_status (reported_report report)
+  pub order : IsReportOfOneOrder config report
+  pub entries : reported_report report ≡ reported_system config (state_after config slots)
 
--- a text is that of some report of a run
+-- a text is that of some run on threads
 abbrev pub IsSomeRunText : List ℕ → List ℕ → Type 0
 IsSomeRunText input text = (status : Status) × IsRunText input text status
 

@@ -31,6 +31,10 @@ impl Gate for OpenGate {
 ///
 /// Returns `Clean` if every reply is a success, otherwise `Marked`.
 ///
+/// Report and status are those of some turns of slots on one thread, after which no line is
+/// unfinished. Which turns they are is not stated, and they may be more than a file's schedule can
+/// have.
+///
 /// The engine first reads the input, to its end or to one byte past `FILE_LIMIT`; it writes nothing
 /// before all threads have ended. If the reader has no byte model, only the fault clauses hold; if
 /// the writer has none, what is written is not stated. No contract states that threads run at the
@@ -51,7 +55,8 @@ pub fn run_engine<T: Threads + Wait + Sync, R: Source, W: Sink>(
     requires reader_unmarked { R.is_marked reader.old ≡ false }
     requires writer_unmarked { W.is_marked writer.old ≡ false }
 
-    // What is written is the text of a report of the run, or a prefix of one before a fault.
+    // What is written is the text that `vme step` writes for some turns, by which each line has its
+    // reply; before a fault, a prefix of such a text or nothing.
     ensures text { IfSome (R.remaining reader.old) (λ input. IfOk result (λ status.
         (text : List ℕ) × IsRunText input text status × Appends (W.contents writer.old) (W.contents writer.new) text)) }
     ensures prefix { IfSome (R.remaining reader.old) (λ input.

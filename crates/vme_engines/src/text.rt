@@ -4,7 +4,7 @@ ghost use Rattle.std.specs.Io.KnownBytes.{Appends};
 ghost use Rattle.vme_io.specs.Prefixes.{AppendsPrefix};
 ghost use Rattle.vme_report.specs.Ends.{IsReportFault, is_write_end};
 ghost use Rattle.vme_report.specs.Reports.{report_text, report_status};
-ghost use Rattle.vme_engines.specs.RunTexts.{ends_reported, reported_report};
+ghost use Rattle.vme_threads.specs.ReportTexts.{ends_reported, reported_report};
 
 use std::alloc::{AllocError, Global};
 use vme_io::Sink;

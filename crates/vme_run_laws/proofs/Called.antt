@@ -67,7 +67,7 @@ and_left true b both = refl
 and_left false b both = absurd cc
 
 -- a command that a slot may give names the slot
-own_slot : (slot : ℕ) (last : Option ArbReply) (cmd : ArbCmd) → may_give slot last cmd ≡ true → slot_of cmd ≡ slot
+pub own_slot : (slot : ℕ) (last : Option ArbReply) (cmd : ArbCmd) → may_give slot last cmd ≡ true → slot_of cmd ≡ slot
 own_slot slot None (arb_commands.Ask s level) may = eqb-true s slot (and_left _ _ may)
 own_slot slot (Some arb_replies.Freed) (arb_commands.Ask s level) may = eqb-true s slot (and_left _ _ may)
 own_slot slot (Some arb_replies.Waiting) (arb_commands.Look s) may = eqb-true s slot may

@@ -1,10 +1,11 @@
 -- Each mailbox that a lawful configuration declares lies in its board and is left alone by other lines.
 use Rattle.std.proofs.Common.{◌≡◌, ℕ, ◌+◌, ◌-◌, ◌<◌, List, length, slice_index_or, Some, refl, sym, subst, arith}
 use Rattle.std.specs.Prelude.{slice_get}
-use Rattle.std.proofs.lemmas.Option.{get_or_from_slice_get, slice_get_within, slice_get-get_or}
+use Rattle.std.proofs.lemmas.Option.{get_or_from_slice_get, slice_get_within}
 use Rattle.vme_object.specs.declared.history.Entry.{Entry}
 use Rattle.vme_memory.specs.declared.command.BoardCmd.{BoardCmd}
 use Rattle.vme_memory.specs.declared.reply.Reply.{Reply}
+use Rattle.vme_core.specs.Runs.{board_part}
 use Rattle.vme_shared.specs.MailboxSteps.{BoardMailbox, LiesIn}
 use Rattle.vme_shared.specs.declared.mailbox.Mailbox.{Mailbox}
 use Rattle.vme_script.specs.declared.board_range.BoardRange.{BoardRange}
@@ -18,11 +19,10 @@ use Rattle.vme_mailbox_laws.specs.Names.{IsMailboxOf}
 use Rattle.vme_mailbox_laws.specs.Places.{on_board}
 use Rattle.vme_mailbox_laws.proofs.lemmas.Lawful.{lies_at, lies_in, accepted}
 use Rattle.vme_mailbox_laws.proofs.lemmas.LinesApart.{left_alone}
-use Rattle.vme_threads.specs.declared.report.BoardReport.{BoardReport}
 use Rattle.vme_threads.specs.declared.report.Report.{Report}
-use Rattle.vme_threads.specs.Reports.{IsReportOf}
+use Rattle.vme_threads.specs.OneOrder.{IsReportOfOneOrder}
+use Rattle.vme_sequential.proofs.lemmas.Lists.{element_at}
 use Rattle.vme_run_laws.specs.Declared.{IsDeclaredIn}
-use Rattle.vme_run_laws.proofs.Shared.{some_of}
 use Rattle.vme_run_laws.proofs.Queues.{IsQueue, queue}
 
 -- the mailbox with number k + 1 is the one at place k
@@ -58,54 +58,43 @@ module _ (config : Configuration) (lawful : IsLawful config) (k : ℕ) (mailbox 
   place_is place placed = let first = fine.placed in cc
 
 -- each declared mailbox is a queue in every report
-pub declared_queue : (config : Configuration) (report : Report) (is : IsReportOf config report) (box : ℕ) (m : BoardMailbox)
+pub declared_queue : (config : Configuration) (report : Report) (is : IsReportOfOneOrder config report) (box : ℕ) (m : BoardMailbox)
     (h : List (Entry BoardCmd Reply)) → IsLawful config → IsDeclaredIn config report is box m h → IsQueue config report box m h
 declared_queue config report is box m h lawful at =
+    let found = fine config lawful at.index at.mailbox at.declared in
+    let own = found.board in
     let same = place_is config lawful at.index at.mailbox at.declared at.place at.placed in
     let on = λ (p : BoardRange). on_board at.mailbox p in
     let named : IsMailboxOf config (at.index + 1) at.place.board (on at.place) =
     subst (λ (p : BoardRange). IsMailboxOf config (at.index + 1) p.board (on p)) same
     (mailbox_of config lawful at.index at.mailbox at.declared) in
-    let inside : LiesIn (opening_memory (slice_index_or config.boards at.place.board at.own)) (on at.place) =
-    subst (λ (p : BoardRange). LiesIn (opening_memory (slice_index_or config.boards p.board at.own)) (on p)) same
-    (memory_of config lawful at.index at.mailbox at.declared at.own) in
-    let found = queue config report lawful is (at.index + 1) at.place.board (on at.place) at.own at.end at.below named inside in
+    let inside : LiesIn (opening_memory (slice_index_or config.boards at.place.board own)) (on at.place) =
+    subst (λ (p : BoardRange). LiesIn (opening_memory (slice_index_or config.boards p.board own)) (on p)) same
+    (memory_of config lawful at.index at.mailbox at.declared own) in
+    let below : at.place.board < length config.boards =
+    subst (λ (p : BoardRange). p.board < length config.boards) same (slice_get_within config.boards found.place.board found.board found.there) in
+    let is_queue = queue config report lawful is (at.index + 1) at.place.board (on at.place) own below named inside in
     subst (λ (b : ℕ). IsQueue config report b m h) (sym at.number)
     (subst (λ (n : BoardMailbox). IsQueue config report (at.index + 1) n h) (sym at.bytes)
-    (subst (IsQueue config report (at.index + 1) (on at.place)) (sym at.history) found))
-
--- a mailbox that is declared on a board has the history of that board
-at_place : (config : Configuration) (report : Report) (is : IsReportOf config report) (k : ℕ) (mailbox : Mailbox) (place : BoardRange)
-    (own : BoardConfig) (end : BoardReport) → slice_get config.mailboxes k ≡ Some mailbox
-    → range_of (entries_of config.boards) mailbox ≡ Some place → place.board < length config.boards
-    → (m : BoardMailbox) × (h : List (Entry BoardCmd Reply)) × IsDeclaredIn config report is (k + 1) m h
-at_place config report is k mailbox place own end declared placed below = (
-  on_board mailbox place,
-  (is.boards.each place.board own end below).history.history,
-  record {
-    index = k;
-    number = refl;
-    mailbox = mailbox;
-    declared = declared;
-    place = place;
-    placed = placed;
-    bytes = refl;
-    own = own;
-    end = end;
-    below = below;
-    history = refl;
-  },
-)
+    (subst (IsQueue config report (at.index + 1) (on at.place)) (sym at.history) is_queue))
 
 -- each declared mailbox has a history in every report
-pub there : (config : Configuration) (report : Report) (is : IsReportOf config report) (k : ℕ) → IsLawful config
+pub there : (config : Configuration) (report : Report) (is : IsReportOfOneOrder config report) (k : ℕ) → IsLawful config
     → k < length config.mailboxes
     → (m : BoardMailbox) × (h : List (Entry BoardCmd Reply)) × IsDeclaredIn config report is (k + 1) m h
 there config report is k lawful less =
-    let mailbox = slice_index_or config.mailboxes k (some_of config.mailboxes k less) in
-    let declared = slice_get-get_or config.mailboxes k (some_of config.mailboxes k less) less in
-    let found = fine config lawful k mailbox declared in
-    let below : found.place.board < length config.boards =
-    slice_get_within config.boards found.place.board found.board found.there in
-    let end = some_of report.boards.items found.place.board (let count = is.boards.count in omega arith) in
-    at_place config report is k mailbox found.place found.board end declared found.placed below
+    let mailbox = element_at config.mailboxes k less in
+    let found = fine config lawful k mailbox.0 mailbox.1 in (
+      on_board mailbox.0 found.place,
+      board_part found.place.board is.run,
+      record {
+        index = k;
+        number = refl;
+        mailbox = mailbox.0;
+        declared = mailbox.1;
+        place = found.place;
+        placed = found.placed;
+        bytes = refl;
+        history = refl;
+      },
+    )

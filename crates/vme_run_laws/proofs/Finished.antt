@@ -1,5 +1,5 @@
 -- The table of lines never ends a line as unfinished.
-use Rattle.std.proofs.Common.{◌≡◌, ◌≢◌, ℕ, Bool, true, false, if◌then◌else◌, List, [], ◌∷◌, slice_index_or, All, Result, Ok, Err, arith}
+use Rattle.std.proofs.Common.{◌≡◌, ◌≢◌, ◌<◌, ℕ, Bool, true, false, if◌then◌else◌, List, [], ◌∷◌, length, slice_index_or, All, Result, Ok, Err, arith}
 use Rattle.std.specs.Str.{bytes_eq}
 use Rattle.std.proofs.lemmas.List.Elements.{All-nil, All-cons}
 use Rattle.vme_object.specs.Each.{Each}
@@ -18,9 +18,11 @@ use Rattle.vme_script.specs.Configurations.{Configuration}
 use Rattle.vme_line_task.specs.Scripts.{Attempt, Transferring, Awaiting, Sharing, lines_at, line_attempt}
 use Rattle.vme_line_task.specs.Tables.{moves_next, waits_next, shares_next, attempt_next, attempts_of, lawful_next, next_given}
 use Rattle.vme_line_task.specs.Traces.{IsTrace}
+use Rattle.vme_bus_objects.specs.Runs.{transitions_of}
 use Rattle.vme_threads.specs.declared.report.Report.{Report}
 use Rattle.vme_threads.specs.Rans.{answers_in}
-use Rattle.vme_threads.specs.Reports.{IsReportOf}
+use Rattle.vme_threads.specs.OneOrder.{IsReportOfOneOrder}
+use Rattle.vme_sequential.proofs.lemmas.Lists.{element_at}
 use Rattle.vme_run_laws.specs.Finished.{AreFinished}
 
 -- a transfer or a command
@@ -74,7 +76,10 @@ script_state_finished config board (line ∷ ls) run (answer ∷ answers) script
     (script_state_finished config board ls script_state.1 answers script_state.4)
 
 -- all lines of a report
-pub report_finished : (config : Configuration) (report : Report) → IsReportOf config report → Each (λ who lines. AreFinished lines.items) report.lines.items
-report_finished config report is who d who< =
-    script_state_finished config who (lines_at config who) (slice_index_or is.runs who []) (answers_in (slice_index_or report.lines.items who d).items)
-    (is.trace.each who [] d (omega (arith, who<, is.trace.count)))
+pub report_finished : (config : Configuration) (report : Report) → IsReportOfOneOrder config report
+    → Each (λ who lines. AreFinished lines.items) report.lines.items
+report_finished config report is who d below =
+    let there : who < length config.boards = omega (arith, below, is.trace.count) in
+    script_state_finished config who (lines_at config who) (transitions_of who is.run)
+    (answers_in (slice_index_or report.lines.items who d).items)
+    (is.trace.each who (element_at config.boards who there).0 d there)

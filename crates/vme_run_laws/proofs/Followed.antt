@@ -15,16 +15,17 @@ use Rattle.vme_script.specs.Configurations.{Configuration, opening_memory}
 use Rattle.vme_script.specs.Lawful.{IsLawful}
 use Rattle.vme_line_task.specs.Traces.{ScriptState, IsTracePrefix}
 use Rattle.vme_line_task.proofs.lemmas.Traces.{follows_nothing}
+use Rattle.vme_bus_objects.specs.Runs.{transitions_of}
 use Rattle.vme_stepper.specs.Turns.{SystemState, script_state_turn, lines_left, turn_in, turn_at, board_in_slot, turn, run, initial_state, state_after}
 use Rattle.vme_run_laws.specs.TurnCalls.{first_call, script_state_call, place_call, turn_call}
-use Rattle.vme_run_laws.specs.Transitions.{calls_from, calls_in, moves_of, AreRun}
+use Rattle.vme_run_laws.specs.Transitions.{calls_from, calls_in, AreRun}
 use Rattle.vme_run_laws.proofs.Places.{set_same, set_other, place_is}
 use Rattle.vme_run_laws.proofs.Moving.{Moved, script_state_moved}
 use Rattle.vme_run_laws.proofs.Runs.{script_state_begun}
 
 -- each processor has followed its script by its own transitions
 abbrev pub AllFollow : Configuration → List Transition → SystemState → Type 0
-AllFollow config moves system = (b : ℕ) (c : ScriptState) → slice_get system.script_states b ≡ Some c → IsTracePrefix config b (moves_of b moves) c
+AllFollow config moves system = (b : ℕ) (c : ScriptState) → slice_get system.script_states b ≡ Some c → IsTracePrefix config b (transitions_of b moves) c
 
 -- further turns make further transitions
 pub record Goes (config : Configuration) (before : List Transition) (calls : List (ℕ × Call)) (from to : SystemState) : Type 0 where
@@ -54,30 +55,30 @@ by_script_state config before system board (Some c) lawful there count follow is
     next : Machine × ScriptState
     next = script_state_turn config board (lines_left config board c) system.machine c
 
-    moved : Moved config board system.machine (moves_of board before) (first_call config board (lines_left config board c) c.replies) next
-    moved = script_state_moved config lawful board there (lines_left config board c) system.machine (moves_of board before) c refl count (follow board c is)
+    moved : Moved config board system.machine (transitions_of board before) (first_call config board (lines_left config board c) c.replies) next
+    moved = script_state_moved config lawful board there (lines_left config board c) system.machine (transitions_of board before) c refl count (follow board c is)
 
-    own : IsTracePrefix config board (moves_of board (before ++ moved.more)) next.1
+    own : IsTracePrefix config board (transitions_of board (before ++ moved.more)) next.1
     own =
         subst (λ (ms : List Transition). IsTracePrefix config board ms next.1)
-        (ap (λ ms. moves_of board before ++ ms) (sym moved.own) ∙ sym (filter-append (λ (m : Transition). m.who == board) before moved.more))
+        (ap (λ ms. transitions_of board before ++ ms) (sym moved.own) ∙ sym (filter-append (λ (m : Transition). m.who == board) before moved.more))
         moved.follows
 
-    other : (b : ℕ) (one : ScriptState) → b ≢ board → slice_get system.script_states b ≡ Some one → IsTracePrefix config b (moves_of b (before ++ moved.more)) one
+    other : (b : ℕ) (one : ScriptState) → b ≢ board → slice_get system.script_states b ≡ Some one → IsTracePrefix config b (transitions_of b (before ++ moved.more)) one
     other b one apart at =
         subst (λ (ms : List Transition). IsTracePrefix config b ms one)
-        (sym (append-nil (moves_of b before)) ∙ ap (λ ms. moves_of b before ++ ms) (sym (moved.others b (λ same. apart (sym same))))
+        (sym (append-nil (transitions_of b before)) ∙ ap (λ ms. transitions_of b before ++ ms) (sym (moved.others b (λ same. apart (sym same))))
         ∙ sym (filter-append (λ (m : Transition). m.who == b) before moved.more))
         (follow b one at)
 
-    each : (b : ℕ) (one : ScriptState) → slice_get (slice_set system.script_states board next.1) b ≡ Some one → IsTracePrefix config b (moves_of b (before ++ moved.more)) one
+    each : (b : ℕ) (one : ScriptState) → slice_get (slice_set system.script_states board next.1) b ≡ Some one → IsTracePrefix config b (transitions_of b (before ++ moved.more)) one
     each b one at =
         elim (eqb_tells b board) [
           | inl same ↦
               let mine : next.1 ≡ one = set_same system.script_states board next.1 one
               (ap (slice_get (slice_set system.script_states board next.1)) (sym same.1) ∙ at) in
-              subst (λ (p : ℕ). IsTracePrefix config p (moves_of p (before ++ moved.more)) one) (sym same.1)
-              (subst (IsTracePrefix config board (moves_of board (before ++ moved.more))) mine own)
+              subst (λ (p : ℕ). IsTracePrefix config p (transitions_of p (before ++ moved.more)) one) (sym same.1)
+              (subst (IsTracePrefix config board (transitions_of board (before ++ moved.more))) mine own)
           | inr apart ↦ other b one apart.1 (sym (set_other system.script_states board b next.1 (λ same. apart.1 (sym same))) ∙ at)
         ]
 

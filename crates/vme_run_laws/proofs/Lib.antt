@@ -3,7 +3,8 @@ pub mod Queues
 pub mod Declared
 pub mod Texts
 pub mod Finished
-pub mod Turns
+pub mod Orders
+pub mod Holders
 pub mod Granted
 pub mod Places
 pub mod Called

@@ -25,9 +25,10 @@ use Rattle.vme_line_task.specs.Traces.{ScriptState, IsTracePrefix}
 use Rattle.vme_line_task.specs.Events.{IsCallBelow}
 use Rattle.vme_line_task.proofs.lemmas.Below.{next_below}
 use Rattle.vme_line_task.proofs.lemmas.Traces.{follows_call, follows_answer}
+use Rattle.vme_bus_objects.specs.Runs.{transitions_of}
 use Rattle.vme_stepper.specs.Turns.{script_state, settled, call_made, turn_by, script_state_turn, lines_left}
 use Rattle.vme_run_laws.specs.TurnCalls.{call_or, first_call}
-use Rattle.vme_run_laws.specs.Transitions.{calls_in, moves_of}
+use Rattle.vme_run_laws.specs.Transitions.{calls_in}
 use Rattle.vme_run_laws.proofs.Places.{left_after}
 use Rattle.vme_run_laws.proofs.Events.{has_event, event_there}
 
@@ -49,10 +50,10 @@ step_count machine who (OnBoard x command) = board_count machine who x command (
 step_count machine who (OnBus cmd) = refl
 
 -- a transition of `who` is among its own, and not among those of another processor
-pub own_move : (who : ℕ) (event : Event) (reply : EventReply) → moves_of who (move who event reply ∷ []) ≡ move who event reply ∷ []
+pub own_move : (who : ℕ) (event : Event) (reply : EventReply) → transitions_of who (move who event reply ∷ []) ≡ move who event reply ∷ []
 own_move who event reply = let same : (who == who) ≡ true = eq-eqb who who refl in rw same refl
 
-pub other_move : (who other : ℕ) (event : Event) (reply : EventReply) → who ≢ other → moves_of other (move who event reply ∷ []) ≡ []
+pub other_move : (who other : ℕ) (event : Event) (reply : EventReply) → who ≢ other → transitions_of other (move who event reply ∷ []) ≡ []
 other_move who other event reply apart =
     elim (eqb_tells who other) [ inl same ↦ absurd (apart same.1) | inr not_same ↦ let no : (who == other) ≡ false = not_same.0 in rw no refl ]
 
@@ -62,8 +63,8 @@ pub record Moved (config : Configuration) (board : ℕ) (machine : Machine) (min
   pub calls : calls_in more ≡ option_to_list (option_map {U = ℕ × Call} (λ one. (board, one)) call)
   pub did : IsRun more machine after.0
   pub follows : IsTracePrefix config board (mine ++ more) after.1
-  pub own : moves_of board more ≡ more
-  pub others : (b : ℕ) → board ≢ b → moves_of b more ≡ []
+  pub own : transitions_of board more ≡ more
+  pub others : (b : ℕ) → board ≢ b → transitions_of b more ≡ []
   pub count : length after.0.boards ≡ length machine.boards
 
 module _ (config : Configuration) (lawful : IsLawful config) (board : ℕ) (there : board < length config.boards) where

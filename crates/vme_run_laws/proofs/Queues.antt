@@ -1,10 +1,12 @@
 -- A mailbox that only the lines that name it touch is a queue in every report.
-use Rattle.std.proofs.Common.{◌≡◌, ℕ, ◌+◌, ◌≤◌, ◌<◌, List, length, slice_index_or, ◌∙◌}
+use Rattle.std.proofs.Common.{◌≡◌, ℕ, ◌+◌, ◌≤◌, ◌<◌, List, length, slice_index_or, ◌∙◌, arith}
 use Rattle.vme_object.specs.declared.history.Entry.{Entry}
-use Rattle.vme_object.specs.History.{IsPrefix}
+use Rattle.vme_object.specs.History.{IsLegal, IsPrefix}
 use Rattle.vme_object.specs.Each.{Each}
 use Rattle.vme_memory.specs.declared.command.BoardCmd.{BoardCmd}
 use Rattle.vme_memory.specs.declared.reply.Reply.{Reply}
+use Rattle.vme_memory.specs.Locals.{board_step}
+use Rattle.vme_core.specs.Runs.{board_part}
 use Rattle.vme_shared.specs.MailboxSteps.{BoardMailbox, LiesIn}
 use Rattle.vme_shared.specs.Phases.{IsProper}
 use Rattle.vme_shared.specs.Words.{put_by, taken_by, words_put, words_taken, all_idle}
@@ -17,11 +19,11 @@ use Rattle.vme_mailbox_laws.specs.Names.{lines_put, lines_taken, IsMailboxOf}
 use Rattle.vme_mailbox_laws.specs.Groups.{own_words_put, own_words_taken}
 use Rattle.vme_mailbox_laws.proofs.lemmas.Groups.{own_words}
 use Rattle.vme_mailbox_laws.proofs.lemmas.Shared.{proper, put_reported, taken_reported}
-use Rattle.vme_threads.specs.declared.report.BoardReport.{BoardReport}
 use Rattle.vme_threads.specs.declared.report.Report.{Report}
 use Rattle.vme_threads.specs.Rans.{answers_in}
-use Rattle.vme_threads.specs.Reports.{IsReportOf}
-use Rattle.vme_run_laws.proofs.Shared.{share, new_there, reported_in, reported_each}
+use Rattle.vme_threads.specs.OneOrder.{IsReportOfOneOrder}
+use Rattle.vme_sequential.proofs.lemmas.Lists.{element_at}
+use Rattle.vme_run_laws.proofs.Shared.{own_runs, share, new_there, reported_in, reported_each}
 
 -- a history is proper for a mailbox, which is a queue there, and its words are those that the report's lines show
 pub record IsQueue (config : Configuration) (report : Report) (box : ℕ) (m : BoardMailbox) (h : List (Entry BoardCmd Reply))
@@ -36,27 +38,29 @@ pub record IsQueue (config : Configuration) (report : Report) (box : ℕ) (m : B
       Each (λ who lines. own_words_taken who m h ≡ lines_taken box (lines_at config who) (answers_in lines.items))
       report.lines.items
 
-pub queue : (config : Configuration) (report : Report) (lawful : IsLawful config) (is : IsReportOf config report)
-    (box board : ℕ) (m : BoardMailbox) (own : BoardConfig) (end : BoardReport) (below : board < length config.boards)
+pub queue : (config : Configuration) (report : Report) (lawful : IsLawful config) (is : IsReportOfOneOrder config report)
+    (box board : ℕ) (m : BoardMailbox) (own : BoardConfig) → board < length config.boards
     → IsMailboxOf config box board m → LiesIn (opening_memory (slice_index_or config.boards board own)) m
-    → IsQueue config report box m (is.boards.each board own end below).history.history
-queue config report lawful is box board m own end below mailbox lies =
+    → IsQueue config report box m (board_part board is.run)
+queue config report lawful is box board m own below mailbox lies =
     let there = slice_index_or config.boards board own in
     let memory = opening_memory there in
-    let found = (is.boards.each board own end below).history in
-    let h = found.history in
+    let h = board_part board is.run in
+    let runs = own_runs config report lawful is in
+    let end = element_at report.boards.items board (omega (arith, below, is.boards.count)) in
+    let legal : IsLegal board_step memory h = (is.boards.each board own end.0 below).leads.legal in
     let new = new_there there m lies in
-    let shared = share config report lawful is board own end below in
-    let goes = proper config box board m memory h is.runs (reported_in report) mailbox new found.legal shared in
-    let fifo = is_queue memory m h new found.legal goes in
+    let shared = share config report lawful is board in
+    let goes = proper config box board m memory h runs (reported_in report) mailbox new legal shared in
+    let fifo = is_queue memory m h new legal goes in
     record {
       goes = goes;
       order = fifo.order;
       capacity = fifo.capacity;
       put = reported_each report (λ who reported. own_words_put who m h ≡ lines_put box (lines_at config who) reported)
           (λ who d less. own_words who put_by m all_idle h
-          ∙ put_reported config box board m memory h is.runs (reported_in report) mailbox new found.legal shared who d less);
+          ∙ put_reported config box board m memory h runs (reported_in report) mailbox new legal shared who d less);
       taken = reported_each report (λ who reported. own_words_taken who m h ≡ lines_taken box (lines_at config who) reported)
           (λ who d less. own_words who taken_by m all_idle h
-          ∙ taken_reported config box board m memory h is.runs (reported_in report) mailbox new found.legal shared who d less);
+          ∙ taken_reported config box board m memory h runs (reported_in report) mailbox new legal shared who d less);
     }

@@ -78,12 +78,12 @@ by_place config system slot None lawful stand is = stand
 by_place config system slot (Some board) lawful stand is =
     by_script_state config system board (slice_get system.script_states board) lawful stand (place_is config slot board is).there refl
 
-turn_stand : (config : Configuration) (system : SystemState) (slot : ℕ) → IsLawful config → AllStand config system
+pub turn_stand : (config : Configuration) (system : SystemState) (slot : ℕ) → IsLawful config → AllStand config system
     → AllStand config (turn config system slot)
 unfolding turn
 turn_stand config system slot lawful stand = by_place config system slot (board_in_slot config slot) lawful stand refl
 
-run_stand : (config : Configuration) (system : SystemState) (slots : List ℕ) → IsLawful config → AllStand config system
+pub run_stand : (config : Configuration) (system : SystemState) (slots : List ℕ) → IsLawful config → AllStand config system
     → AllStand config (run config system slots)
 run_stand config system [] lawful stand = stand
 run_stand config system (slot ∷ slots) lawful stand =
@@ -98,7 +98,7 @@ script_state_begun scripts b c found = by_script (slice_get scripts b) (sym (sli
     by_script None is = absurd cc
     by_script (Some script) is = cc
 
-opening_stand : (config : Configuration) → IsLawful config → AllStand config (initial_state config)
+pub opening_stand : (config : Configuration) → IsLawful config → AllStand config (initial_state config)
 opening_stand config lawful = record {
   orderly = orderly-opening config.arbiter;
   count = length-map config.scripts (λ script. script_state [] []) ∙ lawful.scripts;

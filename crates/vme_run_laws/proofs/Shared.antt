@@ -1,115 +1,67 @@
--- The runs of a report share the history of each board.
-use Rattle.std.proofs.Common.{◌≡◌, ◌≢◌, ℕ, ◌+◌, ◌-◌, ◌≤◌, ◌<◌, true, eqb, List, [], ◌∷◌, length, map, take, drop, replicate, slice_index_or, ap, sym, subst, ◌∙◌, arith, inl, inr}
-use Rattle.std.specs.Prelude.{All, IsTrue, slice_range}
+-- The processors of a report share the history of each board in its one order.
+use Rattle.std.proofs.Common.{◌≡◌, ℕ, ◌+◌, ◌-◌, ◌≤◌, ◌<◌, List, [], ◌∷◌, length, map, take, drop, replicate, slice_index_or, ap, sym, subst, ◌∙◌, arith, inl, inr, eq-eqb, ne_eqb}
+use Rattle.std.specs.Prelude.{All, slice_range}
+use Rattle.std.proofs.lemmas.Bool.{cases_eq}
 use Rattle.std.proofs.lemmas.List.{get_or-map, length-map, take-replicate, drop-replicate, length-replicate}
-use Rattle.std.proofs.lemmas.List.Elements.{All-nil, All-cons, All-head, All-tail}
+use Rattle.std.proofs.lemmas.Option.{slice_get-get_or}
 use Rattle.vme_object.specs.declared.history.Entry.{Entry}
-use Rattle.vme_object.specs.History.{IsLegal}
+use Rattle.vme_object.specs.History.{own}
 use Rattle.vme_object.specs.Each.{Each}
 use Rattle.vme_memory.specs.declared.command.BoardCmd.{BoardCmd}
 use Rattle.vme_memory.specs.declared.reply.Reply.{Reply}
 use Rattle.vme_memory.specs.Boards.{zeros}
+use Rattle.vme_core.specs.Runs.{Transition, board_entry, board_part}
 use Rattle.vme_shared.specs.Layout.{mailbox_len}
 use Rattle.vme_shared.specs.MailboxSteps.{BoardMailbox, LiesIn, IsNewMailbox, end_of}
-use Rattle.vme_arbiter.specs.declared.command.ArbCmd.{ArbCmd}
-use Rattle.vme_arbiter.specs.declared.command.ArbReply.{ArbReply}
-use Rattle.vme_arbiter.specs.declared.command.ArbReply.TheVariants as arb_replies
-use Rattle.vme_arbiter.specs.Arbitration.{Arbitration, arbiter_step, opening_bus}
-use Rattle.vme_core.specs.declared.event.Event.{Event}
-use Rattle.vme_core.specs.declared.event.Event.TheVariants as events
-use Rattle.vme_core.specs.declared.event.EventReply.{EventReply}
-use Rattle.vme_core.specs.declared.event.EventReply.TheVariants as replies
-use Rattle.vme_core.specs.Runs.{Transition, move, IsReplyTo, board_part, bus_part}
-use Rattle.vme_core.specs.Calls.{OnBus}
-use Rattle.vme_master.specs.Jobs.{fits}
-use Rattle.vme_master.proofs.lemmas.Locals.{turn_fits}
 use Rattle.vme_shared.specs.declared.reply.LineReply.{LineReply}
 use Rattle.vme_script.specs.declared.board.BoardConfig.{BoardConfig}
 use Rattle.vme_script.specs.Configurations.{Configuration, opening_memory}
 use Rattle.vme_script.specs.Lawful.{IsLawful}
 use Rattle.vme_line_task.specs.Scripts.{lines_at}
 use Rattle.vme_line_task.specs.Traces.{IsTrace}
-use Rattle.vme_mailbox_laws.specs.Runs.{IsTurned, AllTurned, ShareHistory}
-use Rattle.vme_threads.specs.declared.report.BoardReport.{BoardReport}
+use Rattle.vme_mailbox_laws.specs.Runs.{AllTurned, ShareHistory}
+use Rattle.vme_bus_objects.specs.Runs.{transitions_of}
 use Rattle.vme_threads.specs.declared.report.Report.{Report}
 use Rattle.vme_threads.specs.Rans.{answers_in}
-use Rattle.vme_threads.specs.Reports.{IsReportOf}
-use Rattle.vme_run_laws.proofs.Granted.{report_turns, all_own}
+use Rattle.vme_threads.specs.OneOrder.{IsReportOfOneOrder}
+use Rattle.vme_threads.proofs.lemmas.Parts.{part_of, board_whose}
+use Rattle.vme_sequential.proofs.lemmas.Lists.{values, values_count, each_value, value_pairs}
+use Rattle.vme_sequential.proofs.lemmas.Histories.{known_of}
+use Rattle.vme_sequential.proofs.lemmas.Reports.{order}
+use Rattle.vme_run_laws.proofs.Granted.{run_turned}
 
--- a reply of the arbiter fits and is not a denial
-abbrev Fine : Entry ArbCmd ArbReply → Type 0
-Fine e = IsTrue (fits (OnBus e.cmd) (replies.Bus e.reply)) × (replies.Bus e.reply ≢ replies.Bus arb_replies.Denied)
-
-abbrev Granted : Entry ArbCmd ArbReply → Type 0
-Granted e = e.reply ≢ arb_replies.Denied
-
-all_fine : (bus : Arbitration) (h : List (Entry ArbCmd ArbReply)) → IsLegal arbiter_step bus h → All Granted h → All Fine h
-all_fine bus [] legal granted = All-nil Fine
-all_fine bus (e ∷ h) legal granted =
-    let fit : fits (OnBus e.cmd) (replies.Bus e.reply) ≡ true =
-    subst (λ (r : ArbReply). fits (OnBus e.cmd) (replies.Bus r) ≡ true) (sym legal.0) (turn_fits bus e.cmd) in
-    let no_denial : replies.Bus e.reply ≢ replies.Bus arb_replies.Denied = λ same. All-head Granted e h granted cc in
-    All-cons Fine e h (fit, no_denial) (all_fine (arbiter_step bus e.cmd).0 h legal.1 (All-tail Granted e h granted))
-
--- the reply of each transition satisfies `IsTurned`
-one_turned : (who : ℕ) (event : Event) (reply : EventReply) (tail : List Transition) → IsReplyTo event reply
-    → All Fine (bus_part (move who event reply ∷ tail)) → IsTurned event reply × All Fine (bus_part tail)
-one_turned who (events.Board x cmd) (replies.Board reply) tail kind all = (tt, all)
-one_turned who (events.Board x cmd) (replies.Bus reply) tail kind all = absurd kind
-one_turned who (events.Bus cmd) (replies.Board reply) tail kind all = absurd kind
-one_turned who (events.Bus cmd) (replies.Bus reply) tail kind all = (
-  All-head Fine (record { who = who; cmd = cmd; reply = reply }) (bus_part tail) all,
-  All-tail Fine (record { who = who; cmd = cmd; reply = reply }) (bus_part tail) all,
-)
-
-abbrev OfKind : Transition → Type 0
-OfKind m = IsReplyTo m.event m.reply
-
-all_turned : (run : List Transition) → All OfKind run → All Fine (bus_part run) → AllTurned run
-all_turned [] kind all = tt
-all_turned (m ∷ run) kind all =
-    let first = one_turned m.who m.event m.reply run (All-head OfKind m run kind) all in
-    (first.0, all_turned run (All-tail OfKind m run kind) first.1)
-
--- an element at a place of a list
-pub some_of : {A : Type 0} (xs : List A) (x : ℕ) → x < length xs → A
-some_of [] x less = absurd (omega (arith, less))
-some_of (one ∷ xs) x less = one
+-- what holds of all transitions of a run holds of those of one processor
+turned_own : (who : ℕ) (run : List Transition) → AllTurned run → AllTurned (transitions_of who run)
+turned_own who [] turned = tt
+turned_own who (m ∷ run) turned = elim (cases_eq m.who who) [
+  | inl same ↦ rw (eq-eqb m.who who same) (turned.0, turned_own who run turned.1)
+  | inr other ↦ rw (ne_eqb m.who who other) (turned_own who run turned.1)
+]
 
 -- the replies to a report's lines
 abbrev pub reported_in : Report → List (List LineReply)
 reported_in report = map (λ lines. answers_in lines.items) report.lines.items
 
-module _ (config : Configuration) (report : Report) (lawful : IsLawful config) (is : IsReportOf config report) where
-  turned_run : (who : ℕ) (d : List Transition) → who < length is.runs → AllTurned (slice_index_or is.runs who d)
-  turned_run who d below =
-      let bus = is.bus.1 in
-      let owned = bus.owns who (bus_part d) (subst (λ (n : ℕ). who < n) (sym (length-map is.runs bus_part)) below)
-      ∙ get_or-map bus_part is.runs who d (bus_part d) below in
-      let fine = all_fine (opening_bus config.arbiter) bus.history bus.legal (report_turns config report lawful is) in
-      all_turned (slice_index_or is.runs who d) (is.fitting who d below)
-      (subst (All Fine) owned (all_own Fine who bus.history fine))
+module _ (config : Configuration) (report : Report) (lawful : IsLawful config) (is : IsReportOfOneOrder config report) where
+  -- the transitions of each processor
+  abbrev pub own_runs : List (List Transition)
+  own_runs = values (λ who. transitions_of who is.run) 0 (length config.boards)
 
-  pub share : (board : ℕ) (own_board : BoardConfig) (end : BoardReport) (below : board < length config.boards)
-      → ShareHistory config board (is.boards.each board own_board end below).history.history is.runs (reported_in report)
-  share board own_board end below =
-      let has = (is.boards.each board own_board end below).history in
+  pub share : (board : ℕ) → ShareHistory config board (board_part board is.run) own_runs (reported_in report)
+  share board =
+      let k : ℕ = length config.boards in
+      let one = order config report lawful is in
       record {
-        known = subst (λ (n : ℕ). All (λ (e : Entry BoardCmd Reply). e.who < n) has.history)
-            (length-map is.runs (board_part board)) has.known;
-        owns = λ who d less.
-            has.owns who (board_part board d) (subst (λ (n : ℕ). who < n) (sym (length-map is.runs (board_part board))) less)
-            ∙ get_or-map (board_part board) is.runs who d (board_part board d) less;
-        trace = record {
-          count = length-map report.lines.items _ ∙ is.trace.count;
-          each = λ who a b less.
-              let there : who < length report.lines.items = omega (arith, less, is.trace.count) in
-              let d = some_of report.lines.items who there in
-              let run = slice_index_or is.runs who a in
-              subst (λ (answers : List LineReply). IsTrace config who (lines_at config who) run answers)
-              (sym (get_or-map (λ lines. answers_in lines.items) report.lines.items who d b there)) (is.trace.each who a d less);
-        };
-        turned = λ who d less. turned_run who d less;
+        known = subst (λ (n : ℕ). All (λ (e : Entry BoardCmd Reply). e.who < n) (board_part board is.run))
+            (sym (values_count (λ who. transitions_of who is.run) 0 k))
+            (known_of (λ m. board_entry board m.who m.event m.reply) (λ m e found. board_whose board m.who m.event m.reply e found) k is.run is.known);
+        owns = each_value (λ who run. own who (board_part board is.run) ≡ board_part board run) (λ who. transitions_of who is.run) k
+            (λ who less. part_of (λ m. board_entry board m.who m.event m.reply) (λ m e found. board_whose board m.who m.event m.reply e found) who is.run);
+        trace = value_pairs (λ who run reported. IsTrace config who (lines_at config who) run reported) (λ who. transitions_of who is.run) (reported_in report) k
+            one.count
+            (λ who d less. one.traces who (slice_index_or (reported_in report) who d)
+            (slice_get-get_or (reported_in report) who d (subst (λ (n : ℕ). who < n) (sym one.count) less)));
+        turned = each_value (λ who run. AllTurned run) (λ who. transitions_of who is.run) k (λ who less. turned_own who is.run (run_turned config report lawful is));
       }
 
 -- a board of zeros has its size

@@ -3,3 +3,4 @@ pub mod Finished
 pub mod Granted
 pub mod TurnCalls
 pub mod Transitions
+pub mod Orders

@@ -1,6 +1,5 @@
 -- Defines turns as a run of transitions of the boards, the arbiter and the processors.
-use Rattle.std.specs.Prelude.{ℕ, ◌≡◌, ◌==◌, List, [], ◌∷◌, ◌++◌, length, map, slice_get, Some}
-use Rattle.std.specs.List.{filter}
+use Rattle.std.specs.Prelude.{ℕ, ◌≡◌, List, [], ◌∷◌, ◌++◌, length, map, slice_get, Some}
 use Rattle.std.specs.Option.{option_to_list}
 use Rattle.vme_object.specs.Each.{AllAt}
 use Rattle.vme_memory.specs.Locals.{board_step}
@@ -10,6 +9,7 @@ use Rattle.vme_core.specs.Runs.{Transition, board_part, bus_part}
 use Rattle.vme_core.specs.Calls.{Call, call_of}
 use Rattle.vme_script.specs.Configurations.{Configuration, opening_memory}
 use Rattle.vme_line_task.specs.Traces.{ScriptState, IsTracePrefix}
+use Rattle.vme_bus_objects.specs.Runs.{transitions_of}
 use Rattle.vme_stepper.specs.Turns.{SystemState, turn, initial_state, state_after}
 use Rattle.vme_run_laws.specs.TurnCalls.{turn_call}
 
@@ -23,10 +23,6 @@ calls_from config system (slot ∷ slots) =
 abbrev pub calls_in : List Transition → List (ℕ × Call)
 calls_in run = map (λ m. (m.who, call_of m.event)) run
 
--- the transitions of processor `who`
-abbrev pub moves_of : ℕ → List Transition → List Transition
-moves_of who run = filter (λ m. m.who == who) run
-
 -- turns of these slots are this run: its calls are theirs, each object is the replay of its own part and has counted
 -- it, and each processor has followed its script by its own transitions
 pub record AreRun (config : Configuration) (slots : List ℕ) (run : List Transition) : Type 0 where
@@ -38,4 +34,4 @@ pub record AreRun (config : Configuration) (slots : List ℕ) (run : List Transi
       IsCountedReplay arbiter_step (opening_bus config.arbiter) (bus_part run) (length config.boards)
       (state_after config slots).machine.bus
   pub script_states :
-      (b : ℕ) (c : ScriptState) → slice_get (state_after config slots).script_states b ≡ Some c → IsTracePrefix config b (moves_of b run) c
+      (b : ℕ) (c : ScriptState) → slice_get (state_after config slots).script_states b ≡ Some c → IsTracePrefix config b (transitions_of b run) c

@@ -3,10 +3,14 @@
 //! declared mailbox is a queue.
 #![tactic(auto)]
 
+mod order_laws;
 mod queue_laws;
 mod thread_laws;
 mod turn_laws;
 
+pub use order_laws::{
+    blocks_do_not_interleave, data_move_for_the_holder, each_transition_is_a_turn,
+};
 pub use queue_laws::{declared_mailboxes_are_queues, texts_show_queues};
 pub use thread_laws::{each_line_comes_to_its_end, no_line_is_denied, the_arbiter_denies_nobody};
 pub use turn_laws::{

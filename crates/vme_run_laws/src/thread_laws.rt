@@ -8,33 +8,34 @@ ghost use Rattle.vme_arbiter.specs.declared.command.ArbReply.TheVariants.{Denied
 ghost use Rattle.vme_arbiter.specs.declared.kind.ArbiterKind.{ArbiterKind};
 ghost use Rattle.vme_arbiter.specs.Arbitration.{opening_bus, arbiter_step};
 ghost use Rattle.vme_arbiter.specs.Masters.{FollowReplies};
+ghost use Rattle.vme_core.specs.Runs.{bus_part};
 ghost use Rattle.vme_script.specs.Configurations.{Configuration};
 ghost use Rattle.vme_script.specs.Lawful.{IsLawful};
 ghost use Rattle.vme_threads.specs.declared.report.Report.{Report};
-ghost use Rattle.vme_threads.specs.Reports.{IsReportOf};
+ghost use Rattle.vme_threads.specs.OneOrder.{IsReportOfOneOrder};
 ghost use Rattle.vme_run_laws.specs.Finished.{AreFinished};
 ghost use Rattle.vme_run_laws.specs.Granted.{AreGranted};
 
-/// No line of a report is unfinished.
+/// No line of a report of one order is unfinished.
 pub fn each_line_comes_to_its_end()
-    ensures { (config : Configuration) (report : Report) → IsReportOf config report →
+    ensures { (config : Configuration) (report : Report) → IsReportOfOneOrder config report →
         Each (λ who lines. AreFinished lines.items) report.lines.items }
 {}
 
-/// No line of a report of a lawful configuration is denied the bus.
+/// No line of a report of one order of a lawful configuration is denied the bus.
 pub fn no_line_is_denied()
-    ensures { (config : Configuration) (report : Report) → IsLawful config → IsReportOf config report →
+    ensures { (config : Configuration) (report : Report) → IsLawful config → IsReportOfOneOrder config report →
         Each (λ who lines. AreGranted lines.items) report.lines.items }
 {}
 
 /// The arbiter, of either kind, denies no command. Consider a legal history from a free bus in
 /// which each processor's commands name one slot, its own, and follow its last reply, with slots
-/// and levels in range. Then no reply is `Denied`. In the history of the arbiter of a lawful
-/// configuration's report, no reply is `Denied` either.
+/// and levels in range. Then no reply is `Denied`. In the part of the arbiter in a report of one
+/// order of a lawful configuration, no reply is `Denied` either.
 pub fn the_arbiter_denies_nobody()
     ensures law { (kind : ArbiterKind) (k : ℕ) (slots : ℕ → ℕ) (h : List (Entry ArbCmd ArbReply)) →
         IsLegal arbiter_step (opening_bus kind) h → FollowReplies k slots h →
         All (λ e. e.reply ≢ Denied) h }
     ensures report { (config : Configuration) (report : Report) → IsLawful config →
-        (is : IsReportOf config report) → All (λ e. e.reply ≢ Denied) is.bus.1.history }
+        (is : IsReportOfOneOrder config report) → All (λ e. e.reply ≢ Denied) (bus_part is.run) }
 {}

@@ -15,6 +15,11 @@ pub use Rattle.vme_stepper.specs.Reports as StepReports
 pub use Rattle.vme_threads.specs.Ports
 pub use Rattle.vme_threads.specs.Rans
 pub use Rattle.vme_threads.specs.Reports
+pub use Rattle.vme_threads.specs.OneOrder
+pub use Rattle.vme_threads.specs.Settlements
+pub use Rattle.vme_threads.specs.Gatherings
+pub use Rattle.vme_threads.specs.ReportTexts as ThreadReports
+pub use Rattle.vme_sequential.specs.Orders
 pub use Rattle.vme_threads.specs.Threads
 -- The text of a report.
 pub use Rattle.vme_report.specs.Ends
@@ -28,3 +33,4 @@ pub use Rattle.vme_run_laws.specs.Finished
 pub use Rattle.vme_run_laws.specs.Granted
 pub use Rattle.vme_run_laws.specs.TurnCalls
 pub use Rattle.vme_run_laws.specs.Transitions
+pub use Rattle.vme_run_laws.specs.Orders as OrderLaws

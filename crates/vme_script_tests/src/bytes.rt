@@ -2,7 +2,6 @@
 use crate::support::check;
 use std::alloc::{AllocError, Global};
 use std::process::Abort;
-use std::test::Fail;
 use vme_script::{Line, Script};
 
 /// Extra lines of the first board's script, and the expected result of the file. The mailbox has
@@ -51,15 +50,9 @@ static OTHER_LINES: [(&str, &str); 28] = [
     ("put 2 00000001", "C14 slot 2 line 4 S6"),
 ];
 
-/// A file with extra lines at the ends of the two scripts.
-fn check_lines(
-    rt: &impl Abort,
-    alloc: Global,
-    own: &str,
-    other: &str,
-    reported: &str,
-) -> Result<(), AllocError> {
-    let file = format!(in alloc;
+/// Returns a file with extra lines at the ends of the two scripts.
+fn file_of(alloc: Global, own: &str, other: &str) -> Result<String, AllocError> {
+    format!(in alloc;
         "tries = 1
 [[board]]
 slot = 1
@@ -76,27 +69,35 @@ am = 9
 addr = 0
 slots = 2
 "
-    )?;
-    check(rt, alloc, file.as_bytes(), reported)
+    )
+}
+
+/// Checks the first refusal of a file with extra lines.
+fn check_lines(rt: &impl Abort, alloc: Global, own: &str, other: &str, wanted: &str) {
+    let file = file_of(alloc, own, other).expect(rt, "no memory");
+    check(rt, alloc, file.as_bytes(), wanted);
 }
 
 #[test]
-fn reports_of_bytes_of_a_mailbox(rt: HostRuntime) -> Result<(), Fail> {
-    check_lines(&rt, rt.alloc(), "", "", "lawful")?;
-    for (line, reported) in &OWN_LINES {
-        check_lines(&rt, rt.alloc(), line, "", reported)?;
+fn reports_of_bytes_of_a_mailbox(rt: HostRuntime) {
+    check_lines(&rt, rt.alloc(), "", "", "lawful");
+    for (line, wanted) in &OWN_LINES {
+        check_lines(&rt, rt.alloc(), line, "", wanted);
     }
-    for (line, reported) in &OTHER_LINES {
-        check_lines(&rt, rt.alloc(), "", line, reported)?;
+    for (line, wanted) in &OTHER_LINES {
+        check_lines(&rt, rt.alloc(), "", line, wanted);
     }
-    Ok(())
+}
+
+/// Checks a script of two lines, of which the first takes a lock.
+fn check_lock(rt: &impl Abort, script: &Script) {
+    assert!(rt; script.len() == 2);
+    assert!(rt; matches!(script.line(0), Line::Lock { am: 9, addr: 0 }));
 }
 
 /// A script by itself may access any byte.
 #[test]
-fn names_any_byte_by_itself(rt: HostRuntime) -> Result<(), Fail> {
-    let script = Script::read(rt.alloc(), b"lock 09 00000000\nlr 00000000 4\n")?;
-    assert_eq!(rt; script.len(), 2);
-    assert!(rt; matches!(script.line(0), Line::Lock { am: 9, addr: 0 }));
-    Ok(())
+fn names_any_byte_by_itself(rt: HostRuntime) {
+    let script = Script::read(rt.alloc(), b"lock 09 00000000\nlr 00000000 4\n");
+    check_lock(&rt, &script.expect(&rt, "refused"));
 }

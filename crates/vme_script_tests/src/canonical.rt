@@ -21,20 +21,51 @@ static CANONICAL: [&str; 14] = [
     "lm 00000000 4 cas f91f875e 00000001",
 ];
 
+/// Returns whether a line is parsed in one pass.
+fn is_canonical(line: &str) -> bool {
+    parse_canonical(line.as_bytes()).is_some()
+}
+
 #[test]
 fn takes_canonical_lines(rt: HostRuntime) {
     for line in &CANONICAL {
-        assert!(rt; parse_canonical(line.as_bytes()).is_some(), "{line}");
+        assert!(rt; is_canonical(line), "{line}");
     }
 }
+
+/// Returns what a line asks for.
+fn kind_of(line: &Line) -> &'static str {
+    match line {
+        Line::Bus(_) => "bus",
+        Line::Local(_) => "local",
+        Line::Take { mailbox: 2 } => "take 2",
+        _ => "other",
+    }
+}
+
+/// Returns what a line asks for, or its fault.
+fn parsed(text: &str) -> Result<&'static str, LineFault> {
+    match parse_line(text.as_bytes()) {
+        Ok(Some(line)) => Ok(kind_of(&line)),
+        Ok(None) => Ok("nothing"),
+        Err(fault) => Err(fault),
+    }
+}
+
+/// Lines that are parsed word by word, each with what it asks for.
+static OTHERS: [(&str, Result<&str, LineFault>); 5] = [
+    ("lr  00013c4c 4", Ok("local")),
+    (" r 09 000011dc 4 ", Ok("bus")),
+    ("take 2", Ok("take 2")),
+    ("# r 09 000011dc 4", Ok("nothing")),
+    ("r 09 000011dc 9", Err(LineFault::BadNumber)),
+];
 
 /// Lines with more spaces are parsed word by word.
 #[test]
 fn reads_other_lines(rt: HostRuntime) {
-    assert!(rt; parse_canonical(b"lr  00013c4c 4").is_none());
-    assert!(rt; matches!(parse_line(b"lr  00013c4c 4"), Ok(Some(Line::Local(_)))));
-    assert!(rt; matches!(parse_line(b" r 09 000011dc 4 "), Ok(Some(Line::Bus(_)))));
-    assert!(rt; matches!(parse_line(b"take 2"), Ok(Some(Line::Take { mailbox: 2 }))));
-    assert!(rt; matches!(parse_line(b"# r 09 000011dc 4"), Ok(None)));
-    assert!(rt; matches!(parse_line(b"r 09 000011dc 9"), Err(LineFault::BadNumber)));
+    assert!(rt; !is_canonical("lr  00013c4c 4"));
+    for (line, wanted) in &OTHERS {
+        assert_eq!(rt; parsed(line), *wanted, "{line}");
+    }
 }

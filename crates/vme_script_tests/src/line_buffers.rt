@@ -1,4 +1,5 @@
-//! The number of bytes that lines read over the bus, and the buffers for them.
+//! The numbers of bytes that lines read over the bus, and the buffers for them.
+use std::process::Abort;
 use std::test::Fail;
 use vme_line_task::{ReadBuffers, line_read_len};
 use vme_script::Script;
@@ -13,21 +14,22 @@ await 09 00001000 01
 lr 00000000 4
 ";
 
-/// How many bytes each of these lines reads.
+/// The number of bytes that each line of `LINES` reads over the bus.
 static LENGTHS: [usize; 8] = [4, 0, 256, 0, 0, 2, 0, 0];
 
-#[test]
-fn lines_read_so_many_bytes(rt: HostRuntime) -> Result<(), Fail> {
-    let script = Script::read(rt.alloc(), LINES.as_bytes())?;
-    assert_eq!(&rt; script.len(), LENGTHS.len());
+/// Checks the number of bytes that each line of a script reads.
+fn check_lengths(rt: &impl Abort, script: &Script) {
+    assert_eq!(rt; script.len(), LENGTHS.len());
     for line in 0..script.len() {
-        assert_eq!(&rt;
-            Some(&line_read_len(script.line(line))),
-            LENGTHS.get(line),
-            "{line}"
-        );
+        let length = line_read_len(script.line(line));
+        assert_eq!(rt; Some(&length), LENGTHS.get(line), "{line}");
     }
-    Ok(())
+}
+
+#[test]
+fn lines_read_so_many_bytes(rt: HostRuntime) {
+    let script = Script::read(rt.alloc(), LINES.as_bytes());
+    check_lengths(&rt, &script.expect(&rt, "refused"));
 }
 
 #[test]

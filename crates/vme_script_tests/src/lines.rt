@@ -1,12 +1,12 @@
 //! The steps of script lines, call by call, with listed replies.
-use crate::support::{ASK, DONE, FREED, GRANTED, Given, LOOK, Step, answer, course_of};
-use std::test::Fail;
+use crate::support::{
+    ASK, DONE, FREED, GRANTED, Given, LOOK, Step, check_course, check_cycles, config_of,
+};
 use vme_am::AmFault;
 use vme_arbiter::ArbReply;
-use vme_cycle::{Block, CycleFault};
-use vme_master::Outcome;
-use vme_script::Config;
-use vme_shared::LineReply;
+use vme_cycle::CycleFault;
+use vme_line_task::LineReplyRef;
+use vme_master::OutcomeRef;
 
 /// A processor and its one board of 16 bytes from address 1000 hex on. A line that waits may read
 /// twice.
@@ -25,67 +25,83 @@ lw 00000004 aa
 '''
 ";
 
-/// Cycles of the line that waits, and whether it meets its bytes.
-static WAITS: [(&[(u32, Given)], bool); 3] = [
-    (&[(3, Given::Byte(1))], true),
-    (&[(3, Given::Byte(0)), (3, Given::Byte(1))], true),
-    (&[(3, Given::Byte(0)), (3, Given::Byte(2))], false),
+const BERR: LineReplyRef<'static> = LineReplyRef::Transfer(OutcomeRef::Berr {
+    count: 0,
+    bytes: &[],
+});
+
+/// Cycles of the line that waits, each list with the reply to the line.
+static WAITS: [(&[(u32, Given)], LineReplyRef<'static>); 4] = [
+    (&[(3, Given::Byte(1))], LineReplyRef::Met),
+    (
+        &[(3, Given::Byte(0)), (3, Given::Byte(1))],
+        LineReplyRef::Met,
+    ),
+    (
+        &[(3, Given::Byte(0)), (3, Given::Byte(2))],
+        LineReplyRef::Timeout,
+    ),
+    (&[(3, Given::Byte(0)), (3, Given::Berr)], BERR),
 ];
 
 #[test]
-fn a_line_waits_for_its_bytes(rt: HostRuntime) -> Result<(), Fail> {
-    let config = Config::read(rt.alloc(), FILE.as_bytes())?;
-    for (cycles, met) in &WAITS {
-        let course = course_of(rt.alloc(), cycles)?;
-        let wanted = if *met {
-            LineReply::Met
-        } else {
-            LineReply::Timeout
-        };
-        assert_eq!(&rt; answer(&rt, &config, 0, &course), wanted, "{cycles:?}");
+fn a_line_waits_for_its_bytes(rt: HostRuntime) {
+    let config = config_of(&rt, rt.alloc(), FILE);
+    for (cycles, wanted) in &WAITS {
+        check_cycles(&rt, &config, 0, cycles, *wanted);
     }
-    let berr = Outcome::Berr {
-        count: 0,
-        bytes: Block::new(),
-    };
-    let course = course_of(rt.alloc(), &[(3, Given::Byte(0)), (3, Given::Berr)])?;
-    assert_eq!(&rt; answer(&rt, &config, 0, &course), LineReply::Transfer(berr));
-    Ok(())
 }
 
-/// The bus is granted late.
-static LATE: [(Given, Step); 8] = [
-    (Given::Nothing, ASK),
-    (GRANTED, Step::Cycle(0, 3)),
-    (Given::Byte(0), DONE),
-    (FREED, ASK),
-    (Given::Turn(ArbReply::Waiting), LOOK),
-    (GRANTED, Step::Cycle(0, 3)),
-    (Given::Byte(1), DONE),
-    (FREED, Step::End),
+const DENIED: LineReplyRef<'static> = LineReplyRef::Transfer(OutcomeRef::Denied);
+
+const REFUSED: LineReplyRef<'static> = LineReplyRef::Refused(CycleFault::Code(
+    AmFault::UserDefined,
+));
+
+const WRITTEN: LineReplyRef<'static> = LineReplyRef::Transfer(OutcomeRef::Done);
+
+/// Lines, each with its steps and its reply.
+static COURSES: [(usize, &[(Given, Step)], LineReplyRef<'static>); 5] = [
+    // The bus is granted late.
+    (
+        0,
+        &[
+            (Given::Nothing, ASK),
+            (GRANTED, Step::Cycle(0, 3)),
+            (Given::Byte(0), DONE),
+            (FREED, ASK),
+            (Given::Turn(ArbReply::Waiting), LOOK),
+            (GRANTED, Step::Cycle(0, 3)),
+            (Given::Byte(1), DONE),
+            (FREED, Step::End),
+        ],
+        LineReplyRef::Met,
+    ),
+    (
+        0,
+        &[
+            (Given::Nothing, ASK),
+            (Given::Turn(ArbReply::Denied), Step::End),
+        ],
+        DENIED,
+    ),
+    (1, &[(Given::Nothing, Step::End)], REFUSED),
+    (
+        2,
+        &[(Given::Nothing, Step::End)],
+        LineReplyRef::Refused(CycleFault::BadCount),
+    ),
+    (
+        3,
+        &[(Given::Nothing, Step::Local(0)), (Given::Done, Step::End)],
+        WRITTEN,
+    ),
 ];
-
-static DENIED: [(Given, Step); 2] = [
-    (Given::Nothing, ASK),
-    (Given::Turn(ArbReply::Denied), Step::End),
-];
-
-static REFUSED: [(Given, Step); 1] = [(Given::Nothing, Step::End)];
-
-static WRITTEN: [(Given, Step); 2] = [(Given::Nothing, Step::Local(0)), (Given::Done, Step::End)];
 
 #[test]
-fn lines_go_call_by_call(rt: HostRuntime) -> Result<(), Fail> {
-    let config = Config::read(rt.alloc(), FILE.as_bytes())?;
-    let code = CycleFault::Code(AmFault::UserDefined);
-    for (line, course, wanted) in [
-        (0, &LATE[..], LineReply::Met),
-        (0, &DENIED[..], LineReply::Transfer(Outcome::Denied)),
-        (1, &REFUSED[..], LineReply::Refused(code)),
-        (2, &REFUSED[..], LineReply::Refused(CycleFault::BadCount)),
-        (3, &WRITTEN[..], LineReply::Transfer(Outcome::Done)),
-    ] {
-        assert_eq!(&rt; answer(&rt, &config, line, course), wanted, "{course:?}");
+fn lines_go_call_by_call(rt: HostRuntime) {
+    let config = config_of(&rt, rt.alloc(), FILE);
+    for (line, course, wanted) in &COURSES {
+        check_course(&rt, &config, *line, course, *wanted);
     }
-    Ok(())
 }

@@ -1,7 +1,7 @@
 //! Files that declare mailboxes, each with its first refusal, or lawful.
 use crate::support::{check, check_files};
 use std::alloc::{AllocError, Global};
-use std::test::Fail;
+use std::process::Abort;
 
 /// Boards of 32 bytes: one that responds to all transfers, one with 16 data lines, one without
 /// read-modify-writes, one next to the first, and one each in the short and the standard space for
@@ -38,7 +38,7 @@ size = 32
 supervisory = true
 ";
 
-/// Mailboxes on these boards, and the file's first refusal.
+/// Mailboxes on the boards of `BOARDS`, each list with the file's first refusal.
 static MAILBOXES: [(&str, &str); 32] = [
     ("", "lawful"),
     ("{ am = 9, addr = 0, slots = 1 }", "lawful"),
@@ -90,37 +90,45 @@ static MAILBOXES: [(&str, &str); 32] = [
     ("{ am = 9, addr = 0, slots = 1, words = 1 }", "C7"),
 ];
 
-/// The key `mailbox` with these tables, and the boards.
+/// Returns a file of these boards whose key `mailbox` has these tables.
 fn mailboxes(alloc: Global, tables: &str, boards: &str) -> Result<String, AllocError> {
     format!(in alloc; "mailbox = [{tables}]\n{boards}")
 }
 
+/// Checks the first refusal of a file of these boards whose key `mailbox` has these tables.
+fn check_tables(rt: &impl Abort, alloc: Global, tables: &str, boards: &str, wanted: &str) {
+    let file = mailboxes(alloc, tables, boards).expect(rt, "no memory");
+    check(rt, alloc, file.as_bytes(), wanted);
+}
+
 #[test]
-fn reports_of_mailboxes(rt: HostRuntime) -> Result<(), Fail> {
-    for (tables, reported) in &MAILBOXES {
-        let file = mailboxes(rt.alloc(), tables, BOARDS)?;
-        check(&rt, rt.alloc(), file.as_bytes(), reported)?;
+fn reports_of_mailboxes(rt: HostRuntime) {
+    for (tables, wanted) in &MAILBOXES {
+        check_tables(&rt, rt.alloc(), tables, BOARDS, wanted);
     }
-    Ok(())
 }
 
 /// The numbers of mailboxes on one board of 512 bytes, and the file's first refusal.
 static COUNTS: [(u16, &str); 3] = [(1, "lawful"), (16, "lawful"), (17, "C13")];
 
-#[test]
-fn has_sixteen_mailboxes_at_most(rt: HostRuntime) -> Result<(), Fail> {
-    for (count, reported) in &COUNTS {
-        let mut file = format!(in rt.alloc(); "board = [{{ slot = 1, base = 0, size = 512 }}]\n")?;
-        for k in 0..*count {
-            write!(
-                file,
-                "[[mailbox]]\nam = 9\naddr = {}\nslots = 1\n",
-                20 * u32::from(k)
-            )?;
-        }
-        check(&rt, rt.alloc(), file.as_bytes(), reported)?;
+/// Returns a file of one board with so many mailboxes.
+fn with_mailboxes(alloc: Global, count: u16) -> Result<String, AllocError> {
+    let mut file = String::new(alloc);
+    file.push_str("board = [{ slot = 1, base = 0, size = 512 }]\n")?;
+    for k in 0..count {
+        let addr = 20 * u32::from(k);
+        let mailbox = format!(in alloc; "[[mailbox]]\nam = 9\naddr = {addr}\nslots = 1\n")?;
+        file.push_str(mailbox.as_str())?;
     }
-    Ok(())
+    Ok(file)
+}
+
+#[test]
+fn has_sixteen_mailboxes_at_most(rt: HostRuntime) {
+    for (count, wanted) in &COUNTS {
+        let file = with_mailboxes(rt.alloc(), *count).expect(&rt, "no memory");
+        check(&rt, rt.alloc(), file.as_bytes(), wanted);
+    }
 }
 
 /// Scripts of a board on which two mailboxes are declared, and the file's first refusal.
@@ -136,17 +144,18 @@ static SCRIPTS: [(&str, &str); 9] = [
     ("x\\ntake 3", "C14 slot 1 line 1 S2"),
 ];
 
+/// Returns a board with a script.
+fn board_of(alloc: Global, script: &str) -> Result<String, AllocError> {
+    format!(in alloc; "board = [{{ slot = 1, base = 0, size = 64, script = \"{script}\" }}]")
+}
+
 #[test]
-fn reports_of_a_mailbox_that_is_not_declared(rt: HostRuntime) -> Result<(), Fail> {
+fn reports_of_a_mailbox_that_is_not_declared(rt: HostRuntime) {
     let tables = "{ am = 9, addr = 0, slots = 1 }, { am = 9, addr = 20, slots = 1 }";
-    for (script, reported) in &SCRIPTS {
-        let boards = format!(in rt.alloc();
-            "board = [{{ slot = 1, base = 0, size = 64, script = \"{script}\" }}]"
-        )?;
-        let file = mailboxes(rt.alloc(), tables, boards.as_str())?;
-        check(&rt, rt.alloc(), file.as_bytes(), reported)?;
+    for (script, wanted) in &SCRIPTS {
+        let board = board_of(rt.alloc(), script).expect(&rt, "no memory");
+        check_tables(&rt, rt.alloc(), tables, board.as_str(), wanted);
     }
-    Ok(())
 }
 
 /// Files with a mailbox: a board that can hold none, and the order of refusals, a schedule's before a
@@ -170,7 +179,6 @@ board = [{ slot = 1, base = 0, size = 32, script = \"x\" }]",
 ];
 
 #[test]
-fn reports_mailboxes_between_schedule_and_scripts(rt: HostRuntime) -> Result<(), Fail> {
-    check_files(&rt, rt.alloc(), &FILES)?;
-    Ok(())
+fn reports_mailboxes_between_schedule_and_scripts(rt: HostRuntime) {
+    check_files(&rt, rt.alloc(), &FILES);
 }

@@ -1,13 +1,14 @@
 //! The text of each reply.
 use arrayvec::ArrayVec;
+use std::alloc::AllocError;
 use std::process::Abort;
-use std::test::Fail;
 use vme_cycle::{Block, CycleFault};
 use vme_lanes::Datum;
 use vme_master::Outcome;
 use vme_report::reply_line;
 use vme_shared::{LineReply, SharedOutcome};
 
+/// The text of the replies of `FORMS`, as the replies to line 1000 of slot 21.
 static REPLIES: &str = "21:1000 read 00ff
 21:1000 done
 21:1000 old 80
@@ -31,64 +32,90 @@ static REPLIES: &str = "21:1000 read 00ff
 21:1000 unfinished
 ";
 
+/// A reply, with its bytes as a slice.
+enum Form {
+    Read(&'static [u8]),
+    Old(&'static [u8]),
+    Berr(u16, &'static [u8]),
+    Done,
+    Denied,
+    NoCycle,
+    Met,
+    Timeout,
+    Shared(SharedOutcome),
+    Unfinished,
+}
+
+/// Each form of reply.
+static FORMS: [Form; 21] = [
+    Form::Read(&[0, 0xff]),
+    Form::Done,
+    Form::Old(&[0x80]),
+    Form::Berr(0, &[]),
+    Form::Berr(1, &[0, 0, 0, 0]),
+    Form::Denied,
+    Form::NoCycle,
+    Form::Met,
+    Form::Timeout,
+    Form::Shared(SharedOutcome::Taken),
+    Form::Shared(SharedOutcome::Unlocked),
+    Form::Shared(SharedOutcome::Busy),
+    Form::Shared(SharedOutcome::Put),
+    Form::Shared(SharedOutcome::Took(1)),
+    Form::Shared(SharedOutcome::Took(0xfedc_ba98)),
+    Form::Shared(SharedOutcome::Full),
+    Form::Shared(SharedOutcome::Empty),
+    Form::Shared(SharedOutcome::Spent),
+    Form::Shared(SharedOutcome::Berr),
+    Form::Shared(SharedOutcome::Denied),
+    Form::Unfinished,
+];
+
 fn block(bytes: &[u8]) -> Block {
     Block::from_short_slice(ArrayVec::try_from(bytes).unwrap_or_default())
 }
 
-fn berr(count: u16, bytes: &[u8]) -> LineReply {
-    LineReply::Transfer(Outcome::Berr {
-        count,
-        bytes: block(bytes),
-    })
+/// Returns the reply of a form.
+fn reply_of(form: &Form) -> LineReply {
+    match form {
+        Form::Read(bytes) => LineReply::Transfer(Outcome::Read(block(bytes))),
+        Form::Old(bytes) => {
+            LineReply::Transfer(Outcome::Old(Datum::try_from(*bytes).unwrap_or_default()))
+        }
+        Form::Berr(count, bytes) => LineReply::Transfer(Outcome::Berr {
+            count: *count,
+            bytes: block(bytes),
+        }),
+        Form::Done => LineReply::Transfer(Outcome::Done),
+        Form::Denied => LineReply::Transfer(Outcome::Denied),
+        Form::NoCycle => LineReply::Refused(CycleFault::NoCycle),
+        Form::Met => LineReply::Met,
+        Form::Timeout => LineReply::Timeout,
+        Form::Shared(outcome) => LineReply::Shared(*outcome),
+        Form::Unfinished => LineReply::Unfinished,
+    }
 }
 
-/// Each form of reply.
-fn replies() -> [LineReply; 21] {
-    let old = Datum::try_from(&[0x80][..]).unwrap_or_default();
-    [
-        LineReply::Transfer(Outcome::Read(block(&[0, 0xff]))),
-        LineReply::Transfer(Outcome::Done),
-        LineReply::Transfer(Outcome::Old(old)),
-        berr(0, &[]),
-        berr(1, &[0, 0, 0, 0]),
-        LineReply::Transfer(Outcome::Denied),
-        LineReply::Refused(CycleFault::NoCycle),
-        LineReply::Met,
-        LineReply::Timeout,
-        LineReply::Shared(SharedOutcome::Taken),
-        LineReply::Shared(SharedOutcome::Unlocked),
-        LineReply::Shared(SharedOutcome::Busy),
-        LineReply::Shared(SharedOutcome::Put),
-        LineReply::Shared(SharedOutcome::Took(1)),
-        LineReply::Shared(SharedOutcome::Took(0xfedc_ba98)),
-        LineReply::Shared(SharedOutcome::Full),
-        LineReply::Shared(SharedOutcome::Empty),
-        LineReply::Shared(SharedOutcome::Spent),
-        LineReply::Shared(SharedOutcome::Berr),
-        LineReply::Shared(SharedOutcome::Denied),
-        LineReply::Unfinished,
-    ]
+/// Appends the line of a reply.
+fn append(form: &Form, text: &mut Vec<u8>) -> Result<(), AllocError> {
+    reply_line(21, 1000, &reply_of(form), text)
 }
 
 #[test]
-fn reports_each_reply(rt: HostRuntime) -> Result<(), Fail> {
+fn reports_each_reply(rt: HostRuntime) {
     let mut text = Vec::new(rt.alloc());
-    for reply in &replies() {
-        reply_line(21, 1000, reply, &mut text)?;
+    for form in &FORMS {
+        assert!(rt; append(form, &mut text).is_ok());
     }
     assert_eq!(rt; text.as_slice(), REPLIES.as_bytes());
-    Ok(())
 }
 
 /// If an allocation fails, the text is unchanged, and the line can be appended again.
 #[test]
-fn reports_each_reply_once_more_where_memory_lacks(rt: HostRuntime) -> Result<(), Fail> {
+fn reports_each_reply_once_more_where_memory_lacks(rt: HostRuntime) {
     let mut text = Vec::new(rt.alloc());
-    for reply in &replies() {
-        if reply_line(21, 1000, reply, &mut text).is_err() {
-            reply_line(21, 1000, reply, &mut text)?;
-        }
+    for form in &FORMS {
+        assert!(rt; append(form, &mut text).is_ok() || append(form, &mut text).is_ok());
     }
     assert_eq!(rt; text.as_slice(), REPLIES.as_bytes());
-    Ok(())
 }

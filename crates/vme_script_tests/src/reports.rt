@@ -31,7 +31,7 @@ mem 1 00000020 aa000000
 mem 2 00000000 aa000000000000000000000000000000
 ";
 
-/// A memory of `size` bytes, all zero but one.
+/// Returns a memory of `size` bytes, all zero but one.
 fn memory(alloc: Global, size: u32, offset: u32, byte: u8) -> Result<ByteMemory, AllocError> {
     let Ok(mut memory) = ByteMemory::new(alloc, size, CLASS) else {
         return Err(AllocError);

@@ -1,9 +1,8 @@
 //! Files, each with its first refusal, or lawful.
 use crate::support::{check, check_files};
 use std::alloc::{AllocError, Global};
-use std::test::Fail;
 
-/// A file, and its first refusal.
+/// Files, each with its first refusal.
 static ROWS: [(&str, &str); 48] = [
     ("", "C11"),
     ("board = []", "C11"),
@@ -159,25 +158,25 @@ static ROWS: [(&str, &str); 48] = [
 ];
 
 #[test]
-fn reports_the_first_refusal(rt: HostRuntime) -> Result<(), Fail> {
-    check_files(&rt, rt.alloc(), &ROWS)?;
-    check(&rt, rt.alloc(), b"# \xff\n", "C6")?;
-    Ok(())
+fn reports_the_first_refusal(rt: HostRuntime) {
+    check_files(&rt, rt.alloc(), &ROWS);
+    check(&rt, rt.alloc(), b"# \xff\n", "C6");
 }
 
-/// So many of a part between a prefix and an end.
+/// Returns `prefix`, then `part` `count` times, then `end`.
 fn repeated(
     alloc: Global,
     prefix: &str,
     part: &str,
     count: usize,
     end: &str,
-) -> Result<Vec<u8>, AllocError> {
-    let mut file = Vec::from_slice(alloc, prefix.as_bytes())?;
+) -> Result<String, AllocError> {
+    let mut file = String::new(alloc);
+    file.push_str(prefix)?;
     for _ in 0..count {
-        file.extend_from_slice(part.as_bytes())?;
+        file.push_str(part)?;
     }
-    file.extend_from_slice(end.as_bytes())?;
+    file.push_str(end)?;
     Ok(file)
 }
 
@@ -185,7 +184,8 @@ fn repeated(
 const SCRIPT: &str = "board = [{ slot = 1, base = 0, size = 16, script = \"\"\"
 ";
 
-/// Files at the limits: prefix, part, how often the part stands, end, and the first refusal.
+/// Files at the limits: prefix, part, number of times that the part is repeated, end, and the first
+/// refusal.
 static LIMITS: [(&str, &str, usize, &str, &str); 6] = [
     (
         "",
@@ -208,10 +208,9 @@ static LIMITS: [(&str, &str, usize, &str, &str); 6] = [
 ];
 
 #[test]
-fn reports_what_is_past_a_limit(rt: HostRuntime) -> Result<(), Fail> {
-    for (prefix, part, count, end, reported) in &LIMITS {
-        let file = repeated(rt.alloc(), prefix, part, *count, end)?;
-        check(&rt, rt.alloc(), file.as_slice(), reported)?;
+fn reports_what_is_past_a_limit(rt: HostRuntime) {
+    for (prefix, part, count, end, wanted) in &LIMITS {
+        let file = repeated(rt.alloc(), prefix, part, *count, end).expect(&rt, "no memory");
+        check(&rt, rt.alloc(), file.as_bytes(), wanted);
     }
-    Ok(())
 }

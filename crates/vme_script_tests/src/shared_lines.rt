@@ -1,10 +1,10 @@
 //! Locks and mailboxes in a script: which outcomes are retried, and which end the line.
-use crate::support::{ASK, DONE, FREED, GRANTED, Given, Step, answer, course_of};
-use std::process::Abort;
-use std::test::Fail;
+use crate::support::{
+    ASK, DONE, FREED, GRANTED, Given, Step, check_course, check_cycles, config_of,
+};
 use vme_arbiter::ArbReply;
-use vme_script::Config;
-use vme_shared::{LineReply, SharedOutcome};
+use vme_line_task::LineReplyRef;
+use vme_shared::SharedOutcome;
 
 /// A processor and its one board, which has two mailboxes of one word. It tries at most twice.
 static FILE: &str = "tries = 2
@@ -43,7 +43,7 @@ const TAKE_OF_SECOND: usize = 4;
 /// A lock at an address of no board.
 const NOWHERE: usize = 5;
 
-/// Lines, each with what it comes to by its cycles and the replies to them.
+/// Lines, each with its outcome, its cycles and the replies to them.
 static CYCLES: [(usize, SharedOutcome, &[(u32, Given)]); 10] = [
     (LOCK, SharedOutcome::Taken, &[(0x18, Given::Byte(0x7f))]),
     (
@@ -123,44 +123,43 @@ static CYCLES: [(usize, SharedOutcome, &[(u32, Given)]); 10] = [
 ];
 
 #[test]
-fn locks_and_mailboxes_are_tried_again(rt: HostRuntime) -> Result<(), Fail> {
-    let config = Config::read(rt.alloc(), FILE.as_bytes())?;
+fn locks_and_mailboxes_are_tried_again(rt: HostRuntime) {
+    let config = config_of(&rt, rt.alloc(), FILE);
     for (line, wanted, cycles) in &CYCLES {
-        let course = course_of(rt.alloc(), cycles)?;
-        assert_eq!(&rt;
-            answer(&rt, &config, *line, &course),
-            LineReply::Shared(*wanted),
-            "{cycles:?}"
-        );
+        check_cycles(&rt, &config, *line, cycles, LineReplyRef::Shared(*wanted));
     }
-    Ok(())
 }
 
-/// No board is selected: the bus timer ends the cycle.
-static UNSELECTED: [(Given, Step); 3] = [
-    (Given::Nothing, ASK),
-    (GRANTED, DONE),
-    (FREED, Step::End),
-];
-
-static DENIED: [(Given, Step); 2] = [
-    (Given::Nothing, ASK),
-    (Given::Turn(ArbReply::Denied), Step::End),
+/// Lines that end at the first attempt, each with its outcome and its steps.
+static COURSES: [(usize, SharedOutcome, &[(Given, Step)]); 3] = [
+    // No board is selected: the bus timer ends the cycle.
+    (
+        NOWHERE,
+        SharedOutcome::Berr,
+        &[(Given::Nothing, ASK), (GRANTED, DONE), (FREED, Step::End)],
+    ),
+    (
+        LOCK,
+        SharedOutcome::Denied,
+        &[
+            (Given::Nothing, ASK),
+            (Given::Turn(ArbReply::Denied), Step::End),
+        ],
+    ),
+    (
+        PUT,
+        SharedOutcome::Denied,
+        &[
+            (Given::Nothing, ASK),
+            (Given::Turn(ArbReply::Denied), Step::End),
+        ],
+    ),
 ];
 
 #[test]
-fn other_outcomes_are_not_tried_again(rt: HostRuntime) -> Result<(), Fail> {
-    let config = Config::read(rt.alloc(), FILE.as_bytes())?;
-    for (line, course, wanted) in [
-        (NOWHERE, &UNSELECTED[..], SharedOutcome::Berr),
-        (LOCK, &DENIED[..], SharedOutcome::Denied),
-        (PUT, &DENIED[..], SharedOutcome::Denied),
-    ] {
-        assert_eq!(&rt;
-            answer(&rt, &config, line, course),
-            LineReply::Shared(wanted),
-            "{line}"
-        );
+fn other_outcomes_are_not_tried_again(rt: HostRuntime) {
+    let config = config_of(&rt, rt.alloc(), FILE);
+    for (line, wanted, course) in &COURSES {
+        check_course(&rt, &config, *line, course, LineReplyRef::Shared(*wanted));
     }
-    Ok(())
 }

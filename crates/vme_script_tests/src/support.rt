@@ -1,11 +1,13 @@
-//! What the tests share: what a file is rejected for, lines led by listed replies, and how a run
-//! ends with what it has written by then.
-use arrayvec::ArrayVec;
+//! What the tests share: checks of a file's first refusal, of lines that are led by listed replies,
+//! and of the end of a run with what it wrote.
+ghost use Rattle.std.specs.Prelude.{◌≡◌, ◌<◌, false};
+ghost use Rattle.vme_io.specs.Devices.{is_marked_sink};
+
 use std::alloc::{AllocError, Global};
 use std::process::Abort;
 use vme_arbiter::{ArbCmd, ArbReply};
 use vme_core::{Event, EventReply};
-use vme_cycle::{Block, BlockBuffer, INLINE_LEN};
+use vme_cycle::{BlockBuffer, INLINE_LEN};
 use vme_io::RoomSink;
 use vme_lanes::Datum;
 use vme_line_task::{LineReplyRef, LineTask, LineTodo, line_count, line_read_len};
@@ -15,30 +17,30 @@ use vme_report::RunFault;
 use vme_script::Config;
 use vme_shared::{LineReply, Status};
 
-/// Reads a file: it is lawful, or this is its first refusal.
-pub fn check(
-    rt: &impl Abort,
-    alloc: Global,
-    file: &[u8],
-    reported: &str,
-) -> Result<(), AllocError> {
+/// Returns the text of a file's first refusal, or `lawful`.
+fn reported(alloc: Global, file: &[u8]) -> Result<String, AllocError> {
     match Config::read(alloc, file) {
-        Ok(_) => assert_eq!(rt; "lawful", reported),
-        Err(fault) => assert_eq!(rt; fault.to_string(alloc)?.as_str(), reported),
+        Ok(_) => String::from_str(alloc, "lawful"),
+        Err(fault) => fault.to_string(alloc),
     }
-    Ok(())
 }
 
-/// Reads each of these files.
-pub fn check_files(
-    rt: &impl Abort,
-    alloc: Global,
-    files: &[(&str, &str)],
-) -> Result<(), AllocError> {
-    for (file, reported) in files {
-        check(rt, alloc, file.as_bytes(), reported)?;
+/// Checks the first refusal of a file, or that it is lawful.
+pub fn check(rt: &impl Abort, alloc: Global, file: &[u8], wanted: &str) {
+    let text = reported(alloc, file).expect(rt, "no memory");
+    assert_eq!(rt; text.as_str(), wanted);
+}
+
+/// Checks the first refusal of each file of a table.
+pub fn check_files(rt: &impl Abort, alloc: Global, files: &[(&str, &str)]) {
+    for (file, wanted) in files {
+        check(rt, alloc, file.as_bytes(), wanted);
     }
-    Ok(())
+}
+
+/// Reads a file that is lawful.
+pub fn config_of(rt: &impl Abort, alloc: Global, file: &str) -> Config {
+    Config::read(alloc, file.as_bytes()).expect(rt, "refused")
 }
 
 pub const ASK: Step = Step::Bus(ArbCmd::Ask { slot: 2, level: 3 });
@@ -86,105 +88,150 @@ pub const GRANTED: Given = Given::Turn(ArbReply::Granted);
 
 pub const FREED: Given = Given::Turn(ArbReply::Freed);
 
+fn read(bytes: &[u8]) -> Reply {
+    Reply::Bytes(Datum::try_from(bytes).unwrap_or_default())
+}
+
+/// Returns the reply that `given` stands for.
 fn reply(given: Given) -> Option<EventReply> {
-    match given {
-        Given::Nothing => None,
-        Given::Turn(turn) => Some(EventReply::Bus(turn)),
-        Given::Byte(byte) => {
-            let datum = Datum::try_from(&[byte][..]).unwrap_or_default();
-            Some(EventReply::Board(Reply::Bytes(datum)))
-        }
-        Given::Word(number) => {
-            let datum = Datum::try_from(&number.to_be_bytes()[..]).unwrap_or_default();
-            Some(EventReply::Board(Reply::Bytes(datum)))
-        }
-        Given::Done => Some(EventReply::Board(Reply::Done)),
-        Given::Berr => Some(EventReply::Board(Reply::Berr)),
+    let of_board = match given {
+        Given::Nothing => return None,
+        Given::Turn(turn) => return Some(EventReply::Bus(turn)),
+        Given::Byte(byte) => read(&[byte]),
+        Given::Word(number) => read(&number.to_be_bytes()),
+        Given::Done => Reply::Done,
+        Given::Berr => Reply::Berr,
+    };
+    Some(EventReply::Board(of_board))
+}
+
+/// Returns the task of a line of the first board.
+fn started<'a>(rt: &impl Abort, config: &'a Config, line: usize) -> LineTask<'a> {
+    if config.boards() == 0 || line_count(config, 0) <= line {
+        panic!(rt; "no such line");
+    }
+    if line_read_len(config.script(0).line(line)) > INLINE_LEN {
+        panic!(rt; "a long line");
+    }
+    LineTask::start(config, 0, line, BlockBuffer::new())
+}
+
+/// Gives a line a reply, and checks the step to which it leads.
+fn check_step(rt: &impl Abort, task: &mut LineTask<'_>, given: Given, wanted: Step) {
+    let step = step_of(&task.next(reply(given)));
+    assert_eq!(rt; step, wanted, "{given:?}");
+}
+
+/// Leads a line through replies and steps.
+fn lead(rt: &impl Abort, task: &mut LineTask<'_>, course: &[(Given, Step)]) {
+    for (given, wanted) in course {
+        check_step(rt, task, *given, *wanted);
     }
 }
 
-/// The calls of a line that is granted the bus at once for each of these cycles, at an offset of the
-/// first board, with the reply to it.
-pub fn course_of(alloc: Global, cycles: &[(u32, Given)]) -> Result<Vec<(Given, Step)>, AllocError> {
-    let mut course = Vec::new(alloc);
+/// Leads a line that is granted the bus at once through cycles, each at an offset of the first board
+/// and with the reply to it.
+fn lead_through(rt: &impl Abort, task: &mut LineTask<'_>, cycles: &[(u32, Given)]) {
     let mut given = Given::Nothing;
-    for (at, reply) in cycles {
-        course.push((given, ASK))?;
-        course.push((GRANTED, Step::Cycle(0, *at)))?;
-        course.push((*reply, DONE))?;
+    for (at, replied) in cycles {
+        check_step(rt, task, given, ASK);
+        check_step(rt, task, GRANTED, Step::Cycle(0, *at));
+        check_step(rt, task, *replied, DONE);
         given = FREED;
     }
-    course.push((given, Step::End))?;
-    Ok(course)
+    check_step(rt, task, given, Step::End);
 }
 
-/// Gives a line of the first board the listed replies, and returns the line's reply.
-pub fn answer(
+/// Checks the reply that a line lends.
+fn check_lent(rt: &impl Abort, task: &LineTask<'_>, wanted: LineReplyRef<'static>) {
+    assert_eq!(rt; task.reply(), Some(wanted));
+}
+
+/// Checks the reply of a line that has ended. The line lends it before and after two calls more, and
+/// then gives it up.
+fn check_reply(rt: &impl Abort, mut task: LineTask<'_>, wanted: LineReplyRef<'static>) {
+    check_lent(rt, &task, wanted);
+    check_step(rt, &mut task, Given::Nothing, Step::End);
+    check_lent(rt, &task, wanted);
+    check_step(rt, &mut task, GRANTED, Step::End);
+    check_lent(rt, &task, wanted);
+    check_taken(rt, &task.into_reply(), wanted);
+}
+
+/// Checks a reply that a line has given up.
+fn check_taken(rt: &impl Abort, taken: &Option<LineReply>, wanted: LineReplyRef<'static>) {
+    let lent = match taken {
+        Some(reply) => borrowed(reply),
+        None => None,
+    };
+    assert_eq!(rt; lent, Some(wanted));
+}
+
+/// Returns a reply by reference, or `None` for the reply of a line that has not ended.
+fn borrowed(reply: &LineReply) -> Option<LineReplyRef<'_>> {
+    match reply {
+        LineReply::Transfer(outcome) => Some(LineReplyRef::Transfer(borrowed_outcome(outcome))),
+        LineReply::Refused(fault) => Some(LineReplyRef::Refused(*fault)),
+        LineReply::Met => Some(LineReplyRef::Met),
+        LineReply::Timeout => Some(LineReplyRef::Timeout),
+        LineReply::Shared(outcome) => Some(LineReplyRef::Shared(*outcome)),
+        LineReply::Unfinished => None,
+    }
+}
+
+/// Returns an outcome by reference.
+fn borrowed_outcome(outcome: &Outcome) -> OutcomeRef<'_> {
+    match outcome {
+        Outcome::Read(bytes) => OutcomeRef::Read(bytes.as_slice()),
+        Outcome::Done => OutcomeRef::Done,
+        Outcome::Old(bytes) => OutcomeRef::Old(bytes.as_slice()),
+        Outcome::Berr { count, bytes } => OutcomeRef::Berr {
+            count: *count,
+            bytes: bytes.as_slice(),
+        },
+        Outcome::Denied => OutcomeRef::Denied,
+    }
+}
+
+/// Gives a line of the first board the listed replies, and checks its steps and its reply.
+pub fn check_course(
     rt: &impl Abort,
     config: &Config,
     line: usize,
     course: &[(Given, Step)],
-) -> LineReply {
-    if config.boards() == 0 || line_count(config, 0) <= line {
-        panic!(rt; "no such line");
-    }
-    let buffer = BlockBuffer::new();
-    if line_read_len(config.script(0).line(line)) > INLINE_LEN {
-        panic!(rt; "a long line");
-    }
-    let mut task = LineTask::start(config, 0, line, buffer);
-    for (given, wanted) in course {
-        let todo = task.next(reply(*given));
-        assert_eq!(rt; step_of(&todo), *wanted, "{given:?}");
-    }
-    let Some(answer) = kept_answer(rt, task) else {
-        panic!(rt; "not ended")
-    };
-    answer
+    wanted: LineReplyRef<'static>,
+) {
+    let mut task = started(rt, config, line);
+    lead(rt, &mut task, course);
+    check_reply(rt, task, wanted);
 }
 
-/// Returns the reply of a line that has ended. The line lends it before and after two calls more.
-fn kept_answer(rt: &impl Abort, mut task: LineTask<'_>) -> Option<LineReply> {
-    let lent = owned(task.reply()?);
-    for given in [Given::Nothing, GRANTED] {
-        assert!(rt; matches!(task.next(reply(given)), LineTodo::Ended));
-        assert_eq!(rt; owned(task.reply()?), lent);
-    }
-    let answer = task.into_reply()?;
-    assert_eq!(rt; answer, lent);
-    Some(answer)
+/// Gives a line of the first board the bus for each of the listed cycles, and checks its steps and
+/// its reply.
+pub fn check_cycles(
+    rt: &impl Abort,
+    config: &Config,
+    line: usize,
+    cycles: &[(u32, Given)],
+    wanted: LineReplyRef<'static>,
+) {
+    let mut task = started(rt, config, line);
+    lead_through(rt, &mut task, cycles);
+    check_reply(rt, task, wanted);
 }
 
-/// The reply that is borrowed.
-fn owned(answer: LineReplyRef<'_>) -> LineReply {
-    match answer {
-        LineReplyRef::Transfer(outcome) => LineReply::Transfer(owned_outcome(outcome)),
-        LineReplyRef::Refused(fault) => LineReply::Refused(fault),
-        LineReplyRef::Met => LineReply::Met,
-        LineReplyRef::Timeout => LineReply::Timeout,
-        LineReplyRef::Shared(outcome) => LineReply::Shared(outcome),
+/// Returns an empty sink that takes at most `most` bytes a call and fails after `capacity` bytes.
+pub fn sink_of(rt: &impl Abort, alloc: Global, most: usize, capacity: usize) -> RoomSink
+    requires { 0 < most }
+    ensures { is_marked_sink result ≡ false }
+{
+    match RoomSink::new(alloc, most, capacity) {
+        Ok(sink) => sink,
+        Err(_) => panic!(rt; "no memory"),
     }
 }
 
-/// The outcome that is borrowed.
-fn owned_outcome(outcome: OutcomeRef<'_>) -> Outcome {
-    match outcome {
-        OutcomeRef::Read(bytes) => Outcome::Read(block(bytes)),
-        OutcomeRef::Done => Outcome::Done,
-        OutcomeRef::Old(bytes) => Outcome::Old(Datum::try_from(bytes).unwrap_or_default()),
-        OutcomeRef::Berr { count, bytes } => Outcome::Berr {
-            count,
-            bytes: block(bytes),
-        },
-        OutcomeRef::Denied => Outcome::Denied,
-    }
-}
-
-fn block(bytes: &[u8]) -> Block {
-    Block::from_short_slice(ArrayVec::try_from(bytes).unwrap_or_default())
-}
-
-/// A run that ended well has written the whole text.
+/// Checks that a run ended with a status and wrote a text.
 pub fn expect_text(
     rt: &impl Abort,
     end: Result<Status, RunFault>,
@@ -196,7 +243,8 @@ pub fn expect_text(
     assert_eq!(rt; sink.bytes(), text.as_bytes());
 }
 
-/// A run into a sink that fails after so many bytes has written just these.
+/// Checks that a run into a sink that fails after `capacity` bytes wrote just the first `capacity`
+/// bytes of a text.
 pub fn expect_prefix(
     rt: &impl Abort,
     end: Result<Status, RunFault>,
@@ -208,7 +256,7 @@ pub fn expect_prefix(
     assert_eq!(rt; Some(sink.bytes()), text.as_bytes().get(..capacity));
 }
 
-/// A run has written the whole text, or it was refused memory and has written a prefix of it.
+/// Checks that a run wrote a whole text or, if an allocation failed, a prefix of it.
 pub fn expect_text_or_refusal(
     rt: &impl Abort,
     end: Result<Status, RunFault>,

@@ -1,6 +1,7 @@
 //! Runs by listed turns, and their reports.
-use crate::support::{expect_prefix, expect_text, expect_text_or_refusal};
-use std::test::Fail;
+use crate::support::{config_of, expect_prefix, expect_text, expect_text_or_refusal, sink_of};
+use std::alloc::Global;
+use std::process::Abort;
 use vme_io::RoomSink;
 use vme_script::Config;
 use vme_shared::Status;
@@ -73,47 +74,48 @@ board 9 steps 1 made 1 0
 mem 9 00000000 7f000000000000000000000000000000
 ";
 
-/// There is no board in slot 7, and the last line does not request the bus.
+/// Turns to the ends of both scripts. There is no board in slot 7, and the last line does not request
+/// the bus.
 static ALL_SLOTS: [u16; 11] = [5, 9, 5, 5, 9, 7, 5, 9, 9, 9, 5];
 
+/// The turns that the file lists.
 static OWN_SLOTS: [u16; 7] = [5, 9, 9, 5, 9, 5, 9];
 
-#[test]
-fn runs_slots_in_the_order_given(rt: HostRuntime) -> Result<(), Fail> {
-    let config = Config::read(rt.alloc(), FILE.as_bytes())?;
-    for (slots, text) in [
-        (&[][..], NONE),
-        (&[5][..], FIRST),
-        (&ALL_SLOTS[..], ALL),
-        (&OWN_SLOTS[..], OWN),
-    ] {
-        let mut sink = RoomSink::new(rt.alloc(), usize::MAX, 1024)?;
-        let end = run_steps(rt.alloc(), &config, slots, &mut sink);
-        expect_text(&rt, end, Status::Marked, &sink, text);
-    }
-    Ok(())
+/// Checks the report after some turns.
+fn check_run(rt: &impl Abort, alloc: Global, config: &Config, slots: &[u16], text: &str) {
+    let mut sink = sink_of(rt, alloc, usize::MAX, 1024);
+    let end = run_steps(alloc, config, slots, &mut sink);
+    expect_text(rt, end, Status::Marked, &sink, text);
 }
 
 #[test]
-fn runs_the_turns_of_the_file(rt: HostRuntime) -> Result<(), Fail> {
-    let config = Config::read(rt.alloc(), FILE.as_bytes())?;
-    let mut sink = RoomSink::new(rt.alloc(), usize::MAX, 1024)?;
+fn runs_slots_in_the_order_given(rt: HostRuntime) {
+    let config = config_of(&rt, rt.alloc(), FILE);
+    check_run(&rt, rt.alloc(), &config, &[], NONE);
+    check_run(&rt, rt.alloc(), &config, &[5], FIRST);
+    check_run(&rt, rt.alloc(), &config, &ALL_SLOTS, ALL);
+    check_run(&rt, rt.alloc(), &config, &OWN_SLOTS, OWN);
+}
+
+#[test]
+fn runs_the_turns_of_the_file(rt: HostRuntime) {
+    let config = config_of(&rt, rt.alloc(), FILE);
+    let mut sink = sink_of(&rt, rt.alloc(), usize::MAX, 1024);
     let end = run_configured(rt.alloc(), &config, &mut sink);
     expect_text(&rt, end, Status::Marked, &sink, OWN);
-    Ok(())
 }
 
 #[test]
-fn writes_a_prefix_where_the_sink_fails(rt: HostRuntime) -> Result<(), Fail> {
-    let config = Config::read(rt.alloc(), FILE.as_bytes())?;
+fn writes_a_prefix_where_the_sink_fails(rt: HostRuntime) {
+    let config = config_of(&rt, rt.alloc(), FILE);
     for capacity in 0..ALL.len() {
-        let mut sink = RoomSink::new(rt.alloc(), 7, capacity)?;
+        let mut sink = sink_of(&rt, rt.alloc(), 7, capacity);
         let end = run_steps(rt.alloc(), &config, &ALL_SLOTS, &mut sink);
         expect_prefix(&rt, end, &sink, ALL, capacity);
     }
-    Ok(())
 }
 
+/// If an allocation fails, the run writes a prefix of the report.
 #[test]
 fn reports_or_lacks_memory(rt: HostRuntime) {
     let Ok(config) = Config::read(rt.alloc(), FILE.as_bytes()) else {

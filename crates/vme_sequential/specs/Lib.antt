@@ -1,4 +1,1 @@
 pub mod Orders
-pub mod Reports
-pub mod Settlements
-pub mod Gatherings

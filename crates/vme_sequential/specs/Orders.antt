@@ -4,7 +4,7 @@ use Rattle.vme_core.specs.Runs.{Machine, Transition}
 use Rattle.vme_core.specs.Calls.{call_of, machine_step}
 use Rattle.vme_shared.specs.declared.reply.LineReply.{LineReply}
 use Rattle.vme_script.specs.Configurations.{Configuration}
-use Rattle.vme_line_task.specs.Scripts.{lines_at}
+use Rattle.vme_line_task.specs.Scripts.{slot_at, lines_at}
 use Rattle.vme_line_task.specs.Traces.{IsTrace}
 use Rattle.vme_stepper.specs.Turns.{SystemState, script_state, initial_state}
 use Rattle.vme_bus_objects.specs.Runs.{transitions_of}
@@ -15,6 +15,19 @@ Performs machine [] after = machine ≡ after
 Performs machine (m ∷ run) after =
     (m.reply ≡ (machine_step machine m.who (call_of m.event)).1)
     × Performs (machine_step machine m.who (call_of m.event)).0 run after
+
+-- the machine after transitions, from this state on
+abbrev pub performed : Machine → List Transition → Machine
+performed machine [] = machine
+performed machine (m ∷ run) = performed (machine_step machine m.who (call_of m.event)).0 run
+
+-- the machine after transitions, from its state before the first turn on
+abbrev pub machine_after : Configuration → List Transition → Machine
+machine_after config run = performed (initial_state config).machine run
+
+-- the slots of the processors that make transitions, in order
+abbrev pub slots_of : Configuration → List Transition → List ℕ
+slots_of config run = map (λ m. slot_at config m.who) run
 
 -- the transitions of all processors are one run of the machine from its initial state; those of each processor are the
 -- trace of its script, with these replies to its lines

@@ -6,16 +6,11 @@ ghost use Rattle.vme_script.specs.Configurations.{Configuration};
 ghost use Rattle.vme_script.specs.Lawful.{IsLawful};
 ghost use Rattle.vme_stepper.specs.Turns.{state_after};
 ghost use Rattle.vme_stepper.specs.Reports.{reported_system};
-ghost use Rattle.vme_port.specs.declared.home.Home.{Home};
-ghost use Rattle.vme_bus_objects.specs.declared.object.BusObject.{BusObject};
-ghost use Rattle.vme_bus_objects.specs.Runs.{run_of};
 ghost use Rattle.vme_threads.specs.declared.report.Report.{Report};
 ghost use Rattle.vme_threads.specs.Reports.{IsReportOf};
-ghost use Rattle.vme_engines.specs.RunTexts.{reported_report};
+ghost use Rattle.vme_threads.specs.ReportTexts.{reported_report};
 ghost use Rattle.vme_sequential.specs.Orders.{IsOneOrder, ended_state};
-ghost use Rattle.vme_sequential.specs.Reports.{IsReportOfOneOrder};
-ghost use Rattle.vme_sequential.specs.Settlements.{BusPass, IsSettled, IsRunOfArray};
-ghost use Rattle.vme_sequential.specs.Gatherings.{IsGathered};
+ghost use Rattle.vme_threads.specs.OneOrder.{IsReportOfOneOrder};
 
 /// One order of the transitions of all processors is the order of some turns: after these turns of
 /// slots on one thread, the machine and the replies to all lines are the same.
@@ -38,19 +33,4 @@ pub fn a_run_of_threads_is_a_run_of_turns()
 pub fn one_order_is_a_history_of_each()
     ensures { (config : Configuration) (report : Report) →
         IsReportOfOneOrder config report → IsReportOf config report }
-{}
-
-/// The one history of a settled port array of boards and their arbiter is a run of transitions of
-/// the processors that made the calls.
-pub fn a_settled_array_is_a_run()
-    ensures { (config : Configuration) (passes : List BusPass) (homes : List (Home BusObject)) →
-        (s : IsSettled config passes homes) →
-        IsRunOfArray config passes homes (run_of s.settles.history) }
-{}
-
-/// A report that is gathered from a settled port array is a report of one order.
-pub fn what_is_gathered_is_one_order()
-    ensures { (config : Configuration) (passes : List BusPass) (homes : List (Home BusObject))
-        (report : Report) → IsGathered config passes homes report →
-        IsReportOfOneOrder config report }
 {}

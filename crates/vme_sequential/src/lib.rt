@@ -5,6 +5,5 @@
 mod laws;
 
 pub use laws::{
-    a_run_of_threads_is_a_run_of_turns, a_settled_array_is_a_run, one_order_is_a_history_of_each,
-    one_order_is_a_run_of_turns, what_is_gathered_is_one_order,
+    a_run_of_threads_is_a_run_of_turns, one_order_is_a_history_of_each, one_order_is_a_run_of_turns,
 };

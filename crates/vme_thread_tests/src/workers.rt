@@ -1,5 +1,5 @@
 //! Two workers on two threads of the test's own, whose results are gathered.
-ghost use Rattle.std.specs.Prelude.{◌≡◌, ◌+◌, length};
+ghost use Rattle.std.specs.Prelude.{◌≡◌, ◌+◌, ◌∷◌, [], length, IfOk};
 ghost use Rattle.vme_object.specs.Each.{Each};
 ghost use Rattle.vme_threads.specs.Ports.{IsBuilt, IsWorkerOf};
 ghost use Rattle.vme_threads.specs.Rans.{HasRun, IsEndOfRun};
@@ -62,7 +62,7 @@ fn run_two<R: Threads + Wait + Sync>(
     )
 }
 
-/// Gathers the results of both workers.
+/// Gathers the results of both workers. The lines of the report are theirs.
 fn gather_two(
     alloc: Global,
     config: &Config,
@@ -74,6 +74,7 @@ fn gather_two(
     requires two { length config.now.boards ≡ 2 }
     requires first { HasRun config.now ports 0 first }
     requires second { HasRun config.now ports 1 second }
+    ensures { IfOk result (λ report. report.lines.items ≡ first.lines ∷ second.lines ∷ []) }
 {
     let mut rans = Vec::with_capacity(alloc, 2)?;
     rans.push_reserved(first);

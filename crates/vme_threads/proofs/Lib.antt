@@ -1,9 +1,11 @@
 pub mod lemmas
 mod Places
-mod Dealings
-mod NewWorkers
+mod Counts
+mod Openings
+mod Entries
+pub mod Settlements
+pub mod Gathering
 pub mod PassSets
 pub mod Lines
 pub mod Runs
 pub mod Once
-pub mod Collects

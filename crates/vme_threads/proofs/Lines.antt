@@ -1,5 +1,5 @@
 -- A line of a script, event by event.
-use Rattle.std.proofs.Common.{◌≡◌, ◌≢◌, ℕ, zero, suc, ◌<◌, List, [], ◌∷◌, ◌++◌, length, Some, None, refl, ap, sym, ◌∙◌, arith}
+use Rattle.std.proofs.Common.{◌≡◌, ◌≢◌, ℕ, ◌<◌, List, [], ◌∷◌, ◌++◌, length, Some, None, refl, ap, sym, ◌∙◌}
 use Rattle.std.specs.List.{slice_get}
 use Rattle.vme_core.specs.declared.event.EventReply.{EventReply}
 use Rattle.vme_core.specs.Calls.{Call, call_of}
@@ -21,6 +21,7 @@ use Rattle.vme_line_task.proofs.lemmas.Traces.{goes-snoc}
 use Rattle.vme_threads.specs.declared.pass_set.PassSet.{PassSet}
 use Rattle.vme_threads.specs.PassSets.{AddsTransitions, AddsCall}
 use Rattle.vme_threads.specs.Rans.{AddsLine}
+use Rattle.vme_threads.proofs.Places.{line_there}
 use Rattle.vme_threads.proofs.PassSets.{made_none, made_more}
 
 -- the line at a place of the script is at work: a run of its events was made, and this is its task
@@ -34,12 +35,6 @@ pub record IsAtWork (config : Configuration) (place : ℕ) (before now : PassSet
   pub is : task ≡ line_after config before.who line replies
   pub begun : line_to_do task ≢ NotStarted
   pub below : IsLineBelow (length config.boards) task
-
--- each place of a script has a line
-pub line_there : {A : Type 0} (xs : List A) (k : ℕ) → k < length xs → (x : A) × (slice_get xs k ≡ Some x)
-line_there [] k k< = absurd (omega arith)
-line_there (x ∷ xs) zero k< = (x, refl)
-line_there (x ∷ xs) (suc k) k< = line_there xs k (omega arith)
 
 -- the state before the first event
 pub at_start :

@@ -1,9 +1,10 @@
 -- A script, line by line.
-use Rattle.std.proofs.Common.{◌≡◌, ℕ, zero, suc, ◌+◌, ◌<◌, ◌≤◌, List, [], ◌∷◌, ◌++◌, length, map, take, drop, Some, refl, ap, sym, subst, ◌∙◌, arith}
+use Rattle.std.proofs.Common.{◌≡◌, ℕ, ◌+◌, ◌<◌, ◌≤◌, List, [], ◌∷◌, ◌++◌, length, map, take, drop, Some, All, refl, ap, sym, subst, ◌∙◌, arith}
 use Rattle.std.specs.List.{slice_get}
 use Rattle.std.proofs.lemmas.List.{map-append}
-use Rattle.std.proofs.lemmas.Option.{none-some, same_Some, get_or_from_slice_get}
-use Rattle.vme_core.specs.Runs.{Transition, board_part, bus_part}
+use Rattle.std.proofs.lemmas.Option.{get_or_from_slice_get}
+use Rattle.vme_core.specs.Runs.{Transition}
+use Rattle.vme_bus_objects.specs.Runs.{run_of, MatchesKind}
 use Rattle.vme_shared.specs.declared.reply.LineReply.{LineReply}
 use Rattle.vme_grammar.specs.declared.line.Line.{Line}
 use Rattle.vme_script.specs.declared.script.ScriptLine.{ScriptLine}
@@ -18,11 +19,11 @@ use Rattle.vme_threads.specs.declared.pass_set.PassSet.{PassSet}
 use Rattle.vme_threads.specs.declared.worker.Worker.{Worker}
 use Rattle.vme_threads.specs.declared.worker.Ran.{Ran}
 use Rattle.vme_threads.specs.declared.ports.Ports.{Ports}
-use Rattle.vme_threads.specs.Ports.{IsWorkerOf}
+use Rattle.vme_threads.specs.Ports.{IsBuilt, IsWorkerOf}
 use Rattle.vme_threads.specs.PassSets.{AddsTransitions}
-use Rattle.vme_threads.specs.Rans.{AddsLine, numbers_in, answers_in, HasRun}
+use Rattle.vme_threads.specs.Rans.{AddsLine, numbers_in, answers_in, run_made_by, HasRun}
 use Rattle.vme_threads.proofs.PassSets.{made_none, made_more, fits_first, fits_after}
-use Rattle.vme_threads.proofs.Lines.{line_there}
+use Rattle.vme_threads.proofs.Places.{take_one, take_whole, same_count}
 
 -- the first lines of the script got their replies by a run
 pub record IsUnderWay (config : Configuration) (count : ℕ) (before now : PassSet) (lines : List (ℕ × LineReply)) : Type 0 where
@@ -30,11 +31,6 @@ pub record IsUnderWay (config : Configuration) (count : ℕ) (before now : PassS
   pub made : AddsTransitions run before now
   pub trace : IsTrace config before.who (take count (lines_at config before.who)) run (answers_in lines)
   pub numbers : numbers_in lines ≡ take count (map (λ (one : ScriptLine). one.number) (script_at config before.who))
-
--- a list of length 0 is empty
-pub nil_of : {A : Type 0} (xs : List A) → length xs ≡ 0 → xs ≡ []
-nil_of [] none = refl
-nil_of (x ∷ xs) none = absurd (omega arith)
 
 -- the script of the processor at a place
 pub script_is :
@@ -47,15 +43,6 @@ script_is config who other script same there =
 pub way_start : (config : Configuration) (d : PassSet) (lines : List (ℕ × LineReply)) → lines ≡ [] → IsUnderWay config 0 d d lines
 way_start config d lines none =
     subst (IsUnderWay config 0 d d) (sym none) (record { run = []; made = made_none d; trace = refl; numbers = refl })
-
--- the prefix with one more element
-take_suc : {A : Type 0} (xs : List A) (k : ℕ) (x : A) → slice_get xs k ≡ Some x → take (suc k) xs ≡ take k xs ++ x ∷ []
-take_suc [] k x at = absurd (none-some x at)
-take_suc (y ∷ ys) zero x at = ap (λ z. z ∷ []) (same_Some y x at)
-take_suc (y ∷ ys) (suc k) x at = ap (λ zs. y ∷ zs) (take_suc ys k x at)
-
-take_one : {A : Type 0} (xs : List A) (k : ℕ) (x : A) → slice_get xs k ≡ Some x → take (k + 1) xs ≡ take k xs ++ x ∷ []
-take_one xs k x at = let same : k + 1 ≡ suc k = omega arith in ap (λ n. take n xs) same ∙ take_suc xs k x at
 
 -- one more line has its reply
 pub way_more :
@@ -82,18 +69,6 @@ way_more config count d e f lines number answer way answered numbered =
           ∙ sym (take_one (map (λ (one : ScriptLine). one.number) (script_at config d.who)) count number numbered);
     }
 
--- the prefix that is the whole list
-take_whole : {A : Type 0} (xs : List A) (k : ℕ) → length xs ≤ k → take k xs ≡ xs
-take_whole [] zero all = refl
-take_whole [] (suc k) all = refl
-take_whole (x ∷ xs) zero all = absurd (omega arith)
-take_whole (x ∷ xs) (suc k) all = ap (λ ys. x ∷ ys) (take_whole xs k (omega arith))
-
--- a mapped list keeps its length
-pub same_count : {A B : Type 0} (f : A → B) (xs : List A) → length (map f xs) ≡ length xs
-same_count f [] = refl
-same_count f (x ∷ xs) = ap suc (same_count f xs)
-
 -- there is a buffer for each line that is left
 pub some_buffer :
     (config : Configuration) (who n : ℕ) (buffers : List BufferView) → n < length (lines_at config who) → buffers ≡ drop n (buffers_of (script_at config who))
@@ -117,28 +92,24 @@ buffer_serves config who other n buffer rest next same line there =
 
 -- all lines have their replies
 pub way_end :
-    (config : Configuration) (ports : Ports) (count : ℕ) (w : Worker) (ran : Ran) → IsWorkerOf config ports w.pass_set.who w
+    (config : Configuration) (ports : Ports) (count : ℕ) (w : Worker) (ran : Ran) → IsBuilt config ports → IsWorkerOf config ports w.pass_set.who w
     → IsUnderWay config count w.pass_set ran.pass_set ran.lines.items → length (lines_at config w.pass_set.who) ≤ count
     → HasRun config ports w.pass_set.who ran
-way_end config ports count w ran is way all =
+way_end config ports count w ran built is way all =
     let d = w.pass_set in
     let script = script_at config d.who in
     let numbers = map (λ (one : ScriptLine). one.number) script in
     let lines = lines_at config d.who in
-    let short : length numbers ≤ count = omega (arith, same_count (λ (one : ScriptLine). one.number) script, same_count (λ (one : ScriptLine). one.line) script, all) in (
-      way.run,
-      record {
-        same = way.made.who;
-        fits = fits_after ports way.run d ran.pass_set way.made (fits_first config ports d.who w is);
-        whose = way.made.whose;
-        fitting = way.made.fitting;
-        trace = subst (λ (ls : List Line). IsTrace config d.who ls way.run (answers_in ran.lines.items)) (take_whole lines count all) way.trace;
-        numbers = way.numbers ∙ take_whole numbers count short;
-        boards = λ k p k<.
-            let made = way.made.boards.each k p p (omega (arith, k<, way.made.boards.count)) in
-            let there : k < length ports.boards.items = omega (arith, k<, way.made.boards.count, is.boards.count) in
-            let unused = is.boards.each k (line_there ports.boards.items k there).0 p there in
-            made.mine ∙ ap (λ es. es ++ board_part k way.run) unused.mine;
-        bus = way.made.bus.mine ∙ ap (λ es. es ++ bus_part way.run) is.bus.mine;
-      },
-    )
+    let short : length numbers ≤ count = omega (arith, same_count (λ (one : ScriptLine). one.number) script, same_count (λ (one : ScriptLine). one.line) script, all) in
+    let mine : ran.pass_set.pass.mine ≡ way.made.entries = way.made.pass.mine ∙ ap (λ es. es ++ way.made.entries) is.pass.mine in
+    let run : run_made_by ran ≡ way.run = ap run_of mine ∙ way.made.run_is in record {
+      same = way.made.who;
+      fits = fits_after ports way.run d ran.pass_set way.made (fits_first config ports d.who w built is);
+      whose = subst (All (λ (m : Transition). m.who ≡ d.who)) (sym run) way.made.whose;
+      kinds =
+          subst (All (MatchesKind (length config.boards))) (sym mine) (subst (λ n. All (MatchesKind n) way.made.entries) is.boards way.made.kinds);
+      trace =
+          subst (λ ms. IsTrace config d.who lines ms (answers_in ran.lines.items)) (sym run)
+          (subst (λ (ls : List Line). IsTrace config d.who ls way.run (answers_in ran.lines.items)) (take_whole lines count all) way.trace);
+      numbers = way.numbers ∙ take_whole numbers count short;
+    }

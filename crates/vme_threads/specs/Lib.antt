@@ -1,9 +1,10 @@
-pub mod Columns
 pub mod RunBuffers
+pub mod Settlements
 pub mod Ports
-pub mod Dealings
 pub mod PassSets
 pub mod Rans
-pub mod Gathers
 pub mod Reports
+pub mod OneOrder
+pub mod ReportTexts
+pub mod Gatherings
 pub mod Threads

@@ -1,35 +1,48 @@
--- Defines what a processor does with its passes.
-use Rattle.std.specs.Prelude.{◌≡◌, List, [], ◌∷◌, All}
-use Rattle.vme_object.specs.Each.{AllAt}
-use Rattle.vme_memory.specs.declared.command.BoardCmd.{BoardCmd}
-use Rattle.vme_memory.specs.declared.reply.Reply.{Reply}
+-- Defines what a processor does with its pass.
+use Rattle.std.specs.Prelude.{ℕ, ◌≡◌, ◌<◌, ◌+◌, List, [], ◌∷◌, length, slice_index_or, All}
+use mathlib.Core.Option.{some}
+use lib.ListN.{get_elem?}
+use Rattle.vme_memory.specs.Boards.{Board}
+use Rattle.vme_arbiter.specs.Arbitration.{Arbitration}
 use Rattle.vme_core.specs.declared.event.Event.{Event}
 use Rattle.vme_core.specs.declared.event.EventReply.{EventReply}
 use Rattle.vme_core.specs.Calls.{Call, call_of}
-use Rattle.vme_core.specs.Runs.{Transition, move, IsReplyTo, board_part, bus_part}
-use Rattle.vme_port.specs.Passes.{PassView}
-use Rattle.vme_port.specs.Ports.{port_id}
+use Rattle.vme_core.specs.Runs.{Transition, move}
 use Rattle.vme_port.specs.Calls.{Makes}
+use Rattle.vme_port_array.specs.Parts.{part}
+use Rattle.vme_port_array.specs.Arrays.{IsPassOf, opening, objects_of}
+use Rattle.vme_bus_objects.specs.declared.object.BusObject.TheVariants as objects
+use Rattle.vme_bus_objects.specs.Runs.{BusEntry, run_of, MatchesKind}
 use Rattle.vme_threads.specs.declared.pass_set.PassSet.{PassSet}
-use Rattle.vme_threads.specs.declared.ports.BoardPort.{BoardPort}
 use Rattle.vme_threads.specs.declared.ports.Ports.{Ports}
 
--- the passes of a processor are its own passes of these ports
+-- the pass of a processor is its own pass of these ports, whose objects are boards and the arbiter after them; it has
+-- counted its calls of each object
 pub record MatchesPorts (ports : Ports) (d : PassSet) : Type 0 where
-  pub boards :
-      AllAt (λ x (o : BoardPort) (p : PassView BoardCmd Reply). (p.port ≡ port_id o.port) × (p.who ≡ d.who)) ports.boards.items
-      d.boards.items
-  pub bus : d.bus.port ≡ port_id ports.bus
-  pub bus_who : d.bus.who ≡ d.who
+  pub array : IsPassOf ports.array d.pass
+  pub who : d.pass.who ≡ d.who
+  pub object_count : objects_of ports.array ≡ d.boards + 1
+  pub boards : (x : ℕ) → x < d.boards → (memory : Board) × (get_elem? (opening ports.array) x ≡ some (objects.Board memory))
+  pub bus : (bus : Arbitration) × (get_elem? (opening ports.array) d.boards ≡ some (objects.Arbiter bus))
+  pub made_count : length d.made.items ≡ d.boards + 1
+  pub counted : (x n : ℕ) → x < d.boards + 1 → slice_index_or d.made.items x n ≡ length (part x d.pass.mine)
 
--- a processor made a run of transitions: each reply is of its event's kind, and each pass made the run's part on its
--- object
+-- the counts of all objects grew by these entries
+pub record CountsMore (entries : List BusEntry) (before after : List ℕ) : Type 0 where
+  pub count : length after ≡ length before
+  pub each : (x n : ℕ) → x < length before → slice_index_or after x n ≡ slice_index_or before x n + length (part x entries)
+
+-- a processor made a run of transitions: its pass made the entries of this run, each of which is of its object's kind,
+-- and counted them
 pub record AddsTransitions (run : List Transition) (before after : PassSet) : Type 0 where
   pub who : after.who ≡ before.who
+  pub boards : after.boards ≡ before.boards
   pub whose : All (λ m. m.who ≡ before.who) run
-  pub fitting : All (λ m. IsReplyTo m.event m.reply) run
-  pub boards : AllAt (λ x p q. Makes (board_part x run) p q) before.boards.items after.boards.items
-  pub bus : Makes (bus_part run) before.bus after.bus
+  pub entries : List BusEntry
+  pub run_is : run_of entries ≡ run
+  pub kinds : All (MatchesKind before.boards) entries
+  pub pass : Makes entries before.pass after.pass
+  pub counts : CountsMore entries before.made.items after.made.items
 
 -- a processor made one event of a call, and got this reply
 pub record AddsCall (call : Call) (reply : EventReply) (before after : PassSet) : Type 0 where

@@ -1,66 +1,52 @@
--- Defines what is built from a configuration: a port of each board and of the arbiter, and the workers with their
--- passes.
-use Rattle.std.specs.Prelude.{ℕ, ◌≡◌, ◌≤◌, List, length, vec_len, vec_capacity}
-use Rattle.vme_object.specs.Each.{Each, AllAt}
-use Rattle.vme_memory.specs.declared.command.BoardCmd.{BoardCmd}
-use Rattle.vme_memory.specs.declared.reply.Reply.{Reply}
-use Rattle.vme_arbiter.specs.declared.command.ArbCmd.{ArbCmd}
-use Rattle.vme_arbiter.specs.declared.command.ArbReply.{ArbReply}
-use Rattle.vme_arbiter.specs.Arbitration.{Arbitration, opening_bus}
-use Rattle.vme_port.specs.declared.port.Port.{Port}
-use Rattle.vme_port.specs.Passes.{PassView, IsUnused}
-use Rattle.vme_port.specs.Ports.{port_id, opening, passes_of}
-use Rattle.vme_script.specs.declared.board.BoardConfig.{BoardConfig}
-use Rattle.vme_script.specs.Configurations.{Configuration, opening_memory}
+-- Defines what is built from a configuration: an array of ports with an object for each board and one for the arbiter,
+-- and the workers with their passes.
+use Rattle.std.specs.Prelude.{ℕ, ◌≡◌, ◌+◌, ◌≤◌, List, length, map, replicate, vec_len, vec_capacity}
+use Rattle.vme_object.specs.Each.{Each}
+use Rattle.vme_core.specs.declared.event.EventReply.{EventReply}
+use Rattle.vme_port.specs.Passes.{IsUnused}
+use Rattle.vme_port_array.specs.declared.port_array.PortArray.{PortArray}
+use Rattle.vme_port_array.specs.Arrays.{array_id, opening, passes_of, objects_of}
+use Rattle.vme_bus_objects.specs.declared.object.BusObject.{BusObject}
+use Rattle.vme_bus_objects.specs.declared.command.BusCommand.{BusCommand}
+use Rattle.vme_script.specs.Configurations.{Configuration}
 use Rattle.vme_script.specs.Lawful.{IsLawful}
 use Rattle.vme_line_task.specs.Scripts.{script_at}
 use Rattle.vme_line_task.specs.ReadBuffers.{buffers_of}
 use Rattle.vme_threads.specs.declared.worker.Worker.{Worker}
-use Rattle.vme_threads.specs.declared.ports.BoardPort.{BoardPort}
 use Rattle.vme_threads.specs.declared.ports.Ports.{Ports}
 use Rattle.vme_threads.specs.RunBuffers.{AreEmptyBuffers}
+use Rattle.vme_threads.specs.Settlements.{opening_objects}
 
--- the port of a board: it is in the board's slot, was opened with zero memory for k passes, and has a buffer for k
--- counts
-pub record IsPortOf (k : ℕ) (own : BoardConfig) (o : BoardPort) : Type 0 where
-  pub slot : o.slot ≡ own.slot
-  pub memory : opening o.port ≡ opening_memory own
-  pub passes : passes_of o.port ≡ k
-  pub made : vec_len o.made ≡ 0
-  pub made_capacity : k ≤ vec_capacity o.made
-
--- worker i before its script: it has the unused i-th pass of each port, and buffers for all boards' passes, for what
--- its lines read and for its replies
-pub record IsNewWorker (config : Configuration) (opened : List BoardPort) (arbiter : Port Arbitration ArbCmd ArbReply) (i : ℕ)
-    (w : Worker) : Type 0 where
+-- worker i before its script: it has the unused i-th pass of the array, no call counted at any object, and buffers for
+-- what its lines read and for its replies
+pub record IsNewWorker (config : Configuration) (array : PortArray BusObject BusCommand EventReply) (i : ℕ) (w : Worker) : Type 0 where
   pub who : w.pass_set.who ≡ i
-  pub boards :
-      AllAt (λ x (o : BoardPort) (p : PassView BoardCmd Reply). IsUnused (port_id o.port) i p) opened w.pass_set.boards.items
-  pub bus : IsUnused (port_id arbiter) i w.pass_set.bus
-  pub capacity : length config.boards ≤ vec_capacity w.pass_set.boards
+  pub boards : w.pass_set.boards ≡ length config.boards
+  pub pass : IsUnused (array_id array) i w.pass_set.pass
+  pub made : w.pass_set.made.items ≡ replicate {A = ℕ} (length config.boards + 1) 0
   pub buffers : w.buffers ≡ buffers_of (script_at config i)
   pub lines : vec_len w.lines ≡ 0
   pub lines_capacity : length (script_at config i) ≤ vec_capacity w.lines
 
 -- there is one such worker for each board, in order
-pub record AreNewWorkers (config : Configuration) (opened : List BoardPort) (arbiter : Port Arbitration ArbCmd ArbReply)
-    (workers : List Worker) : Type 0 where
+pub record AreNewWorkers (config : Configuration) (array : PortArray BusObject BusCommand EventReply) (workers : List Worker) : Type 0 where
   pub count : length workers ≡ length config.boards
-  pub each : Each (IsNewWorker config opened arbiter) workers
+  pub each : Each (IsNewWorker config array) workers
 
--- the ports of a lawful configuration: one of each board with zero memory, and one of its arbiter of a free bus, each
--- with a pass for each board; and empty buffers for the report
+-- the ports of a lawful configuration: one array of its boards with zero memory and of its arbiter of a free bus, with a
+-- pass for each board; the slots of the boards; and empty buffers for the report
 pub record IsBuilt (config : Configuration) (ports : Ports) : Type 0 where
   pub lawful : IsLawful config
-  pub boards : AllAt (λ x own o. IsPortOf (length config.boards) own o) config.boards ports.boards.items
-  pub bus : opening ports.bus ≡ opening_bus config.arbiter
-  pub passes : passes_of ports.bus ≡ length config.boards
+  pub opened : opening ports.array ≡ opening_objects config
+  pub object_count : objects_of ports.array ≡ length config.boards + 1
+  pub passes : passes_of ports.array ≡ length config.boards
+  pub slots : ports.slots.items ≡ map (λ own. own.slot) config.boards
   pub report_buffers : AreEmptyBuffers (length config.boards) ports.report_buffers
 
 -- worker i of these ports, before its script
 abbrev pub IsWorkerOf : Configuration → Ports → ℕ → Worker → Type 0
-IsWorkerOf config ports i worker = IsNewWorker config ports.boards.items ports.bus i worker
+IsWorkerOf config ports i worker = IsNewWorker config ports.array i worker
 
 -- the workers of these ports, one for each board, in order
 abbrev pub AreWorkers : Configuration → Ports → List Worker → Type 0
-AreWorkers config ports workers = AreNewWorkers config ports.boards.items ports.bus workers
+AreWorkers config ports workers = AreNewWorkers config ports.array workers

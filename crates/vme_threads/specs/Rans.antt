@@ -1,13 +1,10 @@
 -- Defines what a processor has done when it has run its script.
-use Rattle.std.specs.Prelude.{ℕ, ◌≡◌, List, map, All, Some, Result, Ok, Err, slice_get}
-use Rattle.vme_object.specs.Each.{Each}
-use Rattle.vme_memory.specs.declared.command.BoardCmd.{BoardCmd}
-use Rattle.vme_memory.specs.declared.reply.Reply.{Reply}
-use Rattle.vme_core.specs.Runs.{Transition, IsReplyTo, board_part, bus_part}
+use Rattle.std.specs.Prelude.{ℕ, ◌≡◌, List, length, map, All, Some, Result, Ok, Err, slice_get}
+use Rattle.vme_core.specs.Runs.{Transition}
 use Rattle.vme_shared.specs.declared.reply.LineReply.{LineReply}
 use Rattle.vme_report.specs.declared.fault.RunFault.{RunFault}
 use Rattle.vme_report.specs.declared.fault.RunFault.TheVariants.{Spent}
-use Rattle.vme_port.specs.Passes.{PassView}
+use Rattle.vme_bus_objects.specs.Runs.{run_of, MatchesKind}
 use Rattle.vme_grammar.specs.declared.line.Line.{Line}
 use Rattle.vme_script.specs.Configurations.{Configuration}
 use Rattle.vme_line_task.specs.Scripts.{script_at, lines_at}
@@ -37,21 +34,19 @@ numbers_in lines = map (λ line. line.0) lines
 abbrev pub answers_in : List (ℕ × LineReply) → List LineReply
 answers_in lines = map (λ line. line.1) lines
 
--- processor `who` ran its whole script by this run: the run is the script's trace and gives these replies, and its part
--- on each object is what the pass made
-pub record IsRanOf (config : Configuration) (ports : Ports) (who : ℕ) (run : List Transition) (ran : Ran) : Type 0 where
+-- the run of a finished processor: the transitions that its pass made
+abbrev pub run_made_by : Ran → List Transition
+run_made_by ran = run_of ran.pass_set.pass.mine
+
+-- processor `who` ran its whole script: the run that its pass made is its own, is the script's trace and gives these
+-- replies, and each call of it was of its object's kind
+pub record HasRun (config : Configuration) (ports : Ports) (who : ℕ) (ran : Ran) : Type 0 where
   pub same : ran.pass_set.who ≡ who
   pub fits : MatchesPorts ports ran.pass_set
-  pub whose : All (λ m. m.who ≡ who) run
-  pub fitting : All (λ m. IsReplyTo m.event m.reply) run
-  pub trace : IsTrace config who (lines_at config who) run (answers_in ran.lines.items)
+  pub whose : All (λ m. m.who ≡ who) (run_made_by ran)
+  pub kinds : All (MatchesKind (length config.boards)) ran.pass_set.pass.mine
+  pub trace : IsTrace config who (lines_at config who) (run_made_by ran) (answers_in ran.lines.items)
   pub numbers : numbers_in ran.lines.items ≡ map (λ one. one.number) (script_at config who)
-  pub boards : Each (λ x (p : PassView BoardCmd Reply). p.mine ≡ board_part x run) ran.pass_set.boards.items
-  pub bus : ran.pass_set.bus.mine ≡ bus_part run
-
--- there is a run by which processor `who` ran its whole script
-abbrev pub HasRun : Configuration → Ports → ℕ → Ran → Type 0
-HasRun config ports who ran = (run : List Transition) × IsRanOf config ports who run ran
 
 -- how a worker ends: it has run its whole script, or it returns `Spent`
 abbrev pub IsEndOfRun : Configuration → Ports → ℕ → Result Ran RunFault → Type 0

@@ -15,7 +15,7 @@ use Rattle.vme_threads.specs.declared.ports.Ports.{Ports}
 use Rattle.vme_threads.specs.declared.report.BoardReport.{BoardReport}
 use Rattle.vme_threads.specs.declared.report.Report.{Report}
 use Rattle.vme_threads.specs.Ports.{IsBuilt}
-use Rattle.vme_threads.specs.Rans.{IsRanOf, numbers_in, answers_in}
+use Rattle.vme_threads.specs.Rans.{HasRun, numbers_in, answers_in}
 
 module _ {S C R : Type 0} (step : S → C → S × R) (start : S) where
   -- one legal history leads to the object: it has `steps` entries, and of each caller exactly its part, with as many
@@ -52,10 +52,9 @@ pub record IsReportOf (config : Configuration) (report : Report) : Type 0 where
       × HasHistory arbiter_step (opening_bus config.arbiter) (map bus_part runs) object report.arbiter_steps
       report.arbiter_made.items
 
--- these are the finished workers, each by a run of its own
-pub record HaveRun (config : Configuration) (ports : Ports) (rans : List Ran) : Type 0 where
-  pub runs : List (List Transition)
-  pub each : AllAt (IsRanOf config ports) runs rans
+-- these are the finished workers, in order
+abbrev pub HaveRun : Configuration → Ports → List Ran → Type 0
+HaveRun config ports rans = Each (HasRun config ports) rans
 
 -- these are the finished workers of all boards, of ports that were built from this configuration
 pub record CanGather (config : Configuration) (ports : Ports) (rans : List Ran) : Type 0 where

@@ -1,10 +1,11 @@
-//! The processors of a backplane (ANSI/IEEE Std 1014-1987, chapters 2 and 3) as threads: a port of
-//! each board, a port of the arbiter of their bus, and a worker for each processor, which calls all
-//! of them through passes of its own.
+//! The processors of a backplane (ANSI/IEEE Std 1014-1987, chapters 2 and 3) as threads: one array of
+//! ports with all boards and the arbiter of their bus, and a worker for each processor, which calls
+//! all of them through one pass.
 #![tactic(auto)]
 
 mod gate;
 mod gather_report;
+mod laws;
 mod line;
 mod open;
 mod pass_set;
@@ -17,8 +18,9 @@ mod workers;
 
 pub use gate::Gate;
 pub use gather_report::gather;
+pub use laws::{a_settled_array_is_a_run, what_is_gathered_is_one_order};
 pub use pass_set::PassSet;
-pub use ports::{BoardPort, Ports};
+pub use ports::Ports;
 pub use report::{BoardReport, Report};
 pub use threads::run_threads;
 pub use worker::{Ran, Worker};

@@ -23,6 +23,7 @@ use crate::pass_set::PassSet;
 use crate::ports::Ports;
 use std::sync::Wait;
 use std::sync::atomic::Ordering;
+use vme_core::EventReply;
 use vme_cycle::{Block, BlockBuffer, Request};
 use vme_grammar::Line;
 use vme_master::{Outcome, Task};
@@ -49,7 +50,7 @@ impl PassSet {
         buffer: BlockBuffer,
     ) -> Result<LineReply, Spent>
         requires fits { MatchesPorts ports.now self.old }
-        requires ports { length ports.now.boards.items ≡ length config.now.boards }
+        requires boards { self.old.boards ≡ length config.now.boards }
         requires board { self.old.who < length config.now.boards }
         requires line { line < length (lines_at config.now self.old.who) }
         requires none { buffer.items ≡ [] }
@@ -75,7 +76,7 @@ impl PassSet {
         cmd: &BoardCmd,
     ) -> Result<LineReply, Spent>
         requires fits { MatchesPorts ports.now self.old }
-        requires there { self.old.who < length self.old.boards.items }
+        requires there { self.old.who < self.old.boards }
         requires local { IsOwnLine (lines.Local cmd.now) }
         ensures { (config : Configuration) →
             IfOk result (λ answer. IsAnsweredBy config (lines.Local cmd.now) answer self.old self.new) }
@@ -83,7 +84,10 @@ impl PassSet {
         if ports.stop.load(Ordering::SeqCst) {
             return Err(Spent);
         }
-        let reply = self.call_board(rt, ports, self.who, &CommandRef { cmd })?;
+        let EventReply::Board(reply) = self.call_board(rt, ports, self.who, &CommandRef { cmd })?
+        else {
+            unreachable!()
+        };
         Ok(LineReply::Transfer(local_outcome(cmd, reply)))
     }
 
@@ -100,7 +104,7 @@ impl PassSet {
         buffer: BlockBuffer,
     ) -> Result<LineReply, Spent>
         requires fits { MatchesPorts ports.now self.old }
-        requires ports { length ports.now.boards.items ≡ length config.now.boards }
+        requires boards { self.old.boards ≡ length config.now.boards }
         requires board { self.old.who < length config.now.boards }
         requires none { buffer.items ≡ [] }
         requires capacity { request_read_len (transfer_of request.now) ≤ buffer.capacity }

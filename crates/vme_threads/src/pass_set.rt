@@ -1,9 +1,9 @@
 ghost use Rattle.std.specs.Prelude.{◌≡◌, ◌<◌, ◌≤◌, ◌∷◌, [], length, slice_get, Some, IfOk};
 ghost use Rattle.vme_core.specs.declared.event.Event.TheVariants as events;
-ghost use Rattle.vme_core.specs.declared.event.EventReply.TheVariants as replies;
 ghost use Rattle.vme_core.specs.Runs.{move};
 ghost use Rattle.vme_grammar.specs.declared.line.Line.{Line};
 ghost use Rattle.vme_core.specs.EventRefs.{call_asked};
+ghost use Rattle.vme_bus_objects.specs.Runs.{IsBoardReply};
 ghost use Rattle.vme_line_task.specs.Events.{IsCallBelow};
 ghost use Rattle.vme_line_task.specs.ReadBuffers.{line_read_len};
 ghost use Rattle.vme_line_task.specs.Scripts.{lines_at};
@@ -14,30 +14,34 @@ use crate::ports::Ports;
 use crossbeam_utils::Backoff;
 use std::sync::Wait;
 use std::sync::atomic::Ordering;
-use vme_arbiter::{ArbCmd, ArbReply, Arbiter};
+use vme_arbiter::{ArbCmd, ArbReply};
+use vme_bus_objects::{BoardOperation, BusCommand, BusObject, replies_have_their_kind};
 use vme_bus_wait::WaitState;
 use vme_core::{EventRef, EventReply};
 use vme_cycle::BlockBuffer;
 use vme_line_task::LineTask;
-use vme_memory::{ByteMemory, Reply};
+use vme_memory::ByteMemory;
 use vme_object::{CommandRef, Operation};
-use vme_port::{Pass, Spent};
+use vme_port::Spent;
+use vme_port_array::Pass;
 use vme_script::Config;
 use vme_shared::LineReply;
 
-/// The passes of one processor: one pass of the port of each board, by the board's index, and one
-/// pass of the arbiter's port. It also holds how long the processor has waited for the bus.
+/// The pass of one processor: it reaches each board by the board's index, and the arbiter by the
+/// index after all boards. `made` has the number of calls that the processor made of each object. It
+/// also holds how long the processor has waited for the bus.
 #[derive(Drop)]
 pub struct PassSet {
     pub(crate) who: usize,
-    pub(crate) boards: Vec<Pass<ByteMemory>>,
-    pub(crate) bus: Pass<Arbiter>,
+    pub(crate) boards: usize,
+    pub(crate) pass: Pass<BusObject>,
+    pub(crate) made: Vec<u64>,
     pub(crate) wait_state: WaitState,
 }
 
 impl PassSet {
-    /// Performs one command on the arbiter. After a reply `Waiting` it waits for one round, and
-    /// after a release it may wake a waiting processor.
+    /// Performs one command on the arbiter, and returns its reply. After a reply `Waiting` it waits
+    /// for one round, and after a release it may wake a waiting processor.
     ///
     /// # Errors
     /// `Spent` if the arbiter has made 2^64 - 1 steps.
@@ -47,25 +51,29 @@ impl PassSet {
         rt: &R,
         ports: &Ports,
         cmd: &ArbCmd,
-    ) -> Result<ArbReply, Spent>
+    ) -> Result<EventReply, Spent>
         requires { MatchesPorts ports.now self.old }
         ensures { IfOk result (λ reply.
-            AddsTransitions (move self.old.who (events.Bus cmd.now) (replies.Bus reply) ∷ []) self.old self.new) }
+            AddsTransitions (move self.old.who (events.Bus cmd.now) reply ∷ []) self.old self.new) }
     {
+        replies_have_their_kind();
         let releases = ports.waiters.releases();
-        let reply = ports.bus.call(rt, &mut self.bus, cmd)?;
-        match reply {
-            ArbReply::Waiting => ports
+        let command = BusCommand::Arbiter(*cmd);
+        let reply = ports.array.call(rt, &mut self.pass, self.boards, &command)?;
+        self.made[self.boards] += 1;
+        match &reply {
+            EventReply::Bus(ArbReply::Waiting) => ports
                 .waiters
                 .wait(rt, self.who, releases, &mut self.wait_state),
-            ArbReply::Granted => ports.waiters.leave(&mut self.wait_state),
-            ArbReply::Freed => ports.waiters.release(&mut self.wait_state),
-            ArbReply::Denied => {}
+            EventReply::Bus(ArbReply::Granted) => ports.waiters.leave(&mut self.wait_state),
+            EventReply::Bus(ArbReply::Freed) => ports.waiters.release(&mut self.wait_state),
+            EventReply::Bus(ArbReply::Denied) => {}
+            EventReply::Board(_) => {}
         }
         Ok(reply)
     }
 
-    /// Performs one operation on the board at index `board`.
+    /// Performs one operation on the board at index `board`, and returns the board's reply.
     ///
     /// # Errors
     /// `Spent` if the board has made 2^64 - 1 steps.
@@ -76,18 +84,23 @@ impl PassSet {
         ports: &Ports,
         board: usize,
         cmd: &A,
-    ) -> Result<Reply, Spent>
+    ) -> Result<EventReply, Spent>
         requires fits { MatchesPorts ports.now self.old }
-        requires there { board < length self.old.boards.items }
-        ensures { IfOk result (λ reply.
-            AddsTransitions (move self.old.who (events.Board board (A.command cmd.now)) (replies.Board reply) ∷ []) self.old self.new) }
+        requires there { board < self.old.boards }
+        ensures made { IfOk result (λ reply.
+            AddsTransitions (move self.old.who (events.Board board (A.command cmd.now)) reply ∷ []) self.old self.new) }
+        ensures kind { IfOk result IsBoardReply }
     {
-        let port = &ports.boards[board].port;
-        let pass = &mut self.boards[board];
-        port.call_operation(rt, pass, cmd)
+        replies_have_their_kind();
+        let operation = BoardOperation { operation: cmd };
+        let reply = ports
+            .array
+            .call_operation(rt, &mut self.pass, board, &operation)?;
+        self.made[board] += 1;
+        Ok(reply)
     }
 
-    /// Makes the event that `event_ref` stands for, by one call of the port that it names. It
+    /// Makes the event that `event_ref` stands for, by one call of the object that it names. It
     /// passes commands by reference, and the datum of a transfer as its cycle, without a copy of
     /// its data lanes.
     ///
@@ -101,22 +114,15 @@ impl PassSet {
         event_ref: &EventRef<'_>,
     ) -> Result<EventReply, Spent>
         requires fits { MatchesPorts ports.now self.old }
-        requires there { IsCallBelow (length self.old.boards.items) (call_asked event_ref.now) }
+        requires there { IsCallBelow self.old.boards (call_asked event_ref.now) }
         ensures { IfOk result (λ reply. AddsCall (call_asked event_ref.now) reply self.old self.new) }
     {
         match event_ref {
-            EventRef::Bus(cmd) => Ok(EventReply::Bus(self.call_bus(rt, ports, cmd)?)),
+            EventRef::Bus(cmd) => self.call_bus(rt, ports, cmd),
             EventRef::Board { board, cmd } => {
-                Ok(EventReply::Board(self.call_board(
-                    rt,
-                    ports,
-                    *board,
-                    &CommandRef { cmd: *cmd },
-                )?))
+                self.call_board(rt, ports, *board, &CommandRef { cmd: *cmd })
             }
-            EventRef::Datum { board, cycle } => {
-                Ok(EventReply::Board(self.call_board(rt, ports, *board, cycle)?))
-            }
+            EventRef::Datum { board, cycle } => self.call_board(rt, ports, *board, cycle),
         }
     }
 
@@ -134,7 +140,7 @@ impl PassSet {
         buffer: BlockBuffer,
     ) -> Result<LineReply, Spent>
         requires fits { MatchesPorts ports.now self.old }
-        requires ports { length ports.now.boards.items ≡ length config.now.boards }
+        requires boards { self.old.boards ≡ length config.now.boards }
         requires board { self.old.who < length config.now.boards }
         requires line { line < length (lines_at config.now self.old.who) }
         requires none { buffer.items ≡ [] }

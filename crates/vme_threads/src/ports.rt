@@ -1,33 +1,24 @@
 ghost use Rattle.std.specs.Prelude.{IfOk};
 ghost use Rattle.vme_threads.specs.Ports.{IsBuilt, AreWorkers};
 
-use crate::open::{open_boards, open_bus};
+use crate::open::{open_array, slots};
 use crate::run_buffers::{PassBuffers, ReportBuffers};
 use crate::worker::Worker;
 use crate::workers::new_workers;
 use std::alloc::{AllocError, Global};
 use std::sync::Mutex;
 use std::sync::atomic::AtomicBool;
-use vme_arbiter::Arbiter;
+use vme_bus_objects::BusObject;
 use vme_bus_wait::BusWaiters;
-use vme_memory::ByteMemory;
-use vme_port::Port;
+use vme_port_array::PortArray;
 use vme_script::{Config, OutOfMemory};
 
-/// The port of a board, with the slot of the board and a buffer for the report.
-#[derive(Drop)]
-pub struct BoardPort {
-    pub(crate) slot: u16,
-    pub(crate) port: Port<ByteMemory>,
-    pub(crate) made: Vec<u64>,
-}
-
-/// The ports of the boards of one backplane and of the arbiter of their bus, which threads share.
-/// They include all buffers that the end of the run needs.
+/// The boards of one backplane and the arbiter of their bus, which threads share as the objects of
+/// one array of ports. They include all buffers that the end of the run needs.
 #[derive(Drop)]
 pub struct Ports {
-    pub(crate) boards: Vec<BoardPort>,
-    pub(crate) bus: Port<Arbiter>,
+    pub(crate) array: PortArray<BusObject>,
+    pub(crate) slots: Vec<u16>,
     pub(crate) waiters: BusWaiters,
     pub(crate) report_buffers: ReportBuffers,
     pub(crate) buffers: Mutex<PassBuffers>,
@@ -36,9 +27,9 @@ pub struct Ports {
 }
 
 impl Ports {
-    /// Opens a port of each configured board, with zero memory, and a port of the arbiter of a free
-    /// bus, each with a pass for each processor. Returns the ports and the workers that have these
-    /// passes. It allocates everything that the workers and the end of their run need.
+    /// Opens one array of ports with each configured board, with zero memory, and with the arbiter
+    /// of a free bus, and a pass of it for each processor. Returns the ports and the workers that
+    /// have these passes. It allocates everything that the workers and the end of their run need.
     ///
     /// # Errors
     /// `OutOfMemory` if an allocation fails.
@@ -57,12 +48,11 @@ impl Ports {
         ensures workers { IfOk result (λ r. AreWorkers config.now r.0 r.1.items) }
     {
         let count = config.boards();
-        let (bus, passes) = open_bus(alloc, config)?;
-        let mut workers = new_workers(alloc, config, &bus, passes)?;
-        let boards = open_boards(alloc, config, &bus, &mut workers)?;
+        let (array, passes) = open_array(alloc, config)?;
+        let workers = new_workers(alloc, config, &array, passes)?;
         let ports = Ports {
-            boards,
-            bus,
+            array,
+            slots: slots(alloc, config)?,
             waiters: BusWaiters::new(alloc, count)?,
             report_buffers: ReportBuffers::new(alloc, count)?,
             buffers: Mutex::new(PassBuffers::new(alloc)?),

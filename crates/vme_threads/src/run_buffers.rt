@@ -1,44 +1,44 @@
 //! Buffers that are allocated before a run and used at its end.
 ghost use Rattle.std.specs.Prelude.{◌≡◌, ◌≤◌, IfOk, vec_len, vec_capacity};
-ghost use Rattle.vme_threads.specs.Columns.{AreColumns};
 
 use crate::report::BoardReport;
 use std::alloc::{AllocError, Global};
-use vme_arbiter::Arbiter;
-use vme_memory::ByteMemory;
-use vme_port::Pass;
+use vme_bus_objects::BusObject;
+use vme_port::Home;
+use vme_port_array::Pass;
 use vme_shared::LineReply;
 
 /// The greatest number of boards: a backplane has 21 slots.
 const MOST_BOARDS: usize = 21;
 
-/// Buffers for all passes of all ports.
+/// Buffers for all passes of an array and for its objects.
 #[derive(Drop)]
 pub struct PassBuffers {
-    pub(crate) columns: Vec<Vec<Pass<ByteMemory>>>,
-    pub(crate) bus: Vec<Pass<Arbiter>>,
-    ghost columns_len: { vec_len columns ≡ 21 },
-    ghost columns_capacity: { AreColumns columns.items },
-    ghost bus_len: { vec_len bus ≡ 0 },
-    ghost bus_capacity: { 21 ≤ vec_capacity bus },
+    pub(crate) passes: Vec<Pass<BusObject>>,
+    pub(crate) homes: Vec<Home<BusObject>>,
+    ghost passes_len: { vec_len passes ≡ 0 },
+    ghost passes_capacity: { 21 ≤ vec_capacity passes },
+    ghost homes_len: { vec_len homes ≡ 0 },
+    ghost homes_capacity: { 22 ≤ vec_capacity homes },
 }
 
 impl PassBuffers {
     pub(crate) fn new(alloc: Global) -> Result<PassBuffers, AllocError> {
-        let bus = Vec::with_capacity(alloc, MOST_BOARDS)?;
-        let mut columns = Vec::with_capacity(alloc, MOST_BOARDS)?;
-        for _ in 0..MOST_BOARDS {
-            columns.push_reserved(Vec::with_capacity(alloc, MOST_BOARDS)?);
-        }
-        Ok(PassBuffers { columns, bus })
+        Ok(PassBuffers {
+            passes: Vec::with_capacity(alloc, MOST_BOARDS)?,
+            homes: Vec::with_capacity(alloc, MOST_BOARDS + 1)?,
+        })
     }
 }
 
-/// Buffers for the report.
+/// Buffers for the report. `counts` receives the counts of each worker, and `made` those of each
+/// board.
 #[derive(Drop)]
 pub struct ReportBuffers {
     pub(crate) lines: Vec<Vec<(u16, LineReply)>>,
     pub(crate) boards: Vec<BoardReport>,
+    pub(crate) counts: Vec<Vec<u64>>,
+    pub(crate) made: Vec<Vec<u64>>,
     pub(crate) bus_made: Vec<u64>,
 }
 
@@ -52,9 +52,15 @@ impl ReportBuffers {
     pub(crate) fn new(alloc: Global, count: usize) -> Result<ReportBuffers, AllocError>
         ensures { IfOk result (AreEmptyBuffers count) }
     {
+        let mut made = Vec::with_capacity(alloc, count)?;
+        for _ in 0..count {
+            made.push_reserved(Vec::with_capacity(alloc, count)?);
+        }
         Ok(ReportBuffers {
             lines: Vec::with_capacity(alloc, count)?,
             boards: Vec::with_capacity(alloc, count)?,
+            counts: Vec::with_capacity(alloc, count)?,
+            made,
             bus_made: Vec::with_capacity(alloc, count)?,
         })
     }

@@ -4,7 +4,8 @@ ghost use Rattle.vme_object.specs.Each.{Each};
 ghost use Rattle.vme_report.specs.declared.fault.RunFault.TheVariants.{Write};
 ghost use Rattle.vme_threads.specs.Ports.{IsBuilt, AreWorkers};
 ghost use Rattle.vme_threads.specs.Rans.{IsEndOfRun};
-ghost use Rattle.vme_threads.specs.Reports.{HaveRun, IsReportOf};
+ghost use Rattle.vme_threads.specs.Reports.{HaveRun};
+ghost use Rattle.vme_threads.specs.OneOrder.{IsReportOfOneOrder};
 ghost use Rattle.vme_threads.specs.Threads.{IsPromiseOf};
 
 use crate::gate::Gate;
@@ -51,7 +52,7 @@ pub fn run_threads<R: Threads + Wait + Sync, G: Gate + Sync>(
     config: &Config,
     gate: &G,
 ) -> Result<Report, RunFault>
-    ensures report { IfOk result (IsReportOf config.now) }
+    ensures report { IfOk result (IsReportOfOneOrder config.now) }
     ensures fault { IfErr result (λ fault. fault ≢ Write) }
 {
     let Ok((ports, workers)) = Ports::build(alloc, config) else {

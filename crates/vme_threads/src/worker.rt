@@ -1,4 +1,4 @@
-ghost use Rattle.std.specs.Prelude.{◌≡◌, ◌<◌, ◌≤◌, IfOk, [], length, vec_len, vec_capacity};
+ghost use Rattle.std.specs.Prelude.{ℕ, ◌≡◌, ◌<◌, ◌≤◌, ◌+◌, IfOk, length, replicate, vec_len, vec_capacity};
 ghost use Rattle.vme_line_task.specs.ReadBuffers.{buffers_of};
 
 use crate::gate::Gate;
@@ -7,15 +7,15 @@ use crate::ports::Ports;
 use std::alloc::{AllocError, Global};
 use std::sync::Wait;
 use std::sync::atomic::Ordering;
-use vme_arbiter::Arbiter;
+use vme_bus_objects::BusObject;
 use vme_bus_wait::WaitState;
 use vme_line_task::{ReadBuffers, line_count};
-use vme_port::Pass;
+use vme_port_array::Pass;
 use vme_report::RunFault;
 use vme_script::{Config, Script};
 use vme_shared::LineReply;
 
-/// A processor before its script: its passes, a buffer for what each line reads, and a buffer for
+/// A processor before its script: its pass, a buffer for what each line reads, and a buffer for
 /// the replies.
 #[derive(Drop)]
 pub struct Worker {
@@ -24,7 +24,7 @@ pub struct Worker {
     pub(crate) lines: Vec<(u16, LineReply)>,
 }
 
-/// A processor after its script: its passes, and the number of each line with the reply to that
+/// A processor after its script: its pass, and the number of each line with the reply to that
 /// line.
 #[derive(Drop)]
 pub struct Ran {
@@ -36,29 +36,31 @@ impl Worker {
     ghost use Rattle.vme_threads.specs.Ports.{IsBuilt, IsWorkerOf};
     ghost use Rattle.vme_threads.specs.Rans.{IsEndOfRun};
 
-    /// Returns a worker with the arbiter's pass of its number. It allocates the buffers for the
-    /// passes of `boards` boards, for what each line of the script reads, and for the replies.
+    /// Returns a worker with a pass, which has its number. It allocates the counts of `boards` boards
+    /// and the arbiter, and the buffers for what each line of the script reads and for the replies.
     pub(crate) fn new(
         alloc: Global,
         boards: usize,
         script: &Script,
-        bus: Pass<Arbiter>,
+        pass: Pass<BusObject>,
     ) -> Result<Worker, AllocError>
-        ensures who { IfOk result (λ w. w.pass_set.who ≡ bus.who) }
-        ensures bus { IfOk result (λ w. w.pass_set.bus ≡ bus) }
-        ensures boards { IfOk result (λ w. w.pass_set.boards.items ≡ []) }
-        ensures capacity { IfOk result (λ w. boards ≤ vec_capacity w.pass_set.boards) }
+        requires { boards ≤ 21 }
+        ensures who { IfOk result (λ w. w.pass_set.who ≡ pass.who) }
+        ensures boards { IfOk result (λ w. w.pass_set.boards ≡ boards) }
+        ensures pass { IfOk result (λ w. w.pass_set.pass ≡ pass) }
+        ensures made { IfOk result (λ w. w.pass_set.made.items ≡ replicate {A = ℕ} (boards + 1) 0) }
         ensures lines { IfOk result (λ w. vec_len w.lines ≡ 0) }
         ensures lines_capacity { IfOk result (λ w. length script.now ≤ vec_capacity w.lines) }
         ensures buffers { IfOk result (λ w. w.buffers ≡ buffers_of script.now) }
     {
-        let boards = Vec::with_capacity(alloc, boards)?;
+        let made = vec![in alloc; 0u64; boards + 1]?;
         let lines = Vec::with_capacity(alloc, script.len())?;
         let buffers = ReadBuffers::new(alloc, script)?;
         let pass_set = PassSet {
-            who: bus.who(),
+            who: pass.who(),
             boards,
-            bus,
+            pass,
+            made,
             wait_state: WaitState::new(),
         };
         Ok(Worker {
@@ -73,7 +75,7 @@ impl Worker {
     ///
     /// # Errors
     /// `Spent` if an object has made 2^64 - 1 steps, or if another worker of these ports had to
-    /// stop. All workers of these ports then stop before their next event, and the passes are
+    /// stop. All workers of these ports then stop before their next event, and the pass is
     /// dropped.
     pub fn run<R: Wait, G: Gate>(
         self,

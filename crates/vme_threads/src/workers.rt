@@ -1,30 +1,26 @@
-//! The workers, and how they get their passes.
-ghost use Rattle.std.specs.Prelude.{◌≡◌, [], length, slice_index_or, vec_len, IfOk};
-ghost use Rattle.vme_object.specs.Each.{Each, AllAt};
-ghost use Rattle.vme_memory.specs.declared.command.BoardCmd.{BoardCmd};
-ghost use Rattle.vme_memory.specs.declared.reply.Reply.{Reply};
-ghost use Rattle.vme_port.specs.Passes.{PassView, IsUnused};
-ghost use Rattle.vme_port.specs.Ports.{port_id};
+//! The workers of an array of ports.
+ghost use Rattle.std.specs.Prelude.{◌≡◌, length, vec_len, IfOk};
+ghost use Rattle.vme_object.specs.Each.{Each};
+ghost use Rattle.vme_port.specs.Passes.{IsUnused};
+ghost use Rattle.vme_port_array.specs.Arrays.{array_id};
 ghost use Rattle.vme_threads.specs.Ports.{AreNewWorkers};
-ghost use Rattle.vme_threads.specs.Dealings.{Gets, HaveSpace};
 
 use crate::worker::Worker;
 use std::alloc::{AllocError, Global};
-use vme_arbiter::Arbiter;
-use vme_memory::ByteMemory;
-use vme_port::{Pass, Port};
+use vme_bus_objects::BusObject;
+use vme_port_array::{Pass, PortArray};
 use vme_script::Config;
 
-/// Returns a worker for each pass of the arbiter's port. It allocates the buffers of all workers.
+/// Returns a worker for each pass of the array. It allocates the buffers of all workers.
 pub(crate) fn new_workers(
     alloc: Global,
     config: &Config,
-    bus: &Port<Arbiter>,
-    passes: Vec<Pass<Arbiter>>,
+    array: &PortArray<BusObject>,
+    passes: Vec<Pass<BusObject>>,
 ) -> Result<Vec<Worker>, AllocError>
     requires count { vec_len passes ≡ length config.now.boards }
-    requires unused { Each (λ i p. IsUnused (port_id bus.now) i p) passes.items }
-    ensures { IfOk result (λ r. AreNewWorkers config.now [] bus.now r.items) }
+    requires unused { Each (λ i p. IsUnused (array_id array.now) i p) passes.items }
+    ensures { IfOk result (λ r. AreNewWorkers config.now array.now r.items) }
 {
     let count = config.boards();
     let mut workers = Vec::with_capacity(alloc, count)?;
@@ -33,19 +29,4 @@ pub(crate) fn new_workers(
         workers.push_reserved(Worker::new(alloc, count, script, pass)?);
     }
     Ok(workers)
-}
-
-/// Gives each worker the pass of its index.
-pub(crate) fn distribute_passes(workers: &mut Vec<Worker>, mut passes: Vec<Pass<ByteMemory>>)
-    requires count { vec_len passes ≡ vec_len workers.old }
-    requires capacity { HaveSpace workers.old.items }
-    ensures count { vec_len workers.new ≡ vec_len workers.old }
-    ensures got { AllAt
-        (λ i w v. (d : PassView BoardCmd Reply) → Gets (slice_index_or passes.items i d) w v)
-        workers.old.items workers.new.items }
-{
-    while let Some(pass) = passes.pop() {
-        workers[passes.len()].pass_set.boards.push_reserved(pass);
-    }
-    passes.destroy_empty();
 }

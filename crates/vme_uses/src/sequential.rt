@@ -3,8 +3,8 @@ ghost use Rattle.std.specs.Prelude.{◌≡◌, ℕ, List};
 ghost use Rattle.vme_script.specs.Lawful.{IsLawful};
 ghost use Rattle.vme_stepper.specs.Turns.{state_after};
 ghost use Rattle.vme_stepper.specs.Reports.{reported_system};
-ghost use Rattle.vme_engines.specs.RunTexts.{reported_report};
-ghost use Rattle.vme_sequential.specs.Reports.{IsReportOfOneOrder};
+ghost use Rattle.vme_threads.specs.ReportTexts.{reported_report};
+ghost use Rattle.vme_threads.specs.OneOrder.{IsReportOfOneOrder};
 
 use vme_runner::Report;
 use vme_script::Config;

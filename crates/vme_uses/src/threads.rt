@@ -1,6 +1,6 @@
 //! A use of `vme_threads`.
 ghost use Rattle.std.specs.Prelude.{IfOk};
-ghost use Rattle.vme_threads.specs.Reports.{IsReportOf};
+ghost use Rattle.vme_threads.specs.OneOrder.{IsReportOfOneOrder};
 
 use std::alloc::Global;
 use std::sync::Wait;
@@ -24,7 +24,7 @@ pub fn run<R: Threads + Wait + Sync>(
     alloc: Global,
     config: &Config,
 ) -> Result<Report, RunFault>
-    ensures { IfOk result (IsReportOf config.now) }
+    ensures { IfOk result (IsReportOfOneOrder config.now) }
 {
     run_threads(rt, alloc, config, &Open)
 }

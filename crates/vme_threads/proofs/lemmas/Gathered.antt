@@ -1,251 +1,182 @@
--- The passes of all finished workers give one history of each object.
-use Rattle.std.proofs.Common.{◌≡◌, ℕ, zero, suc, ◌<◌, ◌≤◌, List, [], ◌∷◌, ◌++◌, length, map, slice_index_or, vec_capacity, All, refl, ap, sym, subst, ◌∙◌, arith}
+-- What the passes of all finished workers, the settled array and the entries of the boards give.
+use Rattle.std.proofs.Common.{◌≡◌, ℕ, ◌+◌, ◌<◌, ◌≤◌, List, [], ◌∷◌, ◌++◌, length, map, slice_index_or, All, ap, sym, subst, ◌∙◌, arith}
 use Rattle.std.specs.Global.{Vec}
-use Rattle.vme_object.specs.declared.history.Entry.{Entry}
-use Rattle.vme_object.specs.History.{own}
+use Rattle.std.proofs.lemmas.List.{length-append}
+use mathlib.Core.Option.{some}
+use lib.ListN.{get_elem?}
 use Rattle.vme_object.specs.Each.{Each, AllAt}
-use Rattle.vme_object.proofs.lemmas.Eachs.{AllAt-push}
-use Rattle.vme_memory.specs.declared.command.BoardCmd.{BoardCmd}
-use Rattle.vme_memory.specs.declared.reply.Reply.{Reply}
-use Rattle.vme_memory.specs.Boards.{Board}
-use Rattle.vme_memory.specs.Locals.{board_step}
-use Rattle.vme_arbiter.specs.declared.command.ArbCmd.{ArbCmd}
-use Rattle.vme_arbiter.specs.declared.command.ArbReply.{ArbReply}
-use Rattle.vme_arbiter.specs.Arbitration.{Arbitration, opening_bus, arbiter_step}
-use Rattle.vme_core.specs.Runs.{Transition, IsReplyTo, board_part, bus_part}
+use Rattle.vme_object.proofs.lemmas.Eachs.{Each-nil, Each-push}
+use Rattle.vme_arbiter.specs.Arbitration.{opening_bus}
 use Rattle.vme_shared.specs.declared.reply.LineReply.{LineReply}
-use Rattle.vme_port.specs.Passes.{PassView}
-use Rattle.vme_port.specs.Ports.{port_id, opening, passes_of}
-use Rattle.vme_port.specs.Settlements.{Settles}
+use Rattle.vme_port.specs.declared.home.Home.{Home}
+use Rattle.vme_port_array.specs.Parts.{part}
+use Rattle.vme_port_array.specs.Arrays.{IsPassOf, opening, passes_of}
+use Rattle.vme_port_array.specs.Settlements.{Settles}
+use Rattle.vme_bus_objects.specs.declared.object.BusObject.{BusObject}
+use Rattle.vme_bus_objects.specs.declared.object.BusObject.TheVariants as objects
+use Rattle.vme_bus_objects.specs.Objects.{bus_object_step}
+use Rattle.vme_bus_objects.specs.Runs.{run_of, MatchesKind}
 use Rattle.vme_script.specs.declared.board.BoardConfig.{BoardConfig}
 use Rattle.vme_script.specs.declared.script.ScriptLine.{ScriptLine}
 use Rattle.vme_script.specs.Configurations.{Configuration, opening_memory}
 use Rattle.vme_line_task.specs.Scripts.{script_at, lines_at}
 use Rattle.vme_line_task.specs.Traces.{IsTrace}
 use Rattle.vme_threads.specs.declared.worker.Ran.{Ran}
-use Rattle.vme_threads.specs.declared.ports.BoardPort.{BoardPort}
 use Rattle.vme_threads.specs.declared.ports.Ports.{Ports}
 use Rattle.vme_threads.specs.declared.report.BoardReport.{BoardReport}
 use Rattle.vme_threads.specs.declared.report.Report.{Report}
-use Rattle.vme_threads.specs.Columns.{Column}
-use Rattle.vme_threads.specs.Gathers.{AreSquare, AreDealt, CanAllClose, AreClosed}
-use Rattle.vme_threads.specs.Rans.{IsRanOf, HasRun, numbers_in, answers_in}
-use Rattle.vme_threads.specs.Reports.{HasHistory, IsEndOf, IsReportOf, HaveRun, CanGather}
-use Rattle.vme_threads.proofs.Lines.{line_there}
-use Rattle.vme_threads.proofs.Runs.{same_count}
+use Rattle.vme_threads.specs.Settlements.{BusPass, opening_objects, IsSettled}
+use Rattle.vme_threads.specs.Rans.{HasRun, numbers_in, answers_in}
+use Rattle.vme_threads.specs.Reports.{HaveRun, CanGather}
+use Rattle.vme_threads.specs.Gatherings.{IsBoardHome, IsGatheredBoard, IsGatheredFrom}
+use Rattle.vme_threads.proofs.Places.{line_there, same_count, map_at, each_mapped, both_mapped, at_front, at_last}
+use Rattle.vme_threads.proofs.Counts.{board_count, bus_count}
+use Rattle.vme_threads.proofs.Entries.{AreEntries}
+use Rattle.vme_threads.proofs.Settlements.{run_of_array}
 
--- an element of a mapped list is the image of the element at its place
-map_at : {A B : Type 0} (f : A → B) (xs : List A) (k : ℕ) (b : B) (a : A) → k < length xs → slice_index_or (map f xs) k b ≡ f (slice_index_or xs k a)
-map_at f [] k b a k< = absurd (omega arith)
-map_at f (x ∷ xs) zero b a k< = refl
-map_at f (x ∷ xs) (suc k) b a k< = map_at f xs k b a (omega arith)
+-- one more finished worker has run its script
+pub have_more :
+    (config : Configuration) (ports : Ports) (rans : List Ran) (r : Ran) → HaveRun config ports rans → HasRun config ports (length rans) r
+    → HaveRun config ports (rans ++ r ∷ [])
+have_more config ports rans r have run = Each-push (HasRun config ports) rans r have run
 
--- a relation of two lists from a relation of their mapped lists
-all_at_maps :
-    {A B C D : Type 0} (P : ℕ → A → B → Type 0) (Q : ℕ → C → D → Type 0) (f : A → C) (g : B → D) (xs : List A) (ys : List B)
-    → ((k : ℕ) (a : A) (b : B) → P k a b → Q k (f a) (g b)) → AllAt P xs ys → AllAt Q (map f xs) (map g ys)
-all_at_maps P Q f g xs ys leads all = record {
-  count = same_count g ys ∙ all.count ∙ sym (same_count f xs);
-  each = λ k c d k<.
-      let there : k < length xs = omega (arith, k<, same_count f xs) in
-      let a = (line_there xs k there).0 in
-      let b = (line_there ys k (omega (arith, there, all.count))).0 in
-      subst (λ x. Q k x (slice_index_or (map g ys) k d)) (sym (map_at f xs k c a there))
-      (subst (λ y. Q k (f (slice_index_or xs k a)) y) (sym (map_at g ys k d b (omega (arith, there, all.count))))
-      (leads k (slice_index_or xs k a) (slice_index_or ys k b) (all.each k a b there)));
-}
-
--- a property of the first list from a relation of both
-each_left :
-    {A B : Type 0} (P : ℕ → A → B → Type 0) (Q : ℕ → A → Type 0) (xs : List A) (ys : List B) → ((k : ℕ) (a : A) (b : B) → P k a b → Q k a)
-    → AllAt P xs ys → Each Q xs
-each_left P Q xs ys leads all k a k< =
-    let b = (line_there ys k (omega (arith, k<, all.count))).0 in leads k (slice_index_or xs k a) (slice_index_or ys k b) (all.each k a b k<)
-
--- a property of the second mapped list from a relation of both
-each_right :
-    {A B D : Type 0} (P : ℕ → A → B → Type 0) (Q : ℕ → D → Type 0) (g : B → D) (xs : List A) (ys : List B)
-    → ((k : ℕ) (a : A) (b : B) → P k a b → Q k (g b)) → AllAt P xs ys → Each Q (map g ys)
-each_right P Q g xs ys leads all k d k< =
-    let there : k < length ys = omega (arith, k<, same_count g ys) in
-    let within : k < length xs = omega (arith, there, all.count) in
-    let a = (line_there xs k within).0 in
-    let b = (line_there ys k there).0 in
-    subst (λ y. Q k y) (sym (map_at g ys k d b there)) (leads k (slice_index_or xs k a) (slice_index_or ys k b) (all.each k a b within))
-
-module _ {S C R : Type 0} (step : S → C → S × R) (start : S) where
-  -- passes that settle share one history, which has of each caller its part
-  pub shared_history :
-      (k : ℕ) (passes : List (PassView C R)) (parts : List (List (Entry C R))) (object : S) (n : ℕ) (made : List ℕ) → Settles step start k passes object n
-      → length passes ≡ k → AllAt (λ who part (p : PassView C R). (p.who ≡ who) × (p.mine ≡ part)) parts passes
-      → made ≡ map (λ (p : PassView C R). p.made) passes → HasHistory step start parts object n made
-  shared_history k passes parts object n made reported count each made_is =
-      let same : k ≡ length parts = omega (arith, count, each.count) in
-      record {
-        history = reported.history;
-        legal = reported.legal;
-        replayed = reported.replayed;
-        counted = reported.counted;
-        known = subst (λ m. All (λ (e : Entry C R). e.who < m) reported.history) same reported.known;
-        owns = λ who part who<.
-            let p = (line_there passes who (omega (arith, who<, each.count))).0 in
-            let its = each.each who part p who< in
-            ap (λ w. own w reported.history) (sym its.0) ∙ reported.mine who p (omega (arith, who<, each.count)) ∙ its.1;
-        makes =
-            subst (λ ms. AllAt (λ who (part : List (Entry C R)) m. m ≡ length part) parts ms) (sym made_is) (record {
-              count = same_count (λ (p : PassView C R). p.made) passes ∙ each.count;
-              each = λ who part m who<.
-                  let there : who < length passes = omega (arith, who<, each.count) in
-                  let p = (line_there passes who there).0 in
-                  let its = each.each who part p who< in
-                  map_at (λ (p : PassView C R). p.made) passes who m p there ∙ sym (reported.made who p there) ∙ ap length its.1;
-            });
-      }
-
--- the pass of the port at place x of a finished worker
-abbrev pub column_of : ℕ → PassView BoardCmd Reply → Ran → PassView BoardCmd Reply
-column_of x d r = slice_index_or r.pass_set.boards.items x d
+-- no finished worker has run its script
+pub have_none : (config : Configuration) (ports : Ports) → HaveRun config ports []
+have_none config ports = Each-nil (HasRun config ports)
 
 module _ (config : Configuration) (ports : Ports) (rans : List Ran) (can : CanGather config ports rans) where
-  -- each finished worker has a pass of each board's port
-  pub can_be_square : AreSquare rans
-  can_be_square k r k< =
-      let is = can.runs.each.each k [] r (omega (arith, k<, can.runs.each.count)) in is.fits.boards.count ∙ can.built.boards.count ∙ sym can.count
+  abbrev passes : List BusPass
+  passes = map (λ (r : Ran). r.pass_set.pass) rans
 
-  module _ (x : ℕ) (o : BoardPort) (x< : x < length ports.boards.items) (d : PassView BoardCmd Reply) where
-    -- the passes at place x are those of the port of board x, in order
-    pub column_fits :
-        Each (λ i (p : PassView BoardCmd Reply). (p.port ≡ port_id (slice_index_or ports.boards.items x o).port) × (p.who ≡ i)) (map (column_of x d) rans)
-    column_fits =
-        each_right (IsRanOf config ports) (λ i (p : PassView BoardCmd Reply). (p.port ≡ port_id (slice_index_or ports.boards.items x o).port) × (p.who ≡ i))
-        (column_of x d) can.runs.runs rans
-        (λ who run ran is. let its = is.fits.boards.each x o d x< in (its.0, its.1 ∙ is.same)) can.runs.each
+  abbrev counts : List (Vec ℕ)
+  counts = map (λ (r : Ran). r.pass_set.made) rans
 
-    -- each pass of a board's port has made its run's part
-    pub column_shows :
-        AllAt (λ who part (p : PassView BoardCmd Reply). (p.who ≡ who) × (p.mine ≡ part)) (map (board_part x) can.runs.runs) (map (column_of x d) rans)
-    column_shows =
-        all_at_maps (IsRanOf config ports) (λ who part (p : PassView BoardCmd Reply). (p.who ≡ who) × (p.mine ≡ part)) (board_part x) (column_of x d)
-        can.runs.runs rans
-        (λ who run ran is.
-        let its = is.fits.boards.each x o d x< in
-        (its.1 ∙ is.same, is.boards x d (omega (arith, x<, is.fits.boards.count))))
-        can.runs.each
+  -- the passes are those of the ports' array
+  pub passes_fit : All (IsPassOf ports.array) passes
+  passes_fit = each_mapped (λ k (p : BusPass). IsPassOf ports.array p) (λ (r : Ran). r.pass_set.pass) rans (λ k r k<. (can.runs k r k<).fits.array)
 
-  -- each board's port can be closed with its column
-  pub can_all_close : (columns : List Column) → AreDealt rans columns → CanAllClose ports.boards.items columns
-  can_all_close columns dealt x o c x< =
-      let within : x < length config.boards = omega (arith, x<, can.built.boards.count) in
-      let own = (line_there config.boards x within).0 in
-      let port = can.built.boards.each x own o within in
-      let d : PassView BoardCmd Reply = record { port = port_id (slice_index_or ports.boards.items x o).port; who = 0; made = 0; seen = []; mine = [] } in
-      let its = dealt x d c (omega (arith, within, can.count)) in
-      record {
-        count = ap length its ∙ same_count (column_of x d) rans ∙ can.count ∙ sym port.passes;
-        each =
-            subst (Each (λ i (p : PassView BoardCmd Reply). (p.port ≡ port_id (slice_index_or ports.boards.items x o).port) × (p.who ≡ i))) (sym its)
-            (column_fits x o x< d);
-        none = port.made;
-        capacity = subst (λ n. n ≤ vec_capacity (slice_index_or ports.boards.items x o).made) (sym port.passes) port.made_capacity;
-      }
+  -- these are all passes of the array
+  pub passes_all : length passes ≡ passes_of ports.array
+  passes_all = same_count (λ (r : Ran). r.pass_set.pass) rans ∙ can.count ∙ sym can.built.passes
 
-  -- the arbiter's passes are those of its port, in order
-  pub bus_fits : Each (λ i (p : PassView ArbCmd ArbReply). (p.port ≡ port_id ports.bus) × (p.who ≡ i)) (map (λ (r : Ran). r.pass_set.bus) rans)
-  bus_fits =
-      each_right (IsRanOf config ports) (λ i (p : PassView ArbCmd ArbReply). (p.port ≡ port_id ports.bus) × (p.who ≡ i)) (λ (r : Ran). r.pass_set.bus)
-      can.runs.runs rans (λ who run ran is. (is.fits.bus, is.fits.bus_who ∙ is.same)) can.runs.each
+  -- there is a slot for each board
+  pub slots_count : length ports.slots.items ≡ length config.boards
+  slots_count = ap length can.built.slots ∙ same_count (λ (own : BoardConfig). own.slot) config.boards
 
-  -- each pass of the arbiter's port has made its run's part
-  bus_shows : AllAt (λ who part (p : PassView ArbCmd ArbReply). (p.who ≡ who) × (p.mine ≡ part)) (map bus_part can.runs.runs) (map (λ (r : Ran). r.pass_set.bus) rans)
-  bus_shows =
-      all_at_maps (IsRanOf config ports) (λ who part (p : PassView ArbCmd ArbReply). (p.who ≡ who) × (p.mine ≡ part)) bus_part (λ (r : Ran). r.pass_set.bus)
-      can.runs.runs rans (λ who run ran is. (is.fits.bus_who ∙ is.same, is.bus)) can.runs.each
+  -- each worker has a count for each board and one for the arbiter
+  count_each : (k : ℕ) (r : Ran) → k < length rans → length (slice_index_or rans k r).pass_set.made.items ≡ length config.boards + 1
+  count_each k r k< = let run = can.runs k r k< in omega (arith, run.fits.made_count, run.fits.object_count, can.built.object_count)
 
-  -- the report's entry for a board
-  end_of_board :
-      (columns : List Column) (ends : List BoardReport) → length config.boards ≤ length columns → AreDealt rans columns
-      → AreClosed ports.boards.items columns ends → (x : ℕ) (own : BoardConfig)
-      (e : BoardReport) → x < length config.boards → IsEndOf can.runs.runs x (slice_index_or config.boards x own) (slice_index_or ends x e)
-  end_of_board columns ends wide dealt closed x own e within =
-      let x< : x < length ports.boards.items = omega (arith, within, can.built.boards.count) in
-      let o = (line_there ports.boards.items x x<).0 in
-      let port = can.built.boards.each x own o within in
-      let at = slice_index_or ports.boards.items x o in
-      let d : PassView BoardCmd Reply = record { port = port_id at.port; who = 0; made = 0; seen = []; mine = [] } in
-      let c = (line_there columns x (omega (arith, within, wide))).0 in
-      let end = slice_index_or ends x e in
-      let its = dealt x d c (omega (arith, within, can.count)) in
-      let is = closed.each x o e x< c in
-      let passes = map (column_of x d) rans in
-      let settled : Settles board_step (opening_memory (slice_index_or config.boards x own)) (length config.boards) passes end.memory end.steps =
-      subst (λ (s : Board). Settles board_step s (length config.boards) passes end.memory end.steps) port.memory
-      (subst (λ k. Settles board_step (opening at.port) k passes end.memory end.steps) port.passes
-      (subst (λ (ps : List (PassView BoardCmd Reply)). Settles board_step (opening at.port) (passes_of at.port) ps end.memory end.steps) its is.settled))
-      in
-      record {
-        slot = is.slot ∙ port.slot;
-        history =
-            shared_history board_step (opening_memory (slice_index_or config.boards x own)) (length config.boards) passes (map (board_part x) can.runs.runs)
-            end.memory end.steps end.made.items settled (same_count (column_of x d) rans ∙ can.count) (column_shows x o x< d)
-            (is.made ∙ ap (λ (ps : List (PassView BoardCmd Reply)). map (λ (p : PassView BoardCmd Reply). p.made) ps) its);
-      }
+  pub counts_wide : (n : ℕ) → n ≤ length config.boards + 1 → All (λ (own : Vec ℕ). n ≤ length own.items) counts
+  counts_wide n within =
+      each_mapped (λ k (own : Vec ℕ). n ≤ length own.items) (λ (r : Ran). r.pass_set.made) rans (λ k r k<. omega (arith, within, count_each k r k<))
 
-  -- gathered ports and closed boards give the report of the configuration
-  pub report_of :
-      (report : Report) (columns : List Column) (object : Arbitration) → length config.boards ≤ length columns → AreDealt rans columns
-      → AreClosed ports.boards.items columns report.boards.items
-      → report.lines.items ≡ map (λ (r : Ran). r.lines) rans
-      → Settles arbiter_step (opening ports.bus) (passes_of ports.bus) (map (λ (r : Ran). r.pass_set.bus) rans) object report.arbiter_steps
-      → report.arbiter_made.items ≡ map (λ (p : PassView ArbCmd ArbReply). p.made) (map (λ (r : Ran). r.pass_set.bus) rans) → IsReportOf config report
-  report_of report columns object wide dealt closed lines settled made =
-      let runs = can.runs.runs in
-      let passes = map (λ (r : Ran). r.pass_set.bus) rans in
-      let free : Settles arbiter_step (opening_bus config.arbiter) (length config.boards) passes object report.arbiter_steps =
-      subst (λ (s : Arbitration). Settles arbiter_step s (length config.boards) passes object report.arbiter_steps) can.built.bus
-      (subst (λ k. Settles arbiter_step (opening ports.bus) k passes object report.arbiter_steps) can.built.passes settled)
-      in
-      record {
-        runs = runs;
-        workers = sym can.runs.each.count ∙ can.count;
-        whose = each_left (IsRanOf config ports) (λ who run. All (λ (m : Transition). m.who ≡ who) run) runs rans (λ who run ran is. is.whose) can.runs.each;
-        fitting = λ k run k<.
-            each_left (IsRanOf config ports) (λ who run. All (λ (m : Transition). IsReplyTo m.event m.reply) run) runs rans (λ who run ran is. is.fitting)
-            can.runs.each k run k<;
-        trace =
-            subst (AllAt (λ who run (ls : Vec (ℕ × LineReply)). IsTrace config who (lines_at config who) run (answers_in ls.items)) runs) (sym lines)
-            (traces can.runs.each);
-        numbers =
-            subst (Each (λ who (ls : Vec (ℕ × LineReply)). numbers_in ls.items ≡ map (λ (one : ScriptLine). one.number) (script_at config who))) (sym lines)
-            (each_right (IsRanOf config ports) (λ who (ls : Vec (ℕ × LineReply)). numbers_in ls.items ≡ map (λ (one : ScriptLine). one.number) (script_at config who))
-            (λ (r : Ran). r.lines) runs rans (λ who run ran is. is.numbers) can.runs.each);
-        boards = record { count = closed.count ∙ can.built.boards.count; each = end_of_board columns report.boards.items wide dealt closed };
-        bus = (
-          object,
-          shared_history arbiter_step (opening_bus config.arbiter) (length config.boards) passes (map bus_part runs) object report.arbiter_steps report.arbiter_made.items free
-              (same_count (λ (r : Ran). r.pass_set.bus) rans ∙ can.count) bus_shows made,
-        );
-      }
-    where
-      traces : AllAt (IsRanOf config ports) can.runs.runs rans
-          → AllAt (λ who run (ls : Vec (ℕ × LineReply)). IsTrace config who (lines_at config who) run (answers_in ls.items)) can.runs.runs (map (λ (r : Ran). r.lines) rans)
-      traces all = record {
-        count = same_count (λ (r : Ran). r.lines) rans ∙ all.count;
-        each = λ who run ls who<.
-            let there : who < length rans = omega (arith, who<, all.count) in
-            let r = (line_there rans who there).0 in
-            let is = all.each who run r who< in
-            subst (λ (l : Vec (ℕ × LineReply)). IsTrace config who (lines_at config who) (slice_index_or can.runs.runs who run) (answers_in l.items))
-            (sym (map_at (λ (r : Ran). r.lines) rans who ls r there)) is.trace;
-      }
+  -- the count of an object, of worker `who`
+  counted : (x who d : ℕ) (p : BusPass) (made : List ℕ) → x ≤ length config.boards → who < length passes
+      → made ≡ map (λ (own : Vec ℕ). slice_index_or own.items x 0) counts
+      → slice_index_or made who d ≡ length (part x (slice_index_or passes who p).mine)
+  counted x who d p made within less is =
+      let there : who < length rans = omega (arith, less, same_count (λ (r : Ran). r.pass_set.pass) rans) in
+      let counted_too : who < length counts = omega (arith, there, same_count (λ (r : Ran). r.pass_set.made) rans) in
+      let r = (line_there rans who there).0 in
+      let own = (line_there counts who counted_too).0 in
+      let run = can.runs who r there in
+      ap (λ (l : List ℕ). slice_index_or l who d) is ∙ map_at (λ (own : Vec ℕ). slice_index_or own.items x 0) counts who d own counted_too
+      ∙ ap (λ (own : Vec ℕ). slice_index_or own.items x 0) (map_at (λ (r : Ran). r.pass_set.made) rans who own r there)
+      ∙ run.fits.counted x 0 (omega (arith, within, run.fits.object_count, can.built.object_count))
+      ∙ ap (λ (p : BusPass). length (part x p.mine)) (sym (map_at (λ (r : Ran). r.pass_set.pass) rans who p r there))
 
--- one more finished worker has a run
-pub have_more : (config : Configuration) (ports : Ports) (rans : List Ran) (r : Ran) → HaveRun config ports rans → HasRun config ports (length rans) r → HaveRun config ports (rans ++ r ∷ [])
-have_more config ports rans r have run = record {
-  runs = have.runs ++ run.0 ∷ [];
-  each =
-      AllAt-push (IsRanOf config ports) have.runs rans run.0 r have.each (subst (λ i. IsRanOf config ports i run.0 r) have.each.count run.1);
-}
+  -- each worker called each object as its kind allows
+  kinds_all : All (λ (p : BusPass). All (MatchesKind (length config.boards)) p.mine) passes
+  kinds_all =
+      each_mapped (λ k (p : BusPass). All (MatchesKind (length config.boards)) p.mine) (λ (r : Ran). r.pass_set.pass) rans (λ k r k<. (can.runs k r k<).kinds)
 
--- no finished worker needs a run
-pub have_none : (config : Configuration) (ports : Ports) → HaveRun config ports []
-have_none config ports = record { runs = []; each = record { count = refl; each = λ k run r k<. absurd (omega arith) } }
+  module _ (homes boards : List (Home BusObject)) (arbiter : Home BusObject)
+      (settles : Settles bus_object_step (opening ports.array) (passes_of ports.array) passes homes) (split : homes ≡ boards ++ arbiter ∷ []) where
+    -- the array is settled
+    is_settled : IsSettled config passes homes
+    is_settled = record {
+      settles =
+          subst (λ k. Settles bus_object_step (opening_objects config) k passes homes) can.built.passes
+          (subst (λ (os : List BusObject). Settles bus_object_step os (passes_of ports.array) passes homes) can.built.opened settles);
+      kinds = kinds_all;
+    }
+
+    -- the objects before the last are as many as there are boards
+    pub boards_count : length boards ≡ length config.boards
+    boards_count =
+        let opens = length-append (map (λ (own : BoardConfig). objects.Board (opening_memory own)) config.boards) (objects.Arbiter (opening_bus config.arbiter) ∷ []) in
+        let mapped = same_count (λ (own : BoardConfig). objects.Board (opening_memory own)) config.boards in
+        omega (arith, is_settled.settles.ends.count, ap length split, length-append boards (arbiter ∷ []), opens, mapped)
+
+    -- the object at the index of a board
+    home_there : (x : ℕ) (d : Home BusObject) → x < length boards → get_elem? homes x ≡ some (slice_index_or boards x d)
+    home_there x d less = ap (λ (hs : List (Home BusObject)). get_elem? hs x) split ∙ at_front boards (arbiter ∷ []) x d less
+
+    -- these objects are boards
+    pub boards_are : All IsBoardHome boards
+    boards_are x d less =
+        let own = line_there config.boards x (omega (arith, less, boards_count)) in
+        let is = (run_of_array config passes homes is_settled).boards x own.0 (slice_index_or boards x d) own.1 (home_there x d less) in
+        (_, is.1)
+
+    module _ (report : Report) (entries : AreEntries counts ports.slots.items boards report.boards.items) where
+      -- the entry of a board
+      entry_of :
+          (x : ℕ) (own : BoardConfig) (end : BoardReport) → x < length config.boards
+          → IsGatheredBoard passes homes x (slice_index_or config.boards x own) (slice_index_or report.boards.items x end)
+      entry_of x own end less =
+          let below : x < length boards = omega (arith, less, boards_count) in
+          let is = entries.each x arbiter end below 0 in
+          let slot = ap (λ (l : List ℕ). slice_index_or l x 0) can.built.slots ∙ map_at (λ (own : BoardConfig). own.slot) config.boards x 0 own less in
+          record {
+            slot = is.slot_is ∙ slot;
+            home = slice_index_or boards x arbiter;
+            there = home_there x arbiter below;
+            memory = is.memory;
+            steps = is.steps;
+            process_count =
+                ap length is.made ∙ same_count (λ (own : Vec ℕ). slice_index_or own.items x 0) counts ∙ same_count (λ (r : Ran). r.pass_set.made) rans
+                ∙ sym (same_count (λ (r : Ran). r.pass_set.pass) rans);
+            makes = λ who d p who<.
+                counted x who d p _ (omega (arith, less)) who< is.made
+                ∙ board_count (length config.boards) x (slice_index_or passes who p).mine less (kinds_all who p who<);
+          }
+
+      -- the report is gathered from the workers
+      pub gathered_from :
+          report.lines.items ≡ map (λ (r : Ran). r.lines) rans → report.arbiter_steps ≡ arbiter.count
+          → report.arbiter_made.items ≡ map (λ (own : Vec ℕ). slice_index_or own.items (length ports.slots.items) 0) counts
+          → IsGatheredFrom config rans report
+      gathered_from lines steps made =
+          let n = length config.boards in
+          let made_is = made ∙ ap (λ x. map (λ (own : Vec ℕ). slice_index_or own.items x 0) counts) slots_count in
+          record {
+            lines = lines;
+            homes = homes;
+            is = record {
+              settled = is_settled;
+              whose =
+                  each_mapped (λ i (p : BusPass). p.who ≡ i) (λ (r : Ran). r.pass_set.pass) rans
+                  (λ k r k<. let run = can.runs k r k< in run.fits.who ∙ run.same);
+              trace =
+                  subst (AllAt (λ who (p : BusPass) (ls : Vec (ℕ × LineReply)). IsTrace config who (lines_at config who) (run_of p.mine) (answers_in ls.items)) passes) (sym lines)
+                  (both_mapped (λ who (p : BusPass) (ls : Vec (ℕ × LineReply)). IsTrace config who (lines_at config who) (run_of p.mine) (answers_in ls.items))
+                  (λ (r : Ran). r.pass_set.pass) (λ (r : Ran). r.lines) rans (λ k r k<. (can.runs k r k<).trace));
+              numbers =
+                  subst (Each (λ who (ls : Vec (ℕ × LineReply)). numbers_in ls.items ≡ map (λ (one : ScriptLine). one.number) (script_at config who))) (sym lines)
+                  (each_mapped (λ who (ls : Vec (ℕ × LineReply)). numbers_in ls.items ≡ map (λ (one : ScriptLine). one.number) (script_at config who))
+                  (λ (r : Ran). r.lines) rans (λ k r k<. (can.runs k r k<).numbers));
+              boards = record { count = entries.count ∙ boards_count; each = entry_of };
+              bus = arbiter;
+              bus_there =
+                  ap (λ (hs : List (Home BusObject)). get_elem? hs n) split
+                  ∙ subst (λ m. get_elem? (boards ++ arbiter ∷ []) m ≡ some arbiter) boards_count (at_last boards arbiter);
+              bus_steps = steps;
+              bus_process_count =
+                  ap length made_is ∙ same_count (λ (own : Vec ℕ). slice_index_or own.items n 0) counts ∙ same_count (λ (r : Ran). r.pass_set.made) rans
+                  ∙ sym (same_count (λ (r : Ran). r.pass_set.pass) rans);
+              bus_makes = λ who d p who<.
+                  counted n who d p _ (omega arith) who< made_is ∙ bus_count n (slice_index_or passes who p).mine (kinds_all who p who<);
+            };
+          }

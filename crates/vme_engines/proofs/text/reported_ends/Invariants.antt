@@ -1,5 +1,5 @@
 use Rattle.std.proofs.Common.{◌≡◌, ◌++◌, length, map}
-use Rattle.vme_engines.specs.RunTexts.{ends_reported}
+use Rattle.vme_threads.specs.ReportTexts.{ends_reported}
 use Rattle.vme_engines.proofs.text.reported_ends.Given as goal
 
 -- the boards so far, with those that are left, are all

@@ -1,28 +1,40 @@
-use Rattle.std.proofs.Common.{◌≡◌, length, ap, sym, subst, arith}
+use Rattle.std.proofs.Common.{◌≡◌, List, [], ◌∷◌, ◌++◌, length, map, ap, sym, subst, ◌∙◌}
+use Rattle.vme_script.specs.Configurations.{Configuration}
+use Rattle.vme_threads.specs.declared.ports.Ports.{Ports}
+use Rattle.vme_threads.specs.declared.worker.Ran.{Ran}
+use Rattle.vme_threads.specs.Ports.{IsBuilt}
 use Rattle.vme_threads.specs.Rans.{HasRun}
 use Rattle.vme_threads.specs.Reports.{HaveRun, CanGather}
 use Rattle.vme_threads.proofs.lemmas.Gathered.{have_none, have_more}
 use Rattle.vme_thread_tests.proofs.workers.gather_two.Goals as goal
 
+-- the workers are these two
+both_are : (none one two : List Ran) (first second : Ran) → none ≡ [] → one ≡ none ++ first ∷ [] → two ≡ one ++ second ∷ [] → two ≡ first ∷ second ∷ []
+both_are none one two first second empty first_is second_is =
+    second_is ∙ ap (λ (rs : List Ran). rs ++ second ∷ []) (first_is ∙ ap (λ (rs : List Ran). rs ++ first ∷ []) empty)
+
 -- both workers have run their scripts
+both_can :
+    (config : Configuration) (ports : Ports) (first second : Ran) → IsBuilt config ports → length config.boards ≡ 2 → HasRun config ports 0 first
+    → HasRun config ports 1 second → CanGather config ports (first ∷ second ∷ [])
+both_can config ports first second built two first_ran second_ran =
+    let one = have_more config ports [] first (have_none config ports) first_ran in
+    record { built = built; count = sym two; runs = have_more config ports (first ∷ []) second one second_ran }
+
 pub gather-requires : goal.gather-requires
 gather-requires c =
-    let config = c.args.config.now in
-    let ports = c.args.ports in
-    let none = c.in_ok-rans.rans.items in
-    let one = c.push_reserved.new.self.items in
-    let two = c.push_reserved-2.new.self.items in
-    let empty = c.in_ok-rans.ensures.items in
-    let begin = subst (HaveRun config ports) (sym empty) (have_none config ports) in
-    let first_at : 0 ≡ length none = sym (ap length empty) in
-    let first = have_more config ports none c.args.first begin (subst (λ n. HasRun config ports n c.args.first) first_at c.requires.first) in
-    let second_at : 1 ≡ length one = omega (arith, c.push_reserved.ensures.len, c.in_ok-rans.ensures.len, c.push_reserved.new.self.ok.0) in
-    let first_in = subst (HaveRun config ports) (sym c.push_reserved.ensures.items) first in
-    let both = have_more config ports one c.args.second first_in (subst (λ n. HasRun config ports n c.args.second) second_at c.requires.second) in (
-      config,
-      record {
-        built = c.requires.built;
-        count = omega (arith, c.push_reserved-2.ensures.len, c.push_reserved.ensures.len, c.in_ok-rans.ensures.len, c.push_reserved-2.new.self.ok.0, c.requires.two);
-        runs = subst (HaveRun config ports) (sym c.push_reserved-2.ensures.items) both;
-      },
+    let rans = both_are _ _ _ c.args.first c.args.second c.in_ok-rans.ensures.items c.push_reserved.ensures.items c.push_reserved-2.ensures.items in (
+      c.args.config.now,
+      subst (CanGather c.args.config.now c.args.ports) (sym rans)
+          (both_can c.args.config.now c.args.ports c.args.first c.args.second c.requires.built c.requires.two c.requires.first c.requires.second),
     )
+
+-- the lines of the report are those of the workers
+pub returns : goal.returns
+returns c =
+    let rans = both_are _ _ _ c.args.first c.args.second c.in_ok-rans.ensures.items c.push_reserved.ensures.items c.push_reserved-2.ensures.items in
+    let can =
+    subst (CanGather c.args.config.now c.args.ports) (sym rans)
+    (both_can c.args.config.now c.args.ports c.args.first c.args.second c.requires.built c.requires.two c.requires.first c.requires.second)
+    in
+    (c.gather.ensures.gathered c.args.config.now can).lines ∙ ap (map (λ (r : Ran). r.lines)) rans

@@ -1,4 +1,4 @@
-use Rattle.std.proofs.Common.{length, ◌≡◌, arith, subst}
+use Rattle.std.proofs.Common.{length, ◌≡◌, ◌∙◌, sym, subst}
 use Rattle.vme_core.specs.EventRefs.{call_asked}
 use Rattle.vme_line_task.specs.Events.{IsCallBelow}
 use Rattle.vme_threads.proofs.PassSets.{fits_after}
@@ -15,8 +15,7 @@ call_event-requires-clause-fits g c = fits_after c.args.ports.now _ _ _ c.loop.i
 
 pub call_event-requires-clause-there : goal.call_event-requires-clause-there
 call_event-requires-clause-there g c =
-    let fits = fits_after c.args.ports.now _ _ _ c.loop.invariant.made c.requires.fits in
-    let same : length c.args.config.now.boards ≡ length c.loop.self.boards.items = omega (arith, fits.boards.count, c.requires.ports) in
+    let same : length c.args.config.now.boards ≡ c.loop.self.boards = sym (c.loop.invariant.made.boards ∙ c.requires.boards) in
     let call = call_asked c.unwrap-in-loop.result in
     subst (λ n. IsCallBelow n call) same
     (call_there (length c.args.config.now.boards) c.loop.task call c.loop.invariant.below (rw c.unwrap-in-loop.ensures at c.event_ref.ensures))

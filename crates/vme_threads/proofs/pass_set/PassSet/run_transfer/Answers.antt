@@ -1,4 +1,4 @@
-use Rattle.std.proofs.Common.{length, map, ◌≡◌, arith}
+use Rattle.std.proofs.Common.{length, map, ◌≡◌, ◌∙◌, sym}
 use Rattle.vme_core.specs.EventRefs.{call_asked}
 use Rattle.std.proofs.lemmas.Option.{get_or_from_slice_get}
 use Rattle.vme_threads.proofs.PassSets.{fits_after}
@@ -24,9 +24,8 @@ call_event-requires-clause-fits g c = fits_after c.args.ports.now _ _ _ c.loop.i
 
 pub call_event-requires-clause-there : goal.call_event-requires-clause-there
 call_event-requires-clause-there g c =
-    let fits = fits_after c.args.ports.now _ _ _ c.loop.invariant.made c.requires.fits in
-    let same : length c.args.config.now.boards ≡ length c.loop.self.boards.items = omega (arith, fits.boards.count, c.requires.ports) in
-    moving_below c.args.config.now c.args.request.now c.args.self.now c.loop.self c.loop.task (length c.loop.self.boards.items)
+    let same : length c.args.config.now.boards ≡ c.loop.self.boards = sym (c.loop.invariant.made.boards ∙ c.requires.boards) in
+    moving_below c.args.config.now c.args.request.now c.args.self.now c.loop.self c.loop.task c.loop.self.boards
     (call_asked c.unwrap-in-loop.result) c.loop.invariant c.requires.board same (rw c.unwrap-in-loop.ensures at c.event_ref.ensures)
 
 pub loop-preserved : goal.loop-preserved

@@ -3,7 +3,8 @@ use Rattle.std.specs.List.{slice_get}
 use Rattle.vme_script.specs.declared.script.ScriptLine.{ScriptLine}
 use Rattle.vme_line_task.specs.Scripts.{script_at}
 use Rattle.vme_threads.proofs.PassSets.{fits_first, fits_after}
-use Rattle.vme_threads.proofs.Runs.{IsUnderWay, nil_of, script_is, same_count, way_start, way_more, some_buffer, buffer_taken, buffer_serves, way_end}
+use Rattle.vme_threads.proofs.Places.{nil_of, same_count}
+use Rattle.vme_threads.proofs.Runs.{IsUnderWay, script_is, way_start, way_more, some_buffer, buffer_taken, buffer_serves, way_end}
 use Rattle.vme_threads.proofs.worker.Worker.run.Goals as goal
 
 pub loop-line-init : goal.loop-line-init
@@ -49,7 +50,7 @@ pub run_line-requires-clause-fits : goal.run_line-requires-clause-fits
 run_line-requires-clause-fits g c =
     let w = c.args.self in
     let ports = c.args.ports.now in
-    fits_after ports _ w.pass_set _ c.loop-line.invariant.way.made (fits_first c.args.config.now ports w.pass_set.who w c.requires.worker)
+    fits_after ports _ w.pass_set _ c.loop-line.invariant.way.made (fits_first c.args.config.now ports w.pass_set.who w c.requires.built c.requires.worker)
 
 -- one more line has its reply
 pub loop-line-preserved : goal.loop-line-preserved
@@ -76,5 +77,5 @@ loop-line-preserved g c =
 
 pub returns : goal.returns
 returns g c =
-    way_end c.args.config.now c.args.ports.now c.loop-line.line c.args.self _ c.requires.worker c.loop-line.invariant.way
+    way_end c.args.config.now c.args.ports.now c.loop-line.line c.args.self _ c.requires.built c.requires.worker c.loop-line.invariant.way
     (omega (arith, c.loop-line-test.false, c.line_count-line-end.ensures))

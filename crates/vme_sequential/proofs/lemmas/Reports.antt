@@ -1,0 +1,214 @@
+-- A report of one order has the entries of the report of some turns.
+use Rattle.std.proofs.Common.{◌≡◌, ℕ, zero, suc, ◌<◌, List, [], ◌∷◌, length, map, replicate, slice_index_or, Some, refl, ap, sym, subst, ◌∙◌, arith}
+use Rattle.std.specs.Prelude.{slice_get}
+use Rattle.std.specs.Global.{Vec}
+use Rattle.std.proofs.lemmas.List.{length-map, length-replicate, get_or-replicate, ext_get_or}
+use Rattle.std.proofs.lemmas.Option.{same_Some, slice_get_within, get_or_from_slice_get}
+use Rattle.vme_object.specs.History.{IsLegal, own}
+use Rattle.vme_memory.specs.Boards.{Board}
+use Rattle.vme_memory.specs.Locals.{board_step}
+use Rattle.vme_core.specs.CountedStates.{CountedState, IsObjectRun, fresh_count}
+use Rattle.vme_core.specs.Runs.{Machine, board_part}
+use Rattle.vme_shared.specs.declared.reply.LineReply.{LineReply}
+use Rattle.vme_report.specs.Boards.{BoardText}
+use Rattle.vme_script.specs.declared.board.BoardConfig.{BoardConfig}
+use Rattle.vme_script.specs.declared.script.ScriptLine.{ScriptLine}
+use Rattle.vme_script.specs.Configurations.{Configuration, opening_memory}
+use Rattle.vme_script.specs.Lawful.{IsLawful}
+use Rattle.vme_line_task.specs.Scripts.{script_at, lines_at}
+use Rattle.vme_line_task.specs.Traces.{ScriptState, IsTrace}
+use Rattle.vme_stepper.specs.Turns.{script_state, initial_state, state_after}
+use Rattle.vme_stepper.specs.Reports.{reported_lines, reported_board, reported_boards, reported_system}
+use Rattle.vme_bus_objects.specs.Runs.{transitions_of}
+use Rattle.vme_threads.specs.declared.report.BoardReport.{BoardReport}
+use Rattle.vme_threads.specs.declared.report.Report.{Report}
+use Rattle.vme_threads.specs.Rans.{numbers_in, answers_in}
+use Rattle.vme_threads.specs.ReportTexts.{ends_reported, reported_report}
+use Rattle.vme_sequential.specs.Orders.{performed, IsOneOrder, ended_state}
+use Rattle.vme_threads.specs.OneOrder.{IsEntryOfBoard, IsReportOfOneOrder}
+use Rattle.vme_sequential.proofs.lemmas.Lists.{element_at, map_at, same_elements, related_at}
+use Rattle.vme_sequential.proofs.lemmas.Turns.{one_order}
+use Rattle.vme_sequential.proofs.lemmas.MachineRuns.{Legal, IsPerformed, is_performed}
+
+-- the report's lines of a script with these replies
+lines_are : (script : List ScriptLine) (lines : List (ℕ × LineReply)) → numbers_in lines ≡ map (λ one. one.number) script
+    → reported_lines script (answers_in lines) ≡ lines
+lines_are [] [] numbers = refl
+lines_are [] (line ∷ lines) numbers = absurd (cc numbers)
+lines_are (one ∷ script) [] numbers = absurd (cc numbers)
+lines_are (one ∷ script) (line ∷ lines) numbers =
+    let first : one.number ≡ line.0 = cc numbers in
+    let rest : numbers_in lines ≡ map (λ one. one.number) script = cc numbers in
+    let others = lines_are script lines rest in
+    λ k. (first k, line.1) ∷ others k
+
+-- the report's entry of the board at an index
+boards_at : (boards : List BoardConfig) (scripts : List (List ScriptLine)) (script_states : List ScriptState) (counted_states : List (CountedState Board)) (i : ℕ)
+    (board : BoardConfig) (script : List ScriptLine) (c : ScriptState) (counted : CountedState Board) → slice_get boards i ≡ Some board → slice_get scripts i ≡ Some script
+    → slice_get script_states i ≡ Some c → slice_get counted_states i ≡ Some counted → slice_get (reported_boards boards scripts script_states counted_states) i ≡ Some (reported_board board script c counted)
+boards_at [] scripts script_states counted_states i board script c counted a b d e = absurd (cc a)
+boards_at (x ∷ boards) [] script_states counted_states i board script c counted a b d e = absurd (cc b)
+boards_at (x ∷ boards) (y ∷ scripts) [] counted_states i board script c counted a b d e = absurd (cc d)
+boards_at (x ∷ boards) (y ∷ scripts) (z ∷ script_states) [] i board script c counted a b d e = absurd (cc e)
+boards_at (x ∷ boards) (y ∷ scripts) (z ∷ script_states) (w ∷ counted_states) zero board script c counted a b d e =
+    let p = same_Some x board a in let q = same_Some y script b in let r = same_Some z c d in let s = same_Some w counted e in
+    λ k. Some (reported_board (p k) (q k) (r k) (s k))
+boards_at (x ∷ boards) (y ∷ scripts) (z ∷ script_states) (w ∷ counted_states) (suc i) board script c counted a b d e =
+    boards_at boards scripts script_states counted_states i board script c counted a b d e
+
+-- the report has an entry for each board
+boards_count : (boards : List BoardConfig) (scripts : List (List ScriptLine)) (script_states : List ScriptState) (counted_states : List (CountedState Board)) (n : ℕ)
+    → length boards ≡ n → length scripts ≡ n → length script_states ≡ n → length counted_states ≡ n → length (reported_boards boards scripts script_states counted_states) ≡ n
+boards_count [] scripts script_states counted_states n a b c d = a
+boards_count (x ∷ boards) [] script_states counted_states n a b c d = absurd (omega arith)
+boards_count (x ∷ boards) (y ∷ scripts) [] counted_states n a b c d = absurd (omega arith)
+boards_count (x ∷ boards) (y ∷ scripts) (z ∷ script_states) [] n a b c d = absurd (omega arith)
+boards_count (x ∷ boards) (y ∷ scripts) (z ∷ script_states) (w ∷ counted_states) n a b c d =
+    let more = boards_count boards scripts script_states counted_states (length boards) refl (omega arith) (omega arith) (omega arith) in omega arith
+
+-- the text of a board's entry and its lines
+abbrev end_reported : BoardReport → List (ℕ × LineReply) → BoardText
+end_reported end lines = record { slot = end.slot; lines = lines; bytes = end.memory.bytes; steps = end.steps; made = end.made.items }
+
+-- the text of the entry at an index
+ends_at : (ends : List BoardReport) (lines : List (List (ℕ × LineReply))) (i : ℕ) (end : BoardReport) (own : List (ℕ × LineReply)) → slice_get ends i ≡ Some end
+    → slice_get lines i ≡ Some own → slice_get (ends_reported ends lines) i ≡ Some (end_reported end own)
+ends_at [] lines i end own a b = absurd (cc a)
+ends_at (x ∷ ends) [] i end own a b = absurd (cc b)
+ends_at (x ∷ ends) (y ∷ lines) zero end own a b =
+    let p = same_Some x end a in let q = same_Some y own b in
+    λ k. Some (end_reported (p k) (q k))
+ends_at (x ∷ ends) (y ∷ lines) (suc i) end own a b = ends_at ends lines i end own a b
+
+-- there is a text for each entry
+ends_count : (ends : List BoardReport) (lines : List (List (ℕ × LineReply))) (n : ℕ) → length ends ≡ n → length lines ≡ n → length (ends_reported ends lines) ≡ n
+ends_count [] lines n a b = a
+ends_count (x ∷ ends) [] n a b = absurd (omega arith)
+ends_count (x ∷ ends) (y ∷ lines) n a b = let more = ends_count ends lines (length ends) refl (omega arith) in omega arith
+
+module _ (config : Configuration) (report : Report) (lawful : IsLawful config) (is : IsReportOfOneOrder config report) where
+  -- the number of boards
+  abbrev k : ℕ
+  k = length config.boards
+
+  -- the machine before the first turn
+  abbrev pub first : Machine
+  first = (initial_state config).machine
+
+  -- the machine has a board for each that is configured
+  first_count : length first.boards ≡ k
+  first_count = length-map (map opening_memory config.boards) (fresh_count k) ∙ length-map config.boards opening_memory
+
+  -- a board before the first turn
+  first_at : (x : ℕ) (own : BoardConfig) → slice_get config.boards x ≡ Some own → slice_get first.boards x ≡ Some (fresh_count k (opening_memory own))
+  first_at x own found = map_at (fresh_count k) (map opening_memory config.boards) x (opening_memory own) (map_at opening_memory config.boards x own found)
+
+  -- the report's entry of a board
+  end_at : (x : ℕ) (own : BoardConfig) → slice_get config.boards x ≡ Some own
+      → (end : BoardReport) × (slice_get report.boards.items x ≡ Some end) × IsEntryOfBoard config is.run x own end
+  end_at x own found =
+      let less = slice_get_within config.boards x own found in
+      let end = element_at report.boards.items x (rw is.boards.count less) in
+      (end.0, end.1, related_at (IsEntryOfBoard config is.run) config.boards report.boards.items x own end.0 is.boards found end.1)
+
+  -- the part of each object in the run is legal from its initial state
+  legal : Legal first is.run
+  legal = record {
+    boards = λ x b found.
+        let less : x < k = subst (λ n. x < n) first_count (slice_get_within first.boards x b found) in
+        let own = element_at config.boards x less in
+        let end = end_at x own.0 own.1 in
+        let same : fresh_count k (opening_memory own.0) ≡ b = same_Some _ _ (sym (first_at x own.0 own.1) ∙ found) in
+        subst (λ (b : CountedState Board). IsLegal board_step b.object (board_part x is.run)) same end.2.leads.legal;
+    bus = is.bus.1.legal;
+  }
+
+  -- the machine performs the run
+  pub one : IsPerformed first is.run
+  one = is_performed is.run first k first_count is.fitting is.within legal
+
+  -- the machine after the run
+  abbrev pub last : Machine
+  last = performed first is.run
+
+  -- the replies to all lines
+  abbrev pub answers : List (List LineReply)
+  answers = map (λ (lines : Vec (ℕ × LineReply)). answers_in lines.items) report.lines.items
+
+  -- the lines of the processor at an index
+  pub lines_of : (x : ℕ) → x < k → (lines : Vec (ℕ × LineReply)) × (slice_get report.lines.items x ≡ Some lines)
+  lines_of x less = element_at report.lines.items x (rw is.trace.count less)
+
+  -- the run is one order of the transitions of all processors
+  pub order : IsOneOrder config is.run answers last
+  order = record {
+    known = is.known;
+    performed = one.performs;
+    count = length-map report.lines.items (λ (lines : Vec (ℕ × LineReply)). answers_in lines.items) ∙ is.trace.count;
+    traces = λ b own found.
+        let less : b < k = subst (λ n. b < n) (length-map report.lines.items (λ (lines : Vec (ℕ × LineReply)). answers_in lines.items) ∙ is.trace.count) (slice_get_within answers b own found) in
+        let lines = lines_of b less in
+        let board = element_at config.boards b less in
+        let same : answers_in lines.0.items ≡ own = same_Some _ _ (sym (map_at (λ (lines : Vec (ℕ × LineReply)). answers_in lines.items) report.lines.items b lines.0 lines.1) ∙ found) in
+        subst (IsTrace config b (lines_at config b) (transitions_of b is.run)) same
+        (related_at (λ who (own : BoardConfig) (lines : Vec (ℕ × LineReply)). IsTrace config who (lines_at config who) (transitions_of who is.run) (answers_in lines.items))
+        config.boards report.lines.items b board.0 lines.0 is.trace board.1 lines.1);
+  }
+
+  -- the entry of a board is the same
+  same_at : (x : ℕ) → x < k → slice_get (reported_report report) x ≡ slice_get (reported_system config (ended_state last answers)) x
+  same_at x less =
+      let board = element_at config.boards x less in
+      let own : BoardConfig = board.0 in
+      let lines = lines_of x less in
+      let end = end_at x own board.1 in
+      let e : BoardReport = end.0 in
+      let script = element_at config.scripts x (rw lawful.scripts less) in
+      let script_is : script_at config x ≡ script.0 = get_or_from_slice_get config.scripts x script.0 [] script.1 in
+      let counted = element_at last.boards x (rw one.did.boards.count (rw first_count less)) in
+      let t : CountedState Board = counted.0 in
+      let went : IsObjectRun board_step (board_part x is.run) (fresh_count k (opening_memory own)) t =
+      related_at (λ x b a. IsObjectRun board_step (board_part x is.run) b a) first.boards last.boards x (fresh_count k (opening_memory own)) t one.did.boards (first_at x own board.1) counted.1 in
+      let memory : e.memory ≡ t.object = end.2.leads.replayed ∙ sym went.object in
+      let steps : e.steps ≡ t.steps = let a = end.2.leads.counted in let b = went.steps in omega arith in
+      let made : e.made.items ≡ t.made =
+      ext_get_or 0 e.made.items t.made (end.2.leads.process_count ∙ sym (went.process_count ∙ length-replicate k 0))
+      (λ w w<.
+      let below : w < k = subst (λ n. w < n) end.2.leads.process_count w< in
+      let a = end.2.leads.makes w 0 below in
+      let b = went.made w (rw (length-replicate {A = ℕ} k 0) below) in
+      let c : slice_index_or (replicate {A = ℕ} k 0) w 0 ≡ 0 = get_or-replicate k w 0 0 below in
+      omega arith) in
+      let numbers : numbers_in lines.0.items ≡ map (λ one. one.number) (script_at config x) =
+      subst (λ (l : Vec (ℕ × LineReply)). numbers_in l.items ≡ map (λ one. one.number) (script_at config x)) (get_or_from_slice_get report.lines.items x lines.0 lines.0 lines.1)
+      (is.numbers x lines.0 (slice_get_within report.lines.items x lines.0 lines.1)) in
+      let lines_same : reported_lines script.0 (answers_in lines.0.items) ≡ lines.0.items =
+      lines_are script.0 lines.0.items (numbers ∙ ap (λ (s : List ScriptLine). map (λ one. one.number) s) script_is) in
+      let texts : end_reported e lines.0.items ≡ reported_board own script.0 (script_state (answers_in lines.0.items) []) t =
+      λ i. record { slot = end.2.slot i; lines = sym lines_same i; bytes = (memory i).bytes; steps = steps i; made = made i } in
+      let left : slice_get (reported_report report) x ≡ Some (end_reported e lines.0.items) =
+      ends_at report.boards.items (map (λ (lines : Vec (ℕ × LineReply)). lines.items) report.lines.items) x e lines.0.items end.1
+      (map_at (λ (lines : Vec (ℕ × LineReply)). lines.items) report.lines.items x lines.0 lines.1) in
+      let state_at : slice_get (map (λ own. script_state own []) answers) x ≡ Some (script_state (answers_in lines.0.items) []) =
+      map_at (λ own. script_state own []) answers x (answers_in lines.0.items)
+      (map_at (λ (lines : Vec (ℕ × LineReply)). answers_in lines.items) report.lines.items x lines.0 lines.1) in
+      let right : slice_get (reported_system config (ended_state last answers)) x ≡ Some (reported_board own script.0 (script_state (answers_in lines.0.items) []) t) =
+      boards_at config.boards config.scripts (map (λ own. script_state own []) answers) last.boards x own script.0 (script_state (answers_in lines.0.items) []) t board.1 script.1 state_at counted.1 in
+      left ∙ ap Some texts ∙ sym right
+
+  -- all entries are the same
+  same_reported : reported_report report ≡ reported_system config (ended_state last answers)
+  same_reported =
+      let states_count : length (map (λ own. script_state own []) answers) ≡ k = length-map answers (λ own. script_state own []) ∙ order.count in
+      let right : length (reported_system config (ended_state last answers)) ≡ k =
+      boards_count config.boards config.scripts (map (λ own. script_state own []) answers) last.boards k refl lawful.scripts states_count (one.did.boards.count ∙ first_count) in
+      let left : length (reported_report report) ≡ k =
+      ends_count report.boards.items (map (λ (lines : Vec (ℕ × LineReply)). lines.items) report.lines.items) k is.boards.count
+      (length-map report.lines.items (λ (lines : Vec (ℕ × LineReply)). lines.items) ∙ is.trace.count) in
+      same_elements (reported_report report) (reported_system config (ended_state last answers)) (left ∙ sym right) (λ i less. same_at i (subst (λ n. i < n) right less))
+
+  -- a report of one order has the entries of a report of some turns
+  pub run_is_step : (slots : List ℕ) × (reported_report report ≡ reported_system config (state_after config slots))
+  run_is_step =
+      let turns = one_order config is.run answers last lawful order in
+      (turns.0, same_reported ∙ ap (reported_system config) (sym turns.1))
