@@ -36,12 +36,12 @@ impl Counts {
     }
 
     /// Counts one more processor that waits awake.
-    pub(crate) fn come_awake(&self) {
+    pub(crate) fn add_awake(&self) {
         self.awake.fetch_add(1, Ordering::SeqCst);
     }
 
     /// Counts one processor fewer that waits awake. Returns whether another one remains.
-    pub(crate) fn leave_awake(&self) -> bool {
+    pub(crate) fn remove_awake(&self) -> bool {
         self.awake.fetch_sub(1, Ordering::SeqCst) > 1
     }
 
@@ -51,12 +51,12 @@ impl Counts {
     }
 
     /// Counts one more processor that is about to sleep.
-    pub(crate) fn fall_asleep(&self) {
+    pub(crate) fn add_asleep(&self) {
         self.asleep.fetch_add(1, Ordering::SeqCst);
     }
 
     /// Counts one processor fewer that sleeps.
-    pub(crate) fn leave_asleep(&self) {
+    pub(crate) fn remove_asleep(&self) {
         self.asleep.fetch_sub(1, Ordering::SeqCst);
     }
 

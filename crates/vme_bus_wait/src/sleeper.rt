@@ -26,11 +26,11 @@ impl Sleeper {
     }
 
     /// Marks the processor as asleep. Another processor can wake it from now on.
-    pub(crate) fn lie_down(&self) {
+    pub(crate) fn mark_asleep(&self) {
         self.word.store(ASLEEP, Ordering::SeqCst);
     }
 
-    /// Sleeps until the processor is woken, unless it was woken since `lie_down`. A sleep ends
+    /// Sleeps until the processor is woken, unless it was woken since `mark_asleep`. A sleep ends
     /// after `LONGEST` milliseconds at the latest, so no wake is required.
     pub(crate) fn sleep<R: Wait>(&self, rt: &R) {
         self.word
@@ -38,7 +38,7 @@ impl Sleeper {
     }
 
     /// Marks the processor as awake.
-    pub(crate) fn get_up(&self) {
+    pub(crate) fn mark_awake(&self) {
         self.word.store(AWAKE, Ordering::SeqCst);
     }
 

@@ -98,7 +98,7 @@ impl BusWaiters {
         ensures waited { has_waited wait_state.new ≡ has_waited wait_state.old }
     {
         if !wait_state.has_begun() {
-            self.come_awake();
+            self.add_awake();
         }
         wait_state.begin_round();
         if wait_state.is_spent() || (wait_state.is_over() && self.counts_awake()) {
@@ -117,7 +117,7 @@ impl BusWaiters {
         ensures { wait_state.new ≡ granted wait_state.old }
     {
         if wait_state.has_begun() {
-            self.leave_awake();
+            self.remove_awake();
             wait_state.end();
         }
     }
@@ -155,17 +155,17 @@ impl BusWaiters {
     }
 
     /// Counts one more processor that waits awake, if awake processors are counted.
-    fn come_awake(&self) {
+    fn add_awake(&self) {
         if self.counts_awake() {
-            self.counts.come_awake();
+            self.counts.add_awake();
         }
     }
 
     /// Counts one processor fewer that waits awake, if awake processors are counted. Returns
     /// whether another one remains.
     #[inline(always)]
-    fn leave_awake(&self) -> bool {
-        self.counts_awake() && self.counts.leave_awake()
+    fn remove_awake(&self) -> bool {
+        self.counts_awake() && self.counts.remove_awake()
     }
 
     /// Polls until the number of releases differs from `seen`. After `PAUSES` polls it yields the
@@ -187,15 +187,15 @@ impl BusWaiters {
         let Some(sleeper) = self.sleepers.get(who) else {
             return;
         };
-        sleeper.lie_down();
-        self.counts.fall_asleep();
-        let may_sleep = self.leave_awake() || as_last;
+        sleeper.mark_asleep();
+        self.counts.add_asleep();
+        let may_sleep = self.remove_awake() || as_last;
         if may_sleep && self.releases() == seen {
             sleeper.sleep(rt);
         }
-        self.come_awake();
-        self.counts.leave_asleep();
-        sleeper.get_up();
+        self.add_awake();
+        self.counts.remove_asleep();
+        sleeper.mark_awake();
     }
 
     /// Wakes the first processor, in order of slots, that sleeps or is about to sleep. Returns its

@@ -9,7 +9,7 @@ use Rattle.vme_stepper.specs.Schedules.{file_turns}
 use Rattle.vme_stepper.specs.Reports.{run_text}
 use Rattle.vme_threads.specs.declared.report.Report.{Report}
 use Rattle.vme_threads.specs.OneOrder.{IsReportOfOneOrder}
-use Rattle.vme_threads.specs.ReportTexts.{reported_report}
+use Rattle.vme_threads.specs.ReportTexts.{texts_of_report}
 use Rattle.vme_sequential.proofs.lemmas.Reports.{run_is_step}
 use Rattle.vme_engines.specs.declared.fault.ProgramFault.{ProgramFault}
 use Rattle.vme_engines.specs.Files.{Configures}
@@ -18,8 +18,8 @@ use Rattle.vme_engines.proofs.lemmas.Lawful.{read_lawful}
 
 -- the text and the status of a report of one order are those of some turns
 run_text_of : (input : List ℕ) (config : Configuration) (report : Report) (status : Status) → Configures input config
-    → IsReportOfOneOrder config report → status ≡ report_status (reported_report report)
-    → IsRunText input (report_text (reported_report report)) status
+    → IsReportOfOneOrder config report → status ≡ report_status (texts_of_report report)
+    → IsRunText input (report_text (texts_of_report report)) status
 run_text_of input config report status configures order good =
     let turns = run_is_step config report (read_lawful input config configures) order in
     record {
@@ -35,21 +35,21 @@ run_text_of input config report status configures order good =
 
 -- the text of a report was written
 pub text_written : (reported old new : Option (List ℕ)) (config : Configuration) (report : Report) (status : Status) → IfSome reported (λ input. Configures input config)
-    → IsReportOfOneOrder config report → status ≡ report_status (reported_report report) → Appends old new (report_text (reported_report report))
+    → IsReportOfOneOrder config report → status ≡ report_status (texts_of_report report) → Appends old new (report_text (texts_of_report report))
     → IfSome reported (λ input. (text : List ℕ) × IsRunText input text status × Appends old new text)
 text_written None old new config report status configures order good written = tt
 text_written (Some input) old new config report status configures order good written =
-    (report_text (reported_report report), run_text_of input config report status configures order good, written)
+    (report_text (texts_of_report report), run_text_of input config report status configures order good, written)
 
 -- the prefix that was written is that of an end with a fault
 pub prefix_written : (reported old new : Option (List ℕ)) (end : Result Status ProgramFault) (config : Configuration) (report : Report)
-    → IfSome reported (λ input. Configures input config) → IsReportOfOneOrder config report → AppendsPrefix old new (report_text (reported_report report))
+    → IfSome reported (λ input. Configures input config) → IsReportOfOneOrder config report → AppendsPrefix old new (report_text (texts_of_report report))
     → IfSome reported (λ input. OnErr end (WritesPrefix (IsSomeRunText input) old new))
 prefix_written None old new end config report configures order written = tt
 prefix_written (Some input) old new (Ok status) config report configures order written = tt
 prefix_written (Some input) old new (Err fault) config report configures order written =
-    let good = report_status (reported_report report) in
-    inr (report_text (reported_report report), (good, run_text_of input config report good configures order refl), written)
+    let good = report_status (texts_of_report report) in
+    inr (report_text (texts_of_report report), (good, run_text_of input config report good configures order refl), written)
 
 -- a prefix of the text of the run on one thread was written
 pub step_prefix_written : (reported old new : Option (List ℕ)) (end : Result Status ProgramFault) (config : Configuration)

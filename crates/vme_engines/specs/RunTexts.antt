@@ -5,10 +5,10 @@ use Rattle.vme_shared.specs.declared.status.Status.{Status}
 use Rattle.vme_script.specs.Configurations.{Configuration}
 use Rattle.vme_stepper.specs.Turns.{state_after}
 use Rattle.vme_stepper.specs.Schedules.{file_turns}
-use Rattle.vme_stepper.specs.Reports.{reported_system, run_text, run_status}
+use Rattle.vme_stepper.specs.Reports.{texts_of_system, run_text, run_status}
 use Rattle.vme_threads.specs.declared.report.Report.{Report}
 use Rattle.vme_threads.specs.OneOrder.{IsReportOfOneOrder}
-use Rattle.vme_threads.specs.ReportTexts.{reported_report}
+use Rattle.vme_threads.specs.ReportTexts.{texts_of_report}
 use Rattle.vme_engines.specs.Files.{Configures}
 
 -- a text and a status are those of some turns of slots, on one thread, of the configuration that the bytes of a file
@@ -21,7 +21,7 @@ pub record IsRunText (input text : List ℕ) (status : Status) : Type 0 where
   pub good : status ≡ run_status config slots
   pub report : Report
   pub order : IsReportOfOneOrder config report
-  pub entries : reported_report report ≡ reported_system config (state_after config slots)
+  pub entries : texts_of_report report ≡ texts_of_system config (state_after config slots)
 
 -- a text is that of some run on threads
 abbrev pub IsSomeRunText : List ℕ → List ℕ → Type 0

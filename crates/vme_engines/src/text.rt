@@ -4,7 +4,7 @@ ghost use Rattle.std.specs.Io.KnownBytes.{Appends};
 ghost use Rattle.vme_io.specs.Prefixes.{AppendsPrefix};
 ghost use Rattle.vme_report.specs.Ends.{IsReportFault, is_write_end};
 ghost use Rattle.vme_report.specs.Reports.{report_text, report_status};
-ghost use Rattle.vme_threads.specs.ReportTexts.{ends_reported, reported_report};
+ghost use Rattle.vme_threads.specs.ReportTexts.{texts_of_ends, texts_of_report};
 
 use std::alloc::{AllocError, Global};
 use vme_io::Sink;
@@ -28,26 +28,26 @@ pub fn report_text<W: Sink>(
     requires unmarked { W.is_marked sink.old ≡ false }
     requires lists { length report.now.lines.items ≡ length report.now.boards.items }
     ensures text { OnOk result
-        (Appends (W.contents sink.old) (W.contents sink.new) (report_text (reported_report report.now))) }
+        (Appends (W.contents sink.old) (W.contents sink.new) (report_text (texts_of_report report.now))) }
     ensures prefix { OnErr result
-        (AppendsPrefix (W.contents sink.old) (W.contents sink.new) (report_text (reported_report report.now))) }
-    ensures status { IfOk result (λ status. status ≡ report_status (reported_report report.now)) }
+        (AppendsPrefix (W.contents sink.old) (W.contents sink.new) (report_text (texts_of_report report.now))) }
+    ensures status { IfOk result (λ status. status ≡ report_status (texts_of_report report.now)) }
     ensures write { W.is_marked sink.new ≡ is_write_end result }
     ensures faults { IfErr result IsReportFault }
 {
-    let boards = reported_ends(alloc, &report.boards, &report.lines)?;
+    let boards = board_refs(alloc, &report.boards, &report.lines)?;
     let status = write_report(alloc, &boards, sink)?;
     Ok(status)
 }
 
 /// The boards of a report, from the boards' ends and the replies to their processors' lines.
-fn reported_ends<'a>(
+fn board_refs<'a>(
     alloc: Global,
     ends: &'a [BoardReport],
     lines: &'a [Vec<(u16, LineReply)>],
 ) -> Result<Vec<BoardReportRef<'a>>, AllocError>
     requires { length lines.now ≡ length ends.now }
-    ensures { IfOk result (λ boards. boards.items ≡ ends_reported ends.now (map (λ one. one.items) lines.now)) }
+    ensures { IfOk result (λ boards. boards.items ≡ texts_of_ends ends.now (map (λ one. one.items) lines.now)) }
 {
     let mut boards = Vec::with_capacity(alloc, ends.len())?;
     let mut ends = ends;
@@ -56,7 +56,7 @@ fn reported_ends<'a>(
         let Some((own, rest)) = lines.split_first() else {
             break;
         };
-        boards.push(reported_end(end, own.as_slice()))?;
+        boards.push(board_ref(end, own.as_slice()))?;
         ends = more;
         lines = rest;
     }
@@ -64,7 +64,7 @@ fn reported_ends<'a>(
 }
 
 /// One board of a report.
-fn reported_end<'a>(end: &'a BoardReport, lines: &'a [(u16, LineReply)]) -> BoardReportRef<'a>
+fn board_ref<'a>(end: &'a BoardReport, lines: &'a [(u16, LineReply)]) -> BoardReportRef<'a>
     ensures { result ≡ record {
       slot = end.now.slot;
       lines = lines.now;

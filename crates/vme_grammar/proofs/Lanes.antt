@@ -1,6 +1,6 @@
 -- The text of data lanes, two digits a data lane.
 use Rattle.std.proofs.Common.{◌≡◌, ℕ, List, [], ◌∷◌, ◌++◌, length, Option, None, Some, true, false, slice_index_or, refl, ap, ◌∙◌, arith}
-use Rattle.vme_grammar.specs.Texts.{lane_text, lanes_text, reported_lanes}
+use Rattle.vme_grammar.specs.Texts.{lane_text, lanes_text, printed_lanes}
 
 -- the two digits of a data lane before a text are the data lane's text before it
 two_digits :
@@ -28,7 +28,7 @@ pub last_four :
     (lanes : List (Option ℕ)) (first second third last : List ℕ) → length lanes ≡ 8
     → first ≡ lane_text (slice_index_or lanes 4 None) → second ≡ lane_text (slice_index_or lanes 5 None)
     → third ≡ lane_text (slice_index_or lanes 6 None) → last ≡ lane_text (slice_index_or lanes 7 None)
-    → taken first (taken second (taken third (taken last []))) ≡ lanes_text (reported_lanes false lanes)
+    → taken first (taken second (taken third (taken last []))) ≡ lanes_text (printed_lanes false lanes)
 last_four (a ∷ b ∷ c ∷ d ∷ e ∷ f ∷ g ∷ h ∷ []) first second third last len e1 e2 e3 e4 =
     rw (e1, e2, e3, e4) (digits_are (e ∷ f ∷ g ∷ h ∷ []))
 last_four lanes first second third last len e1 e2 e3 e4 = absurd (omega (arith, len))
@@ -41,7 +41,7 @@ pub all_eight :
     → fifth ≡ lane_text (slice_index_or lanes 4 None) → sixth ≡ lane_text (slice_index_or lanes 5 None)
     → seventh ≡ lane_text (slice_index_or lanes 6 None) → last ≡ lane_text (slice_index_or lanes 7 None)
     → taken first (taken second (taken third (taken fourth (taken fifth (taken sixth (taken seventh (taken last [])))))))
-    ≡ lanes_text (reported_lanes true lanes)
+    ≡ lanes_text (printed_lanes true lanes)
 all_eight (a ∷ b ∷ c ∷ d ∷ e ∷ f ∷ g ∷ h ∷ []) first second third fourth fifth sixth seventh last len e1 e2 e3 e4 e5 e6 e7 e8 =
     rw (e1, e2, e3, e4, e5, e6, e7, e8) (digits_are (a ∷ b ∷ c ∷ d ∷ e ∷ f ∷ g ∷ h ∷ []))
 all_eight lanes first second third fourth fifth sixth seventh last len e1 e2 e3 e4 e5 e6 e7 e8 = absurd (omega (arith, len))

@@ -41,9 +41,9 @@ abbrev pub lanes_text : List (Option ℕ) → List ℕ
 lanes_text lanes = flat_map lane_text lanes
 
 -- the data lanes that are reported: all eight with a code of eight-byte data, else the last four, D31-D24 to D07-D00
-abbrev pub reported_lanes : Bool → List (Option ℕ) → List (Option ℕ)
-reported_lanes true lanes = lanes
-reported_lanes false lanes = drop 4 lanes
+abbrev pub printed_lanes : Bool → List (Option ℕ) → List (Option ℕ)
+printed_lanes true lanes = lanes
+printed_lanes false lanes = drop 4 lanes
 
 -- the code, and the address lines as an address of eight digits
 unfoldable pub address_text : ℕ → ℕ → List ℕ
@@ -61,7 +61,7 @@ levels_text s = strobes_text s.strobes ++ level_text (codes " write=") s.write
 
 -- the data lines; `wide` says whether the code is one of eight-byte data
 unfoldable pub data_text : Bool → List (Option ℕ) → List ℕ
-data_text wide lanes = codes " data=" ++ lanes_text (reported_lanes wide lanes)
+data_text wide lanes = codes " data=" ++ lanes_text (printed_lanes wide lanes)
 
 -- the signals of a cycle
 unfoldable pub signals_text : SignalLines → List ℕ

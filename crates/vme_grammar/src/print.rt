@@ -3,7 +3,7 @@
 ghost use Rattle.std.specs.Prelude.{◌≡◌, ◌+◌, ◌*◌, ◌<◌, ◌≤◌, ◌++◌, length, true, false, vec_len, vec_capacity, OnOk, OnErr, codes};
 ghost use Rattle.std.specs.Int.{w32, to_be_bytes};
 ghost use Rattle.vme_lanes.specs.Rows.{row_of};
-ghost use Rattle.vme_grammar.specs.Texts.{digit, hex_byte, hex_text, level_text, lane_text, lanes_text, reported_lanes, address_text, strobes_text, signals_text, Read, Done, Old, Berr, more_bytes, outcome_text, cycle_fault_text, line_fault_text, output_line};
+ghost use Rattle.vme_grammar.specs.Texts.{digit, hex_byte, hex_text, level_text, lane_text, lanes_text, printed_lanes, address_text, strobes_text, signals_text, Read, Done, Old, Berr, more_bytes, outcome_text, cycle_fault_text, line_fault_text, output_line};
 
 use crate::fault::LineFault;
 use std::alloc::AllocError;
@@ -147,7 +147,7 @@ fn lane_digits(lane: Option<u8>) -> [u8; 2]
 /// The digits of the last four data lanes.
 #[rattlefmt::skip]
 fn last_lanes(lines: DataLines) -> [u8; 8]
-    ensures { result ≡ lanes_text (reported_lanes false lines.lanes) }
+    ensures { result ≡ lanes_text (printed_lanes false lines.lanes) }
 {
     let [_, _, _, _, first, second, third, last] = lines.lanes;
     let (first, second) = (lane_digits(first), lane_digits(second));
@@ -158,7 +158,7 @@ fn last_lanes(lines: DataLines) -> [u8; 8]
 /// The digits of all eight data lanes.
 #[rattlefmt::skip]
 fn all_lanes(lines: DataLines) -> [u8; 16]
-    ensures { result ≡ lanes_text (reported_lanes true lines.lanes) }
+    ensures { result ≡ lanes_text (printed_lanes true lines.lanes) }
 {
     let [first, second, third, fourth, fifth, sixth, seventh, last] = lines.lanes;
     let (first, second) = (lane_digits(first), lane_digits(second));

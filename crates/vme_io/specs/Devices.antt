@@ -13,8 +13,8 @@ abbrev pub inner_of : {T : Type 0} → Io T → T
 inner_of io = io.inner
 
 -- the bytes that a memory source has left
-abbrev pub reported_by : SliceSource → List ℕ
-reported_by source = source.rest.now
+abbrev pub rest_of_source : SliceSource → List ℕ
+rest_of_source source = source.rest.now
 
 -- whether a read of a memory source has failed
 abbrev pub is_marked_source : SliceSource → Bool

@@ -38,7 +38,7 @@ impl<'a> SliceSource<'a> {
 impl Source for SliceSource<'_> {
     ghost use Rattle.std.specs.Prelude.{◌≡◌, ◌+◌, ◌<◌, ◌≤◌, Ok, Some, true, length, take, IsOk, IsErr, IfOk, OnOk, OnErr};
     ghost use Rattle.std.specs.Io.KnownBytes.{Keeps, Consumes, IsAtEnd};
-    ghost use Rattle.vme_io.specs.Devices.{reported_by, is_marked_source, most_given, left_to_give};
+    ghost use Rattle.vme_io.specs.Devices.{rest_of_source, is_marked_source, most_given, left_to_give};
 
     ghost is_marked = { λ s. s.marked };
 
@@ -50,9 +50,9 @@ impl Source for SliceSource<'_> {
         requires { 0 < length buffer.old }
         ensures count { IfOk result (λ n. n ≤ length buffer.new) }
         ensures bytes { IfOk result (λ n.
-            Consumes (Some (reported_by self.old)) (Some (reported_by self.new)) (take n buffer.new)) }
-        ensures end { result ≡ Ok 0 → IsAtEnd (Some (reported_by self.new)) }
-        ensures none_lost { OnErr result (Keeps (Some (reported_by self.old)) (Some (reported_by self.new))) }
+            Consumes (Some (rest_of_source self.old)) (Some (rest_of_source self.new)) (take n buffer.new)) }
+        ensures end { result ≡ Ok 0 → IsAtEnd (Some (rest_of_source self.new)) }
+        ensures none_lost { OnErr result (Keeps (Some (rest_of_source self.old)) (Some (rest_of_source self.new))) }
         ensures unmarked { OnOk result (is_marked_source self.new ≡ is_marked_source self.old) }
         ensures marked { OnErr result (is_marked_source self.new ≡ true) }
 

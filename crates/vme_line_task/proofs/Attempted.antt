@@ -25,16 +25,16 @@ use Rattle.vme_shared.specs.declared.reply.LineReply.{LineReply}
 use Rattle.vme_shared.specs.declared.reply.LineReply.TheVariants as replies
 use Rattle.vme_shared.specs.declared.outcome.SharedOutcome.{SharedOutcome}
 use Rattle.vme_shared.specs.declared.outcome.SharedOutcome.TheVariants as shared
-use Rattle.vme_shared.specs.Tables.{shared_next, shared_reported}
+use Rattle.vme_shared.specs.Tables.{shared_next, shared_arb_reply}
 use Rattle.vme_shared.proofs.lemmas.Tenures as laws
 use Rattle.vme_line_task.specs.Scripts.{Attempt, Transferring, Awaiting, Sharing}
 use Rattle.vme_line_task.specs.Tables.{moves_next, waits_next, shares_next, attempt_next}
-use Rattle.vme_line_task.specs.Tenures.{job_reported, attempt_reported, IsGood, IsGranted}
+use Rattle.vme_line_task.specs.Tenures.{job_arb_reply, attempt_arb_reply, IsGood, IsGranted}
 use Rattle.vme_line_task.proofs.lemmas.Below.{moves_makes, waits_makes, shares_makes}
 use Rattle.vme_line_task.proofs.Tenures.{good_end, good_freed, FreedBy, freed_stands, local_never, turn_reported, datum_reported, begin_reported, IsOwnJob}
 
 -- an attempt begins without a reply of the arbiter
-pub attempt_begins : (a : Attempt) → attempt_reported a (None ∷ []) ≡ None
+pub attempt_begins : (a : Attempt) → attempt_arb_reply a (None ∷ []) ≡ None
 attempt_begins (Transferring job) = begin_reported job
 attempt_begins (Awaiting job want) = begin_reported job
 attempt_begins (Sharing s) = laws.begin_reported s
@@ -47,7 +47,7 @@ IsOwnAttempt slot level (Sharing s) = (s.slot ≡ slot) × (s.level ≡ level)
 
 -- the arbiter's last reply to a job allows each command to the arbiter
 job_turns : (slot level : ℕ) (job : Job) (g : Inputs) (cmd : ArbCmd) → IsOwnJob slot level job → is_level level ≡ true
-    → next_of job g ≡ Invokes (OnBus cmd) → may_give slot (job_reported job g) cmd ≡ true
+    → next_of job g ≡ Invokes (OnBus cmd) → may_give slot (job_arb_reply job g) cmd ≡ true
 job_turns slot level (Bus j) g cmd own lawful made =
     subst (λ (s : ℕ). may_give s (last_arb_reply g) cmd ≡ true) own.0
     (turns_go_by j g cmd (subst (λ (l : ℕ). is_level l ≡ true) (sym own.1) lawful) made)
@@ -55,13 +55,13 @@ job_turns slot level (Local j) g cmd own lawful made = absurd (local_never j g c
 
 -- the arbiter's last reply to an attempt allows each command to the arbiter
 pub attempt_turns : (slot level : ℕ) (a : Attempt) (g : Inputs) (cmd : ArbCmd) → IsOwnAttempt slot level a → is_level level ≡ true
-    → attempt_next a g ≡ Invokes (OnBus cmd) → may_give slot (attempt_reported a g) cmd ≡ true
+    → attempt_next a g ≡ Invokes (OnBus cmd) → may_give slot (attempt_arb_reply a g) cmd ≡ true
 attempt_turns slot level (Transferring job) g cmd own lawful made =
     job_turns slot level job g cmd own lawful (moves_makes (next_of job g) (OnBus cmd) made)
 attempt_turns slot level (Awaiting job want) g cmd own lawful made =
     job_turns slot level job g cmd own lawful (waits_makes want (next_of job g) (OnBus cmd) made)
 attempt_turns slot level (Sharing s) g cmd own lawful made =
-    subst (λ (one : ℕ). may_give one (shared_reported s g) cmd ≡ true) own.0
+    subst (λ (one : ℕ). may_give one (shared_arb_reply s g) cmd ≡ true) own.0
     (laws.turns_go_by s g cmd (subst (λ (l : ℕ). is_level l ≡ true) (sym own.1) lawful) (shares_makes (shared_next s g) (OnBus cmd) made))
 
 -- the attempt is no command to the local port
@@ -74,7 +74,7 @@ IsTransfer (Sharing s) = Unit {0}
 
 -- the data of an attempt go to a board only while the arbiter's last reply is `Granted`
 pub attempt_holds : (a : Attempt) (g : Inputs) (b : ℕ) (command : Option Command) → IsTransfer a
-    → attempt_next a g ≡ Invokes (OnBoard b command) → attempt_reported a g ≡ Some arb_replies.Granted
+    → attempt_next a g ≡ Invokes (OnBoard b command) → attempt_arb_reply a g ≡ Some arb_replies.Granted
 attempt_holds (Transferring (Bus j)) g b command transfer made =
     holds_for_data j g b command (moves_makes (next_of (Bus j) g) (OnBoard b command) made)
 attempt_holds (Transferring (Local j)) g b command transfer made = absurd transfer
@@ -87,7 +87,7 @@ attempt_holds (Sharing s) g b command transfer made =
 -- after a good reply of the arbiter the slot stands as the reply states
 pub attempt_turn : (a : Attempt) (g : Inputs) (cmd : ArbCmd) (reply : ArbReply) (bus : Arbitration) (slot : ℕ)
     → attempt_next a g ≡ Invokes (OnBus cmd) → IsGood (OnBus cmd) (event_replies.Bus reply) → StandsAsReplied bus slot (Some reply)
-    → StandsAsReplied bus slot (attempt_reported a (Some (event_replies.Bus reply) ∷ g))
+    → StandsAsReplied bus slot (attempt_arb_reply a (Some (event_replies.Bus reply) ∷ g))
 attempt_turn (Transferring job) g cmd reply bus slot made good stands =
     turn_reported job g cmd reply bus slot (moves_makes (next_of job g) (OnBus cmd) made) stands
 attempt_turn (Awaiting job want) g cmd reply bus slot made good stands =
@@ -97,7 +97,7 @@ attempt_turn (Sharing s) g cmd reply bus slot made good stands =
 
 -- a good reply of a board leaves the arbiter's last reply the same
 pub attempt_datum : (a : Attempt) (g : Inputs) (call : Call) (reply : Reply) → attempt_next a g ≡ Invokes call → IsGood call (event_replies.Board reply)
-    → attempt_reported a (Some (event_replies.Board reply) ∷ g) ≡ attempt_reported a g
+    → attempt_arb_reply a (Some (event_replies.Board reply) ∷ g) ≡ attempt_arb_reply a g
 attempt_datum (Transferring job) g call reply made good = datum_reported job g reply
 attempt_datum (Awaiting job want) g call reply made good = datum_reported job g reply
 attempt_datum (Sharing s) g call reply made good =
@@ -107,8 +107,8 @@ attempt_datum (Sharing s) g call reply made good =
 -- the reply is a board's, there was none before
 pub record EndsWell (a : Attempt) (g : Inputs) (reply : EventReply) (answer : LineReply) : Type 0 where
   pub granted : IsGranted answer
-  pub free : (bus : Arbitration) (slot : ℕ) → StandsAsReplied bus slot (attempt_reported a (Some reply ∷ g)) → StandsAsReplied bus slot None
-  pub quiet : (datum : Reply) → reply ≡ event_replies.Board datum → attempt_reported a g ≡ None
+  pub free : (bus : Arbitration) (slot : ℕ) → StandsAsReplied bus slot (attempt_arb_reply a (Some reply ∷ g)) → StandsAsReplied bus slot None
+  pub quiet : (datum : Reply) → reply ≡ event_replies.Board datum → attempt_arb_reply a g ≡ None
 
 -- an attempt's end is that of its task
 record EndsBy (next : NextStep Outcome) (answer : LineReply) : Type 0 where
@@ -157,7 +157,7 @@ shares_ends (Returns outcome) answer ends = record { outcome = outcome; ends = r
 shared_granted : (outcome : SharedOutcome) → outcome ≢ shared.Denied → IsGranted (replies.Shared outcome)
 shared_granted outcome good = (λ denied. absurd cc, λ denied. good cc)
 
-board_quiet : (job : Job) (g : Inputs) (reply : EventReply) (datum : Reply) → FreedBy job reply → reply ≡ event_replies.Board datum → job_reported job g ≡ None
+board_quiet : (job : Job) (g : Inputs) (reply : EventReply) (datum : Reply) → FreedBy job reply → reply ≡ event_replies.Board datum → job_arb_reply job g ≡ None
 board_quiet (Bus j) g reply datum freed board = absurd cc
 board_quiet (Local j) g reply datum freed board = refl
 

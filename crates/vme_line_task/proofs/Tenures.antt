@@ -23,7 +23,7 @@ use Rattle.vme_master.specs.Tables.{Inputs, next_of, outcome_by, row_of_reply}
 use Rattle.vme_master.proofs.lemmas.Tenures.{ends_freed}
 use Rattle.vme_master.proofs.lemmas.Locals.{local_calls}
 use Rattle.vme_shared.proofs.lemmas.Granted.{expected_granted, outcome_granted}
-use Rattle.vme_line_task.specs.Tenures.{job_reported, IsGood}
+use Rattle.vme_line_task.specs.Tenures.{job_arb_reply, IsGood}
 
 -- an end that is a denial
 abbrev IsDenial : NextStep Outcome → Type 0
@@ -84,8 +84,8 @@ good_freed (Local j) g call reply outcome made good ends = tt
 
 -- a slot that was freed stands as one without a reply of the arbiter
 pub freed_stands : (job : Job) (g : Inputs) (reply : EventReply) (bus : Arbitration) (slot : ℕ) → FreedBy job reply
-    → StandsAsReplied bus slot (job_reported job (Some reply ∷ g)) → StandsAsReplied bus slot None
-freed_stands (Bus j) g reply bus slot freed stands = subst (λ r. StandsAsReplied bus slot (job_reported (Bus j) (Some r ∷ g))) freed stands
+    → StandsAsReplied bus slot (job_arb_reply job (Some reply ∷ g)) → StandsAsReplied bus slot None
+freed_stands (Bus j) g reply bus slot freed stands = subst (λ r. StandsAsReplied bus slot (job_arb_reply (Bus j) (Some r ∷ g))) freed stands
 freed_stands (Local j) g reply bus slot freed stands = stands
 
 -- a local command never goes to the arbiter
@@ -95,17 +95,17 @@ local_never j g cmd made = let own : OnBus cmd ≡ local_call j = local_calls j 
 -- the arbiter's reply is its last reply to the task
 pub turn_reported : (job : Job) (g : Inputs) (cmd : ArbCmd) (reply : ArbReply) (bus : Arbitration) (slot : ℕ)
     → next_of job g ≡ Invokes (OnBus cmd) → StandsAsReplied bus slot (Some reply)
-    → StandsAsReplied bus slot (job_reported job (Some (replies.Bus reply) ∷ g))
+    → StandsAsReplied bus slot (job_arb_reply job (Some (replies.Bus reply) ∷ g))
 turn_reported (Bus j) g cmd reply bus slot made stands = stands
 turn_reported (Local j) g cmd reply bus slot made stands = absurd (local_never j g cmd made)
 
 -- a board's reply leaves the arbiter's last reply the same
-pub datum_reported : (job : Job) (g : Inputs) (reply : Reply) → job_reported job (Some (replies.Board reply) ∷ g) ≡ job_reported job g
+pub datum_reported : (job : Job) (g : Inputs) (reply : Reply) → job_arb_reply job (Some (replies.Board reply) ∷ g) ≡ job_arb_reply job g
 datum_reported (Bus j) g reply = refl
 datum_reported (Local j) g reply = refl
 
 -- a job begins without a reply of the arbiter
-pub begin_reported : (job : Job) → job_reported job (None ∷ []) ≡ None
+pub begin_reported : (job : Job) → job_arb_reply job (None ∷ []) ≡ None
 begin_reported (Bus j) = refl
 begin_reported (Local j) = refl
 

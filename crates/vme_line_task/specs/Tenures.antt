@@ -16,31 +16,31 @@ use Rattle.vme_master.specs.declared.outcome.Outcome.TheVariants as outcomes
 use Rattle.vme_shared.specs.declared.outcome.SharedOutcome.TheVariants as shared
 use Rattle.vme_shared.specs.declared.reply.LineReply.{LineReply}
 use Rattle.vme_shared.specs.declared.reply.LineReply.TheVariants.{Transfer, Shared}
-use Rattle.vme_shared.specs.Tables.{shared_reported}
+use Rattle.vme_shared.specs.Tables.{shared_arb_reply}
 use Rattle.vme_grammar.specs.declared.line.Line.{Line}
 use Rattle.vme_script.specs.Configurations.{Configuration}
 use Rattle.vme_line_task.specs.Scripts.{Attempt, Transferring, Awaiting, Sharing, line_attempt}
 use Rattle.vme_line_task.specs.Tables.{attempts_of, given_of}
 
 -- the arbiter's last reply to a job, if there was one; a local command has none
-abbrev pub job_reported : Job → Inputs → Option ArbReply
-job_reported (Bus job) given = last_arb_reply given
-job_reported (Local job) given = None
+abbrev pub job_arb_reply : Job → Inputs → Option ArbReply
+job_arb_reply (Bus job) given = last_arb_reply given
+job_arb_reply (Local job) given = None
 
 -- the arbiter's last reply to an attempt, if there was one
-abbrev pub attempt_reported : Attempt → Inputs → Option ArbReply
-attempt_reported (Transferring job) given = job_reported job given
-attempt_reported (Awaiting job want) given = job_reported job given
-attempt_reported (Sharing s) given = shared_reported s given
+abbrev pub attempt_arb_reply : Attempt → Inputs → Option ArbReply
+attempt_arb_reply (Transferring job) given = job_arb_reply job given
+attempt_arb_reply (Awaiting job want) given = job_arb_reply job given
+attempt_arb_reply (Sharing s) given = shared_arb_reply s given
 
 -- the arbiter's last reply to the current attempt at a line, if there was one
-abbrev pub lawful_reported : ℕ → Result Attempt CycleFault → Inputs → Option ArbReply
-lawful_reported tries (Ok attempt) given = attempt_reported attempt (attempts_of attempt tries given).given
-lawful_reported tries (Err fault) given = None
+abbrev pub lawful_arb_reply : ℕ → Result Attempt CycleFault → Inputs → Option ArbReply
+lawful_arb_reply tries (Ok attempt) given = attempt_arb_reply attempt (attempts_of attempt tries given).given
+lawful_arb_reply tries (Err fault) given = None
 
 -- the arbiter's last reply to the current attempt at a line, if there was one, by the replies to the line so far
-unfoldable pub line_reported : Configuration → ℕ → Line → List EventReply → Option ArbReply
-line_reported config board line replies = lawful_reported config.tries (line_attempt config board line) (given_of replies)
+unfoldable pub line_arb_reply : Configuration → ℕ → Line → List EventReply → Option ArbReply
+line_arb_reply config board line replies = lawful_arb_reply config.tries (line_attempt config board line) (given_of replies)
 
 -- a command of a board's local port
 abbrev pub IsLocal : Option Command → Type 0

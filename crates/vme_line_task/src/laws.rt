@@ -24,7 +24,7 @@ ghost use Rattle.vme_line_task.specs.Tables.{next_given, line_next};
 ghost use Rattle.vme_line_task.specs.Machine.{line_given, line_after, line_to_do};
 ghost use Rattle.vme_line_task.specs.Events.{IsCallBelow};
 ghost use Rattle.vme_line_task.specs.Traces.{ScriptState, IsTracePrefix};
-ghost use Rattle.vme_line_task.specs.Tenures.{line_reported, IsLocal, IsGood, IsGranted};
+ghost use Rattle.vme_line_task.specs.Tenures.{line_arb_reply, IsLocal, IsGood, IsGranted};
 
 /// States that a line follows the table: after calls with any replies, its next step is the one of
 /// the table. A line's reply is final.
@@ -74,27 +74,27 @@ pub fn traces_go_line_by_line()
 /// the slot is that of a slot without a reply. The reply of a line without a call is no denial.
 pub fn lines_keep_their_tenure()
     ensures begin { (config : Configuration) (board : ℕ) (line : Line) →
-        line_reported config board line [] ≡ None }
+        line_arb_reply config board line [] ≡ None }
     ensures first { (config : Configuration) (board : ℕ) (line : Line) (answer : LineReply) →
         line_next config board line [] ≡ Returns answer → IsGranted answer }
     ensures turns { (config : Configuration) (board : ℕ) (line : Line) (replies : List EventReply)
         (cmd : ArbCmd) → IsTrue (is_level (level_at config board)) →
         line_next config board line replies ≡ Invokes (OnBus cmd) →
-        IsTrue (may_give (slot_at config board) (line_reported config board line replies) cmd) }
+        IsTrue (may_give (slot_at config board) (line_arb_reply config board line replies) cmd) }
     ensures holds { (config : Configuration) (board : ℕ) (line : Line) (replies : List EventReply)
         (b : ℕ) (command : Option Command) → IsOwnLine line →
         line_next config board line replies ≡ Invokes (OnBoard b command) →
-        IsLocal command ⊎ (line_reported config board line replies ≡ Some Granted) }
+        IsLocal command ⊎ (line_arb_reply config board line replies ≡ Some Granted) }
     ensures turn { (config : Configuration) (board : ℕ) (line : Line) (replies : List EventReply)
         (cmd : ArbCmd) (reply : ArbReply) (bus : Arbitration) (slot : ℕ) →
         line_next config board line replies ≡ Invokes (OnBus cmd) →
         IsGood (OnBus cmd) (event_replies.Bus reply) → StandsAsReplied bus slot (Some reply) →
-        StandsAsReplied bus slot (line_reported config board line (event_replies.Bus reply ∷ replies)) }
+        StandsAsReplied bus slot (line_arb_reply config board line (event_replies.Bus reply ∷ replies)) }
     ensures datum { (config : Configuration) (board : ℕ) (line : Line) (replies : List EventReply)
         (call : Call) (reply : Reply) → line_next config board line replies ≡ Invokes call →
         IsGood call (event_replies.Board reply) →
-        line_reported config board line (event_replies.Board reply ∷ replies)
-        ≡ line_reported config board line replies }
+        line_arb_reply config board line (event_replies.Board reply ∷ replies)
+        ≡ line_arb_reply config board line replies }
     ensures granted { (config : Configuration) (board : ℕ) (line : Line) (replies : List EventReply)
         (call : Call) (reply : EventReply) (answer : LineReply) →
         line_next config board line replies ≡ Invokes call → IsGood call reply →
@@ -103,6 +103,6 @@ pub fn lines_keep_their_tenure()
         (call : Call) (reply : EventReply) (answer : LineReply) (bus : Arbitration) (slot : ℕ) →
         line_next config board line replies ≡ Invokes call → IsGood call reply →
         line_next config board line (reply ∷ replies) ≡ Returns answer →
-        StandsAsReplied bus slot (line_reported config board line (reply ∷ replies)) →
+        StandsAsReplied bus slot (line_arb_reply config board line (reply ∷ replies)) →
         StandsAsReplied bus slot None }
 {}

@@ -34,7 +34,7 @@ use Rattle.vme_shared.specs.Mailboxes.{IsWellFormed}
 use Rattle.vme_shared.proofs.lemmas.Starts.{all_lawful}
 use Rattle.vme_shared.specs.Steps.{first_stage, step_after}
 use Rattle.vme_shared.specs.Tables.{SharedJob, Progress, At, Over, stage_job, stage_begun, step_begun, progress_by, progress_given, progress_of, task_shown, next_at}
-use Rattle.vme_mailbox_laws.specs.Along.{mailbox_in, UsesMailbox, IsGood, AllGood, IsCount, AllCounts, phase_given, phase_along, words_given, put_reported, taken_reported}
+use Rattle.vme_mailbox_laws.specs.Along.{mailbox_in, UsesMailbox, IsGood, AllGood, IsCount, AllCounts, phase_given, phase_along, words_given, put_by_outcome, taken_by_outcome}
 use Rattle.vme_mailbox_laws.proofs.Single.{IsGoodTo, Waits, Answered, reply_bytes, waits_fresh, waits_called, waits_reported, answered_by, ended}
 use Rattle.vme_mailbox_laws.proofs.Stages.{IsStage, is_stage, stage_command, stage_expected}
 use Rattle.vme_mailbox_laws.proofs.Rows.{Before, Words, Leads, IsFine, IsFineEnd, goes}
@@ -57,8 +57,8 @@ pub record IsAt (m : BoardMailbox) (board : ℕ) (request : SharedRequest) (stag
 -- an end: the mailbox is left, and the words are those of the outcome
 pub record IsOver (request : SharedRequest) (end : SharedOutcome) (at : Option Phase) (put taken : List ℕ) : Type 0 where
   pub is : at ≡ Some Idle
-  pub put_is : put ≡ put_reported end request
-  pub taken_is : taken ≡ taken_reported end
+  pub put_is : put ≡ put_by_outcome end request
+  pub taken_is : taken ≡ taken_by_outcome end
   pub fine : IsFineEnd end
 
 -- the progress of a put or a take matches its phase and its words

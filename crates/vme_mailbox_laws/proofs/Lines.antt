@@ -31,7 +31,7 @@ use Rattle.vme_line_task.specs.Scripts.{Sharing, line_attempt}
 use Rattle.vme_line_task.specs.Tables.{Attempts, shares_next, attempt_next, next_wants_retry, next_attempt, attempts_of, lawful_next, next_given, given_of, line_next}
 use Rattle.vme_line_task.specs.Traces.{Continues}
 use Rattle.vme_line_task.proofs.lemmas.Below.{shares_makes}
-use Rattle.vme_mailbox_laws.specs.Along.{UsesMailbox, IsGood, IsCount, phase_given, put_reported, taken_reported}
+use Rattle.vme_mailbox_laws.specs.Along.{UsesMailbox, IsGood, IsCount, phase_given, put_by_outcome, taken_by_outcome}
 use Rattle.vme_mailbox_laws.proofs.Courses.{Stands, IsOver, opening, moves}
 use Rattle.vme_mailbox_laws.proofs.Ends.{ends_in}
 use Rattle.vme_mailbox_laws.specs.Names.{LeavesAlone}
@@ -55,7 +55,7 @@ shares_ends (Returns outcome) answer is = (outcome, refl, cc)
 
 -- an attempt that is followed by another has put and taken nothing
 again_ends : (n : NextStep SharedOutcome) → next_wants_retry (shares_next n) ≡ true
-    → (outcome : SharedOutcome) × (n ≡ Returns outcome) × ((request : SharedRequest) → put_reported outcome request ≡ []) × (taken_reported outcome ≡ [])
+    → (outcome : SharedOutcome) × (n ≡ Returns outcome) × ((request : SharedRequest) → put_by_outcome outcome request ≡ []) × (taken_by_outcome outcome ≡ [])
 again_ends NotStarted is = absurd cc
 again_ends (Invokes call) is = absurd cc
 again_ends (Returns shared.Busy) is = (shared.Busy, refl, λ request. refl, refl)

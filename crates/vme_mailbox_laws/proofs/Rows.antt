@@ -25,7 +25,7 @@ use Rattle.vme_shared.specs.declared.stage.StageResult.{StageResult}
 use Rattle.vme_shared.specs.declared.stage.StageResult.TheVariants.{Continue, Finish}
 use Rattle.vme_shared.specs.Mailboxes.{raised}
 use Rattle.vme_shared.specs.Steps.{has_top_bit, word_in, words_between, counted_stage, mailbox_step, step_after}
-use Rattle.vme_mailbox_laws.specs.Along.{mailbox_in, IsCount, put_reported, taken_reported}
+use Rattle.vme_mailbox_laws.specs.Along.{mailbox_in, IsCount, put_by_outcome, taken_by_outcome}
 use Rattle.vme_mailbox_laws.proofs.Single.{reply_bytes}
 use Rattle.vme_mailbox_laws.proofs.Stages.{stage_command, stage_expected, stage_touches}
 
@@ -53,7 +53,7 @@ Before m request (Unlocks end) phase = BeforeUnlock end phase
 
 -- the words that were put and taken before each stage
 abbrev pub Words : SharedRequest → Stage → List ℕ → List ℕ → Type 0
-Words request (Unlocks end) put taken = (put ≡ put_reported end request) × (taken ≡ taken_reported end)
+Words request (Unlocks end) put taken = (put ≡ put_by_outcome end request) × (taken ≡ taken_by_outcome end)
 Words request stage put taken = (put ≡ []) × (taken ≡ [])
 
 -- the outcomes of a put or a take that are no errors
@@ -63,7 +63,7 @@ IsFineEnd end = (end ≢ shared.Berr) × (end ≢ shared.Denied)
 -- the progress that a step leads to matches its phase and its words
 abbrev pub Leads : BoardMailbox → SharedRequest → StageResult → Phase → List ℕ → List ℕ → Type 0
 Leads m request (Continue stage) phase put taken = Before m request stage phase × Words request stage put taken
-Leads m request (Finish end) phase put taken = (phase ≡ Idle) × (put ≡ put_reported end request) × (taken ≡ taken_reported end) × IsFineEnd end
+Leads m request (Finish end) phase put taken = (phase ≡ Idle) × (put ≡ put_by_outcome end request) × (taken ≡ taken_by_outcome end) × IsFineEnd end
 
 -- a reply has the form that a stage needs, and is no bus error
 pub record IsFine (m : BoardMailbox) (stage : Stage) (reply : Reply) : Type 0 where
@@ -235,7 +235,7 @@ module _ (m : BoardMailbox) (request : SharedRequest) (mailbox : Mailbox) (is : 
       ∙ rw (same_place (places.put_count_at m)) (rw (same_place (p + 1)) refl)
       )
       refl
-      (λ count. (refl, (ap (λ ws. ws ++ (word % 2 ^ 32) ∷ []) none.0 ∙ ap (put_reported shared.Put) (sym is_put), nothing taken none.1)))
+      (λ count. (refl, (ap (λ ws. ws ++ (word % 2 ^ 32) ∷ []) none.0 ∙ ap (put_by_outcome shared.Put) (sym is_put), nothing taken none.1)))
   row_raises_put_count p word own Berr below is_put fine none = absurd (fine.good refl)
 
   -- the write of the take count leads from the phase after the read word to the next phase

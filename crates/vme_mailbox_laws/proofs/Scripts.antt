@@ -22,9 +22,9 @@ use Rattle.vme_grammar.specs.declared.line.Line.TheVariants as lines
 use Rattle.vme_script.specs.Configurations.{Configuration}
 use Rattle.vme_line_task.specs.Scripts.{Sharing, shared_job, unless_refused, line_attempt, mailbox_at}
 use Rattle.vme_line_task.specs.Traces.{LineTrace, IsTrace}
-use Rattle.vme_mailbox_laws.specs.Along.{UsesMailbox, put_reported, taken_reported}
+use Rattle.vme_mailbox_laws.specs.Along.{UsesMailbox, put_by_outcome, taken_by_outcome}
 use Rattle.vme_mailbox_laws.proofs.Courses.{IsOver}
-use Rattle.vme_mailbox_laws.specs.Names.{names, reported_put, reported_taken, lines_put, lines_taken, LeavesAlone, AllLeave, IsMailboxOf}
+use Rattle.vme_mailbox_laws.specs.Names.{names, put_by_reply, taken_by_reply, lines_put, lines_taken, LeavesAlone, AllLeave, IsMailboxOf}
 use Rattle.vme_mailbox_laws.proofs.Through.{Wanted, behind, Through}
 use Rattle.vme_mailbox_laws.specs.Runs.{AllTurned}
 use Rattle.vme_mailbox_laws.proofs.Lines.{line_begins, line_moves, line_over, moves_beside, part_cons}
@@ -43,18 +43,18 @@ takes config who box board m is =
 
 -- the word that a put reports is the one that its line reports
 put_effect : (box word : ℕ) (mailbox : Mailbox) (outcome : SharedOutcome)
-    → put_reported outcome (requests.Put mailbox word) ≡ reported_put (lines.Put box word) (Shared outcome)
+    → put_by_outcome outcome (requests.Put mailbox word) ≡ put_by_reply (lines.Put box word) (Shared outcome)
 put_effect box word mailbox shared.Put = refl
 put_effect box word mailbox outcome = refl
 
 -- a take reports no word as put
 take_puts_nothing : (box : ℕ) (mailbox : Mailbox) (outcome : SharedOutcome)
-    → put_reported outcome (requests.Take mailbox) ≡ reported_put (lines.Take box) (Shared outcome)
+    → put_by_outcome outcome (requests.Take mailbox) ≡ put_by_reply (lines.Take box) (Shared outcome)
 take_puts_nothing box mailbox shared.Put = refl
 take_puts_nothing box mailbox outcome = refl
 
 -- the words that a take reports are those that its line reports
-taken_shows : (outcome : SharedOutcome) → taken_reported outcome ≡ reported_taken (Shared outcome)
+taken_shows : (outcome : SharedOutcome) → taken_by_outcome outcome ≡ taken_by_reply (Shared outcome)
 taken_shows (shared.Took word) = refl
 taken_shows outcome = refl
 
@@ -75,19 +75,19 @@ module _ (config : Configuration) (who box board : ℕ) (m : BoardMailbox) (is :
   abbrev After : Line → LineReply → List (Entry BoardCmd Reply) → Wanted → Type 0
   After line answer rest wanted =
       Through m (Some Idle) rest
-      (behind wanted (if names box line then reported_put line answer else []) (if names box line then reported_taken answer else []))
+      (behind wanted (if names box line then put_by_reply line answer else []) (if names box line then taken_by_reply answer else []))
 
   -- the end of a put or a take reaches the goal
   at_end : (request : SharedRequest) (outcome : SharedOutcome) (next : Option Phase) (ps ts : List ℕ) (rest : List (Entry BoardCmd Reply))
       (wanted : Wanted) → IsOver request outcome next ps ts
-      → Through m (Some Idle) rest (behind wanted (put_reported outcome request) (taken_reported outcome)) → Through m next rest (behind wanted ps ts)
+      → Through m (Some Idle) rest (behind wanted (put_by_outcome outcome request) (taken_by_outcome outcome)) → Through m next rest (behind wanted ps ts)
   at_end request outcome next ps ts rest wanted over through = rw (over.is, over.put_is, over.taken_is) through
 
   -- a line whose attempt is a put or a take follows the protocol and reaches the goal
   shared_line : (line : Line) (s : SharedJob) (uses : UsesMailbox s board m) (run : List Transition) (answer : LineReply)
       (rest : List (Entry BoardCmd Reply)) (wanted : Wanted) → line_attempt config who line ≡ Ok (Sharing s) → LineTrace config who line run answer
       → AllTurned run
-      → ((outcome : SharedOutcome) → answer ≡ Shared outcome → Through m (Some Idle) rest (behind wanted (put_reported outcome s.request) (taken_reported outcome)))
+      → ((outcome : SharedOutcome) → answer ≡ Shared outcome → Through m (Some Idle) rest (behind wanted (put_by_outcome outcome s.request) (taken_by_outcome outcome)))
       → Through m (Some Idle) (board_part board run ++ rest) wanted
   shared_line line s uses run answer rest wanted attempt trace turned leads =
       line_moves s board m uses config who line attempt [] run trace.replies (Some Idle) [] [] rest wanted
@@ -108,7 +108,7 @@ module _ (config : Configuration) (who box board : ℕ) (m : BoardMailbox) (is :
     where
       by_name : (line : Line) (run : List Transition) (answer : LineReply) (rest : List (Entry BoardCmd Reply)) (wanted : Wanted)
           → names box line ≡ true → LineTrace config who line run answer → AllTurned run
-          → Through m (Some Idle) rest (behind wanted (reported_put line answer) (reported_taken answer))
+          → Through m (Some Idle) rest (behind wanted (put_by_reply line answer) (taken_by_reply answer))
           → Through m (Some Idle) (board_part board run ++ rest) wanted
       by_name (lines.Put other word) run answer rest wanted named trace turned after =
           let same : other ≡ box = eqb-true other box named in
@@ -119,7 +119,7 @@ module _ (config : Configuration) (who box board : ℕ) (m : BoardMailbox) (is :
           answer rest wanted attempt trace turned
           (λ outcome reported.
           rw (put_effect other word (mailbox_at config box) outcome, taken_shows outcome)
-          (subst (λ a. Through m (Some Idle) rest (behind wanted (reported_put (lines.Put other word) a) (reported_taken a))) reported after))
+          (subst (λ a. Through m (Some Idle) rest (behind wanted (put_by_reply (lines.Put other word) a) (taken_by_reply a))) reported after))
       by_name (lines.Take other) run answer rest wanted named trace turned after =
           let same : other ≡ box = eqb-true other box named in
           let attempt : line_attempt config who (lines.Take other) ≡ Ok (Sharing (shared_job config who (requests.Take (mailbox_at config box)))) =
@@ -129,7 +129,7 @@ module _ (config : Configuration) (who box board : ℕ) (m : BoardMailbox) (is :
           answer rest wanted attempt trace turned
           (λ outcome reported.
           rw (take_puts_nothing other (mailbox_at config box) outcome, taken_shows outcome)
-          (subst (λ a. Through m (Some Idle) rest (behind wanted (reported_put (lines.Take other) a) (reported_taken a))) reported after))
+          (subst (λ a. Through m (Some Idle) rest (behind wanted (put_by_reply (lines.Take other) a) (taken_by_reply a))) reported after))
       by_name line run answer rest wanted named trace turned after = absurd cc
 
   -- the whole script follows the protocol and reaches the goal
@@ -145,4 +145,4 @@ module _ (config : Configuration) (who box board : ℕ) (m : BoardMailbox) (is :
       rw parts
       (one_line line first answer (board_part board rest) wanted alone.0 own split.0
       (script ls rest answers
-      (behind wanted (if names box line then reported_put line answer else []) (if names box line then reported_taken answer else [])) alone.1 later split.1 done))
+      (behind wanted (if names box line then put_by_reply line answer else []) (if names box line then taken_by_reply answer else [])) alone.1 later split.1 done))

@@ -86,14 +86,14 @@ AllCounts m board s [] = Unit {0}
 AllCounts m board s (last ∷ before) = IsCount (phase_along m board s (last ∷ before)) × AllCounts m board s before
 
 -- the words that a put reports by its outcome: its word, as four bytes, if it was put
-abbrev pub put_reported : SharedOutcome → SharedRequest → List ℕ
-put_reported shared.Put (events.Put mailbox word) = word % 2 ^ 32 ∷ []
-put_reported outcome request = []
+abbrev pub put_by_outcome : SharedOutcome → SharedRequest → List ℕ
+put_by_outcome shared.Put (events.Put mailbox word) = word % 2 ^ 32 ∷ []
+put_by_outcome outcome request = []
 
 -- the words that a take reports by its outcome
-abbrev pub taken_reported : SharedOutcome → List ℕ
-taken_reported (shared.Took word) = word ∷ []
-taken_reported outcome = []
+abbrev pub taken_by_outcome : SharedOutcome → List ℕ
+taken_by_outcome (shared.Took word) = word ∷ []
+taken_by_outcome outcome = []
 
 -- a command goes to the board and the offset that a code and an address select
 pub record GoesTo (map : List Entry) (am addr board : ℕ) (command_at : ℕ → Command) (command : Option Command) : Type 0 where

@@ -9,7 +9,7 @@ use Rattle.vme_shared.specs.declared.outcome.SharedOutcome.TheVariants as shared
 use Rattle.vme_shared.specs.declared.reply.LineReply.{LineReply}
 use Rattle.vme_shared.specs.declared.reply.LineReply.TheVariants.{Shared}
 use Rattle.vme_shared.specs.Mailboxes.{IsMailbox, mailbox_refusal}
-use Rattle.vme_mailbox_laws.specs.Along.{LiesAt, taken_reported}
+use Rattle.vme_mailbox_laws.specs.Along.{LiesAt, taken_by_outcome}
 use Rattle.vme_grammar.specs.declared.line.Line.{Line}
 use Rattle.vme_grammar.specs.declared.line.Line.TheVariants.{Put, Take}
 use Rattle.vme_script.specs.Boards.{entries_of}
@@ -24,25 +24,25 @@ names box (Take other) = other == box
 names box line = false
 
 -- the word that a line reports as put by its reply, as four bytes
-abbrev pub reported_put : Line → LineReply → List ℕ
-reported_put (Put box word) (Shared shared.Put) = word % 2 ^ 32 ∷ []
-reported_put line answer = []
+abbrev pub put_by_reply : Line → LineReply → List ℕ
+put_by_reply (Put box word) (Shared shared.Put) = word % 2 ^ 32 ∷ []
+put_by_reply line answer = []
 
 -- the word that a line reports as taken by its reply
-abbrev pub reported_taken : LineReply → List ℕ
-reported_taken (Shared outcome) = taken_reported outcome
-reported_taken answer = []
+abbrev pub taken_by_reply : LineReply → List ℕ
+taken_by_reply (Shared outcome) = taken_by_outcome outcome
+taken_by_reply answer = []
 
 -- the words that lines report as put into a mailbox, in order
 abbrev pub lines_put : ℕ → List Line → List LineReply → List ℕ
 lines_put box (line ∷ lines) (answer ∷ answers) =
-    (if names box line then reported_put line answer else []) ++ lines_put box lines answers
+    (if names box line then put_by_reply line answer else []) ++ lines_put box lines answers
 lines_put box lines answers = []
 
 -- the words that lines report as taken from a mailbox, in order
 abbrev pub lines_taken : ℕ → List Line → List LineReply → List ℕ
 lines_taken box (line ∷ lines) (answer ∷ answers) =
-    (if names box line then reported_taken answer else []) ++ lines_taken box lines answers
+    (if names box line then taken_by_reply answer else []) ++ lines_taken box lines answers
 lines_taken box lines answers = []
 
 -- no command of a line to a board touches a mailbox there

@@ -28,7 +28,7 @@ ghost use Rattle.vme_mailbox_laws.specs.Runs.{ShareHistory};
 /// the mailbox touch it. Then the history is proper for the mailbox. The words taken are a prefix
 /// of the words put, and at most as many more words are put as the mailbox has slots. The words of
 /// each processor's own puts and takes, in order, are those that the replies to its lines report.
-pub fn scripts_go_by_the_rows()
+pub fn scripts_follow_the_protocol()
     ensures proper { (config : Configuration) (box board : ℕ) (m : BoardMailbox) (memory : Board)
         (h : List (Entry BoardCmd Reply)) (runs : List (List Transition)) (answers : List (List LineReply)) →
         IsMailboxOf config box board m → IsNewMailbox memory m → IsLegal board_step memory h →

@@ -14,7 +14,7 @@ ghost use Rattle.vme_shared.specs.declared.outcome.SharedOutcome.{SharedOutcome}
 ghost use Rattle.vme_shared.specs.declared.outcome.SharedOutcome.TheVariants.{Berr, Denied};
 ghost use Rattle.vme_shared.specs.declared.request.SharedRequest.TheVariants.{Lock, Unlock};
 ghost use Rattle.vme_shared.specs.Tables.{SharedJob, shared_next};
-ghost use Rattle.vme_mailbox_laws.specs.Along.{mailbox_in, LiesAt, IsWithin, overlap, UsesMailbox, IsGood, AllGood, AllCounts, phase_along, words_given, put_reported, taken_reported, GoesTo};
+ghost use Rattle.vme_mailbox_laws.specs.Along.{mailbox_in, LiesAt, IsWithin, overlap, UsesMailbox, IsGood, AllGood, AllCounts, phase_along, words_given, put_by_outcome, taken_by_outcome, GoesTo};
 
 /// Each command that a put or a take sends to a board goes to the board of its mailbox and touches
 /// the mailbox. If the mailbox lies wholly in a board that answers quad-byte cycles and
@@ -49,7 +49,7 @@ pub fn puts_and_takes_stay_in_their_mailbox()
 /// of its commands, with its reply, is an access that may come next. When it ends, it has left the
 /// mailbox, its outcome is neither a bus error nor a denial, and the words that it has put or taken
 /// are those that its outcome reports.
-pub fn puts_and_takes_go_by_the_rows()
+pub fn puts_and_takes_follow_the_protocol()
     ensures rows { (s : SharedJob) (given : Inputs) (board : ℕ) (m : BoardMailbox) →
         UsesMailbox s board m → AllGood s given → AllCounts m board s given →
         IsTrue (is_some (phase_along m board s given)) }
@@ -64,11 +64,11 @@ pub fn puts_and_takes_go_by_the_rows()
     ensures put { (s : SharedJob) (given : Inputs) (board : ℕ) (m : BoardMailbox)
         (outcome : SharedOutcome) → UsesMailbox s board m → AllGood s given →
         AllCounts m board s given → shared_next s given ≡ Returns outcome →
-        words_given put_by m board s given ≡ put_reported outcome s.request }
+        words_given put_by m board s given ≡ put_by_outcome outcome s.request }
     ensures taken { (s : SharedJob) (given : Inputs) (board : ℕ) (m : BoardMailbox)
         (outcome : SharedOutcome) → UsesMailbox s board m → AllGood s given →
         AllCounts m board s given → shared_next s given ≡ Returns outcome →
-        words_given taken_by m board s given ≡ taken_reported outcome }
+        words_given taken_by m board s given ≡ taken_by_outcome outcome }
 {}
 
 /// Each command that a lock sends to a board is the read-modify-write that sets bit 7 of its byte,

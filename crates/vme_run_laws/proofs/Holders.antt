@@ -24,7 +24,7 @@ use Rattle.vme_script.specs.Configurations.{Configuration}
 use Rattle.vme_script.specs.Lawful.{IsLawful}
 use Rattle.vme_line_task.specs.Scripts.{slot_at}
 use Rattle.vme_line_task.specs.Tables.{line_next}
-use Rattle.vme_line_task.specs.Tenures.{line_reported}
+use Rattle.vme_line_task.specs.Tenures.{line_arb_reply}
 use Rattle.vme_line_task.proofs.lemmas.Kept.{line_turns}
 use Rattle.vme_stepper.specs.Turns.{SystemState, lines_left, turn, run as take_turns, initial_state}
 use Rattle.vme_threads.specs.declared.report.Report.{Report}
@@ -44,11 +44,11 @@ NamesSlot slot (OnBoard place command) = Unit {0}
 NamesSlot slot (OnBus cmd) = slot_of cmd ≡ slot
 
 line_names : (config : Configuration) (lawful : IsLawful config) (board : ℕ) → board < length config.boards → (bus : Arbitration) (line : Line)
-    (replies : List EventReply) (call : Call) → IsOwnLine line → StandsAsReplied bus (slot_at config board) (line_reported config board line replies)
+    (replies : List EventReply) (call : Call) → IsOwnLine line → StandsAsReplied bus (slot_at config board) (line_arb_reply config board line replies)
     → line_next config board line replies ≡ Invokes call → NamesSlot (slot_at config board) call
 line_names config lawful board there bus line replies (OnBoard place command) own stands made = tt
 line_names config lawful board there bus line replies (OnBus cmd) own stands made =
-    own_slot (slot_at config board) (line_reported config board line replies) cmd
+    own_slot (slot_at config board) (line_arb_reply config board line replies) cmd
     (line_turns config board line replies cmd (lawful_level config board lawful there) made)
 
 -- a turn's command to the arbiter names the turn's slot

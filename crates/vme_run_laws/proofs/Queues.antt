@@ -18,12 +18,12 @@ use Rattle.vme_line_task.specs.Scripts.{lines_at}
 use Rattle.vme_mailbox_laws.specs.Names.{lines_put, lines_taken, IsMailboxOf}
 use Rattle.vme_mailbox_laws.specs.Groups.{own_words_put, own_words_taken}
 use Rattle.vme_mailbox_laws.proofs.lemmas.Groups.{own_words}
-use Rattle.vme_mailbox_laws.proofs.lemmas.Shared.{proper, put_reported, taken_reported}
+use Rattle.vme_mailbox_laws.proofs.lemmas.Shared.{proper, put_by_outcome, taken_by_outcome}
 use Rattle.vme_threads.specs.declared.report.Report.{Report}
 use Rattle.vme_threads.specs.Rans.{answers_in}
 use Rattle.vme_threads.specs.OneOrder.{IsReportOfOneOrder}
 use Rattle.vme_sequential.proofs.lemmas.Lists.{element_at}
-use Rattle.vme_run_laws.proofs.Shared.{own_runs, share, new_there, reported_in, reported_each}
+use Rattle.vme_run_laws.proofs.Shared.{own_runs, share, new_there, replies_in_report, reported_each}
 
 -- a history is proper for a mailbox, which is a queue there, and its words are those that the report's lines show
 pub record IsQueue (config : Configuration) (report : Report) (box : ℕ) (m : BoardMailbox) (h : List (Entry BoardCmd Reply))
@@ -51,7 +51,7 @@ queue config report lawful is box board m own below mailbox lies =
     let legal : IsLegal board_step memory h = (is.boards.each board own end.0 below).leads.legal in
     let new = new_there there m lies in
     let shared = share config report lawful is board in
-    let goes = proper config box board m memory h runs (reported_in report) mailbox new legal shared in
+    let goes = proper config box board m memory h runs (replies_in_report report) mailbox new legal shared in
     let fifo = is_queue memory m h new legal goes in
     record {
       goes = goes;
@@ -59,8 +59,8 @@ queue config report lawful is box board m own below mailbox lies =
       capacity = fifo.capacity;
       put = reported_each report (λ who reported. own_words_put who m h ≡ lines_put box (lines_at config who) reported)
           (λ who d less. own_words who put_by m all_idle h
-          ∙ put_reported config box board m memory h runs (reported_in report) mailbox new legal shared who d less);
+          ∙ put_by_outcome config box board m memory h runs (replies_in_report report) mailbox new legal shared who d less);
       taken = reported_each report (λ who reported. own_words_taken who m h ≡ lines_taken box (lines_at config who) reported)
           (λ who d less. own_words who taken_by m all_idle h
-          ∙ taken_reported config box board m memory h runs (reported_in report) mailbox new legal shared who d less);
+          ∙ taken_by_outcome config box board m memory h runs (replies_in_report report) mailbox new legal shared who d less);
     }

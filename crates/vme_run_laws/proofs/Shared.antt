@@ -39,15 +39,15 @@ turned_own who (m ∷ run) turned = elim (cases_eq m.who who) [
 ]
 
 -- the replies to a report's lines
-abbrev pub reported_in : Report → List (List LineReply)
-reported_in report = map (λ lines. answers_in lines.items) report.lines.items
+abbrev pub replies_in_report : Report → List (List LineReply)
+replies_in_report report = map (λ lines. answers_in lines.items) report.lines.items
 
 module _ (config : Configuration) (report : Report) (lawful : IsLawful config) (is : IsReportOfOneOrder config report) where
   -- the transitions of each processor
   abbrev pub own_runs : List (List Transition)
   own_runs = values (λ who. transitions_of who is.run) 0 (length config.boards)
 
-  pub share : (board : ℕ) → ShareHistory config board (board_part board is.run) own_runs (reported_in report)
+  pub share : (board : ℕ) → ShareHistory config board (board_part board is.run) own_runs (replies_in_report report)
   share board =
       let k : ℕ = length config.boards in
       let one = order config report lawful is in
@@ -57,10 +57,10 @@ module _ (config : Configuration) (report : Report) (lawful : IsLawful config) (
             (known_of (λ m. board_entry board m.who m.event m.reply) (λ m e found. board_whose board m.who m.event m.reply e found) k is.run is.known);
         owns = each_value (λ who run. own who (board_part board is.run) ≡ board_part board run) (λ who. transitions_of who is.run) k
             (λ who less. part_of (λ m. board_entry board m.who m.event m.reply) (λ m e found. board_whose board m.who m.event m.reply e found) who is.run);
-        trace = value_pairs (λ who run reported. IsTrace config who (lines_at config who) run reported) (λ who. transitions_of who is.run) (reported_in report) k
+        trace = value_pairs (λ who run reported. IsTrace config who (lines_at config who) run reported) (λ who. transitions_of who is.run) (replies_in_report report) k
             one.count
-            (λ who d less. one.traces who (slice_index_or (reported_in report) who d)
-            (slice_get-get_or (reported_in report) who d (subst (λ (n : ℕ). who < n) (sym one.count) less)));
+            (λ who d less. one.traces who (slice_index_or (replies_in_report report) who d)
+            (slice_get-get_or (replies_in_report report) who d (subst (λ (n : ℕ). who < n) (sym one.count) less)));
         turned = each_value (λ who run. AllTurned run) (λ who. transitions_of who is.run) k (λ who less. turned_own who is.run (run_turned config report lawful is));
       }
 
@@ -82,7 +82,7 @@ new_there there m lies =
     record { lies = lies; zero = zeros_at there.entry.size m.offset (mailbox_len m.slots) inside }
 
 -- the replies to one processor's lines
-pub reported_each : (report : Report) (P : ℕ → List LineReply → Type 0) → Each P (reported_in report)
+pub reported_each : (report : Report) (P : ℕ → List LineReply → Type 0) → Each P (replies_in_report report)
     → Each (λ who lines. P who (answers_in lines.items)) report.lines.items
 reported_each report P each who d below =
     subst (P who) (get_or-map (λ lines. answers_in lines.items) report.lines.items who d [] below)

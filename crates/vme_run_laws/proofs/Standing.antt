@@ -14,14 +14,14 @@ use Rattle.vme_script.specs.Configurations.{Configuration}
 use Rattle.vme_line_task.specs.Scripts.{slot_at, lines_at}
 use Rattle.vme_line_task.specs.Tables.{line_next}
 use Rattle.vme_line_task.specs.Traces.{ScriptState}
-use Rattle.vme_line_task.specs.Tenures.{line_reported, IsGood, IsGranted}
+use Rattle.vme_line_task.specs.Tenures.{line_arb_reply, IsGood, IsGranted}
 use Rattle.vme_line_task.proofs.lemmas.Kept.{line_begins, line_ends}
 use Rattle.vme_stepper.specs.Turns.{script_state, settled, lines_left}
 
 -- the last reply of the arbiter in the next line
-abbrev pub reported_left : Configuration → ℕ → List Line → List EventReply → Option ArbReply
-reported_left config board [] replies = None
-reported_left config board (line ∷ lines) replies = line_reported config board line replies
+abbrev pub arb_reply_left : Configuration → ℕ → List Line → List EventReply → Option ArbReply
+arb_reply_left config board [] replies = None
+arb_reply_left config board (line ∷ lines) replies = line_arb_reply config board line replies
 
 abbrev pub NotEnded : NextStep LineReply → Type 0
 NotEnded (Returns answer) = ⊥
@@ -33,12 +33,12 @@ IsOpen config board [] replies = Unit {0}
 IsOpen config board (line ∷ lines) replies = (replies ≡ []) ⊎ NotEnded (line_next config board line replies)
 
 pub record ScriptStands (config : Configuration) (bus : Arbitration) (board : ℕ) (c : ScriptState) : Type 0 where
-  pub stands : StandsAsReplied bus (slot_at config board) (reported_left config board (lines_left config board c) c.replies)
+  pub stands : StandsAsReplied bus (slot_at config board) (arb_reply_left config board (lines_left config board c) c.replies)
   pub opens : IsOpen config board (lines_left config board c) c.replies
   pub granted : All IsGranted c.ended
 
 -- before its first reply, the next line has no reply of the arbiter
-pub reported_begins : (config : Configuration) (board : ℕ) (lines : List Line) → reported_left config board lines [] ≡ None
+pub reported_begins : (config : Configuration) (board : ℕ) (lines : List Line) → arb_reply_left config board lines [] ≡ None
 reported_begins config board [] = refl
 reported_begins config board (line ∷ lines) = line_begins config board line
 
@@ -66,10 +66,10 @@ ended_begins config board line lines replies answer (inr goes) ends = absurd (su
 -- a line goes on
 goes_on : (config : Configuration) (bus : Arbitration) (board : ℕ) (ended : List LineReply) (replies : List EventReply) (line : Line)
     (rest : List Line) (reply : EventReply) (next : NextStep LineReply) → drop (length ended) (lines_at config board) ≡ line ∷ rest
-    → StandsAsReplied bus (slot_at config board) (line_reported config board line (reply ∷ replies)) → All IsGranted ended
+    → StandsAsReplied bus (slot_at config board) (line_arb_reply config board line (reply ∷ replies)) → All IsGranted ended
     → line_next config board line (reply ∷ replies) ≡ next → NotEnded next → ScriptStands config bus board (script_state ended (reply ∷ replies))
 goes_on config bus board ended replies line rest reply next left stands granted is open_still = record {
-  stands = subst (λ (ls : List Line). StandsAsReplied bus (slot_at config board) (reported_left config board ls (reply ∷ replies))) (sym left) stands;
+  stands = subst (λ (ls : List Line). StandsAsReplied bus (slot_at config board) (arb_reply_left config board ls (reply ∷ replies))) (sym left) stands;
   opens = subst (λ (ls : List Line). IsOpen config board ls (reply ∷ replies)) (sym left) (inr (subst NotEnded (sym is) open_still));
   granted = granted;
 }
@@ -78,7 +78,7 @@ goes_on config bus board ended replies line rest reply next left stands granted 
 pub settled_stands : (config : Configuration) (bus : Arbitration) (board : ℕ) (ended : List LineReply) (replies : List EventReply) (line : Line)
     (rest : List Line) (call : Call) (reply : EventReply) (next : NextStep LineReply) → drop (length ended) (lines_at config board) ≡ line ∷ rest
     → line_next config board line replies ≡ Invokes call → IsGood call reply
-    → StandsAsReplied bus (slot_at config board) (line_reported config board line (reply ∷ replies)) → All IsGranted ended
+    → StandsAsReplied bus (slot_at config board) (line_arb_reply config board line (reply ∷ replies)) → All IsGranted ended
     → line_next config board line (reply ∷ replies) ≡ next → ScriptStands config bus board (settled ended (reply ∷ replies) next)
 settled_stands config bus board ended replies line rest call reply (Returns answer) left made good stands granted is =
     let well = line_ends config board line replies call reply answer made good is in

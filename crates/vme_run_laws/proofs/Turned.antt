@@ -23,13 +23,13 @@ use Rattle.vme_script.specs.Lawful.{IsLawful}
 use Rattle.vme_line_task.specs.Scripts.{slot_at}
 use Rattle.vme_line_task.specs.Tables.{line_next}
 use Rattle.vme_line_task.specs.Traces.{ScriptState}
-use Rattle.vme_line_task.specs.Tenures.{line_reported, IsLocal, IsGranted}
+use Rattle.vme_line_task.specs.Tenures.{line_arb_reply, IsLocal, IsGranted}
 use Rattle.vme_line_task.proofs.lemmas.Kept.{line_first, line_turns, line_holds, line_turn, line_datum}
 use Rattle.vme_stepper.specs.Turns.{script_state, settled, call_made, turn_by, script_state_turn, lines_left}
 use Rattle.vme_run_laws.specs.TurnCalls.{call_or, first_call}
 use Rattle.vme_run_laws.proofs.Places.{lawful_slot, lawful_level, left_after, AllOwn}
 use Rattle.vme_run_laws.proofs.Called.{board_called, bus_called, call_granted}
-use Rattle.vme_run_laws.proofs.Standing.{reported_left, IsOpen, ScriptStands, reported_begins, rests_standing, ended_begins, settled_stands}
+use Rattle.vme_run_laws.proofs.Standing.{arb_reply_left, IsOpen, ScriptStands, reported_begins, rests_standing, ended_begins, settled_stands}
 
 -- after a turn of a board's processor, the bus is orderly, the state of the processor's slot agrees, and other slots
 -- are unchanged
@@ -43,7 +43,7 @@ module _ (config : Configuration) (lawful : IsLawful config) (board : ℕ) (ther
   -- a call of the next line on a board
   data_stay : (machine : Machine) (c : ScriptState) (line : Line) (rest : List Line) (x : ℕ) (command : Option Command)
       → lines_left config board c ≡ line ∷ rest → IsOrderly machine.bus.object → All IsGranted c.ended
-      → StandsAsReplied machine.bus.object (slot_at config board) (line_reported config board line c.replies)
+      → StandsAsReplied machine.bus.object (slot_at config board) (line_arb_reply config board line c.replies)
       → line_next config board line c.replies ≡ Invokes (OnBoard x command)
       → Stays config board machine.bus.object (call_made config board line machine c (OnBoard x command))
   data_stay machine c line rest x command left orderly granted stands made =
@@ -66,13 +66,13 @@ module _ (config : Configuration) (lawful : IsLawful config) (board : ℕ) (ther
   -- a command of the next line to the arbiter
   turn_stays : (machine : Machine) (c : ScriptState) (line : Line) (rest : List Line) (cmd : ArbCmd) → lines_left config board c ≡ line ∷ rest
       → IsOrderly machine.bus.object → All IsGranted c.ended
-      → StandsAsReplied machine.bus.object (slot_at config board) (line_reported config board line c.replies)
+      → StandsAsReplied machine.bus.object (slot_at config board) (line_arb_reply config board line c.replies)
       → line_next config board line c.replies ≡ Invokes (OnBus cmd)
       → Stays config board machine.bus.object (call_made config board line machine c (OnBus cmd))
   turn_stays machine c line rest cmd left orderly granted stands made =
       let bus = machine.bus.object in
       let may = line_turns config board line c.replies cmd (lawful_level config board lawful there) made in
-      let called = bus_called bus (slot_at config board) (line_reported config board line c.replies) cmd orderly
+      let called = bus_called bus (slot_at config board) (line_arb_reply config board line c.replies) cmd orderly
       (lawful_slot config board lawful there) stands may in
       record {
         orderly = called.orderly;
@@ -85,7 +85,7 @@ module _ (config : Configuration) (lawful : IsLawful config) (board : ℕ) (ther
 
   call_stays : (machine : Machine) (c : ScriptState) (line : Line) (rest : List Line) (call : Call) → lines_left config board c ≡ line ∷ rest
       → IsOrderly machine.bus.object → All IsGranted c.ended
-      → StandsAsReplied machine.bus.object (slot_at config board) (line_reported config board line c.replies)
+      → StandsAsReplied machine.bus.object (slot_at config board) (line_arb_reply config board line c.replies)
       → line_next config board line c.replies ≡ Invokes call → Stays config board machine.bus.object (call_made config board line machine c call)
   call_stays machine c line rest (OnBoard x command) left orderly granted stands made =
       data_stay machine c line rest x command left orderly granted stands made
@@ -101,7 +101,7 @@ module _ (config : Configuration) (lawful : IsLawful config) (board : ℕ) (ther
       let none = ended_begins config board line rest c.replies answer opens ends in
       let free : StandsAsReplied bus (slot_at config board) None =
       subst (StandsAsReplied bus (slot_at config board))
-      (ap (reported_left config board (lines_left config board c)) none ∙ reported_begins config board (lines_left config board c)) stands.stands in
+      (ap (arb_reply_left config board (lines_left config board c)) none ∙ reported_begins config board (lines_left config board c)) stands.stands in
       rests_standing config bus board (c.ended ++ answer ∷ []) free
       (All-push IsGranted c.ended answer stands.granted
       (line_first config board line answer (ap (line_next config board line) (sym none) ∙ ends)))
@@ -115,7 +115,7 @@ module _ (config : Configuration) (lawful : IsLawful config) (board : ℕ) (ther
       → Stays config board machine.bus.object (turn_by config board line machine c next after)
   by_next machine c line rest (Invokes call) after left orderly stands is then =
       call_stays machine c line rest call left orderly stands.granted
-      (subst (λ (ls : List Line). StandsAsReplied machine.bus.object (slot_at config board) (reported_left config board ls c.replies)) left stands.stands) is
+      (subst (λ (ls : List Line). StandsAsReplied machine.bus.object (slot_at config board) (arb_reply_left config board ls c.replies)) left stands.stands) is
   by_next machine c line rest (Returns answer) after left orderly stands is then =
       then (script_state (c.ended ++ answer ∷ []) []) (left_after config board c.ended answer line rest left)
       (refused_stands machine.bus.object c line rest answer left stands is)
@@ -131,7 +131,7 @@ module _ (config : Configuration) (lawful : IsLawful config) (board : ℕ) (ther
 
   -- a property of each line's call holds for the next call
   by_first : (Q : Call → Type 0) (bus : Arbitration) (line : Line) (rest : List Line) (replies : List EventReply) (call : Call) (next : NextStep LineReply)
-      → StandsAsReplied bus (slot_at config board) (line_reported config board line replies) → IsOpen config board (line ∷ rest) replies
+      → StandsAsReplied bus (slot_at config board) (line_arb_reply config board line replies) → IsOpen config board (line ∷ rest) replies
       → line_next config board line replies ≡ next → call_or next (first_call config board rest []) ≡ Some call
       → ((made : Call) → line_next config board line replies ≡ Invokes made → Q made)
       → (first_call config board rest [] ≡ Some call → StandsAsReplied bus (slot_at config board) None → Q call) → Q call
@@ -140,7 +140,7 @@ module _ (config : Configuration) (lawful : IsLawful config) (board : ℕ) (ther
       subst Q same (now made is)
   by_first Q bus line rest replies call (Returns answer) stands opens is first now later =
       let none = ended_begins config board line rest replies answer opens is in
-      later first (subst (StandsAsReplied bus (slot_at config board)) (ap (line_reported config board line) none ∙ reported_begins config board (line ∷ rest)) stands)
+      later first (subst (StandsAsReplied bus (slot_at config board)) (ap (line_arb_reply config board line) none ∙ reported_begins config board (line ∷ rest)) stands)
   by_first Q bus line rest replies call NotStarted stands opens is first now later = absurd cc
 
   begins_open : (lines : List Line) → IsOpen config board lines []
@@ -149,9 +149,9 @@ module _ (config : Configuration) (lawful : IsLawful config) (board : ℕ) (ther
 
   pub first_is : (Q : Call → Type 0) (bus : Arbitration)
       → ((line : Line) (replies : List EventReply) (made : Call) → IsOwnLine line
-      → StandsAsReplied bus (slot_at config board) (line_reported config board line replies) → line_next config board line replies ≡ Invokes made → Q made)
+      → StandsAsReplied bus (slot_at config board) (line_arb_reply config board line replies) → line_next config board line replies ≡ Invokes made → Q made)
       → (lines : List Line) (replies : List EventReply) (call : Call) → AllOwn lines
-      → StandsAsReplied bus (slot_at config board) (reported_left config board lines replies) → IsOpen config board lines replies
+      → StandsAsReplied bus (slot_at config board) (arb_reply_left config board lines replies) → IsOpen config board lines replies
       → first_call config board lines replies ≡ Some call → Q call
   first_is Q bus each [] replies call own stands opens first = absurd cc
   first_is Q bus each (line ∷ rest) replies call own stands opens first =
@@ -166,7 +166,7 @@ module _ (config : Configuration) (lawful : IsLawful config) (board : ℕ) (ther
   HoldsFor bus (OnBus cmd) = Unit {0}
 
   pub call_holds : (bus : Arbitration) (line : Line) (replies : List EventReply) (call : Call) → IsOwnLine line
-      → StandsAsReplied bus (slot_at config board) (line_reported config board line replies) → line_next config board line replies ≡ Invokes call
+      → StandsAsReplied bus (slot_at config board) (line_arb_reply config board line replies) → line_next config board line replies ≡ Invokes call
       → HoldsFor bus call
   call_holds bus line replies (OnBus cmd) own stands made = tt
   call_holds bus line replies (OnBoard x command) own stands made =
@@ -178,10 +178,10 @@ module _ (config : Configuration) (lawful : IsLawful config) (board : ℕ) (ther
 
   -- the reply to the call is not a denial
   pub replied_granted : (machine : Machine) → IsOrderly machine.bus.object → (line : Line) (replies : List EventReply) (call : Call)
-      → IsOwnLine line → StandsAsReplied machine.bus.object (slot_at config board) (line_reported config board line replies)
+      → IsOwnLine line → StandsAsReplied machine.bus.object (slot_at config board) (line_arb_reply config board line replies)
       → line_next config board line replies ≡ Invokes call → (machine_step machine board call).1 ≢ event_replies.Bus arb_replies.Denied
   replied_granted machine orderly line replies call own stands made =
-      call_granted machine board (slot_at config board) (line_reported config board line replies) call orderly
+      call_granted machine board (slot_at config board) (line_arb_reply config board line replies) call orderly
       (lawful_slot config board lawful there) stands
       (λ cmd same. line_turns config board line replies cmd (lawful_level config board lawful there) (made ∙ ap Invokes same))
 

@@ -22,7 +22,7 @@ Gives view (Ok x) expected = expected ≡ Ok (view x)
 Gives view (Err fault) expected = fault ≢ config.OutOfMemory → expected ≡ Err fault
 
 -- the fault of a configuration for a fault of its document: the one with the same name
-abbrev pub reported_as : DocumentFault → ConfigFault
-reported_as NotToml = config.NotToml
-reported_as BadKey = config.BadKey
-reported_as OutOfMemory = config.OutOfMemory
+abbrev pub as_config_fault : DocumentFault → ConfigFault
+as_config_fault NotToml = config.NotToml
+as_config_fault BadKey = config.BadKey
+as_config_fault OutOfMemory = config.OutOfMemory

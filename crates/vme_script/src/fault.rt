@@ -2,7 +2,7 @@
 ghost use Rattle.std.specs.Prelude.{◌≡◌};
 ghost use Rattle.vme_script.specs.declared.fault.ConfigFault.TheVariants.{OutOfMemory};
 ghost use Rattle.vme_script.specs.declared.fault.ScriptFault.TheVariants as script;
-ghost use Rattle.vme_script.specs.Answers.{reported_as};
+ghost use Rattle.vme_script.specs.Answers.{as_config_fault};
 
 use std::alloc::{AllocError, AllocFailed};
 use thiserror::Error;
@@ -86,7 +86,7 @@ impl<T: Drop> From<AllocFailed<T>> for ConfigFault {
 }
 
 impl From<DocumentFault> for ConfigFault {
-    ghost from_gives = { λ fault refusal. refusal ≡ reported_as fault };
+    ghost from_gives = { λ fault refusal. refusal ≡ as_config_fault fault };
 
     fn from(fault: DocumentFault) -> ConfigFault {
         match fault {

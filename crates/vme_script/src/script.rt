@@ -76,7 +76,7 @@ impl Script {
                 return Err(ScriptFault::Refused(ScriptRefusal::TooManyLines));
             }
             number += 1;
-            if let Some(fault) = take_line(&mut lines, number, line, rules)? {
+            if let Some(fault) = push_line(&mut lines, number, line, rules)? {
                 return Err(fault_of(text, rules, ScriptRefusal::BadLine { number, fault }));
             }
         }
@@ -111,7 +111,7 @@ impl Script {
 /// Appends a line if it requests something, or returns its refusal.
 #[inline(always)]
 #[tactic(auto, using(crate::proofs::Taking::kept))]
-fn take_line(
+fn push_line(
     lines: &mut Vec<ScriptLine>,
     number: u16,
     text: &[u8],

@@ -5,10 +5,10 @@ ghost use Rattle.vme_shared.specs.declared.reply.LineReply.{LineReply};
 ghost use Rattle.vme_script.specs.Configurations.{Configuration};
 ghost use Rattle.vme_script.specs.Lawful.{IsLawful};
 ghost use Rattle.vme_stepper.specs.Turns.{state_after};
-ghost use Rattle.vme_stepper.specs.Reports.{reported_system};
+ghost use Rattle.vme_stepper.specs.Reports.{texts_of_system};
 ghost use Rattle.vme_threads.specs.declared.report.Report.{Report};
 ghost use Rattle.vme_threads.specs.Reports.{IsReportOf};
-ghost use Rattle.vme_threads.specs.ReportTexts.{reported_report};
+ghost use Rattle.vme_threads.specs.ReportTexts.{texts_of_report};
 ghost use Rattle.vme_sequential.specs.Orders.{IsOneOrder, ended_state};
 ghost use Rattle.vme_threads.specs.OneOrder.{IsReportOfOneOrder};
 
@@ -25,7 +25,7 @@ pub fn one_order_is_a_run_of_turns()
 pub fn a_run_of_threads_is_a_run_of_turns()
     ensures { (config : Configuration) (report : Report) →
         IsLawful config → IsReportOfOneOrder config report →
-        (slots : List ℕ) × (reported_report report ≡ reported_system config (state_after config slots)) }
+        (slots : List ℕ) × (texts_of_report report ≡ texts_of_system config (state_after config slots)) }
 {}
 
 /// A report of one order is a report with one history for each object, so that each law of these

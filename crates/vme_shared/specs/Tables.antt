@@ -80,10 +80,10 @@ abbrev pub shared_next : SharedJob → Inputs → NextStep SharedOutcome
 shared_next s given = next_at (progress_of s given)
 
 -- the arbiter's last reply to the bus job at work, if there was one
-abbrev pub reported_at : Progress → Option ArbReply
-reported_at (At stage job given) = last_arb_reply given
-reported_at (Over end) = None
+abbrev pub arb_reply_at : Progress → Option ArbReply
+arb_reply_at (At stage job given) = last_arb_reply given
+arb_reply_at (Over end) = None
 
 -- the arbiter's last reply to the bus job at work, if there was one, by all that the task was given
-abbrev pub shared_reported : SharedJob → Inputs → Option ArbReply
-shared_reported s given = reported_at (progress_of s given)
+abbrev pub shared_arb_reply : SharedJob → Inputs → Option ArbReply
+shared_arb_reply s given = arb_reply_at (progress_of s given)

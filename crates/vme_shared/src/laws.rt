@@ -19,7 +19,7 @@ ghost use Rattle.vme_shared.specs.declared.outcome.SharedOutcome.{SharedOutcome}
 ghost use Rattle.vme_shared.specs.declared.outcome.SharedOutcome.TheVariants.{Denied};
 ghost use Rattle.vme_shared.specs.declared.stage.Stage.{Stage};
 ghost use Rattle.vme_shared.specs.Mailboxes.{IsWellFormed, shared_refusal};
-ghost use Rattle.vme_shared.specs.Tables.{SharedJob, stage_job, shared_next, shared_reported};
+ghost use Rattle.vme_shared.specs.Tables.{SharedJob, stage_job, shared_next, shared_arb_reply};
 ghost use Rattle.vme_shared.specs.Machine.{shared_given, shared_to_do};
 
 /// A lock, an unlock, a put or a take follows its table: after calls with any replies it does next
@@ -62,26 +62,26 @@ pub fn shared_tasks_call_boards_of_the_map()
 /// the last reply states. If that reply ends the task, then the outcome is no denial, the reply is
 /// `Freed`, and the slot is free.
 pub fn shared_tasks_keep_their_tenure()
-    ensures begin { (s : SharedJob) → shared_reported s (None ∷ []) ≡ None }
+    ensures begin { (s : SharedJob) → shared_arb_reply s (None ∷ []) ≡ None }
     ensures turns { (s : SharedJob) (given : Inputs) (cmd : ArbCmd) → IsTrue (is_level s.level) →
         shared_next s given ≡ Invokes (OnBus cmd) →
-        IsTrue (may_give s.slot (shared_reported s given) cmd) }
+        IsTrue (may_give s.slot (shared_arb_reply s given) cmd) }
     ensures holds { (s : SharedJob) (given : Inputs) (board : ℕ) (command : Option Command) →
         shared_next s given ≡ Invokes (OnBoard board command) →
-        shared_reported s given ≡ Some arb_replies.Granted }
+        shared_arb_reply s given ≡ Some arb_replies.Granted }
     ensures turn { (s : SharedJob) (given : Inputs) (cmd : ArbCmd) (reply : ArbReply)
         (bus : Arbitration) (slot : ℕ) → shared_next s given ≡ Invokes (OnBus cmd) →
         IsTrue (fits (OnBus cmd) (replies.Bus reply)) → replies.Bus reply ≢ replies.Bus arb_replies.Denied →
         StandsAsReplied bus slot (Some reply) →
-        StandsAsReplied bus slot (shared_reported s (Some (replies.Bus reply) ∷ given)) }
+        StandsAsReplied bus slot (shared_arb_reply s (Some (replies.Bus reply) ∷ given)) }
     ensures datum { (s : SharedJob) (given : Inputs) (call : Call) (reply : Reply) →
         shared_next s given ≡ Invokes call → IsTrue (fits call (replies.Board reply)) →
-        shared_reported s (Some (replies.Board reply) ∷ given) ≡ shared_reported s given }
+        shared_arb_reply s (Some (replies.Board reply) ∷ given) ≡ shared_arb_reply s given }
     ensures granted { (s : SharedJob) (given : Inputs) (call : Call) (reply : EventReply) →
         shared_next s given ≡ Invokes call → IsTrue (fits call reply) →
         reply ≢ replies.Bus arb_replies.Denied → shared_next s (Some reply ∷ given) ≢ Returns Denied }
     ensures freed { (s : SharedJob) (given : Inputs) (call : Call) (reply : EventReply)
         (end : SharedOutcome) → shared_next s given ≡ Invokes call → IsTrue (fits call reply) →
         reply ≢ replies.Bus arb_replies.Denied → shared_next s (Some reply ∷ given) ≡ Returns end →
-        (reply ≡ replies.Bus arb_replies.Freed) × (shared_reported s (Some reply ∷ given) ≡ None) }
+        (reply ≡ replies.Bus arb_replies.Freed) × (shared_arb_reply s (Some reply ∷ given) ≡ None) }
 {}

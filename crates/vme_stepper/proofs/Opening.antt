@@ -13,7 +13,7 @@ use Rattle.vme_script.specs.Configurations.{Configuration, opening_memory}
 use Rattle.vme_script.specs.Lawful.{IsLawful}
 use Rattle.vme_line_task.specs.Scripts.{script_at}
 use Rattle.vme_line_task.specs.Traces.{ScriptState}
-use Rattle.vme_stepper.specs.Reports.{reported_lines}
+use Rattle.vme_stepper.specs.Reports.{numbered_replies}
 use Rattle.vme_stepper.specs.Turns.{script_state, initial_state}
 use Rattle.vme_stepper.specs.Steppers.{ProcessorView, processor_of, processors_from, stepper_of, IsProcessorOf, IsStepperOf}
 use Rattle.vme_stepper.proofs.Reported.{reported_length, reported_none, unfinished, get_map, map_next}
@@ -38,7 +38,7 @@ module _ (config : Configuration) where
   fresh_processor : (board : ℕ) (script : List ScriptLine) → slice_get config.scripts board ≡ Some script
       → record { script = script; lines = map unfinished script; ended = 0; at = None } ≡ processor_of config board (script_state [] [])
   fresh_processor board script found =
-      let processor : List ScriptLine → ProcessorView = λ s. record { script = s; lines = reported_lines s []; ended = 0; at = None } in
+      let processor : List ScriptLine → ProcessorView = λ s. record { script = s; lines = numbered_replies s []; ended = 0; at = None } in
       let unreported : ProcessorView = record { script = script; lines = map unfinished script; ended = 0; at = None } in
       let at_none : unreported ≡ processor script = rw (reported_none script) refl in
       at_none ∙ ap processor (sym (get_or_from_slice_get config.scripts board script [] found))

@@ -13,7 +13,7 @@ use Rattle.vme_line_task.specs.Tables.{line_next}
 use Rattle.vme_line_task.specs.Machine.{line_after}
 use Rattle.vme_line_task.specs.Traces.{ScriptState}
 use Rattle.vme_stepper.specs.Turns.{script_state, settled, turn_by, script_state_turn, lines_left}
-use Rattle.vme_stepper.specs.Reports.{reported_lines}
+use Rattle.vme_stepper.specs.Reports.{numbered_replies}
 use Rattle.vme_stepper.specs.Steppers.{ProcessorView, processor_answered, processor_settled, processor_turn_by, task_now, lines_turn, processor_turn, task_at, processor_of}
 use Rattle.vme_line_task.proofs.lemmas.Lines.{by_the_replies}
 use Rattle.vme_stepper.proofs.Reported.{reported_more}
@@ -33,7 +33,7 @@ module _ (config : Configuration) (board : ℕ) where
   -- a processor with one more recorded reply is that of the script state with this reply
   answered_is : (processor : ProcessorView) (ended : List LineReply) (answer : LineReply) (line : Line) (lines : List Line)
       → drop (length ended) (lines_at config board) ≡ line ∷ lines → processor.script ≡ script_at config board
-      → processor.lines ≡ reported_lines (script_at config board) ended → processor.ended ≡ length ended
+      → processor.lines ≡ numbered_replies (script_at config board) ended → processor.ended ≡ length ended
       → processor_answered processor answer ≡ processor_of config board (script_state (ended ++ answer ∷ []) [])
   answered_is processor ended answer line lines left script reported count =
       rw (script, reported, count, reported_more (script_at config board) ended answer (within (length ended) line lines left), length_push ended answer) refl
@@ -41,7 +41,7 @@ module _ (config : Configuration) (board : ℕ) where
   -- a processor whose task has advanced by a reply is that of the script state with this reply
   settled_is : (processor : ProcessorView) (ended : List LineReply) (reply : EventReply) (replies : List EventReply) (line : Line) (lines : List Line) (next : NextStep LineReply)
       → drop (length ended) (lines_at config board) ≡ line ∷ lines → processor.script ≡ script_at config board
-      → processor.lines ≡ reported_lines (script_at config board) ended → processor.ended ≡ length ended
+      → processor.lines ≡ numbered_replies (script_at config board) ended → processor.ended ≡ length ended
       → processor_settled processor (line_after config board line (reply ∷ replies)) next ≡ processor_of config board (settled ended (reply ∷ replies) next)
   settled_is processor ended reply replies line lines (Returns answer) left script reported count = answered_is processor ended answer line lines left script reported count
   settled_is processor ended reply replies line lines (Invokes call) left script reported count = rw (script, reported, count, left) refl

@@ -6,25 +6,25 @@ use Rattle.std.proofs.lemmas.Option.{same_Some, slice_get_within, slice_get_case
 use Rattle.vme_shared.specs.declared.reply.LineReply.{LineReply}
 use Rattle.vme_shared.specs.declared.reply.LineReply.TheVariants.{Unfinished}
 use Rattle.vme_script.specs.declared.script.ScriptLine.{ScriptLine}
-use Rattle.vme_stepper.specs.Reports.{reported_lines}
+use Rattle.vme_stepper.specs.Reports.{numbered_replies}
 
 -- to record one more reply is to set the reply of the next line
 pub reported_more :
     (script : List ScriptLine) (ended : List LineReply) (answer : LineReply) → length ended < length script
-    → slice_set (reported_lines script ended) (length ended) ((slice_index_or (reported_lines script ended) (length ended) (0, answer)).0, answer)
-    ≡ reported_lines script (ended ++ answer ∷ [])
+    → slice_set (numbered_replies script ended) (length ended) ((slice_index_or (numbered_replies script ended) (length ended) (0, answer)).0, answer)
+    ≡ numbered_replies script (ended ++ answer ∷ [])
 reported_more [] ended answer more = absurd (omega arith)
 reported_more (line ∷ script) [] answer more = refl
 reported_more (line ∷ script) (first ∷ ended) answer more = ap (λ lines. (line.number, first) ∷ lines) (reported_more script ended answer (omega arith))
 
 -- each line of the script is in the report
-pub reported_length : (script : List ScriptLine) (ended : List LineReply) → length (reported_lines script ended) ≡ length script
+pub reported_length : (script : List ScriptLine) (ended : List LineReply) → length (numbered_replies script ended) ≡ length script
 reported_length [] ended = refl
 reported_length (line ∷ script) [] = ap suc (reported_length script [])
 reported_length (line ∷ script) (first ∷ ended) = ap suc (reported_length script ended)
 
 -- before the first reply all lines are unfinished
-pub reported_none : (script : List ScriptLine) → map (λ line. (line.number, Unfinished)) script ≡ reported_lines script []
+pub reported_none : (script : List ScriptLine) → map (λ line. (line.number, Unfinished)) script ≡ numbered_replies script []
 reported_none [] = refl
 reported_none (line ∷ script) = ap (λ lines. (line.number, Unfinished) ∷ lines) (reported_none script)
 

@@ -13,9 +13,9 @@ use Rattle.vme_script.specs.Configurations.{Configuration}
 use Rattle.vme_script.specs.Lawful.{IsLawful}
 use Rattle.vme_line_task.specs.Scripts.{script_at}
 use Rattle.vme_line_task.specs.Traces.{ScriptState}
-use Rattle.vme_stepper.specs.Reports.{reported_boards, reported_system}
+use Rattle.vme_stepper.specs.Reports.{texts_of_boards, texts_of_system}
 use Rattle.vme_stepper.specs.Turns.{SystemState, state_after}
-use Rattle.vme_stepper.specs.Steppers.{ProcessorView, StepperView, processors_reported, processors_from, stepper_of}
+use Rattle.vme_stepper.specs.Steppers.{ProcessorView, StepperView, texts_of_processors, processors_from, stepper_of}
 use Rattle.vme_stepper.proofs.Reported.{get_map}
 use Rattle.vme_stepper.proofs.Places.{slot_found}
 use Rattle.vme_stepper.proofs.Turning.{next_first}
@@ -32,9 +32,9 @@ pub board_more : (boards : List BoardConfig) (processors : List ProcessorView) (
     → i < length counted_states
     → slice_get (map (λ t. t.object) counted_states) i ≡ Some object → slice_get (map (λ t. t.steps) counted_states) i ≡ Some steps
     → slice_get (map (λ t. t.made) counted_states) i ≡ Some made
-    → processors_reported (drop i boards) (drop i processors) (drop i counted_states)
+    → texts_of_processors (drop i boards) (drop i processors) (drop i counted_states)
     ≡ record { slot = slot; lines = lines; bytes = object.bytes; steps = steps; made = made }
-    ∷ processors_reported (drop (i + 1) boards) (drop (i + 1) processors) (drop (i + 1) counted_states)
+    ∷ texts_of_processors (drop (i + 1) boards) (drop (i + 1) processors) (drop (i + 1) counted_states)
 board_more boards processors counted_states i slot steps processor lines object made of_slot there read of_processor within of_object of_steps of_made =
     let own = slot_found boards i slot of_slot in
     elim (slice_get_cases counted_states i).1 [
@@ -52,13 +52,13 @@ board_more boards processors counted_states i slot steps processor lines object 
 
 -- after the last board no entry is left
 pub board_over : (boards : List BoardConfig) (processors : List ProcessorView) (counted_states : List (CountedState Board)) (i : ℕ) (reported : List BoardText) → length boards ≤ i
-    → reported ++ processors_reported (drop i boards) (drop i processors) (drop i counted_states) ≡ processors_reported boards processors counted_states → reported ≡ processors_reported boards processors counted_states
+    → reported ++ texts_of_processors (drop i boards) (drop i processors) (drop i counted_states) ≡ texts_of_processors boards processors counted_states → reported ≡ texts_of_processors boards processors counted_states
 board_over boards processors counted_states i reported over whole = sym (append-nil reported) ∙ ap (λ ts. reported ++ ts) (sym (rw (drop_all i boards over) refl)) ∙ whole
 
 -- the entries by the processors are those by their script states
 script_states_reported : (config : Configuration) (boards : List BoardConfig) (scripts : List (List ScriptLine)) (script_states : List ScriptState) (counted_states : List (CountedState Board)) (from : ℕ)
     → drop from config.scripts ≡ scripts → length scripts ≡ length boards
-    → processors_reported boards (processors_from config from script_states) counted_states ≡ reported_boards boards scripts script_states counted_states
+    → texts_of_processors boards (processors_from config from script_states) counted_states ≡ texts_of_boards boards scripts script_states counted_states
 script_states_reported config [] scripts script_states counted_states from are count = refl
 script_states_reported config (board ∷ boards) [] script_states counted_states from are count = absurd (omega (arith, count))
 script_states_reported config (board ∷ boards) (script ∷ scripts) [] counted_states from are count = refl
@@ -72,11 +72,11 @@ script_states_reported config (board ∷ boards) (script ∷ scripts) (c ∷ scr
 
 -- the entries of the stepper of a system are those of the system
 pub system_reported : (config : Configuration) (system : SystemState) → length config.scripts ≡ length config.boards
-    → processors_reported config.boards (stepper_of config system).processors (stepper_of config system).machine.boards ≡ reported_system config system
+    → texts_of_processors config.boards (stepper_of config system).processors (stepper_of config system).machine.boards ≡ texts_of_system config system
 system_reported config system count = script_states_reported config config.boards config.scripts system.script_states system.machine.boards 0 refl count
 
 -- the entries of a stepper after turns are those of its system
 pub stepper_reported : (config : Configuration) (stepper : StepperView) (slots : List ℕ) → IsLawful config → stepper ≡ stepper_of config (state_after config slots)
-    → processors_reported config.boards stepper.processors stepper.machine.boards ≡ reported_system config (state_after config slots)
+    → texts_of_processors config.boards stepper.processors stepper.machine.boards ≡ texts_of_system config (state_after config slots)
 stepper_reported config stepper slots lawful is =
-    ap (λ (d : StepperView). processors_reported config.boards d.processors d.machine.boards) is ∙ system_reported config (state_after config slots) lawful.scripts
+    ap (λ (d : StepperView). texts_of_processors config.boards d.processors d.machine.boards) is ∙ system_reported config (state_after config slots) lawful.scripts

@@ -14,35 +14,35 @@ use Rattle.vme_line_task.specs.Traces.{ScriptState}
 use Rattle.vme_stepper.specs.Turns.{SystemState, state_after}
 
 -- the numbers of a script's lines, each with its reply; a line without one is unfinished
-abbrev pub reported_lines : List ScriptLine → List LineReply → List (ℕ × LineReply)
-reported_lines [] ended = []
-reported_lines (line ∷ script) [] = (line.number, Unfinished) ∷ reported_lines script []
-reported_lines (line ∷ script) (answer ∷ ended) = (line.number, answer) ∷ reported_lines script ended
+abbrev pub numbered_replies : List ScriptLine → List LineReply → List (ℕ × LineReply)
+numbered_replies [] ended = []
+numbered_replies (line ∷ script) [] = (line.number, Unfinished) ∷ numbered_replies script []
+numbered_replies (line ∷ script) (answer ∷ ended) = (line.number, answer) ∷ numbered_replies script ended
 
 -- the report's entry for a board
-abbrev pub reported_board : BoardConfig → List ScriptLine → ScriptState → CountedState Board → BoardText
-reported_board board script c counted = record {
+abbrev pub text_of_board : BoardConfig → List ScriptLine → ScriptState → CountedState Board → BoardText
+text_of_board board script c counted = record {
   slot = board.slot;
-  lines = reported_lines script c.ended;
+  lines = numbered_replies script c.ended;
   bytes = counted.object.bytes;
   steps = counted.steps;
   made = counted.made;
 }
 
 -- the report's entries for boards, in order of slots
-abbrev pub reported_boards : List BoardConfig → List (List ScriptLine) → List ScriptState → List (CountedState Board) → List BoardText
-reported_boards (board ∷ boards) (script ∷ scripts) (c ∷ script_states) (counted ∷ counted_states) =
-    reported_board board script c counted ∷ reported_boards boards scripts script_states counted_states
-reported_boards boards scripts script_states counted_states = []
+abbrev pub texts_of_boards : List BoardConfig → List (List ScriptLine) → List ScriptState → List (CountedState Board) → List BoardText
+texts_of_boards (board ∷ boards) (script ∷ scripts) (c ∷ script_states) (counted ∷ counted_states) =
+    text_of_board board script c counted ∷ texts_of_boards boards scripts script_states counted_states
+texts_of_boards boards scripts script_states counted_states = []
 
 -- the report's entries for a system
-abbrev pub reported_system : Configuration → SystemState → List BoardText
-reported_system config system = reported_boards config.boards config.scripts system.script_states system.machine.boards
+abbrev pub texts_of_system : Configuration → SystemState → List BoardText
+texts_of_system config system = texts_of_boards config.boards config.scripts system.script_states system.machine.boards
 
 -- the text of the report after turns of these slots
 abbrev pub run_text : Configuration → List ℕ → List ℕ
-run_text config slots = report_text (reported_system config (state_after config slots))
+run_text config slots = report_text (texts_of_system config (state_after config slots))
 
 -- the status after turns of these slots: Clean if each reply is a success
 abbrev pub run_status : Configuration → List ℕ → Status
-run_status config slots = report_status (reported_system config (state_after config slots))
+run_status config slots = report_status (texts_of_system config (state_after config slots))

@@ -19,7 +19,7 @@ use Rattle.vme_line_task.specs.Scripts.{lines_at, script_at}
 use Rattle.vme_line_task.specs.ReadBuffers.{buffers_of}
 use Rattle.vme_line_task.specs.Machine.{line_started, line_advance, line_to_do, line_after, IsLineBelow}
 use Rattle.vme_line_task.specs.Traces.{ScriptState}
-use Rattle.vme_stepper.specs.Reports.{reported_lines}
+use Rattle.vme_stepper.specs.Reports.{numbered_replies}
 use Rattle.vme_stepper.specs.Turns.{SystemState, lines_left}
 
 -- a processor in the stepper: its script, the report's lines, how many have ended, and the task of the line at work, if
@@ -110,11 +110,11 @@ stepper_turn_at config stepper None = stepper
 stepper_turn_at config stepper (Some board) = stepper_turn config stepper board
 
 -- the report's entries for boards, by their processors
-abbrev pub processors_reported : List BoardConfig → List ProcessorView → List (CountedState Board) → List BoardText
-processors_reported (board ∷ boards) (processor ∷ processors) (counted ∷ counted_states) =
+abbrev pub texts_of_processors : List BoardConfig → List ProcessorView → List (CountedState Board) → List BoardText
+texts_of_processors (board ∷ boards) (processor ∷ processors) (counted ∷ counted_states) =
     record { slot = board.slot; lines = processor.lines; bytes = counted.object.bytes; steps = counted.steps; made = counted.made }
-    ∷ processors_reported boards processors counted_states
-processors_reported boards processors counted_states = []
+    ∷ texts_of_processors boards processors counted_states
+texts_of_processors boards processors counted_states = []
 
 -- the task of the line at work, if its calls have a reply
 abbrev pub task_at : Configuration → ℕ → List EventReply → List Line → Option LineTask
@@ -126,7 +126,7 @@ task_at config board (reply ∷ replies) (line ∷ lines) = Some (line_after con
 abbrev pub processor_of : Configuration → ℕ → ScriptState → ProcessorView
 processor_of config board c = record {
   script = script_at config board;
-  lines = reported_lines (script_at config board) c.ended;
+  lines = numbered_replies (script_at config board) c.ended;
   ended = length c.ended;
   at = task_at config board c.replies (lines_left config board c);
 }

@@ -8,7 +8,7 @@ ghost use Rattle.vme_script.specs.Configurations.{opening_memory};
 ghost use Rattle.vme_script.specs.Lawful.{IsLawful};
 ghost use Rattle.vme_stepper.specs.Turns.{board_in_slot, initial_state, state_after};
 ghost use Rattle.vme_stepper.specs.Schedules.{schedule_turns, file_turns};
-ghost use Rattle.vme_stepper.specs.Steppers.{stepper_turn, stepper_of, processors_reported, processors_from, IsStepperOf, StepsWithin};
+ghost use Rattle.vme_stepper.specs.Steppers.{stepper_turn, stepper_of, texts_of_processors, processors_from, IsStepperOf, StepsWithin};
 
 use crate::processor::Processor;
 use std::alloc::{AllocError, Global};
@@ -136,11 +136,11 @@ impl<'a> Stepper<'a> {
         requires stepper { IsStepperOf config.now self.now }
         requires unmarked { W.is_marked sink.old ≡ false }
         ensures text { OnOk result (Appends (W.contents sink.old) (W.contents sink.new)
-            (report_text (processors_reported config.now.boards self.now.processors self.now.machine.boards))) }
+            (report_text (texts_of_processors config.now.boards self.now.processors self.now.machine.boards))) }
         ensures prefix { OnErr result (AppendsPrefix (W.contents sink.old) (W.contents sink.new)
-            (report_text (processors_reported config.now.boards self.now.processors self.now.machine.boards))) }
+            (report_text (texts_of_processors config.now.boards self.now.processors self.now.machine.boards))) }
         ensures status { IfOk result (λ status. status
-            ≡ report_status (processors_reported config.now.boards self.now.processors self.now.machine.boards)) }
+            ≡ report_status (texts_of_processors config.now.boards self.now.processors self.now.machine.boards)) }
         ensures write { W.is_marked sink.new ≡ is_write_end result }
         ensures faults { IfErr result IsReportFault }
     {
@@ -157,7 +157,7 @@ impl<'a> Stepper<'a> {
     ) -> Result<Vec<BoardReportRef<'b>>, AllocError>
         requires { IsStepperOf config.now self.now }
         ensures { IfOk result (λ reports. reports.items
-            ≡ processors_reported config.now.boards self.now.processors self.now.machine.boards) }
+            ≡ texts_of_processors config.now.boards self.now.processors self.now.machine.boards) }
     {
         let mut reports = Vec::with_capacity(alloc, config.boards())?;
         for (board, processor) in self.processors.iter().enumerate() {

@@ -6,12 +6,12 @@ use Rattle.vme_threads.specs.declared.report.BoardReport.{BoardReport}
 use Rattle.vme_threads.specs.declared.report.Report.{Report}
 
 -- the boards of a report, from the boards' ends and the replies to their processors' lines
-abbrev pub ends_reported : List BoardReport → List (List (ℕ × LineReply)) → List BoardText
-ends_reported (end ∷ ends) (lines ∷ more) =
+abbrev pub texts_of_ends : List BoardReport → List (List (ℕ × LineReply)) → List BoardText
+texts_of_ends (end ∷ ends) (lines ∷ more) =
     record { slot = end.slot; lines = lines; bytes = end.memory.bytes; steps = end.steps; made = end.made.items }
-    ∷ ends_reported ends more
-ends_reported ends lines = []
+    ∷ texts_of_ends ends more
+texts_of_ends ends lines = []
 
 -- the boards of a report
-abbrev pub reported_report : Report → List BoardText
-reported_report report = ends_reported report.boards.items (map (λ lines. lines.items) report.lines.items)
+abbrev pub texts_of_report : Report → List BoardText
+texts_of_report report = texts_of_ends report.boards.items (map (λ lines. lines.items) report.lines.items)

@@ -34,7 +34,7 @@ use Rattle.vme_grammar.specs.Grammar.{IsOwnLine}
 use Rattle.vme_script.specs.Configurations.{Configuration}
 use Rattle.vme_line_task.specs.Scripts.{Attempt, Transferring, Awaiting, Sharing, slot_at, level_at, mailbox_at, transfer_job, request_attempt, unless_refused, shared_job, shared_attempt, line_attempt}
 use Rattle.vme_line_task.specs.Tables.{attempt_next, asks_again, Attempts, next_attempt, attempts_of, lawful_next, next_given, line_next, given_of}
-use Rattle.vme_line_task.specs.Tenures.{attempt_reported, lawful_reported, line_reported, IsLocal, IsGood, IsGranted}
+use Rattle.vme_line_task.specs.Tenures.{attempt_arb_reply, lawful_arb_reply, line_arb_reply, IsLocal, IsGood, IsGranted}
 use Rattle.vme_line_task.proofs.lemmas.Below.{moves_makes}
 use Rattle.vme_line_task.proofs.Ends.{just_begun}
 use Rattle.vme_line_task.proofs.Attempted.{attempt_begins, IsOwnAttempt, attempt_turns, IsTransfer, attempt_holds, attempt_turn, attempt_datum, attempt_ends}
@@ -101,13 +101,13 @@ first_given tries a =
       | inr next ↦ ap (λ (m : Attempts). m.given) next.begun
     ]
 
-lawful_begins : (tries : ℕ) (attempt : Result Attempt CycleFault) → lawful_reported tries attempt (None ∷ []) ≡ None
+lawful_begins : (tries : ℕ) (attempt : Result Attempt CycleFault) → lawful_arb_reply tries attempt (None ∷ []) ≡ None
 lawful_begins tries (Err fault) = refl
-lawful_begins tries (Ok a) = ap (attempt_reported a) (first_given tries a) ∙ attempt_begins a
+lawful_begins tries (Ok a) = ap (attempt_arb_reply a) (first_given tries a) ∙ attempt_begins a
 
 -- a line begins without a reply of the arbiter
-pub line_begins : (config : Configuration) (board : ℕ) (line : Line) → line_reported config board line [] ≡ None
-unfolding line_reported
+pub line_begins : (config : Configuration) (board : ℕ) (line : Line) → line_arb_reply config board line [] ≡ None
+unfolding line_arb_reply
 line_begins config board line = lawful_begins config.tries (line_attempt config board line)
 
 -- an attempt that ends the line at its first call is no denial
@@ -127,7 +127,7 @@ line_first config board line answer ends = lawful_first config.tries (line_attem
 
 -- the arbiter's last reply to an attempt allows each command to the arbiter
 lawful_turns : (slot level tries : ℕ) (attempt : Result Attempt CycleFault) (given : Inputs) (cmd : ArbCmd) → IsOwn slot level attempt
-    → is_level level ≡ true → lawful_next tries attempt given ≡ Invokes (OnBus cmd) → may_give slot (lawful_reported tries attempt given) cmd ≡ true
+    → is_level level ≡ true → lawful_next tries attempt given ≡ Invokes (OnBus cmd) → may_give slot (lawful_arb_reply tries attempt given) cmd ≡ true
 lawful_turns slot level tries (Ok a) given cmd own lawful made =
     attempt_turns slot level a (attempts_of a tries given).given cmd own lawful made
 lawful_turns slot level tries (Err fault) given cmd own lawful made = absurd cc
@@ -135,31 +135,31 @@ lawful_turns slot level tries (Err fault) given cmd own lawful made = absurd cc
 -- the arbiter's last reply to a line's slot allows each command to the arbiter
 pub line_turns : (config : Configuration) (board : ℕ) (line : Line) (replies : List EventReply) (cmd : ArbCmd)
     → is_level (level_at config board) ≡ true → line_next config board line replies ≡ Invokes (OnBus cmd)
-    → may_give (slot_at config board) (line_reported config board line replies) cmd ≡ true
-unfolding next_given line_reported
+    → may_give (slot_at config board) (line_arb_reply config board line replies) cmd ≡ true
+unfolding next_given line_arb_reply
 line_turns config board line replies cmd lawful made =
     lawful_turns (slot_at config board) (level_at config board) config.tries (line_attempt config board line) (given_of replies) cmd
     (line_own config board line) lawful made
 
 -- data of a transfer go to a board only while the arbiter's last reply is `Granted`
 lawful_holds : (tries : ℕ) (a : Attempt) (given : Inputs) (b : ℕ) (command : Option Command) → IsTransfer a
-    → lawful_next tries (Ok a) given ≡ Invokes (OnBoard b command) → lawful_reported tries (Ok a) given ≡ Some arb_replies.Granted
+    → lawful_next tries (Ok a) given ≡ Invokes (OnBoard b command) → lawful_arb_reply tries (Ok a) given ≡ Some arb_replies.Granted
 lawful_holds tries a given b command transfer made = attempt_holds a (attempts_of a tries given).given b command transfer made
 
 request_holds : (tries : ℕ) (attempt : Transfer → Attempt) (transfer : Result Transfer CycleFault) (given : Inputs) (b : ℕ) (command : Option Command)
     → ((t : Transfer) → IsTransfer (attempt t)) → lawful_next tries (request_attempt attempt transfer) given ≡ Invokes (OnBoard b command)
-    → lawful_reported tries (request_attempt attempt transfer) given ≡ Some arb_replies.Granted
+    → lawful_arb_reply tries (request_attempt attempt transfer) given ≡ Some arb_replies.Granted
 request_holds tries attempt (Ok t) given b command each made = lawful_holds tries (attempt t) given b command (each t) made
 request_holds tries attempt (Err fault) given b command each made = absurd cc
 
 shared_holds : (config : Configuration) (board : ℕ) (request : SharedRequest) (given : Inputs) (b : ℕ) (command : Option Command)
     → lawful_next config.tries (shared_attempt config board request) given ≡ Invokes (OnBoard b command)
-    → lawful_reported config.tries (shared_attempt config board request) given ≡ Some arb_replies.Granted
+    → lawful_arb_reply config.tries (shared_attempt config board request) given ≡ Some arb_replies.Granted
 shared_holds config board request given b command made = by_refusal (shared_refusal request) made
   where
     by_refusal : (refusal : Option CycleFault)
         → lawful_next config.tries (unless_refused (Sharing (shared_job config board request)) refusal) given ≡ Invokes (OnBoard b command)
-        → lawful_reported config.tries (unless_refused (Sharing (shared_job config board request)) refusal) given ≡ Some arb_replies.Granted
+        → lawful_arb_reply config.tries (unless_refused (Sharing (shared_job config board request)) refusal) given ≡ Some arb_replies.Granted
     by_refusal None made = lawful_holds config.tries (Sharing (shared_job config board request)) given b command tt made
     by_refusal (Some fault) made = absurd cc
 
@@ -179,7 +179,7 @@ own_local board b cmd g command own made =
 
 line_holds_by : (config : Configuration) (board : ℕ) (line : Line) (given : Inputs) (b : ℕ) (command : Option Command) → IsOwnLine line
     → lawful_next config.tries (line_attempt config board line) given ≡ Invokes (OnBoard b command)
-    → IsLocal command ⊎ (lawful_reported config.tries (line_attempt config board line) given ≡ Some arb_replies.Granted)
+    → IsLocal command ⊎ (lawful_arb_reply config.tries (line_attempt config board line) given ≡ Some arb_replies.Granted)
 line_holds_by config board (lines.Bus request) given b command own made =
     inr (request_holds config.tries (λ t. Transferring (transfer_job config board t)) (transfer_of request) given b command (λ t. tt) made)
 line_holds_by config board (lines.Local cmd) given b command own made =
@@ -200,55 +200,55 @@ line_holds_by config board (lines.Take box) given b command own made =
 -- a line's command to a board is one of the local port, or the arbiter's last reply is `Granted`
 pub line_holds : (config : Configuration) (board : ℕ) (line : Line) (replies : List EventReply) (b : ℕ) (command : Option Command)
     → IsOwnLine line → line_next config board line replies ≡ Invokes (OnBoard b command)
-    → IsLocal command ⊎ (line_reported config board line replies ≡ Some arb_replies.Granted)
-unfolding next_given line_reported
+    → IsLocal command ⊎ (line_arb_reply config board line replies ≡ Some arb_replies.Granted)
+unfolding next_given line_arb_reply
 line_holds config board line replies b command own made = line_holds_by config board line (given_of replies) b command own made
 
 -- after a good reply of the arbiter to an attempt, the slot stands as the last reply states
 lawful_turn : (tries : ℕ) (attempt : Result Attempt CycleFault) (given : Inputs) (cmd : ArbCmd) (reply : ArbReply) (bus : Arbitration)
     (slot : ℕ) → lawful_next tries attempt given ≡ Invokes (OnBus cmd) → IsGood (OnBus cmd) (event_replies.Bus reply) → StandsAsReplied bus slot (Some reply)
-    → StandsAsReplied bus slot (lawful_reported tries attempt (Some (event_replies.Bus reply) ∷ given))
+    → StandsAsReplied bus slot (lawful_arb_reply tries attempt (Some (event_replies.Bus reply) ∷ given))
 lawful_turn tries (Err fault) given cmd reply bus slot made good stands = absurd cc
 lawful_turn tries (Ok a) given cmd reply bus slot made good stands =
     let was = attempts_of a tries given in
     let now = now_made was (Some (event_replies.Bus reply)) in
     let reported_now = attempt_turn a was.given cmd reply bus slot made good stands in
     elim (either now (attempt_next a now.given)) [
-      | inl same ↦ subst (λ (m : Attempts). StandsAsReplied bus slot (attempt_reported a m.given)) (sym same) reported_now
+      | inl same ↦ subst (λ (m : Attempts). StandsAsReplied bus slot (attempt_arb_reply a m.given)) (sym same) reported_now
       | inr next ↦
           let ends = attempt_ends a was.given (OnBus cmd) (event_replies.Bus reply) next.answer made good next.ended in
-          subst (λ (m : Attempts). StandsAsReplied bus slot (attempt_reported a m.given)) (sym next.begun)
+          subst (λ (m : Attempts). StandsAsReplied bus slot (attempt_arb_reply a m.given)) (sym next.begun)
           (subst (StandsAsReplied bus slot) (sym (attempt_begins a)) (ends.free bus slot reported_now))
     ]
 
 -- after a good reply of the arbiter the slot stands as the last reply states
 pub line_turn : (config : Configuration) (board : ℕ) (line : Line) (replies : List EventReply) (cmd : ArbCmd) (reply : ArbReply)
     (bus : Arbitration) (slot : ℕ) → line_next config board line replies ≡ Invokes (OnBus cmd) → IsGood (OnBus cmd) (event_replies.Bus reply)
-    → StandsAsReplied bus slot (Some reply) → StandsAsReplied bus slot (line_reported config board line (event_replies.Bus reply ∷ replies))
-unfolding next_given line_reported
+    → StandsAsReplied bus slot (Some reply) → StandsAsReplied bus slot (line_arb_reply config board line (event_replies.Bus reply ∷ replies))
+unfolding next_given line_arb_reply
 line_turn config board line replies cmd reply bus slot made good stands =
     lawful_turn config.tries (line_attempt config board line) (given_of replies) cmd reply bus slot made good stands
 
 -- a good reply of a board to an attempt leaves the arbiter's last reply the same
 lawful_datum : (tries : ℕ) (attempt : Result Attempt CycleFault) (given : Inputs) (call : Call) (reply : Reply)
     → lawful_next tries attempt given ≡ Invokes call → IsGood call (event_replies.Board reply)
-    → lawful_reported tries attempt (Some (event_replies.Board reply) ∷ given) ≡ lawful_reported tries attempt given
+    → lawful_arb_reply tries attempt (Some (event_replies.Board reply) ∷ given) ≡ lawful_arb_reply tries attempt given
 lawful_datum tries (Err fault) given call reply made good = absurd cc
 lawful_datum tries (Ok a) given call reply made good =
     let was = attempts_of a tries given in
     let now = now_made was (Some (event_replies.Board reply)) in
     elim (either now (attempt_next a now.given)) [
-      | inl same ↦ ap (λ (m : Attempts). attempt_reported a m.given) same ∙ attempt_datum a was.given call reply made good
+      | inl same ↦ ap (λ (m : Attempts). attempt_arb_reply a m.given) same ∙ attempt_datum a was.given call reply made good
       | inr next ↦
           let ends = attempt_ends a was.given call (event_replies.Board reply) next.answer made good next.ended in
-          ap (λ (m : Attempts). attempt_reported a m.given) next.begun ∙ attempt_begins a ∙ sym (ends.quiet reply refl)
+          ap (λ (m : Attempts). attempt_arb_reply a m.given) next.begun ∙ attempt_begins a ∙ sym (ends.quiet reply refl)
     ]
 
 -- a good reply of a board leaves the arbiter's last reply the same
 pub line_datum : (config : Configuration) (board : ℕ) (line : Line) (replies : List EventReply) (call : Call) (reply : Reply)
     → line_next config board line replies ≡ Invokes call → IsGood call (event_replies.Board reply)
-    → line_reported config board line (event_replies.Board reply ∷ replies) ≡ line_reported config board line replies
-unfolding next_given line_reported
+    → line_arb_reply config board line (event_replies.Board reply ∷ replies) ≡ line_arb_reply config board line replies
+unfolding next_given line_arb_reply
 line_datum config board line replies call reply made good =
     lawful_datum config.tries (line_attempt config board line) (given_of replies) call reply made good
 
@@ -259,7 +259,7 @@ pub record IsWellEnded (answer : LineReply) (last : Option ArbReply) : Type 0 wh
 
 lawful_ends : (tries : ℕ) (attempt : Result Attempt CycleFault) (given : Inputs) (call : Call) (reply : EventReply) (answer : LineReply)
     → lawful_next tries attempt given ≡ Invokes call → IsGood call reply → lawful_next tries attempt (Some reply ∷ given) ≡ Returns answer
-    → IsWellEnded answer (lawful_reported tries attempt (Some reply ∷ given))
+    → IsWellEnded answer (lawful_arb_reply tries attempt (Some reply ∷ given))
 lawful_ends tries (Err fault) given call reply answer made good ends = absurd cc
 lawful_ends tries (Ok a) given call reply answer made good ends =
     let was = attempts_of a tries given in
@@ -268,18 +268,18 @@ lawful_ends tries (Ok a) given call reply answer made good ends =
       | inl same ↦
           let last : attempt_next a now.given ≡ Returns answer = sym (ap (λ (m : Attempts). attempt_next a m.given) same) ∙ ends in
           let well = attempt_ends a was.given call reply answer made good last in
-          subst (λ (m : Attempts). IsWellEnded answer (attempt_reported a m.given)) (sym same) (record { granted = well.granted; free = well.free })
+          subst (λ (m : Attempts). IsWellEnded answer (attempt_arb_reply a m.given)) (sym same) (record { granted = well.granted; free = well.free })
       | inr next ↦
           let begun = just_begun a answer (sym (ap (λ (m : Attempts). attempt_next a m.given) next.begun) ∙ ends) in
-          let reported_none : attempt_reported a (next_attempt now (attempt_next a now.given)).given ≡ None
-          = ap (λ (m : Attempts). attempt_reported a m.given) next.begun ∙ attempt_begins a in
+          let reported_none : attempt_arb_reply a (next_attempt now (attempt_next a now.given)).given ≡ None
+          = ap (λ (m : Attempts). attempt_arb_reply a m.given) next.begun ∙ attempt_begins a in
           record { granted = begun.granted; free = λ bus slot stands. subst (StandsAsReplied bus slot) reported_none stands }
     ]
 
 -- a line that ends by a good reply ends without a denial, and its slot stands as one without a reply of the arbiter
 pub line_ends : (config : Configuration) (board : ℕ) (line : Line) (replies : List EventReply) (call : Call) (reply : EventReply)
     (answer : LineReply) → line_next config board line replies ≡ Invokes call → IsGood call reply
-    → line_next config board line (reply ∷ replies) ≡ Returns answer → IsWellEnded answer (line_reported config board line (reply ∷ replies))
-unfolding next_given line_reported
+    → line_next config board line (reply ∷ replies) ≡ Returns answer → IsWellEnded answer (line_arb_reply config board line (reply ∷ replies))
+unfolding next_given line_arb_reply
 line_ends config board line replies call reply answer made good ends =
     lawful_ends config.tries (line_attempt config board line) (given_of replies) call reply answer made good ends

@@ -76,11 +76,11 @@ module _ (config : Configuration) (box board : ℕ) (m : BoardMailbox) (memory :
   proper who = (each_led who).goes
 
   -- the words that each processor puts are those that its replies report
-  pub put_reported : Each (λ who reported. words_along put_by m (Some Idle) (own who h) ≡ lines_put box (lines_at config who) reported) answers
-  put_reported who d below =
+  pub put_by_outcome : Each (λ who reported. words_along put_by m (Some Idle) (own who h) ≡ lines_put box (lines_at config who) reported) answers
+  put_by_outcome who d below =
       (each_led who).done.0 ∙ ap (lines_put box (lines_at config who)) (get_or_default answers who [] d below)
 
   -- the words that each processor takes are those that its replies report
-  pub taken_reported : Each (λ who reported. words_along taken_by m (Some Idle) (own who h) ≡ lines_taken box (lines_at config who) reported) answers
-  taken_reported who d below =
+  pub taken_by_outcome : Each (λ who reported. words_along taken_by m (Some Idle) (own who h) ≡ lines_taken box (lines_at config who) reported) answers
+  taken_by_outcome who d below =
       (each_led who).done.1 ∙ ap (lines_taken box (lines_at config who)) (get_or_default answers who [] d below)

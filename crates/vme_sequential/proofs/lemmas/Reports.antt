@@ -18,12 +18,12 @@ use Rattle.vme_script.specs.Lawful.{IsLawful}
 use Rattle.vme_line_task.specs.Scripts.{script_at, lines_at}
 use Rattle.vme_line_task.specs.Traces.{ScriptState, IsTrace}
 use Rattle.vme_stepper.specs.Turns.{script_state, initial_state, state_after}
-use Rattle.vme_stepper.specs.Reports.{reported_lines, reported_board, reported_boards, reported_system}
+use Rattle.vme_stepper.specs.Reports.{numbered_replies, text_of_board, texts_of_boards, texts_of_system}
 use Rattle.vme_bus_objects.specs.Runs.{transitions_of}
 use Rattle.vme_threads.specs.declared.report.BoardReport.{BoardReport}
 use Rattle.vme_threads.specs.declared.report.Report.{Report}
 use Rattle.vme_threads.specs.Rans.{numbers_in, answers_in}
-use Rattle.vme_threads.specs.ReportTexts.{ends_reported, reported_report}
+use Rattle.vme_threads.specs.ReportTexts.{texts_of_ends, texts_of_report}
 use Rattle.vme_sequential.specs.Orders.{performed, IsOneOrder, ended_state}
 use Rattle.vme_threads.specs.OneOrder.{IsEntryOfBoard, IsReportOfOneOrder}
 use Rattle.vme_sequential.proofs.lemmas.Lists.{element_at, map_at, same_elements, related_at}
@@ -32,7 +32,7 @@ use Rattle.vme_sequential.proofs.lemmas.MachineRuns.{Legal, IsPerformed, is_perf
 
 -- the report's lines of a script with these replies
 lines_are : (script : List ScriptLine) (lines : List (ℕ × LineReply)) → numbers_in lines ≡ map (λ one. one.number) script
-    → reported_lines script (answers_in lines) ≡ lines
+    → numbered_replies script (answers_in lines) ≡ lines
 lines_are [] [] numbers = refl
 lines_are [] (line ∷ lines) numbers = absurd (cc numbers)
 lines_are (one ∷ script) [] numbers = absurd (cc numbers)
@@ -45,20 +45,20 @@ lines_are (one ∷ script) (line ∷ lines) numbers =
 -- the report's entry of the board at an index
 boards_at : (boards : List BoardConfig) (scripts : List (List ScriptLine)) (script_states : List ScriptState) (counted_states : List (CountedState Board)) (i : ℕ)
     (board : BoardConfig) (script : List ScriptLine) (c : ScriptState) (counted : CountedState Board) → slice_get boards i ≡ Some board → slice_get scripts i ≡ Some script
-    → slice_get script_states i ≡ Some c → slice_get counted_states i ≡ Some counted → slice_get (reported_boards boards scripts script_states counted_states) i ≡ Some (reported_board board script c counted)
+    → slice_get script_states i ≡ Some c → slice_get counted_states i ≡ Some counted → slice_get (texts_of_boards boards scripts script_states counted_states) i ≡ Some (text_of_board board script c counted)
 boards_at [] scripts script_states counted_states i board script c counted a b d e = absurd (cc a)
 boards_at (x ∷ boards) [] script_states counted_states i board script c counted a b d e = absurd (cc b)
 boards_at (x ∷ boards) (y ∷ scripts) [] counted_states i board script c counted a b d e = absurd (cc d)
 boards_at (x ∷ boards) (y ∷ scripts) (z ∷ script_states) [] i board script c counted a b d e = absurd (cc e)
 boards_at (x ∷ boards) (y ∷ scripts) (z ∷ script_states) (w ∷ counted_states) zero board script c counted a b d e =
     let p = same_Some x board a in let q = same_Some y script b in let r = same_Some z c d in let s = same_Some w counted e in
-    λ k. Some (reported_board (p k) (q k) (r k) (s k))
+    λ k. Some (text_of_board (p k) (q k) (r k) (s k))
 boards_at (x ∷ boards) (y ∷ scripts) (z ∷ script_states) (w ∷ counted_states) (suc i) board script c counted a b d e =
     boards_at boards scripts script_states counted_states i board script c counted a b d e
 
 -- the report has an entry for each board
 boards_count : (boards : List BoardConfig) (scripts : List (List ScriptLine)) (script_states : List ScriptState) (counted_states : List (CountedState Board)) (n : ℕ)
-    → length boards ≡ n → length scripts ≡ n → length script_states ≡ n → length counted_states ≡ n → length (reported_boards boards scripts script_states counted_states) ≡ n
+    → length boards ≡ n → length scripts ≡ n → length script_states ≡ n → length counted_states ≡ n → length (texts_of_boards boards scripts script_states counted_states) ≡ n
 boards_count [] scripts script_states counted_states n a b c d = a
 boards_count (x ∷ boards) [] script_states counted_states n a b c d = absurd (omega arith)
 boards_count (x ∷ boards) (y ∷ scripts) [] counted_states n a b c d = absurd (omega arith)
@@ -67,21 +67,21 @@ boards_count (x ∷ boards) (y ∷ scripts) (z ∷ script_states) (w ∷ counted
     let more = boards_count boards scripts script_states counted_states (length boards) refl (omega arith) (omega arith) (omega arith) in omega arith
 
 -- the text of a board's entry and its lines
-abbrev end_reported : BoardReport → List (ℕ × LineReply) → BoardText
-end_reported end lines = record { slot = end.slot; lines = lines; bytes = end.memory.bytes; steps = end.steps; made = end.made.items }
+abbrev text_of_end : BoardReport → List (ℕ × LineReply) → BoardText
+text_of_end end lines = record { slot = end.slot; lines = lines; bytes = end.memory.bytes; steps = end.steps; made = end.made.items }
 
 -- the text of the entry at an index
 ends_at : (ends : List BoardReport) (lines : List (List (ℕ × LineReply))) (i : ℕ) (end : BoardReport) (own : List (ℕ × LineReply)) → slice_get ends i ≡ Some end
-    → slice_get lines i ≡ Some own → slice_get (ends_reported ends lines) i ≡ Some (end_reported end own)
+    → slice_get lines i ≡ Some own → slice_get (texts_of_ends ends lines) i ≡ Some (text_of_end end own)
 ends_at [] lines i end own a b = absurd (cc a)
 ends_at (x ∷ ends) [] i end own a b = absurd (cc b)
 ends_at (x ∷ ends) (y ∷ lines) zero end own a b =
     let p = same_Some x end a in let q = same_Some y own b in
-    λ k. Some (end_reported (p k) (q k))
+    λ k. Some (text_of_end (p k) (q k))
 ends_at (x ∷ ends) (y ∷ lines) (suc i) end own a b = ends_at ends lines i end own a b
 
 -- there is a text for each entry
-ends_count : (ends : List BoardReport) (lines : List (List (ℕ × LineReply))) (n : ℕ) → length ends ≡ n → length lines ≡ n → length (ends_reported ends lines) ≡ n
+ends_count : (ends : List BoardReport) (lines : List (List (ℕ × LineReply))) (n : ℕ) → length ends ≡ n → length lines ≡ n → length (texts_of_ends ends lines) ≡ n
 ends_count [] lines n a b = a
 ends_count (x ∷ ends) [] n a b = absurd (omega arith)
 ends_count (x ∷ ends) (y ∷ lines) n a b = let more = ends_count ends lines (length ends) refl (omega arith) in omega arith
@@ -156,7 +156,7 @@ module _ (config : Configuration) (report : Report) (lawful : IsLawful config) (
   }
 
   -- the entry of a board is the same
-  same_at : (x : ℕ) → x < k → slice_get (reported_report report) x ≡ slice_get (reported_system config (ended_state last answers)) x
+  same_at : (x : ℕ) → x < k → slice_get (texts_of_report report) x ≡ slice_get (texts_of_system config (ended_state last answers)) x
   same_at x less =
       let board = element_at config.boards x less in
       let own : BoardConfig = board.0 in
@@ -182,33 +182,33 @@ module _ (config : Configuration) (report : Report) (lawful : IsLawful config) (
       let numbers : numbers_in lines.0.items ≡ map (λ one. one.number) (script_at config x) =
       subst (λ (l : Vec (ℕ × LineReply)). numbers_in l.items ≡ map (λ one. one.number) (script_at config x)) (get_or_from_slice_get report.lines.items x lines.0 lines.0 lines.1)
       (is.numbers x lines.0 (slice_get_within report.lines.items x lines.0 lines.1)) in
-      let lines_same : reported_lines script.0 (answers_in lines.0.items) ≡ lines.0.items =
+      let lines_same : numbered_replies script.0 (answers_in lines.0.items) ≡ lines.0.items =
       lines_are script.0 lines.0.items (numbers ∙ ap (λ (s : List ScriptLine). map (λ one. one.number) s) script_is) in
-      let texts : end_reported e lines.0.items ≡ reported_board own script.0 (script_state (answers_in lines.0.items) []) t =
+      let texts : text_of_end e lines.0.items ≡ text_of_board own script.0 (script_state (answers_in lines.0.items) []) t =
       λ i. record { slot = end.2.slot i; lines = sym lines_same i; bytes = (memory i).bytes; steps = steps i; made = made i } in
-      let left : slice_get (reported_report report) x ≡ Some (end_reported e lines.0.items) =
+      let left : slice_get (texts_of_report report) x ≡ Some (text_of_end e lines.0.items) =
       ends_at report.boards.items (map (λ (lines : Vec (ℕ × LineReply)). lines.items) report.lines.items) x e lines.0.items end.1
       (map_at (λ (lines : Vec (ℕ × LineReply)). lines.items) report.lines.items x lines.0 lines.1) in
       let state_at : slice_get (map (λ own. script_state own []) answers) x ≡ Some (script_state (answers_in lines.0.items) []) =
       map_at (λ own. script_state own []) answers x (answers_in lines.0.items)
       (map_at (λ (lines : Vec (ℕ × LineReply)). answers_in lines.items) report.lines.items x lines.0 lines.1) in
-      let right : slice_get (reported_system config (ended_state last answers)) x ≡ Some (reported_board own script.0 (script_state (answers_in lines.0.items) []) t) =
+      let right : slice_get (texts_of_system config (ended_state last answers)) x ≡ Some (text_of_board own script.0 (script_state (answers_in lines.0.items) []) t) =
       boards_at config.boards config.scripts (map (λ own. script_state own []) answers) last.boards x own script.0 (script_state (answers_in lines.0.items) []) t board.1 script.1 state_at counted.1 in
       left ∙ ap Some texts ∙ sym right
 
   -- all entries are the same
-  same_reported : reported_report report ≡ reported_system config (ended_state last answers)
+  same_reported : texts_of_report report ≡ texts_of_system config (ended_state last answers)
   same_reported =
       let states_count : length (map (λ own. script_state own []) answers) ≡ k = length-map answers (λ own. script_state own []) ∙ order.count in
-      let right : length (reported_system config (ended_state last answers)) ≡ k =
+      let right : length (texts_of_system config (ended_state last answers)) ≡ k =
       boards_count config.boards config.scripts (map (λ own. script_state own []) answers) last.boards k refl lawful.scripts states_count (one.did.boards.count ∙ first_count) in
-      let left : length (reported_report report) ≡ k =
+      let left : length (texts_of_report report) ≡ k =
       ends_count report.boards.items (map (λ (lines : Vec (ℕ × LineReply)). lines.items) report.lines.items) k is.boards.count
       (length-map report.lines.items (λ (lines : Vec (ℕ × LineReply)). lines.items) ∙ is.trace.count) in
-      same_elements (reported_report report) (reported_system config (ended_state last answers)) (left ∙ sym right) (λ i less. same_at i (subst (λ n. i < n) right less))
+      same_elements (texts_of_report report) (texts_of_system config (ended_state last answers)) (left ∙ sym right) (λ i less. same_at i (subst (λ n. i < n) right less))
 
   -- a report of one order has the entries of a report of some turns
-  pub run_is_step : (slots : List ℕ) × (reported_report report ≡ reported_system config (state_after config slots))
+  pub run_is_step : (slots : List ℕ) × (texts_of_report report ≡ texts_of_system config (state_after config slots))
   run_is_step =
       let turns = one_order config is.run answers last lawful order in
-      (turns.0, same_reported ∙ ap (reported_system config) (sym turns.1))
+      (turns.0, same_reported ∙ ap (texts_of_system config) (sym turns.1))

@@ -40,7 +40,7 @@ use Rattle.vme_shared.specs.declared.stage.StageResult.{StageResult}
 use Rattle.vme_shared.specs.declared.stage.StageResult.TheVariants.{Continue, Finish}
 use Rattle.vme_shared.specs.Mailboxes.{mailbox_request, stage_request}
 use Rattle.vme_shared.specs.Steps.{first_stage, step_after}
-use Rattle.vme_shared.specs.Tables.{SharedJob, Progress, At, Over, transfer_job, stage_job, stage_begun, step_begun, progress_by, progress_given, progress_of, task_shown, next_at, shared_next, reported_at, shared_reported}
+use Rattle.vme_shared.specs.Tables.{SharedJob, Progress, At, Over, transfer_job, stage_job, stage_begun, step_begun, progress_by, progress_given, progress_of, task_shown, next_at, shared_next, arb_reply_at, shared_arb_reply}
 use Rattle.vme_shared.proofs.Transfers.{IsFormed, good_end, ends_formed}
 use Rattle.vme_shared.proofs.Steps.{IsSound, IsGood, GoesSound, first_sound, step_goes, step_good}
 
@@ -150,7 +150,7 @@ shown_makes next call made = map_makes (λ outcome. shared.Denied) next call mad
 
 -- at each progress the arbiter's last reply allows the command to the arbiter
 turns_at : (s : SharedJob) (p : Progress) (cmd : ArbCmd) → Standing s p → is_level s.level ≡ true → next_at p ≡ Invokes (OnBus cmd)
-    → may_give s.slot (reported_at p) cmd ≡ true
+    → may_give s.slot (arb_reply_at p) cmd ≡ true
 turns_at s (At stage job given) cmd at lawful made =
     let own = own_task s stage job at.own in
     let task : next_of (Bus own.bus) given ≡ Invokes (OnBus cmd) =
@@ -161,12 +161,12 @@ turns_at s (Over end) cmd at lawful made = absurd cc
 
 -- the arbiter's last reply allows each command to the arbiter
 pub turns_go_by : (s : SharedJob) (g : Inputs) (cmd : ArbCmd) → is_level s.level ≡ true → shared_next s g ≡ Invokes (OnBus cmd)
-    → may_give s.slot (shared_reported s g) cmd ≡ true
+    → may_give s.slot (shared_arb_reply s g) cmd ≡ true
 turns_go_by s g cmd lawful made = turns_at s (progress_of s g) cmd (standing s g) lawful made
 
 -- at each progress data go to a board only while the arbiter's last reply is `Granted`
 holds_at : (s : SharedJob) (p : Progress) (board : ℕ) (command : Option Command) → Standing s p
-    → next_at p ≡ Invokes (OnBoard board command) → reported_at p ≡ Some arb_replies.Granted
+    → next_at p ≡ Invokes (OnBoard board command) → arb_reply_at p ≡ Some arb_replies.Granted
 holds_at s (At stage job given) board command at made =
     let own = own_task s stage job at.own in
     transfers.holds_for_data own.bus given board command
@@ -176,7 +176,7 @@ holds_at s (Over end) board command at made = absurd cc
 
 -- data go to a board only while the arbiter's last reply is `Granted`
 pub holds_for_data : (s : SharedJob) (g : Inputs) (board : ℕ) (command : Option Command)
-    → shared_next s g ≡ Invokes (OnBoard board command) → shared_reported s g ≡ Some arb_replies.Granted
+    → shared_next s g ≡ Invokes (OnBoard board command) → shared_arb_reply s g ≡ Some arb_replies.Granted
 holds_for_data s g board command made = holds_at s (progress_of s g) board command (standing s g) made
 
 -- at each progress the board that is called is one of the map
@@ -196,21 +196,21 @@ calls_below s g board command made = below_at s (progress_of s g) board command 
 
 -- a first stage has no reply of the arbiter at its first call
 begun_reported : (s : SharedJob) (stage : Stage) (job : Result Job CycleFault)
-    → reported_at (progress_given s None (stage_begun stage [] job)) ≡ None
+    → arb_reply_at (progress_given s None (stage_begun stage [] job)) ≡ None
 begun_reported s stage (Ok job) = refl
 begun_reported s stage (Err fault) = refl
 
 -- there is no reply of the arbiter at the first call
-pub begin_reported : (s : SharedJob) → shared_reported s (None ∷ []) ≡ None
+pub begin_reported : (s : SharedJob) → shared_arb_reply s (None ∷ []) ≡ None
 begin_reported s = begun_reported s (first_stage s.request) (stage_job s (first_stage s.request))
 
 -- a transfer that begins has no reply of the arbiter
-called_reported : (stage : Stage) (job : Result Job CycleFault) → reported_at (stage_begun stage (None ∷ []) job) ≡ None
+called_reported : (stage : Stage) (job : Result Job CycleFault) → arb_reply_at (stage_begun stage (None ∷ []) job) ≡ None
 called_reported stage (Ok job) = refl
 called_reported stage (Err fault) = refl
 
 -- after a transfer, there is no reply of the arbiter
-step_reported : (s : SharedJob) (step : StageResult) → reported_at (step_begun s step) ≡ None
+step_reported : (s : SharedJob) (step : StageResult) → arb_reply_at (step_begun s step) ≡ None
 step_reported s (Continue stage) = called_reported stage (stage_job s stage)
 step_reported s (Finish end) = refl
 
@@ -241,7 +241,7 @@ task_ends s stage job given call reply outcome at made fit good ends =
 -- after a good reply of the arbiter the slot stands as it states, or the transfer has ended and the slot is free
 turn_by : (s : SharedJob) (stage : Stage) (job : Job) (given : Inputs) (reply : ArbReply) (bus : Arbitration) (slot : ℕ) (next : NextStep Outcome)
     → ((outcome : Outcome) → next ≡ Returns outcome → replies.Bus reply ≡ replies.Bus arb_replies.Freed) → StandsAsReplied bus slot (Some reply)
-    → StandsAsReplied bus slot (reported_at (progress_by s stage job (Some (replies.Bus reply) ∷ given) next))
+    → StandsAsReplied bus slot (arb_reply_at (progress_by s stage job (Some (replies.Bus reply) ∷ given) next))
 turn_by s stage job given reply bus slot NotStarted freed stands = stands
 turn_by s stage job given reply bus slot (Invokes call) freed stands = stands
 turn_by s stage job given reply bus slot (Returns outcome) freed stands =
@@ -252,7 +252,7 @@ turn_by s stage job given reply bus slot (Returns outcome) freed stands =
 -- at each progress the slot stands as the last reply states after a good reply of the arbiter
 turn_at : (s : SharedJob) (p : Progress) (cmd : ArbCmd) (reply : ArbReply) (bus : Arbitration) (slot : ℕ) → Standing s p
     → next_at p ≡ Invokes (OnBus cmd) → fits (OnBus cmd) (replies.Bus reply) ≡ true → replies.Bus reply ≢ replies.Bus arb_replies.Denied
-    → StandsAsReplied bus slot (Some reply) → StandsAsReplied bus slot (reported_at (progress_given s (Some (replies.Bus reply)) p))
+    → StandsAsReplied bus slot (Some reply) → StandsAsReplied bus slot (arb_reply_at (progress_given s (Some (replies.Bus reply)) p))
 turn_at s (At stage job given) cmd reply bus slot at made fit good stands =
     turn_by s stage job given reply bus slot (next_of job (Some (replies.Bus reply) ∷ given))
     (λ outcome ends.
@@ -264,20 +264,20 @@ turn_at s (Over end) cmd reply bus slot at made fit good stands = absurd cc
 -- after a good reply of the arbiter the slot stands as the last reply states
 pub turn_reported : (s : SharedJob) (g : Inputs) (cmd : ArbCmd) (reply : ArbReply) (bus : Arbitration) (slot : ℕ)
     → shared_next s g ≡ Invokes (OnBus cmd) → fits (OnBus cmd) (replies.Bus reply) ≡ true → replies.Bus reply ≢ replies.Bus arb_replies.Denied
-    → StandsAsReplied bus slot (Some reply) → StandsAsReplied bus slot (shared_reported s (Some (replies.Bus reply) ∷ g))
+    → StandsAsReplied bus slot (Some reply) → StandsAsReplied bus slot (shared_arb_reply s (Some (replies.Bus reply) ∷ g))
 turn_reported s g cmd reply bus slot made fit good stands = turn_at s (progress_of s g) cmd reply bus slot (standing s g) made fit good stands
 
 -- a good reply of a board leaves the arbiter's last reply the same, at each stage
 datum_by : (s : SharedJob) (stage : Stage) (job : Job) (given : Inputs) (reply : Reply) (next : NextStep Outcome)
     → ((outcome : Outcome) → next ≡ Returns outcome → replies.Board reply ≡ replies.Bus arb_replies.Freed)
-    → reported_at (progress_by s stage job (Some (replies.Board reply) ∷ given) next) ≡ last_arb_reply given
+    → arb_reply_at (progress_by s stage job (Some (replies.Board reply) ∷ given) next) ≡ last_arb_reply given
 datum_by s stage job given reply NotStarted freed = refl
 datum_by s stage job given reply (Invokes call) freed = refl
 datum_by s stage job given reply (Returns outcome) freed = let one = freed outcome refl in absurd cc
 
 -- at each progress a good reply of a board leaves the arbiter's last reply the same
 datum_at : (s : SharedJob) (p : Progress) (call : Call) (reply : Reply) → Standing s p → next_at p ≡ Invokes call
-    → fits call (replies.Board reply) ≡ true → reported_at (progress_given s (Some (replies.Board reply)) p) ≡ reported_at p
+    → fits call (replies.Board reply) ≡ true → arb_reply_at (progress_given s (Some (replies.Board reply)) p) ≡ arb_reply_at p
 datum_at s (At stage job given) call reply at made fit =
     datum_by s stage job given reply (next_of job (Some (replies.Board reply) ∷ given))
     (λ outcome ends.
@@ -287,7 +287,7 @@ datum_at s (Over end) call reply at made fit = absurd cc
 
 -- a board's reply that fits leaves the arbiter's last reply the same
 pub datum_reported : (s : SharedJob) (g : Inputs) (call : Call) (reply : Reply) → shared_next s g ≡ Invokes call
-    → fits call (replies.Board reply) ≡ true → shared_reported s (Some (replies.Board reply) ∷ g) ≡ shared_reported s g
+    → fits call (replies.Board reply) ≡ true → shared_arb_reply s (Some (replies.Board reply) ∷ g) ≡ shared_arb_reply s g
 datum_reported s g call reply made fit = datum_at s (progress_of s g) call reply (standing s g) made fit
 
 -- an end after a good reply: it is no denial, the bus is free, and no reply of the arbiter is left
@@ -312,7 +312,7 @@ step_ends s (Finish stop) end good ends = λ denied. let same : stop ≡ end = c
 ends_by : (s : SharedJob) (stage : Stage) (job : Job) (given : Inputs) (reply : EventReply) (end : SharedOutcome) (next : NextStep Outcome)
     → next_of job (Some reply ∷ given) ≡ next → ((outcome : Outcome) → next ≡ Returns outcome → EndsWell s stage reply outcome)
     → next_at (progress_by s stage job (Some reply ∷ given) next) ≡ Returns end
-    → GoodEnd reply end (reported_at (progress_by s stage job (Some reply ∷ given) next))
+    → GoodEnd reply end (arb_reply_at (progress_by s stage job (Some reply ∷ given) next))
 ends_by s stage job given reply end NotStarted is well ends =
     let same : task_shown NotStarted ≡ Returns end = ap task_shown (sym is) ∙ ends in absurd cc
 ends_by s stage job given reply end (Invokes call) is well ends =
@@ -328,7 +328,7 @@ ends_by s stage job given reply end (Returns outcome) is well ends =
 -- at each progress an end after a good reply is a good end
 ends_at : (s : SharedJob) (p : Progress) (call : Call) (reply : EventReply) (end : SharedOutcome) → Standing s p → next_at p ≡ Invokes call
     → fits call reply ≡ true → reply ≢ replies.Bus arb_replies.Denied → next_at (progress_given s (Some reply) p) ≡ Returns end
-    → GoodEnd reply end (reported_at (progress_given s (Some reply) p))
+    → GoodEnd reply end (arb_reply_at (progress_given s (Some reply) p))
 ends_at s (At stage job given) call reply end at made fit good ends =
     ends_by s stage job given reply end (next_of job (Some reply ∷ given)) refl
     (λ outcome over. task_ends s stage job given call reply outcome at (shown_makes (next_of job given) call made) fit good over) ends
@@ -337,7 +337,7 @@ ends_at s (Over stop) call reply end at made fit good ends = absurd cc
 -- an end after a good reply is no denial, and the bus is free
 pub ends_well : (s : SharedJob) (g : Inputs) (call : Call) (reply : EventReply) (end : SharedOutcome) → shared_next s g ≡ Invokes call
     → fits call reply ≡ true → reply ≢ replies.Bus arb_replies.Denied → shared_next s (Some reply ∷ g) ≡ Returns end
-    → GoodEnd reply end (shared_reported s (Some reply ∷ g))
+    → GoodEnd reply end (shared_arb_reply s (Some reply ∷ g))
 ends_well s g call reply end made fit good ends = ends_at s (progress_of s g) call reply end (standing s g) made fit good ends
 
 -- at each progress an end is final

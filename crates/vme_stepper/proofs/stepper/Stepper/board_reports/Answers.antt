@@ -1,6 +1,6 @@
 use Rattle.std.proofs.Common.{◌≡◌, ◌<◌, ◌+◌, ◌++◌, length, drop, ap, sym, subst, ◌∙◌, arith, append_assoc, get_or, List}
 use Rattle.vme_report.specs.Boards.{BoardText}
-use Rattle.vme_stepper.specs.Steppers.{ProcessorView, StepperView, processors_reported}
+use Rattle.vme_stepper.specs.Steppers.{ProcessorView, StepperView, texts_of_processors}
 use Rattle.vme_stepper.proofs.Reporting.{board_more}
 use Rattle.vme_stepper.proofs.stepper.Stepper.board_reports.Goals as goal
 
@@ -21,7 +21,7 @@ loop-board-preserved c =
     let read : c.processor-item.result ≡ get_or processors i c.processor-item.result
     = c.processor-item.is ∙ ap (λ (xs : List ProcessorView). get_or xs i c.processor-item.result) items in
     record {
-      reported = ap (λ (rs : List BoardText). rs ++ processors_reported (drop (i + 1) c.args.config.now.boards) (drop (i + 1) processors) (drop (i + 1) c.self.inside.core.boards)) c.in_ok-push.ensures.items
+      reported = ap (λ (rs : List BoardText). rs ++ texts_of_processors (drop (i + 1) c.args.config.now.boards) (drop (i + 1) processors) (drop (i + 1) c.self.inside.core.boards)) c.in_ok-push.ensures.items
           ∙ append_assoc c.loop-board.reports.items _ _
           ∙ ap (λ (rs : List BoardText). c.loop-board.reports.items ++ rs)
           (sym (board_more c.args.config.now.boards processors c.self.inside.core.boards i c.slot.result c.steps.result c.processor-item.result c.lines.result.now

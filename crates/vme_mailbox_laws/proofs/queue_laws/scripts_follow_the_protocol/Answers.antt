@@ -2,8 +2,8 @@ use Rattle.std.proofs.Common.{◌∙◌}
 use Rattle.vme_shared.specs.Words.{put_by, taken_by, all_idle}
 use Rattle.vme_mailbox_laws.proofs.lemmas.Groups.{own_words}
 use Rattle.vme_shared.proofs.lemmas.Opening.{is_queue}
-use Rattle.vme_mailbox_laws.proofs.lemmas.Shared.{proper, put_reported, taken_reported}
-use Rattle.vme_mailbox_laws.proofs.queue_laws.scripts_go_by_the_rows.Goals as goal
+use Rattle.vme_mailbox_laws.proofs.lemmas.Shared.{proper, put_by_outcome, taken_by_outcome}
+use Rattle.vme_mailbox_laws.proofs.queue_laws.scripts_follow_the_protocol.Goals as goal
 
 pub returns-clause-proper : goal.returns-clause-proper
 returns-clause-proper c = proper
@@ -18,8 +18,8 @@ returns-clause-capacity c = λ config box board m memory h runs answers is new l
 
 pub returns-clause-put : goal.returns-clause-put
 returns-clause-put c = λ config box board m memory h runs answers is new legal share who d below.
-    own_words who put_by m all_idle h ∙ put_reported config box board m memory h runs answers is new legal share who d below
+    own_words who put_by m all_idle h ∙ put_by_outcome config box board m memory h runs answers is new legal share who d below
 
 pub returns-clause-taken : goal.returns-clause-taken
 returns-clause-taken c = λ config box board m memory h runs answers is new legal share who d below.
-    own_words who taken_by m all_idle h ∙ taken_reported config box board m memory h runs answers is new legal share who d below
+    own_words who taken_by m all_idle h ∙ taken_by_outcome config box board m memory h runs answers is new legal share who d below

@@ -1,11 +1,11 @@
 use Rattle.std.proofs.Common.{◌≡◌, ◌++◌, length, map}
-use Rattle.vme_threads.specs.ReportTexts.{ends_reported}
-use Rattle.vme_engines.proofs.text.reported_ends.Given as goal
+use Rattle.vme_threads.specs.ReportTexts.{texts_of_ends}
+use Rattle.vme_engines.proofs.text.board_refs.Given as goal
 
 -- the boards so far, with those that are left, are all
 abbrev pub invariant-loop-end : goal.invariant-loop-end
 invariant-loop-end l = record {
-  reported : l.boards.items ++ ends_reported l.ends (map (λ one. one.items) l.lines) ≡ ends_reported l.fn.ends (map (λ one. one.items) l.fn.lines);
+  reported : l.boards.items ++ texts_of_ends l.ends (map (λ one. one.items) l.lines) ≡ texts_of_ends l.fn.ends (map (λ one. one.items) l.fn.lines);
   same : length l.lines ≡ length l.ends;
 }
 

@@ -1,5 +1,5 @@
 use Rattle.vme_mailbox_laws.proofs.Ends.{goes_on, ends}
-use Rattle.vme_mailbox_laws.proofs.task_laws.puts_and_takes_go_by_the_rows.Goals as goal
+use Rattle.vme_mailbox_laws.proofs.task_laws.puts_and_takes_follow_the_protocol.Goals as goal
 
 pub returns-clause-rows : goal.returns-clause-rows
 returns-clause-rows c = λ s given board m uses good counts. goes_on s given board m uses good counts
