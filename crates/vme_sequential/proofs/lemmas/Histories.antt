@@ -30,7 +30,7 @@ transitions_whose who (m ∷ run) = elim (cases_eq m.who who) [
   | inr other ↦ rw (ne_eqb m.who who other) (transitions_whose who run)
 ]
 
--- a fact of all transitions of a run is one of those of a processor
+-- a fact of all transitions of a run is one of all transitions of a processor
 pub transitions_all : (P : Transition → Type 0) (who : ℕ) (run : List Transition) → All P run → All P (transitions_of who run)
 transitions_all P who [] all = All-nil P
 transitions_all P who (m ∷ run) all = elim (cases_eq m.who who) [
@@ -93,9 +93,11 @@ is_report config report is =
       );
     }
   where
+    -- a board of a list that is not empty
     some_board : (boards : List BoardConfig) (who : ℕ) → who < length boards → BoardConfig
     some_board [] who less = absurd (omega arith)
     some_board (b ∷ boards) who less = b
 
+    -- a board of the configuration, if there is a processor
     any_board : (who : ℕ) → who < length config.boards → BoardConfig
     any_board who less = some_board config.boards who less

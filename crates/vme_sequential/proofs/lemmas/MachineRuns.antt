@@ -44,7 +44,7 @@ pub record StepLegal (machine : Machine) (who : ℕ) (event : Event) (reply : Ev
   pub reply_is : reply ≡ after.1
   pub legal : Legal after.0 run
 
--- the first transition of a run whose parts are legal
+-- the first transition of a run whose parts are legal has the machine's reply, and the others are legal after it
 step_legal : (who : ℕ) (event : Event) (reply : EventReply) (run : List Transition) (machine : Machine) → IsReplyTo event reply
     → IsEventBelow (length machine.boards) event → Legal machine (move who event reply ∷ run)
     → StepLegal machine who event reply run (machine_step machine who (call_of event))

@@ -1,4 +1,5 @@
--- If transitions lead a processor to the replies of its lines, its next turn makes the first of them, and the others lead it on.
+-- If transitions lead a processor to the replies of its lines, its next turn makes the first of them, and the others lead
+-- it to the same replies.
 use Rattle.std.proofs.Common.{◌≡◌, ℕ, List, [], ◌∷◌, ◌++◌, length, drop, refl, ap, sym, subst, ◌∙◌, append_assoc}
 use Rattle.std.proofs.lemmas.List.{append-nil, drop-drop, length_push}
 use Rattle.vme_core.specs.declared.event.EventReply.{EventReply}
@@ -64,14 +65,14 @@ pub record CanEnd (config : Configuration) (board : ℕ) (c : ScriptState) (move
   pub split : answers ≡ c.ended ++ more
   pub leads : Leads config board (lines_left config board c) c.replies moves more
 
--- a turn made the transition m, and the others lead the processor on
+-- a turn made the transition m, and the other transitions lead the processor to the replies of its lines
 pub record Turned (config : Configuration) (board : ℕ) (machine : Machine) (m : Transition) (rest : List Transition) (answers : List LineReply)
     (after : Machine × ScriptState) : Type 0 where
   pub machine_is : after.0 ≡ (machine_step machine board (call_of m.event)).0
   pub can : CanEnd config board after.1 rest answers
 
 module _ (config : Configuration) (board : ℕ) where
-  -- the replies, with one more of them recorded
+  -- the replies to all lines, after one more of them is recorded
   split_more : (answers ended more : List LineReply) (answer : LineReply) (rest : List LineReply) → answers ≡ ended ++ more → more ≡ answer ∷ rest
       → answers ≡ (ended ++ answer ∷ []) ++ rest
   split_more answers ended more answer rest split are = split ∙ ap (λ l. ended ++ l) are ∙ sym (append_assoc ended (answer ∷ []) rest)
@@ -111,7 +112,7 @@ module _ (config : Configuration) (board : ℕ) where
         });
       })
 
-  -- the turn of a processor that has a transition left
+  -- the turn of a processor that has transitions left makes the first of them
   pub turned : (lines : List Line) (machine : Machine) (c : ScriptState) (m : Transition) (rest : List Transition) (answers more : List LineReply)
       → lines_left config board c ≡ lines → m.reply ≡ (machine_step machine board (call_of m.event)).1 → answers ≡ c.ended ++ more
       → Leads config board lines c.replies (m ∷ rest) more → Turned config board machine m rest answers (script_state_turn config board lines machine c)

@@ -22,11 +22,11 @@ use Rattle.vme_sequential.specs.Orders.{Performs, slots_of, IsOneOrder, ended_st
 use Rattle.vme_sequential.proofs.lemmas.Lists.{set_here, set_elsewhere, map_at, same_elements}
 use Rattle.vme_sequential.proofs.lemmas.ScriptTurns.{CanEnd, Turned, leads_first, turned, finished}
 
--- the transitions of the processor that makes the first
+-- the transitions of the processor that makes the first one begin with it
 pub transitions_own : (m : Transition) (moves : List Transition) → transitions_of m.who (m ∷ moves) ≡ m ∷ transitions_of m.who moves
 transitions_own m moves = rw (eq-eqb m.who m.who refl) refl
 
--- the transitions of a processor that does not make the first
+-- the transitions of a processor that does not make the first one are among the others
 pub transitions_other : (b : ℕ) (m : Transition) (moves : List Transition) → m.who ≢ b → transitions_of b (m ∷ moves) ≡ transitions_of b moves
 transitions_other b m moves other = rw (ne_eqb m.who b other) refl
 
@@ -48,13 +48,13 @@ own_board config lawful b within = elim (slice_get_cases config.boards b).1 [
   | inr past ↦ absurd (omega (arith, past.0, within))
 ]
 
--- its own transitions lead each processor to the replies of its lines
+-- each processor's own transitions lead it to the replies of its lines
 pub record Ready (config : Configuration) (answers : List (List LineReply)) (system : SystemState) (moves : List Transition) : Type 0 where
   pub count : length system.script_states ≡ length config.boards
   pub each : (b : ℕ) (c : ScriptState) (own : List LineReply) → slice_get system.script_states b ≡ Some c → slice_get answers b ≡ Some own
       → CanEnd config b c (transitions_of b moves) own
 
--- a turn makes the transition m, and the others lead all processors on
+-- a turn makes the transition m, and the other transitions lead all processors to the replies of their lines
 pub record OneTurn (config : Configuration) (answers : List (List LineReply)) (system : SystemState) (m : Transition) (moves : List Transition)
     : Type 0 where
   pub machine_is : (turn config system (slot_at config m.who)).machine ≡ (machine_step system.machine m.who (call_of m.event)).0
@@ -121,7 +121,7 @@ module _ (config : Configuration) (lawful : IsLawful config) (answers : List (Li
             (ready.each p one own (sym (set_elsewhere system.script_states b p next.1 (λ same. other (sym same))) ∙ at) its)
       ]
 
-  -- turns make all transitions
+  -- turns make all transitions, and each processor can then end
   record AllTurns (system : SystemState) (moves : List Transition) (machine : Machine) : Type 0 where
     machine_is : (take_turns config system (slots_of config moves)).machine ≡ machine
     ready : Ready config answers (take_turns config system (slots_of config moves)) []
@@ -129,12 +129,12 @@ module _ (config : Configuration) (lawful : IsLawful config) (answers : List (Li
   -- a run of transitions is as many turns
   all_turns : (moves : List Transition) (system : SystemState) (machine : Machine) → length answers ≡ length config.boards
       → All (λ m. m.who < length config.boards) moves → Performs system.machine moves machine → Ready config answers system moves → AllTurns system moves machine
-  all_turns [] system machine all known plays ready = record { machine_is = plays; ready = ready }
-  all_turns (m ∷ moves) system machine all known plays ready =
+  all_turns [] system machine all known performs ready = record { machine_is = performs; ready = ready }
+  all_turns (m ∷ moves) system machine all known performs ready =
       let there : m.who < length config.boards = All-head (λ (m : Transition). m.who < length config.boards) m moves known in
-      let one = one_turn system m moves all there plays.0 ready in
+      let one = one_turn system m moves all there performs.0 ready in
       let then = all_turns moves (turn config system (slot_at config m.who)) machine all (All-tail (λ (m : Transition). m.who < length config.boards) m moves known)
-      (subst (λ (w : Machine). Performs w moves machine) (sym one.machine_is) plays.1) one.ready in
+      (subst (λ (w : Machine). Performs w moves machine) (sym one.machine_is) performs.1) one.ready in
       record { machine_is = then.machine_is; ready = then.ready }
 
   -- one last turn of each of n slots, from that of board i on
@@ -230,7 +230,7 @@ state_begun [] b c found = absurd (cc found)
 state_begun (script ∷ scripts) zero c found = same_Some (script_state [] []) c found
 state_begun (script ∷ scripts) (suc b) c found = state_begun scripts b c found
 
--- before the first turn the transitions of each processor lead it to the replies of its lines
+-- before the first turn, the transitions of each processor lead it to the replies of its lines
 pub begun : (config : Configuration) (moves : List Transition) (answers : List (List LineReply)) (machine : Machine) (lawful : IsLawful config)
     → IsOneOrder config moves answers machine → Ready config answers (initial_state config) moves
 begun config moves answers machine lawful order = record {

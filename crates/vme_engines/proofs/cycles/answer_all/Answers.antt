@@ -1,4 +1,4 @@
--- One line more is answered, or a prefix of its answer is written.
+-- One more line is processed, or a prefix of its output is written.
 use Rattle.std.proofs.Common.{◌≡◌, [], ◌∷◌, refl, arith, rules}
 use Rattle.std.specs.Str.Lines.{lines}
 use Rattle.vme_io.specs.Prefixes.{AppendsPrefix}

@@ -4,7 +4,7 @@ use Rattle.clap.specs.Words.{App, app_of, new_app, with_subcommand}
 use Rattle.clap.specs.Simple.{app_of_fields, on_top}
 use Rattle.vme_engines.proofs.words.program.Goals as goal
 
--- each call adds its subcommand
+-- each call of `subcommand` adds its subcommand to the command line
 pub returns : goal.returns
 returns c =
     let top_is : app_of c.subcommand_required.result ≡ on_top (λ s. record s { subcommand_required = true }) (new_app (codes "vme")) =
