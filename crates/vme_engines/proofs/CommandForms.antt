@@ -59,7 +59,8 @@ with_path words ask kinds same None fails = subst Fails (sym same) fails
 with_path words ask kinds same (Some f) accepted = accepted
 
 -- the parser agrees with the form of words after `step`
-step_agrees : (p : Word) (words : List Word) → All IsUtf8 words → Agrees (p ∷ codes "step" ∷ words) (option_map Step (path_in words))
+step_agrees : (p : Word) (words : List Word) → All IsUtf8 words
+    → Agrees (p ∷ codes "step" ∷ words) (option_map Step (path_in words))
 step_agrees p words all =
     with_path (p ∷ codes "step" ∷ words) Step (level (file_shape (codes "step")) words) (step_level p words) (path_in words)
     (file_words (codes "step") (λ words f. Accepts (p ∷ codes "step" ∷ words) (Step f)) (step_alone p) (step_after p) (step_before p) words all)
@@ -83,12 +84,14 @@ unfolding clap_on_literals
 cycles_separator p = (refl, refl)
 
 -- a fault of the words after `cycles` is one of the command line
-cycles_fails : (p : Word) (words : List Word) → Fails (cycles_fault words) → Fails (fault_of command_line (p ∷ codes "cycles" ∷ words))
+cycles_fails : (p : Word) (words : List Word) → Fails (cycles_fault words)
+    → Fails (fault_of command_line (p ∷ codes "cycles" ∷ words))
 cycles_fails p words fails = subst Fails (sym (cycles_level p words)) fails
 
 -- the parser agrees with the form of one word after `cycles`
 cycles_word : (p w : Word) → WordKind w → Agrees (p ∷ codes "cycles" ∷ w ∷ []) (cycles_in (w ∷ []))
-cycles_word p w (separator is) = subst (λ w. Agrees (p ∷ codes "cycles" ∷ w ∷ []) (cycles_in (w ∷ []))) (sym is) (cycles_separator p)
+cycles_word p w (separator is) =
+    subst (λ w. Agrees (p ∷ codes "cycles" ∷ w ∷ []) (cycles_in (w ∷ []))) (sym is) (cycles_separator p)
 cycles_word p w (path is plain) = rw plain.apart (cycles_fails p (w ∷ []) (stray_word w [] plain))
 cycles_word p w (flag apart is f) = rw apart (cycles_fails p (w ∷ []) (stray_flag w [] apart f))
 
@@ -135,7 +138,8 @@ module _
   -- any other word as the command is a fault
   other_word : IsPlain w → Fails (fault_of command_line (p ∷ w ∷ rest))
   unfolding clap_on_literals
-  other_word plain = (kind.UnknownArgument, kind.InvalidSubcommand ∷ [], rw (cycles, step, run, help, plain.apart, plain.long, plain.short) refl)
+  other_word plain =
+      (kind.UnknownArgument, kind.InvalidSubcommand ∷ [], rw (cycles, step, run, help, plain.apart, plain.long, plain.short) refl)
 
   -- a flag as the command is a fault
   other_flag : is_separator w ≡ false → IsFlag w → Fails (fault_of command_line (p ∷ w ∷ rest))
@@ -186,7 +190,8 @@ module _ (p w : Word) (rest : List Word) (all : All IsUtf8 (w ∷ rest)) where
                         rw (cycles, step, run)
                         (elim (cases_Bool (bytes_eq (codes "help") w)) [
                           | inl same ↦
-                              subst (λ w. Fails (fault_of command_line (p ∷ w ∷ rest))) ((bytes_eq-Decides (codes "help") w).0 same) (help_command p rest)
+                              subst (λ w. Fails (fault_of command_line (p ∷ w ∷ rest)))
+                              ((bytes_eq-Decides (codes "help") w).0 same) (help_command p rest)
                           | inr help ↦ other_command p w rest cycles step run help (word_kind w (All-head IsUtf8 w rest all))
                         ])
                   ]
@@ -211,7 +216,8 @@ module _ (words : List Word) (all : All IsUtf8 words) where
   entered_form (Some form) accepted none asked entered = sym accepted.1 ∙ entered
 
   -- if the parser agrees with a form and entered no subcommand of a form, there is no form
-  entered_none : (form : Option Asked) → Agrees words form → asked_by_entered (subcommand_of command_line words) ≡ None → form ≡ None
+  entered_none : (form : Option Asked) → Agrees words form → asked_by_entered (subcommand_of command_line words) ≡ None
+      → form ≡ None
   entered_none None fails entered = refl
   entered_none (Some form) accepted entered = sym accepted.1 ∙ entered
 

@@ -11,7 +11,8 @@ use Rattle.vme_engines.specs.CommandLines.{Word, is_path, is_separator}
 -- a word is a flag: `--name` with or without a value, or `-c`
 pub data IsFlag (w : Word) : Type 0 where
   is_long : (name : Word) (v : Option Word) → long_of w ≡ Some (name, v) → IsFlag w
-  is_short : (x ch : ℕ) (flags more : Word) → long_of w ≡ None → short_of w ≡ Some (x ∷ flags) → chars (x ∷ flags) ≡ ch ∷ more → IsFlag w
+  is_short : (x ch : ℕ) (flags more : Word) → long_of w ≡ None → short_of w ≡ Some (x ∷ flags) → chars (x ∷ flags) ≡ ch ∷ more
+      → IsFlag w
 
 -- a word is neither `--` nor a flag
 pub record IsPlain (w : Word) : Type 0 where
@@ -46,7 +47,8 @@ one_hyphen x y r first off utf8 =
 two_hyphens : (x y : ℕ) (r : Word) → x ≡ 45 → y ≡ 45 → WordKind (x ∷ y ∷ r)
 two_hyphens x y [] first second = separator (rw (first, second) refl)
 two_hyphens x y (z ∷ r) first second =
-    subst (λ b. WordKind (b ∷ y ∷ z ∷ r)) (sym first) (subst (λ b. WordKind (45 ∷ b ∷ z ∷ r)) (sym second) (flag refl refl (is_long _ _ refl)))
+    subst (λ b. WordKind (b ∷ y ∷ z ∷ r)) (sym first)
+    (subst (λ b. WordKind (45 ∷ b ∷ z ∷ r)) (sym second) (flag refl refl (is_long _ _ refl)))
 
 -- each UTF-8 word is `--`, a path or a flag
 pub word_kind : (w : Word) → IsUtf8 w → WordKind w
@@ -69,4 +71,5 @@ word_kind (x ∷ y ∷ r) utf8 =
 -- the words of a command line are UTF-8
 pub words_utf8 : (words : List (String Global)) → All IsUtf8 (map string_bytes words)
 words_utf8 [] = All-nil IsUtf8
-words_utf8 (word ∷ rest) = All-cons IsUtf8 (string_bytes word) (map string_bytes rest) (IsUtf8-string_bytes word) (words_utf8 rest)
+words_utf8 (word ∷ rest) =
+    All-cons IsUtf8 (string_bytes word) (map string_bytes rest) (IsUtf8-string_bytes word) (words_utf8 rest)

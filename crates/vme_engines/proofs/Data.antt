@@ -7,7 +7,8 @@ use Rattle.vme_grammar.specs.Texts as outcomes
 use Rattle.vme_engines.specs.Answers.{Answer, datum_text, reply_to, outcome_answer, after_text, after_datum, data_answer}
 
 -- two texts before an output are one text before it
-after_both : (first second : List ℕ) (answer : Answer) → after_text first (after_text second answer) ≡ after_text (first ++ second) answer
+after_both : (first second : List ℕ) (answer : Answer)
+    → after_text first (after_text second answer) ≡ after_text (first ++ second) answer
 after_both first second answer = ap (λ text. record answer { text = text }) (sym (append_assoc first second answer.text))
 
 -- the output of the whole transfer stays the same after one more datum is processed

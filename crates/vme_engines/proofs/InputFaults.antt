@@ -5,7 +5,8 @@ use Rattle.vme_engines.specs.declared.fault.ProgramFault.TheVariants.{Read, TooL
 use Rattle.vme_engines.specs.Faults.{IsConfigFault, ReadsWithin}
 
 -- what holds of the bytes that were read holds of those of the byte model, if there is one
-pub reported_holds : (P : List ℕ → Type 0) → (reported : Option (List ℕ)) → (input : List ℕ) → IfSome reported (λ bytes. bytes ≡ input) → P input → IfSome reported P
+pub reported_holds : (P : List ℕ → Type 0) → (reported : Option (List ℕ)) → (input : List ℕ)
+    → IfSome reported (λ bytes. bytes ≡ input) → P input → IfSome reported P
 reported_holds P None input same holds = tt
 reported_holds P (Some bytes) input same holds = subst P (sym same) holds
 

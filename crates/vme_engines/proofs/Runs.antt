@@ -34,8 +34,10 @@ run_text_of input config report status configures order good =
     }
 
 -- if the text of a report of one order was written, it is that of a run of the input
-pub text_written : (reported old new : Option (List ℕ)) (config : Configuration) (report : Report) (status : Status) → IfSome reported (λ input. Configures input config)
-    → IsReportOfOneOrder config report → status ≡ report_status (texts_of_report report) → Appends old new (report_text (texts_of_report report))
+pub text_written : (reported old new : Option (List ℕ)) (config : Configuration) (report : Report) (status : Status)
+    → IfSome reported (λ input. Configures input config)
+    → IsReportOfOneOrder config report → status ≡ report_status (texts_of_report report)
+    → Appends old new (report_text (texts_of_report report))
     → IfSome reported (λ input. (text : List ℕ) × IsRunText input text status × Appends old new text)
 text_written None old new config report status configures order good written = tt
 text_written (Some input) old new config report status configures order good written =
@@ -43,7 +45,8 @@ text_written (Some input) old new config report status configures order good wri
 
 -- if a prefix of the text of a report of one order was written before a fault, it is that of a run of the input
 pub prefix_written : (reported old new : Option (List ℕ)) (end : Result Status ProgramFault) (config : Configuration) (report : Report)
-    → IfSome reported (λ input. Configures input config) → IsReportOfOneOrder config report → AppendsPrefix old new (report_text (texts_of_report report))
+    → IfSome reported (λ input. Configures input config) → IsReportOfOneOrder config report
+    → AppendsPrefix old new (report_text (texts_of_report report))
     → IfSome reported (λ input. OnErr end (WritesPrefix (IsSomeRunText input) old new))
 prefix_written None old new end config report configures order written = tt
 prefix_written (Some input) old new (Ok status) config report configures order written = tt

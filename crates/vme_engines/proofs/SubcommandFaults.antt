@@ -37,14 +37,16 @@ stopped_walk rules names h n name acc (word ∷ rest) =
 
 -- a walk that met a subcommand finds no fault in the words after it
 stopped_fault :
-    (s : Shape) (names : Names) (h : Held) (n : ℕ) (name : Text) (acc rest : List Text) → walk_fault s names (stopped_at h n name acc) rest ≡ []
+    (s : Shape) (names : Names) (h : Held) (n : ℕ) (name : Text) (acc rest : List Text)
+    → walk_fault s names (stopped_at h n name acc) rest ≡ []
 unfolding clap_on_literals
 stopped_fault s names h n name acc [] = refl
 stopped_fault s names h n name acc (word ∷ rest) = stopped_fault s names h n name (acc ++ word ∷ []) rest
 
 -- the faults of the words after a subcommand
 abbrev pub level : Shape → List Word → Kinds
-level s words = level_fault (built_leaf (inherited (with_leaf_noted (marked_built command_line.top)) s)) [] nothing_held words false []
+level s words =
+    level_fault (built_leaf (inherited (with_leaf_noted (marked_built command_line.top)) s)) [] nothing_held words false []
 
 -- `or_else` returns its first faults if there are no second ones
 or_none : (kinds : Kinds) → or_else kinds [] ≡ kinds
@@ -60,21 +62,24 @@ abbrev names : Names
 names = names_of (built command_line)
 
 -- a command line of `cycles` has the faults of the words after it
-pub cycles_level : (p : Word) (words : List Word) → fault_of command_line (p ∷ codes "cycles" ∷ words) ≡ level (new_shape (codes "cycles")) words
+pub cycles_level : (p : Word) (words : List Word)
+    → fault_of command_line (p ∷ codes "cycles" ∷ words) ≡ level (new_shape (codes "cycles")) words
 unfolding clap_on_literals
 cycles_level p words =
     rw (stopped_walk top.rules names nothing_held 1 (codes "cycles") [] words, stopped_fault top names nothing_held 1 (codes "cycles") [] words)
     (or_none (level (new_shape (codes "cycles")) words))
 
 -- a command line of `step` has the faults of the words after it
-pub step_level : (p : Word) (words : List Word) → fault_of command_line (p ∷ codes "step" ∷ words) ≡ level (file_shape (codes "step")) words
+pub step_level : (p : Word) (words : List Word)
+    → fault_of command_line (p ∷ codes "step" ∷ words) ≡ level (file_shape (codes "step")) words
 unfolding clap_on_literals
 step_level p words =
     rw (stopped_walk top.rules names nothing_held 1 (codes "step") [] words, stopped_fault top names nothing_held 1 (codes "step") [] words)
     (or_none (level (file_shape (codes "step")) words))
 
 -- a command line of `run` has the faults of the words after it
-pub run_level : (p : Word) (words : List Word) → fault_of command_line (p ∷ codes "run" ∷ words) ≡ level (file_shape (codes "run")) words
+pub run_level : (p : Word) (words : List Word)
+    → fault_of command_line (p ∷ codes "run" ∷ words) ≡ level (file_shape (codes "run")) words
 unfolding clap_on_literals
 run_level p words =
     rw (stopped_walk top.rules names nothing_held 1 (codes "run") [] words, stopped_fault top names nothing_held 1 (codes "run") [] words)
@@ -188,7 +193,8 @@ module _ (name : Word) where
 
   -- Q is a fact of words and the path that they name, given for each of the three forms that name one
   module _
-      (Q : List Word → Word → Type 0) (alone : (f : Word) → IsPlain f → Q (f ∷ []) f) (after : (f : Word) → Q (codes "--" ∷ f ∷ []) f)
+      (Q : List Word → Word → Type 0) (alone : (f : Word) → IsPlain f → Q (f ∷ []) f)
+      (after : (f : Word) → Q (codes "--" ∷ f ∷ []) f)
       (before : (f : Word) → IsPlain f → Q (f ∷ codes "--" ∷ []) f) where
     -- words name a path and the fact holds for it, or they have a fault
     abbrev Reads : List Word → Type 0
@@ -231,7 +237,8 @@ module _ (name : Word) where
     file_words [] all = no_file
     file_words (f ∷ []) all = one_word f (word_kind f (All-head IsUtf8 f [] all))
     file_words (f ∷ g ∷ []) all =
-        two_words f g (word_kind f (All-head IsUtf8 f (g ∷ []) all)) (word_kind g (All-head IsUtf8 g [] (All-tail IsUtf8 f (g ∷ []) all)))
+        two_words f g (word_kind f (All-head IsUtf8 f (g ∷ []) all))
+        (word_kind g (All-head IsUtf8 g [] (All-tail IsUtf8 f (g ∷ []) all)))
     file_words (f ∷ g ∷ h ∷ rest) all =
         three_words f g h rest (word_kind f (All-head IsUtf8 f (g ∷ h ∷ rest) all))
         (word_kind g (All-head IsUtf8 g (h ∷ rest) (All-tail IsUtf8 f (g ∷ h ∷ rest) all)))

@@ -18,7 +18,8 @@ text_first board next line rest after first moved =
 
 -- if no line is left, the whole text was written or gathered
 pub all_gathered :
-    (board : Board) (old new : Option (List ℕ)) (gathered whole rest : List ℕ) → SoFar old new gathered (text_of board (lines rest)) whole
+    (board : Board) (old new : Option (List ℕ)) (gathered whole rest : List ℕ)
+    → SoFar old new gathered (text_of board (lines rest)) whole
     → lines rest ≡ [] → SoFar old new gathered [] whole
 all_gathered board old new gathered whole rest so_far none = rw none at so_far
 
@@ -29,8 +30,10 @@ worse_of_assoc Marked b c = refl
 
 -- the status of all lines stays the same after one more line is processed
 pub status_more :
-    (board next : Board) (status new reported all : Status) (line rest after : List ℕ) → worse_of status (status_after board (lines rest)) ≡ all
-    → lines rest ≡ line ∷ lines after → new ≡ worse_of status reported → reported ≡ (answer board line).status → next ≡ (answer board line).board
+    (board next : Board) (status new reported all : Status) (line rest after : List ℕ)
+    → worse_of status (status_after board (lines rest)) ≡ all
+    → lines rest ≡ line ∷ lines after → new ≡ worse_of status reported → reported ≡ (answer board line).status
+    → next ≡ (answer board line).board
     → worse_of new (status_after next (lines after)) ≡ all
 status_more board next status new reported all line rest after whole first counted answered moved =
     ap (λ s. worse_of s (status_after next (lines after))) counted

@@ -14,7 +14,8 @@ use Rattle.vme_script.proofs.lemmas.Lawful.{configuration_known}
 use Rattle.vme_engines.specs.Files.{Configures}
 
 -- a configuration of a file's values is lawful
-by_values : (values : Option FileValues) (config : Configuration) → (ok_or values BadKey >>= configuration_of) ≡ Ok config → IsLawful config
+by_values : (values : Option FileValues) (config : Configuration) → (ok_or values BadKey >>= configuration_of) ≡ Ok config
+    → IsLawful config
 by_values None config is = absurd cc
 by_values (Some file) config is = configuration_known file config is
 

@@ -16,7 +16,8 @@ element_at xs i less = elim (slice_get_cases xs i).1 [
 -- an element that was written is read at its index
 pub set_here : {X : Type 0} (xs : List X) (i : ℕ) (new : X) → i < length xs → slice_get (slice_set xs i new) i ≡ Some new
 set_here xs i new less =
-    slice_get-get_or (slice_set xs i new) i new (subst (λ n. i < n) (sym (length-set xs i new)) less) ∙ ap Some (get_or-set_same xs i new new less)
+    slice_get-get_or (slice_set xs i new) i new (subst (λ n. i < n) (sym (length-set xs i new)) less)
+    ∙ ap Some (get_or-set_same xs i new new less)
 
 -- a write leaves the other elements unchanged
 pub set_elsewhere : {X : Type 0} (xs : List X) (i j : ℕ) (new : X) → i ≢ j → slice_get (slice_set xs i new) j ≡ slice_get xs j
@@ -28,11 +29,13 @@ set_elsewhere xs i j new apart = elim (slice_get_cases xs j).1 [
 ]
 
 -- an element of a list has its image at the same index
-pub map_at : {X Y : Type 0} (f : X → Y) (xs : List X) (i : ℕ) (x : X) → slice_get xs i ≡ Some x → slice_get (map f xs) i ≡ Some (f x)
+pub map_at : {X Y : Type 0} (f : X → Y) (xs : List X) (i : ℕ) (x : X) → slice_get xs i ≡ Some x
+    → slice_get (map f xs) i ≡ Some (f x)
 map_at f xs i x found = slice_get-map f xs i ∙ ap (option_map f) found
 
 -- lists of one length with the same elements are equal
-pub same_elements : {X : Type 0} (xs ys : List X) → length xs ≡ length ys → ((i : ℕ) → i < length ys → slice_get xs i ≡ slice_get ys i) → xs ≡ ys
+pub same_elements : {X : Type 0} (xs ys : List X) → length xs ≡ length ys
+    → ((i : ℕ) → i < length ys → slice_get xs i ≡ slice_get ys i) → xs ≡ ys
 same_elements [] [] count each = refl
 same_elements [] (y ∷ ys) count each = absurd (omega arith)
 same_elements (x ∷ xs) [] count each = absurd (omega arith)
