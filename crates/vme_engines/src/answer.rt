@@ -77,8 +77,8 @@ fn answer_data(
 ) -> Result<Status, AllocError>
     requires { block_limit ≤ replied.old.capacity }
     ensures capacity { replied.new.capacity ≡ replied.old.capacity }
-    ensures text { OnOk result
-        (text.new.items ≡ text.old.items ++ (transfer_answer bus.old plan.now).text) }
+    ensures text { OnOk result (text.new.items
+        ≡ text.old.items ++ (transfer_answer bus.old plan.now).text) }
     ensures board { OnOk result (bus.new ≡ (transfer_answer bus.old plan.now).board) }
     ensures status { IfOk result (λ status. status ≡ (transfer_answer bus.old plan.now).status) }
 {

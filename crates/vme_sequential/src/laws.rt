@@ -12,8 +12,8 @@ ghost use Rattle.vme_threads.specs.ReportTexts.{texts_of_report};
 ghost use Rattle.vme_sequential.specs.Orders.{IsOneOrder, ended_state};
 ghost use Rattle.vme_threads.specs.OneOrder.{IsReportOfOneOrder};
 
-/// If the configuration is lawful, one order of the transitions of all processors is the order of
-/// some turns: after these turns of slots on one thread, the machine and the replies to all lines
+/// If the configuration is lawful, one order of the transitions of all processors leads where some
+/// turns lead: after these turns of slots on one thread, the machine and the replies to all lines
 /// are the same.
 pub fn one_order_is_a_run_of_turns()
     ensures { (config : Configuration) (run : List Transition) (answers : List (List LineReply))
@@ -22,8 +22,8 @@ pub fn one_order_is_a_run_of_turns()
 {}
 
 /// If the configuration is lawful, a report of one order has the entries of a report of some turns
-/// on one thread. Which turns they are is not stated, and there may be more of them than a file's
-/// schedule and rounds can state.
+/// on one thread. The entries do not contain the arbiter's steps. Which turns they are is not
+/// stated, and there may be more of them than a file's schedule and rounds can state.
 pub fn a_run_of_threads_is_a_run_of_turns()
     ensures { (config : Configuration) (report : Report) →
         IsLawful config → IsReportOfOneOrder config report →
