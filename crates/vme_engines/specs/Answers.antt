@@ -109,7 +109,7 @@ data_answer (suc left) board t i read =
 unfoldable pub transfer_answer : Board → Transfer → Answer
 transfer_answer board t = data_answer (count_of t.request) board t 0 []
 
--- the output of a lawful request, or of the refusal of another one: it has no signals
+-- the output of a lawful request; that of any other request is its refusal alone, without signals
 abbrev pub planned_answer : Board → Result Transfer CycleFault → Answer
 planned_answer board (Ok t) = transfer_answer board t
 planned_answer board (Err fault) = refusal_answer board (codes "refused " ++ cycle_fault_text fault)
