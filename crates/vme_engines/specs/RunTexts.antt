@@ -11,8 +11,8 @@ use Rattle.vme_threads.specs.OneOrder.{IsReportOfOneOrder}
 use Rattle.vme_threads.specs.ReportTexts.{texts_of_report}
 use Rattle.vme_engines.specs.Files.{Configures}
 
--- a text and a status are those of some turns of slots, on one thread, of the configuration that the bytes of a file
--- are; after these turns each line has its reply, as in the report of one order that has the same entries
+-- a text and a status are those of some turns of slots on one thread, of the configuration that the bytes of a file
+-- encode; some report of one order has the entries of the state after these turns, so each line has its reply
 pub record IsRunText (input text : List ℕ) (status : Status) : Type 0 where
   pub config : Configuration
   pub configures : Configures input config
@@ -27,12 +27,12 @@ pub record IsRunText (input text : List ℕ) (status : Status) : Type 0 where
 abbrev pub IsSomeRunText : List ℕ → List ℕ → Type 0
 IsSomeRunText input text = (status : Status) × IsRunText input text status
 
--- a text is the report of the run on one thread of what the bytes of a file configure
+-- a text is that of the run on one thread, by the file's own turns, of the configuration that the bytes of a file encode
 pub record IsStepText (input text : List ℕ) : Type 0 where
   pub config : Configuration
   pub configures : Configures input config
   pub whole : text ≡ run_text config (file_turns config)
 
--- nothing was written, or a prefix of such a text
+-- nothing was written, or a prefix of a text of this kind
 abbrev pub WritesPrefix : (List ℕ → Type 0) → Option (List ℕ) → Option (List ℕ) → Type 0
 WritesPrefix IsText old new = AppendsPrefix old new [] ⊎ ((text : List ℕ) × IsText text × AppendsPrefix old new text)
