@@ -1,4 +1,4 @@
--- How many calls of each object a pass has made.
+-- The number of calls of each object that a pass has made.
 use Rattle.std.proofs.Common.{ℕ, suc, ◌≡◌, ◌≢◌, ◌+◌, ◌<◌, ◌≤◌, ◌^◌, inl, inr, List, [], ◌∷◌, ◌++◌, length, set, slice_index_or, All, refl, ap, sym, ◌∙◌, subst, arith, eq-eqb, ne_eqb, length-append}
 use Rattle.std.proofs.lemmas.Bool.{cases_eq}
 use Rattle.std.proofs.lemmas.List.{get_or_default, get_or-set_same, get_or-set_other, length-set}
@@ -14,7 +14,7 @@ use Rattle.vme_bus_objects.specs.declared.command.BusCommand.TheVariants as comm
 use Rattle.vme_bus_objects.specs.Runs.{BusEntry, run_of, MatchesKindAt, MatchesKind}
 use Rattle.vme_threads.specs.PassSets.{CountsMore}
 
--- a processor's own entries of an object are no more than all of the object
+-- a processor's own entries in the part of an object are no more than the whole part
 own_part : (who x : ℕ) (h : List BusEntry) → length (part x (own who h)) ≤ length (part x h)
 own_part who x [] = omega arith
 own_part who x (e ∷ h) =
@@ -30,7 +30,7 @@ own_part who x (e ∷ h) =
       ]
     ]
 
--- the part of two consecutive histories has the entries of both parts
+-- the part of two consecutive histories is as long as both parts together
 part_length : (x : ℕ) (a b : List BusEntry) → length (part x (a ++ b)) ≡ length (part x a) + length (part x b)
 part_length x a b = ap length (part-append x a b) ∙ length-append (part x a) (part x b)
 
@@ -46,7 +46,7 @@ none_there who x y cmd reply other = rw (ne_eqb x y other) refl
 pub counts_none : (made : List ℕ) → CountsMore [] made made
 counts_none made = record { count = refl; each = λ x n less. omega arith }
 
--- two sequences of entries are counted one after the other
+-- counts that grew by one sequence of entries and then by another grew by both
 pub counts_more : (a b : List BusEntry) (old now new : List ℕ) → CountsMore a old now → CountsMore b now new → CountsMore (a ++ b) old new
 counts_more a b old now new first then = record {
   count = then.count ∙ first.count;
@@ -56,7 +56,7 @@ counts_more a b old now new first then = record {
       omega (arith, one, two, part_length x a b);
 }
 
--- the counts after one call
+-- the counts after one call: the count of the called object is one more
 pub counts_one :
     (who x : ℕ) (cmd : BusCommand) (reply : EventReply) (made : List ℕ) (was : ℕ) → x < length made → was ≡ slice_index_or made x was
     → CountsMore (entry who (indexed x cmd) reply ∷ []) made (set made x (was + 1))
@@ -86,7 +86,7 @@ counts_after entries mine new old now m more count is was x n less =
     let all : length (part x new) ≡ length (part x mine) + length (part x entries) = ap (λ h. length (part x h)) is ∙ part_length x mine entries in
     omega (arith, after, before, all)
 
--- a count can rise by a call, because the pass has seen the entry among those that can be counted
+-- a count can rise by one call: the part that the pass has seen has the new entry, and fewer than 2^64 entries
 pub count_fits :
     (who x : ℕ) (cmd : BusCommand) (reply : EventReply) (n : ℕ) (seen mine new : List BusEntry) → n ≡ length (part x mine)
     → new ≡ mine ++ entry who (indexed x cmd) reply ∷ [] → own who seen ≡ new → length (part x seen) < 2 ^ 64 → n + 1 < 2 ^ 64
@@ -96,7 +96,7 @@ count_fits who x cmd reply n seen mine new was is sound fits =
     let within : length (part x new) ≤ length (part x seen) = subst (λ h. length (part x h) ≤ length (part x seen)) sound (own_part who x seen) in
     omega (arith, more, one, within, fits, was)
 
--- the calls of a board are as many as its part of the run has entries
+-- in a history of matching kinds, the calls of a board are as many as the entries of its part of the run
 pub board_count : (n x : ℕ) (h : List BusEntry) → x < n → All (MatchesKind n) h → length (part x h) ≡ length (board_part x (run_of h))
 board_count n x [] below kinds = refl
 board_count n x (e ∷ h) below kinds =
@@ -113,7 +113,7 @@ board_count n x (e ∷ h) below kinds =
     by_entry again who index (commands.Arbiter cmd) (replies.Bus reply) kinds =
         let off : index ≢ x = λ same. omega (arith, kinds, same, below) in rw (ne_eqb index x off) again
 
--- the calls of the arbiter are as many as its part of the run has entries
+-- in a history of matching kinds, the calls of the arbiter are as many as the entries of its part of the run
 pub bus_count : (n : ℕ) (h : List BusEntry) → All (MatchesKind n) h → length (part n h) ≡ length (bus_part (run_of h))
 bus_count n [] kinds = refl
 bus_count n (e ∷ h) kinds =

@@ -27,11 +27,11 @@ use Rattle.vme_threads.specs.declared.worker.Worker.{Worker}
 use Rattle.vme_threads.specs.declared.ports.Ports.{Ports}
 use Rattle.vme_threads.specs.Ports.{IsBuilt, IsWorkerOf}
 use Rattle.vme_threads.specs.PassSets.{MatchesPorts, CountsMore, AddsTransitions}
-use Rattle.vme_threads.proofs.Places.{line_there}
+use Rattle.vme_threads.proofs.Places.{element_at}
 use Rattle.vme_threads.proofs.Counts.{counts_none, counts_more, counts_one, counts_after}
 use Rattle.vme_threads.proofs.Settlements.{board_at, bus_at}
 
--- the empty run
+-- a processor that makes no call makes the empty run
 pub made_none : (d : PassSet) → AddsTransitions [] d d
 made_none d = record {
   who = refl;
@@ -44,7 +44,7 @@ made_none d = record {
   counts = counts_none d.made.items;
 }
 
--- two runs, one after the other
+-- a processor that makes one run and then another makes both in this order
 pub made_more : (a b : List Transition) (d e f : PassSet) → AddsTransitions a d e → AddsTransitions b e f → AddsTransitions (a ++ b) d f
 made_more a b d e f first then = record {
   who = then.who ∙ first.who;
@@ -84,7 +84,7 @@ fits_first config ports i w built is =
       who = is.pass.who ∙ sym is.who;
       object_count = built.object_count ∙ ap (λ n. n + 1) (sym is.boards);
       boards = λ x less.
-          let own = line_there config.boards x (subst (λ n. x < n) is.boards less) in
+          let own = element_at config.boards x (subst (λ n. x < n) is.boards less) in
           (opening_memory own.0, ap (λ (os : List BusObject). get_elem? os x) built.opened ∙ board_at config config.boards x own.0 own.1);
       bus =
           subst (λ n. (bus : Arbitration) × (get_elem? (opening ports.array) n ≡ some (objects.Arbiter bus))) (sym is.boards)
@@ -119,7 +119,7 @@ made_by_call ports d e index was cmd reply fits within value added kind who boar
           (counts_one d.who index cmd reply d.made.items was (subst (λ m. index < m) (sym fits.made_count) within) value);
     }
 
--- a call of a board
+-- one call of a board is a run of one transition
 pub made_by_board :
     (ports : Ports) (d e : PassSet) (index was : ℕ) (cmd : BoardCmd) (reply : EventReply) → MatchesPorts ports d → index < d.boards
     → was ≡ slice_index_or d.made.items index was
@@ -130,7 +130,7 @@ made_by_board ports d e index was cmd reply fits within value added kind who boa
     made_by_call ports d e index was (commands.Board cmd) reply fits (omega (arith, within)) value added
     (subst (MatchesKindAt d.boards index (commands.Board cmd)) (sym kind.1) within) who boards made
 
--- a call of the arbiter
+-- one call of the arbiter is a run of one transition
 pub made_by_bus :
     (ports : Ports) (d e : PassSet) (was : ℕ) (cmd : ArbCmd) (reply : EventReply) → MatchesPorts ports d
     → was ≡ slice_index_or d.made.items d.boards was

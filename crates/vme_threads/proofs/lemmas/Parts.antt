@@ -1,4 +1,4 @@
--- The own entries of a processor in the part of an object.
+-- A processor's own entries in the part of an object.
 use Rattle.std.proofs.Common.{◌≡◌, ◌≢◌, ℕ, List, [], ◌∷◌, Option, Some, None, refl, ap, sym, ◌∙◌, inl, inr, eq-eqb, ne_eqb}
 use Rattle.std.specs.Prelude.{filter_map}
 use Rattle.std.proofs.lemmas.Bool.{cases_eq}
@@ -17,7 +17,7 @@ use Rattle.vme_core.specs.Runs.{Transition, board_entry, bus_entry}
 use Rattle.vme_bus_objects.specs.Runs.{transitions_of}
 
 module _ {C R : Type 0} (f : Transition → Option (Entry C R)) (whose : (m : Transition) (e : Entry C R) → f m ≡ Some e → e.who ≡ m.who) where
-  -- the own entries of a processor in a history are the entries of its transitions
+  -- a processor's own entries in an object's part of a run are the part of its own transitions
   pub part_of : (who : ℕ) (run : List Transition) → own who (filter_map f run) ≡ filter_map f (transitions_of who run)
   part_of who [] = refl
   part_of who (m ∷ run) = elim (cases_eq m.who who) [

@@ -3,7 +3,7 @@ use Rattle.std.specs.Vec.Iter.{into_iter_items, into_iter_len}
 use Rattle.vme_threads.specs.declared.worker.Ran.{Ran}
 use Rattle.vme_threads.proofs.gather_report.collect_passes.Given as goal
 
--- the workers so far are taken apart
+-- the passes, counts and lines of the workers so far are appended, and those of the rest are to come
 abbrev pub invariant-loop-ran : goal.invariant-loop-ran
 invariant-loop-ran l = record {
   passes_len : vec_len l.passes + into_iter_len l.ran-iterator ≡ vec_len l.fn.rans;

@@ -5,7 +5,7 @@ use Rattle.vme_port_array.specs.Settlements.{Settles}
 use Rattle.vme_bus_objects.specs.Objects.{bus_object_step}
 use Rattle.vme_threads.specs.declared.worker.Ran.{Ran}
 use Rattle.vme_threads.specs.Settlements.{BusPass}
-use Rattle.vme_threads.proofs.Places.{same_count}
+use Rattle.vme_threads.proofs.Places.{map_length}
 use Rattle.vme_threads.proofs.Entries.{AreEntries}
 use Rattle.vme_threads.proofs.Gathering.{one_order_of}
 use Rattle.vme_threads.proofs.lemmas.Gathered.{passes_fit, slots_count, counts_wide, boards_count, boards_are, gathered_from}
@@ -15,7 +15,7 @@ pub settle-requires-clause-array : goal.settle-requires-clause-array
 settle-requires-clause-array c =
     subst (All (λ (p : BusPass). IsPassOf c.args.ports.array p)) (sym c.collect_passes.ensures.passes) (passes_fit c.requires.0 c.args.ports c.args.rans.items c.requires.1)
 
--- each worker has a count of the arbiter
+-- each worker has a count of its calls of the arbiter
 pub collect_counts-requires-clause-within : goal.collect_counts-requires-clause-within
 collect_counts-requires-clause-within c =
     let config = c.requires.0 in
@@ -26,7 +26,7 @@ collect_counts-requires-clause-within c =
     let slots = slots_count config c.args.ports c.args.rans.items can in
     λ k own k<. omega (arith, wide k own k<, slots, c.len.ensures, c.args.ports.slots.ok.0, (slice_index_or counts k own).ok.0)
 
--- the objects before the last are the boards
+-- the objects before the last are boards
 pub report_boards-requires-clause-boards : goal.report_boards-requires-clause-boards
 report_boards-requires-clause-boards c =
     let array = c.args.ports.array in
@@ -66,7 +66,7 @@ pub report_boards-requires-clause-made : goal.report_boards-requires-clause-made
 report_boards-requires-clause-made c =
     let can = c.requires.1 in
     let count : vec_len c.collect_passes.new.counts ≡ length c.requires.0.boards =
-    omega (arith, c.collect_passes.new.counts.ok.0, ap length c.collect_passes.ensures.counts, same_count (λ (r : Ran). r.pass_set.made) c.args.rans.items, can.count)
+    omega (arith, c.collect_passes.new.counts.ok.0, ap length c.collect_passes.ensures.counts, map_length (λ (r : Ran). r.pass_set.made) c.args.rans.items, can.count)
     in
     λ k own k<. let its = can.built.report_buffers.made k own k< in (its.0, omega (arith, its.1, count))
 

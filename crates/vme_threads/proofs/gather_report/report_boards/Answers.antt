@@ -21,7 +21,7 @@ report_board-requires-clause-within c =
     let fewer = fewer_entries _ _ _ _ _ _ _ _ c.in-Some.home c.loop-home.invariant.have c.in-Some.ensures.steps.0 in
     λ k own k<. omega (arith, fewer, c.requires.within k own k<, c.len-board.ensures, c.loop-home.ends.ok.0, c.args.homes.ok.0)
 
--- the buffer of the board is unchanged
+-- the buffer for the board is unchanged, so it is empty
 pub report_board-requires-clause-none : goal.report_board-requires-clause-none
 report_board-requires-clause-none c =
     let within : length c.args.homes.items ≤ length c.args.made.now.items = omega (arith, c.requires.made_count, c.args.homes.ok.0, c.args.made.now.ok.0) in

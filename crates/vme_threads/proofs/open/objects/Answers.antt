@@ -2,7 +2,7 @@ use Rattle.std.proofs.Common.{rules, arith}
 use Rattle.vme_threads.proofs.Openings.{one_more_object, all_objects}
 use Rattle.vme_threads.proofs.open.objects.Goals as goal
 
--- one more board is an object
+-- the objects with one more board
 pub loop-board-preserved : goal.loop-board-preserved
 loop-board-preserved c = record {
   count = search rules;

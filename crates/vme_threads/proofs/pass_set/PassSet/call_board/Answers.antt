@@ -3,7 +3,7 @@ use Rattle.vme_threads.proofs.Counts.{count_fits}
 use Rattle.vme_threads.proofs.PassSets.{made_by_board}
 use Rattle.vme_threads.proofs.pass_set.PassSet.call_board.Goals as goal
 
--- the count can rise
+-- the count of calls of the board can rise by one
 pub overflow_add-index_mut : goal.overflow_add-index_mut
 overflow_add-index_mut g c =
     let fits = c.requires.fits in

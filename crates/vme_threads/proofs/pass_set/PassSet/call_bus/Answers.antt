@@ -7,7 +7,7 @@ use Rattle.vme_threads.proofs.PassSets.{made_by_bus}
 use Rattle.vme_threads.proofs.pass_set.PassSet.call_bus.Goals as goal
 use Rattle.vme_threads.proofs.pass_set.PassSet.call_bus.Goals.{in-Bus-Waiting, in-Bus-Granted, in-Bus-Freed, in-Bus-Denied, in-Board}
 
--- the count can rise
+-- the count of calls of the arbiter can rise by one
 pub overflow_add-index_mut : goal.overflow_add-index_mut
 overflow_add-index_mut g c =
     let fits = c.requires in
@@ -16,7 +16,7 @@ overflow_add-index_mut g c =
     let less : c.index_mut.result.now + 1 < 2 ^ 64 = count_fits _ _ _ _ _ _ _ _ was added.mine added.sound c.in_ok-reply.ensures.counted in
     omega (arith, less)
 
--- the pass made the arbiter's entry and counted it, however the processor waits then
+-- the pass made the arbiter's entry and counted it, whatever the reply and the wait after it
 pub returns : goal.returns
 returns g c =
     let d = c.args.self.now in
