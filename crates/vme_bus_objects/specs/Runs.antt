@@ -57,7 +57,8 @@ MatchesKind n e = MatchesKindAt n e.cmd.index e.cmd.cmd e.reply
 pub record IsBoardHistory (x : ℕ) (memory : Board) (h : List BusEntry) : Type 0 where
   pub legal : IsLegal board_step memory (board_part x (run_of h))
   pub object :
-      replay bus_object_step (objects.Board memory) (part x h) ≡ objects.Board (replay board_step memory (board_part x (run_of h)))
+      replay bus_object_step (objects.Board memory) (part x h)
+      ≡ objects.Board (replay board_step memory (board_part x (run_of h)))
   pub count : length (part x h) ≡ length (board_part x (run_of h))
 
 -- the part of the arbiter, which is object n, in a history is its part of the run: that part is legal from the arbiter's

@@ -40,7 +40,8 @@ pub record IsLineInProgress (config : Configuration) (place : ℕ) (before now :
 pub line_start :
     (config : Configuration) (place : ℕ) (d : PassSet) (fresh task : LineTask) → place < length (lines_at config d.who)
     → ((line : Line) → slice_get (lines_at config d.who) place ≡ Some line → fresh ≡ line_started config d.who line)
-    → task ≡ line_advance fresh None → line_to_do task ≢ NotStarted → IsLineBelow (length config.boards) task → IsLineInProgress config place d d task
+    → task ≡ line_advance fresh None → line_to_do task ≢ NotStarted → IsLineBelow (length config.boards) task
+    → IsLineInProgress config place d d task
 line_start config place d fresh task place< started advanced begun below =
     let found = element_at (lines_at config d.who) place place< in
     record {
@@ -56,7 +57,8 @@ line_start config place d fresh task place< started advanced begun below =
     }
 
 -- what the task of a line in progress does next is what the line's table states
-line_next_is : (config : Configuration) (place : ℕ) (d e : PassSet) (task : LineTask) (at : IsLineInProgress config place d e task)
+line_next_is :
+    (config : Configuration) (place : ℕ) (d e : PassSet) (task : LineTask) (at : IsLineInProgress config place d e task)
     → line_to_do task ≡ line_next config d.who at.line at.replies
 line_next_is config place d e task at = ap line_to_do at.is ∙ by_the_replies config d.who at.line at.replies
 
@@ -64,7 +66,8 @@ line_next_is config place d e task at = ap line_to_do at.is ∙ by_the_replies c
 pub line_more :
     (config : Configuration) (place : ℕ) (d e f : PassSet) (call : Call) (reply : EventReply) (task new : LineTask)
     → IsLineInProgress config place d e task → Some call ≡ call_in (line_to_do task) → AddsCall call reply e f
-    → new ≡ line_advance task (Some reply) → line_to_do new ≢ NotStarted → IsLineBelow (length config.boards) new → IsLineInProgress config place d f new
+    → new ≡ line_advance task (Some reply) → line_to_do new ≢ NotStarted → IsLineBelow (length config.boards) new
+    → IsLineInProgress config place d f new
 line_more config place d e f call reply task new at asks next advanced begun below =
     let event = next.event in
     record {
@@ -83,7 +86,8 @@ line_more config place d e f call reply task new at asks next advanced begun bel
 
 -- a line in progress whose task has ended has its reply
 pub line_end :
-    (config : Configuration) (place : ℕ) (d e : PassSet) (task : LineTask) (answer : LineReply) → IsLineInProgress config place d e task
+    (config : Configuration) (place : ℕ) (d e : PassSet) (task : LineTask) (answer : LineReply)
+    → IsLineInProgress config place d e task
     → Some answer ≡ result_in (line_to_do task) → AddsLine config place answer d e
 line_end config place d e task answer at is = record {
   line = at.line;
@@ -100,5 +104,6 @@ line_end config place d e task answer at is = record {
 }
 
 -- the next call of a line task whose boards exist goes to the arbiter or to one of these boards
-pub call_there : (n : ℕ) (task : LineTask) (call : Call) → IsLineBelow n task → Some call ≡ call_in (line_to_do task) → IsCallBelow n call
+pub call_there : (n : ℕ) (task : LineTask) (call : Call) → IsLineBelow n task → Some call ≡ call_in (line_to_do task)
+    → IsCallBelow n call
 call_there n task call below is = calls_below n task call below (in_makes (line_to_do task) call is)

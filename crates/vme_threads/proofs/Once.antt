@@ -54,14 +54,16 @@ all_given job tries (last ∷ before) =
 
 -- a line that is attempted once does next what its job does
 pub once_next : (config : Configuration) (board : ℕ) (line : Line) (job : Job) (replies : List EventReply)
-    → line_attempt config board line ≡ Ok (Transferring job) → line_next config board line replies ≡ moves_next (next_of job (given_of replies))
+    → line_attempt config board line ≡ Ok (Transferring job)
+    → line_next config board line replies ≡ moves_next (next_of job (given_of replies))
 unfolding next_given
 once_next config board line job replies is =
     rw is (ap (λ (g : Inputs). moves_next (next_of job g)) (all_given job config.tries (given_of replies)))
 
 -- a command to the local port gets its reply by one call
 pub local_answered :
-    (cmd : BoardCmd) (reply : Reply) (outcome : Outcome) (d e : PassSet) → AddsTransitions (move d.who (events.Board d.who cmd) (event_replies.Board reply) ∷ []) d e
+    (cmd : BoardCmd) (reply : Reply) (outcome : Outcome) (d e : PassSet)
+    → AddsTransitions (move d.who (events.Board d.who cmd) (event_replies.Board reply) ∷ []) d e
     → ((board : ℕ) → next_of (local_job board cmd) (Some (event_replies.Board reply) ∷ None ∷ []) ≡ Returns outcome)
     → (config : Configuration) → IsAnsweredBy config (lines.Local cmd) (Transfer outcome) d e
 local_answered cmd reply outcome d e made ends = λ config. record {
@@ -79,7 +81,8 @@ local_answered cmd reply outcome d e made ends = λ config. record {
 -- a line of the script that was found is a line of the configuration
 pub line_found :
     (config : Configuration) (who place : ℕ) (script : List ScriptLine) (line : Line) → slice_get config.scripts who ≡ Some script
-    → slice_get (map (λ (one : ScriptLine). one.line) script) place ≡ Some line → slice_get (lines_at config who) place ≡ Some line
+    → slice_get (map (λ (one : ScriptLine). one.line) script) place ≡ Some line
+    → slice_get (lines_at config who) place ≡ Some line
 line_found config who place script line there at =
     subst (λ (all : List ScriptLine). slice_get (map (λ (one : ScriptLine). one.line) all) place ≡ Some line)
     (sym (script_is config who who script refl there)) at
@@ -99,7 +102,8 @@ called (Invokes other) call is = cc
 called (Returns outcome) call is = absurd cc
 
 -- the outcome of a job's task is the reply to its line
-ended : (next : NextStep Outcome) (outcome : Outcome) → Some outcome ≡ result_in next → moves_next next ≡ Returns (Transfer outcome)
+ended : (next : NextStep Outcome) (outcome : Outcome) → Some outcome ≡ result_in next
+    → moves_next next ≡ Returns (Transfer outcome)
 ended NotStarted outcome is = absurd cc
 ended (Invokes call) outcome is = absurd cc
 ended (Returns other) outcome is = cc
@@ -122,7 +126,8 @@ refused_answered config map slot level request fault d is = record {
 }
 
 -- a request over the bus is in progress: a run of its events was made, and `task` is its task after them
-pub record IsRequestInProgress (config : Configuration) (request : Request) (before now : PassSet) (task : TaskView) : Type 0 where
+pub record IsRequestInProgress (config : Configuration) (request : Request) (before now : PassSet) (task : TaskView) :
+    Type 0 where
   pub job : Job
   pub attempted : line_attempt config before.who (lines.Bus request) ≡ Ok (Transferring job)
   pub run : List Transition
@@ -169,7 +174,9 @@ request_start config map slot level request d fresh task maps slots levels is ad
     }
 
 -- what the task of a request in progress does next is what the line's table states
-request_next : (config : Configuration) (request : Request) (d e : PassSet) (task : TaskView) (at : IsRequestInProgress config request d e task)
+request_next :
+    (config : Configuration) (request : Request) (d e : PassSet) (task : TaskView)
+    (at : IsRequestInProgress config request d e task)
     → moves_next (to_do task) ≡ line_next config d.who (lines.Bus request) at.replies
 request_next config request d e task at =
     ap (λ (t : TaskView). moves_next (to_do t)) at.is ∙ ap moves_next (by_the_table at.job (given_of at.replies))
@@ -177,16 +184,19 @@ request_next config request d e task at =
 
 -- the next call of a request in progress goes to the arbiter or to a board of the configuration
 pub request_below :
-    (config : Configuration) (request : Request) (d e : PassSet) (task : TaskView) (n : ℕ) (call : Call) → IsRequestInProgress config request d e task
+    (config : Configuration) (request : Request) (d e : PassSet) (task : TaskView) (n : ℕ) (call : Call)
+    → IsRequestInProgress config request d e task
     → d.who < length config.boards → length config.boards ≡ n → Some call ≡ call_in (to_do task) → IsCallBelow n call
 request_below config request d e task n call at there same asks =
     subst (λ (m : ℕ). IsCallBelow m call) same
-    (next_below config d.who (lines.Bus request) (given_of at.replies) call there (sym (request_next config request d e task at) ∙ called (to_do task) call asks))
+    (next_below config d.who (lines.Bus request) (given_of at.replies) call there
+    (sym (request_next config request d e task at) ∙ called (to_do task) call asks))
 
 -- a request is still in progress after one more event
 pub request_more :
     (config : Configuration) (request : Request) (d e f : PassSet) (call : Call) (reply : EventReply) (task new : TaskView)
-    → IsRequestInProgress config request d e task → Some call ≡ call_in (to_do task) → AddsCall call reply e f → new ≡ advance task (Some reply)
+    → IsRequestInProgress config request d e task → Some call ≡ call_in (to_do task) → AddsCall call reply e f
+    → new ≡ advance task (Some reply)
     → to_do new ≢ NotStarted → IsRequestInProgress config request d f new
 request_more config request d e f call reply task new at asks next advanced begun =
     let one = move e.who next.event reply in
@@ -205,7 +215,8 @@ request_more config request d e f call reply task new at asks next advanced begu
 
 -- a request in progress whose task has ended has its reply
 pub request_end :
-    (config : Configuration) (request : Request) (d e : PassSet) (task : TaskView) (outcome : Outcome) → IsRequestInProgress config request d e task
+    (config : Configuration) (request : Request) (d e : PassSet) (task : TaskView) (outcome : Outcome)
+    → IsRequestInProgress config request d e task
     → Some outcome ≡ result_in (to_do task) → IsAnsweredBy config (lines.Bus request) (Transfer outcome) d e
 request_end config request d e task outcome at is = record {
   run = at.run;

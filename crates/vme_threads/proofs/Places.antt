@@ -23,7 +23,8 @@ map_length f [] = refl
 map_length f (x ∷ xs) = ap suc (map_length f xs)
 
 -- an element of a mapped list is the image of the element at the same index
-pub map_at : {A B : Type 0} (f : A → B) (xs : List A) (k : ℕ) (b : B) (a : A) → k < length xs → slice_index_or (map f xs) k b ≡ f (slice_index_or xs k a)
+pub map_at : {A B : Type 0} (f : A → B) (xs : List A) (k : ℕ) (b : B) (a : A) → k < length xs
+    → slice_index_or (map f xs) k b ≡ f (slice_index_or xs k a)
 map_at f [] k b a k< = absurd (omega arith)
 map_at f (x ∷ xs) zero b a k< = refl
 map_at f (x ∷ xs) (suc k) b a k< = map_at f xs k b a (omega arith)
@@ -41,7 +42,8 @@ each_mapped P f xs each k d k< =
     subst (P k) (sym (map_at f xs k d a there)) (each k a there)
 
 -- a relation of two images of each element is one of two mapped lists
-pub both_mapped : {A B C : Type 0} (P : ℕ → B → C → Type 0) (f : A → B) (g : A → C) (xs : List A) → Each (λ k a. P k (f a) (g a)) xs → AllAt P (map f xs) (map g xs)
+pub both_mapped : {A B C : Type 0} (P : ℕ → B → C → Type 0) (f : A → B) (g : A → C) (xs : List A)
+    → Each (λ k a. P k (f a) (g a)) xs → AllAt P (map f xs) (map g xs)
 both_mapped P f g xs each = record {
   count = map_length g xs ∙ sym (map_length f xs);
   each = λ k b c k<.
@@ -52,7 +54,8 @@ both_mapped P f g xs each = record {
 }
 
 -- an element of the first of two appended lists
-pub element_of_first : {A : Type 0} (xs ys : List A) (k : ℕ) (d : A) → k < length xs → get_elem? (xs ++ ys) k ≡ some (slice_index_or xs k d)
+pub element_of_first : {A : Type 0} (xs ys : List A) (k : ℕ) (d : A) → k < length xs
+    → get_elem? (xs ++ ys) k ≡ some (slice_index_or xs k d)
 element_of_first [] ys k d k< = absurd (omega arith)
 element_of_first (x ∷ xs) ys zero d k< = refl
 element_of_first (x ∷ xs) ys (suc k) d k< = element_of_first xs ys k d (omega arith)
@@ -81,7 +84,8 @@ take_whole (x ∷ xs) (suc k) all = ap (λ ys. x ∷ ys) (take_whole xs k (omega
 
 -- the first element of a list that is numbered from n has the property at n
 pub first_of_each :
-    {A : Type 0} (P : ℕ → A → Type 0) (n : ℕ) (xs : List A) (x : A) (rest : List A) → xs ≡ x ∷ rest → Each (λ i. P (n + i)) xs → P n x
+    {A : Type 0} (P : ℕ → A → Type 0) (n : ℕ) (xs : List A) (x : A) (rest : List A) → xs ≡ x ∷ rest → Each (λ i. P (n + i)) xs
+    → P n x
 first_of_each P n xs x rest is each =
     let same : n + 0 ≡ n = omega arith in
     let was = subst (Each (λ i. P (n + i))) is each in

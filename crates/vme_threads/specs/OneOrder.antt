@@ -43,7 +43,8 @@ pub record IsReportOfOneOrder (config : Configuration) (report : Report) : Type 
   pub within : All (λ m. IsEventBelow (length config.boards) m.event) run
   pub trace :
       AllAt
-      (λ who (own : BoardConfig) lines. IsTrace config who (lines_at config who) (transitions_of who run) (answers_in lines.items))
+      (λ who (own : BoardConfig) lines. IsTrace config who (lines_at config who) (transitions_of who run)
+      (answers_in lines.items))
       config.boards report.lines.items
   pub numbers :
       Each (λ who lines. numbers_in lines.items ≡ map (λ one. one.number) (script_at config who)) report.lines.items

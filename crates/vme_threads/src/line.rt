@@ -1,5 +1,6 @@
 //! Lines of a script. A command to the local port of the processor's own board is one call, and a
-//! request over the bus is one `Task`. Any other line may need several attempts and is a `LineTask`.
+//! request over the bus is one `Task`. Any other line may need several attempts: it is a
+//! `LineTask`.
 ghost use Rattle.std.specs.Prelude.{◌≡◌, ◌≢◌, ◌<◌, ◌≤◌, ◌∷◌, [], ℕ, false, length, slice_get, Some, None, IfOk};
 ghost use Rattle.vme_core.specs.Calls.{Call};
 ghost use Rattle.vme_core.specs.declared.event.EventReply.TheVariants as replies;

@@ -28,9 +28,9 @@ use vme_script::Config;
 use vme_shared::LineReply;
 
 /// The pass of one processor. It reaches each board by the board's index, and the arbiter by the
-/// index `boards`, after all boards. `who` is the index of the processor's own board. `made` has the
-/// number of calls that the processor made of each object, and `wait_state` states how long it has
-/// waited for the bus.
+/// index `boards`, after all boards. `who` is the index of the processor's own board. `made` has
+/// the number of calls that the processor made of each object, and `wait_state` states how long it
+/// has waited for the bus.
 #[derive(Drop)]
 pub struct PassSet {
     pub(crate) who: usize,

@@ -30,8 +30,9 @@ pub struct Ports {
 
 impl Ports {
     /// Opens one array of ports, whose objects are the configured boards with zero memory and the
-    /// arbiter of a free bus, with a pass for each processor. Returns the ports and the workers that
-    /// have these passes. It allocates everything that the workers and the end of their run need.
+    /// arbiter of a free bus, with a pass for each processor. Returns the ports and the workers
+    /// that have these passes. It allocates everything that the workers and the end of their run
+    /// need.
     ///
     /// # Errors
     /// `OutOfMemory` if an allocation fails.
