@@ -34,14 +34,14 @@ pub map_twice : {A B C : Type 0} (g : B → C) (f : A → B) (xs : List A) → m
 map_twice g f [] = refl
 map_twice g f (x ∷ xs) = ap (λ ys. g (f x) ∷ ys) (map_twice g f xs)
 
--- a property of each image is one of each element of the mapped list
+-- if the image of each element has a property, each element of the mapped list has it
 pub each_mapped : {A B : Type 0} (P : ℕ → B → Type 0) (f : A → B) (xs : List A) → Each (λ k a. P k (f a)) xs → Each P (map f xs)
 each_mapped P f xs each k d k< =
     let there : k < length xs = omega (arith, k<, map_length f xs) in
     let a = (element_at xs k there).0 in
     subst (P k) (sym (map_at f xs k d a there)) (each k a there)
 
--- a relation of two images of each element is one of two mapped lists
+-- if two images of each element are related, the elements of the two mapped lists are related
 pub both_mapped : {A B C : Type 0} (P : ℕ → B → C → Type 0) (f : A → B) (g : A → C) (xs : List A)
     → Each (λ k a. P k (f a) (g a)) xs → AllAt P (map f xs) (map g xs)
 both_mapped P f g xs each = record {
@@ -65,13 +65,13 @@ pub element_after : {A : Type 0} (xs : List A) (x : A) → get_elem? (xs ++ x �
 element_after [] x = refl
 element_after (y ∷ xs) x = element_after xs x
 
--- the prefix of the successor of a length has one more element
+-- the prefix of length suc k is the prefix of length k with the element at index k
 take_suc : {A : Type 0} (xs : List A) (k : ℕ) (x : A) → slice_get xs k ≡ Some x → take (suc k) xs ≡ take k xs ++ x ∷ []
 take_suc [] k x at = absurd (none-some x at)
 take_suc (y ∷ ys) zero x at = ap (λ z. z ∷ []) (same_Some y x at)
 take_suc (y ∷ ys) (suc k) x at = ap (λ zs. y ∷ zs) (take_suc ys k x at)
 
--- the prefix of a length and one has one more element
+-- the prefix of length k + 1 is the prefix of length k with the element at index k
 pub take_one : {A : Type 0} (xs : List A) (k : ℕ) (x : A) → slice_get xs k ≡ Some x → take (k + 1) xs ≡ take k xs ++ x ∷ []
 take_one xs k x at = let same : k + 1 ≡ suc k = omega arith in ap (λ n. take n xs) same ∙ take_suc xs k x at
 
@@ -100,7 +100,7 @@ rest_of_each P n m xs x rest is more each k d k< =
     let was = subst (Each (λ i. P (n + i))) is each in
     subst (λ i. P i (slice_index_or rest k d)) same (was (suc k) d (omega arith))
 
--- elements that are numbered from 0 have the property at their positions
+-- elements that have a property at their positions have it in a list that is numbered from n, if n is 0
 pub begin_each :
     {A : Type 0} (P : ℕ → A → Type 0) (n : ℕ) (xs ys : List A) → n ≡ 0 → ys ≡ xs → Each P xs → Each (λ i. P (n + i)) ys
 begin_each P n xs ys none same each k d k< =

@@ -35,8 +35,8 @@ pub record IsEndOf (runs : List (List Transition)) (x : ℕ) (own : BoardConfig)
   pub slot : end.slot ≡ own.slot
   pub history : HasHistory board_step (opening_memory own) (map (board_part x) runs) end.memory end.steps end.made.items
 
--- a report: each processor's run is the trace of its script and gives its replies; each board, and the arbiter of a
--- free bus, has one legal history that the runs share
+-- a report with one history for each object: each processor's run is the trace of its script and gives its replies, and
+-- each board, and the arbiter of a free bus, has one legal history that the runs share
 pub record IsReportOf (config : Configuration) (report : Report) : Type 0 where
   pub runs : List (List Transition)
   pub workers : length runs ≡ length config.boards
