@@ -26,11 +26,11 @@ run_text_of input config report status configures order good =
       config = config;
       configures = configures;
       slots = turns.0;
-      whole = ap report_text turns.1;
-      good = good ∙ ap report_status turns.1;
+      whole = ap report_text turns.1.boards;
+      good = good ∙ ap report_status turns.1.boards;
       report = report;
       order = order;
-      entries = turns.1;
+      state = turns.1;
     }
 
 -- if the text of a report of one order was written, it is that of a run of the input

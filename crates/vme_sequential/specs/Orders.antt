@@ -7,6 +7,9 @@ use Rattle.vme_script.specs.Configurations.{Configuration}
 use Rattle.vme_line_task.specs.Scripts.{slot_at, lines_at}
 use Rattle.vme_line_task.specs.Traces.{IsTrace}
 use Rattle.vme_stepper.specs.Turns.{SystemState, script_state, initial_state}
+use Rattle.vme_stepper.specs.Reports.{texts_of_system}
+use Rattle.vme_threads.specs.declared.report.Report.{Report}
+use Rattle.vme_threads.specs.ReportTexts.{texts_of_report}
 use Rattle.vme_bus_objects.specs.Runs.{transitions_of}
 
 -- the machine makes these transitions, one after another, and is then `after`: each reply is that of the machine to the
@@ -44,3 +47,9 @@ pub record IsOneOrder (config : Configuration) (run : List Transition) (answers 
 -- the state of a system with this machine, in which each line has its reply and no line is in progress
 abbrev pub ended_state : Machine → List (List LineReply) → SystemState
 ended_state machine answers = record { machine = machine; script_states = map (λ own. script_state own []) answers }
+
+-- a report has what a system is in a state: the replies, the memory and the counts of each board, and the arbiter's counts
+pub record IsReportOfState (config : Configuration) (report : Report) (state : SystemState) : Type 0 where
+  pub boards : texts_of_report report ≡ texts_of_system config state
+  pub arbiter_steps : report.arbiter_steps ≡ state.machine.bus.steps
+  pub arbiter_made : report.arbiter_made.items ≡ state.machine.bus.made

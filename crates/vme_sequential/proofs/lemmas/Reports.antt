@@ -1,4 +1,4 @@
--- A report of one order has the entries of the report of some turns.
+-- A report of one order is that of the state after some turns.
 use Rattle.std.proofs.Common.{◌≡◌, ℕ, zero, suc, ◌<◌, List, [], ◌∷◌, length, map, replicate, slice_index_or, Some, refl, ap, sym, subst, ◌∙◌, arith}
 use Rattle.std.specs.Prelude.{slice_get}
 use Rattle.std.specs.Global.{Vec}
@@ -8,7 +8,8 @@ use Rattle.vme_object.specs.History.{IsLegal, own}
 use Rattle.vme_memory.specs.Boards.{Board}
 use Rattle.vme_memory.specs.Locals.{board_step}
 use Rattle.vme_core.specs.CountedStates.{CountedState, IsObjectRun, fresh_count}
-use Rattle.vme_core.specs.Runs.{Machine, board_part}
+use Rattle.vme_arbiter.specs.Arbitration.{opening_bus, arbiter_step}
+use Rattle.vme_core.specs.Runs.{Machine, board_part, bus_part}
 use Rattle.vme_shared.specs.declared.reply.LineReply.{LineReply}
 use Rattle.vme_report.specs.Boards.{BoardText}
 use Rattle.vme_script.specs.declared.board.BoardConfig.{BoardConfig}
@@ -24,7 +25,7 @@ use Rattle.vme_threads.specs.declared.report.BoardReport.{BoardReport}
 use Rattle.vme_threads.specs.declared.report.Report.{Report}
 use Rattle.vme_threads.specs.Rans.{numbers_in, answers_in}
 use Rattle.vme_threads.specs.ReportTexts.{texts_of_ends, texts_of_report}
-use Rattle.vme_sequential.specs.Orders.{performed, IsOneOrder, ended_state}
+use Rattle.vme_sequential.specs.Orders.{performed, IsOneOrder, IsReportOfState, ended_state}
 use Rattle.vme_threads.specs.OneOrder.{IsEntryOfBoard, IsReportOfOneOrder}
 use Rattle.vme_sequential.proofs.lemmas.Lists.{element_at, map_at, same_elements, related_at}
 use Rattle.vme_sequential.proofs.lemmas.Turns.{one_order}
@@ -229,8 +230,32 @@ module _ (config : Configuration) (report : Report) (lawful : IsLawful config) (
       same_elements (texts_of_report report) (texts_of_system config (ended_state last answers)) (left ∙ sym right)
       (λ i less. same_at i (subst (λ n. i < n) right less))
 
-  -- a report of one order has the entries of a report of some turns
-  pub report_of_turns : (slots : List ℕ) × (texts_of_report report ≡ texts_of_system config (state_after config slots))
+  -- the arbiter's history in the run leads from a free bus to the arbiter after the run
+  arbiter_run : IsObjectRun arbiter_step (bus_part is.run) (fresh_count k (opening_bus config.arbiter)) last.bus
+  arbiter_run = one.did.bus
+
+  -- the report's steps of the arbiter are those after the run
+  arbiter_steps_same : report.arbiter_steps ≡ last.bus.steps
+  arbiter_steps_same = let a = is.bus.1.counted in let b = arbiter_run.steps in omega arith
+
+  -- the report's steps of each processor on the arbiter are those after the run
+  arbiter_made_same : report.arbiter_made.items ≡ last.bus.made
+  arbiter_made_same =
+      ext_get_or 0 report.arbiter_made.items last.bus.made
+      (is.bus.1.process_count ∙ sym (arbiter_run.process_count ∙ length-replicate k 0))
+      (λ w w<.
+      let below : w < k = subst (λ n. w < n) is.bus.1.process_count w< in
+      let a = is.bus.1.makes w 0 below in
+      let b = arbiter_run.made w (rw (length-replicate {A = ℕ} k 0) below) in
+      let c : slice_index_or (replicate {A = ℕ} k 0) w 0 ≡ 0 = get_or-replicate k w 0 0 below in
+      omega arith)
+
+  -- the report is that of the state after the run
+  ended : IsReportOfState config report (ended_state last answers)
+  ended = record { boards = same_reported; arbiter_steps = arbiter_steps_same; arbiter_made = arbiter_made_same }
+
+  -- a report of one order is that of the state after some turns
+  pub report_of_turns : (slots : List ℕ) × IsReportOfState config report (state_after config slots)
   report_of_turns =
       let turns = one_order config is.run answers last lawful order in
-      (turns.0, same_reported ∙ ap (texts_of_system config) (sym turns.1))
+      (turns.0, subst (IsReportOfState config report) (sym turns.1) ended)
