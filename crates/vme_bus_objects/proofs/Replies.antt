@@ -74,10 +74,11 @@ pub board_replies :
     → get_elem? starts index ≡ some (objects.Board memory)
     → Adds bus_object_step starts (entry who (indexed index (commands.Board cmd)) reply ∷ []) p q → IsBoardReply reply
 board_replies starts who index cmd reply p q memory there added =
-    let kept = board_after_history memory (before starts who index (commands.Board cmd) reply p q added) in
-    ((board_step kept.0 cmd).1,
-    reply_is starts who index (commands.Board cmd) reply p q added (objects.Board memory) there
-    ∙ ap (λ s. (bus_object_step s (commands.Board cmd)).1) kept.1)
+    let kept = board_after_history memory (before starts who index (commands.Board cmd) reply p q added) in (
+      (board_step kept.0 cmd).1,
+      reply_is starts who index (commands.Board cmd) reply p q added (objects.Board memory) there
+          ∙ ap (λ s. (bus_object_step s (commands.Board cmd)).1) kept.1,
+    )
 
 -- the reply to a command of the arbiter is that of the arbiter
 pub arbiter_replies :
@@ -86,7 +87,8 @@ pub arbiter_replies :
     → get_elem? starts index ≡ some (objects.Arbiter bus)
     → Adds bus_object_step starts (entry who (indexed index (commands.Arbiter cmd)) reply ∷ []) p q → IsArbiterReply reply
 arbiter_replies starts who index cmd reply p q bus there added =
-    let kept = arbiter_after_history bus (before starts who index (commands.Arbiter cmd) reply p q added) in
-    ((arbiter_step kept.0 cmd).1,
-    reply_is starts who index (commands.Arbiter cmd) reply p q added (objects.Arbiter bus) there
-    ∙ ap (λ s. (bus_object_step s (commands.Arbiter cmd)).1) kept.1)
+    let kept = arbiter_after_history bus (before starts who index (commands.Arbiter cmd) reply p q added) in (
+      (arbiter_step kept.0 cmd).1,
+      reply_is starts who index (commands.Arbiter cmd) reply p q added (objects.Arbiter bus) there
+          ∙ ap (λ s. (bus_object_step s (commands.Arbiter cmd)).1) kept.1,
+    )

@@ -155,7 +155,7 @@ fn print_write_half(text: &mut Vec<u8>, plan: &Plan<'_>, reply: &Reply) -> Resul
 fn print_outcome(text: &mut Vec<u8>, plan: &Plan<'_>, replied: &[u8]) -> Result<(), AllocError>
     ensures { OnOk result
         (text.new.items ≡ text.old.items
-            ++ output_line (outcome_text (outcome_of plan.now replied.now))) }
+        ++ output_line (outcome_text (outcome_of plan.now replied.now))) }
 {
     if plan.reads() {
         print_read(text, replied)

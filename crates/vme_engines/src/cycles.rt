@@ -50,7 +50,7 @@ pub fn cycles_engine<R: Source, W: Sink>(
         OnOk result (Appends (W.contents writer.old) (W.contents writer.new) (cycles_text input))) }
     ensures prefix { IfSome (R.remaining reader.old) (λ input.
         OnErr result
-            (AppendsPrefix (W.contents writer.old) (W.contents writer.new) (cycles_text input))) }
+        (AppendsPrefix (W.contents writer.old) (W.contents writer.new) (cycles_text input))) }
     ensures nothing { EndsUnwritten result → writer.new ≡ writer.old }
     ensures status { IfSome (R.remaining reader.old) (λ input.
         IfOk result (λ status. status ≡ cycles_status input)) }

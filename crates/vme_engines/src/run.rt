@@ -59,10 +59,10 @@ pub fn run_engine<T: Threads + Wait + Sync, R: Source, W: Sink>(
     // reply; before a fault, a prefix of such a text or nothing.
     ensures text { IfSome (R.remaining reader.old) (λ input. IfOk result (λ status.
         (text : List ℕ) × IsRunText input text status
-            × Appends (W.contents writer.old) (W.contents writer.new) text)) }
+        × Appends (W.contents writer.old) (W.contents writer.new) text)) }
     ensures prefix { IfSome (R.remaining reader.old) (λ input.
         OnErr result (WritesPrefix (IsSomeRunText input)
-            (W.contents writer.old) (W.contents writer.new))) }
+        (W.contents writer.old) (W.contents writer.new))) }
     ensures nothing { EndsUnwritten result → writer.new ≡ writer.old }
 
     // When each fault is returned. No clause states when `Memory`, `Thread` and `Spent` are.

@@ -45,13 +45,13 @@ pub fn step_engine<R: Source, W: Sink>(
         IfOk result (λ _. (config : Configuration) × Configures input config)) }
     ensures text { (config : Configuration) → IfSome (R.remaining reader.old) (λ input.
         Configures input config → OnOk result (Appends
-            (W.contents writer.old) (W.contents writer.new) (run_text config (file_turns config)))) }
+        (W.contents writer.old) (W.contents writer.new) (run_text config (file_turns config)))) }
     ensures prefix { IfSome (R.remaining reader.old) (λ input.
         OnErr result (WritesPrefix (IsStepText input)
-            (W.contents writer.old) (W.contents writer.new))) }
+        (W.contents writer.old) (W.contents writer.new))) }
     ensures status { (config : Configuration) → IfSome (R.remaining reader.old) (λ input.
         Configures input config → IfOk result (λ status.
-            status ≡ run_status config (file_turns config))) }
+        status ≡ run_status config (file_turns config))) }
     ensures nothing { EndsUnwritten result → writer.new ≡ writer.old }
 
     // When each fault is returned. No clause states when `Memory` is.

@@ -28,7 +28,7 @@ pub fn declared_mailboxes_are_queues()
         (is : IsReportOfOneOrder config report) (k : ℕ) → IsLawful config →
         k < length config.mailboxes →
         (m : BoardMailbox) × (h : List (Entry BoardCmd Reply))
-            × IsDeclaredIn config report is (k + 1) m h }
+        × IsDeclaredIn config report is (k + 1) m h }
     ensures proper { (config : Configuration) (report : Report)
         (is : IsReportOfOneOrder config report) (box : ℕ) (m : BoardMailbox)
         (h : List (Entry BoardCmd Reply)) → IsLawful config →
@@ -49,13 +49,13 @@ pub fn declared_mailboxes_are_queues()
         (h : List (Entry BoardCmd Reply)) → IsLawful config →
         IsDeclaredIn config report is box m h →
         Each (λ who lines. own_words_put who m h
-            ≡ lines_put box (lines_at config who) (answers_in lines.items)) report.lines.items }
+        ≡ lines_put box (lines_at config who) (answers_in lines.items)) report.lines.items }
     ensures taken { (config : Configuration) (report : Report)
         (is : IsReportOfOneOrder config report) (box : ℕ) (m : BoardMailbox)
         (h : List (Entry BoardCmd Reply)) → IsLawful config →
         IsDeclaredIn config report is box m h →
         Each (λ who lines. own_words_taken who m h
-            ≡ lines_taken box (lines_at config who) (answers_in lines.items)) report.lines.items }
+        ≡ lines_taken box (lines_at config who) (answers_in lines.items)) report.lines.items }
 {}
 
 /// If `run_engine` returns `Ok`, it has written the text of a report of one order of the
@@ -69,7 +69,7 @@ pub fn texts_show_queues()
     ensures each { (input text : List ℕ) (status : Status)
         (reported : IsRunText input text status) (k : ℕ) → k < length reported.config.mailboxes →
         (m : BoardMailbox) × (h : List (Entry BoardCmd Reply))
-            × IsDeclaredIn reported.config reported.report reported.order (k + 1) m h }
+        × IsDeclaredIn reported.config reported.report reported.order (k + 1) m h }
     ensures proper { (input text : List ℕ) (status : Status)
         (reported : IsRunText input text status) (box : ℕ) (m : BoardMailbox)
         (h : List (Entry BoardCmd Reply)) →
@@ -90,13 +90,13 @@ pub fn texts_show_queues()
         (h : List (Entry BoardCmd Reply)) →
         IsDeclaredIn reported.config reported.report reported.order box m h →
         Each (λ who lines. own_words_put who m h
-            ≡ lines_put box (lines_at reported.config who) (answers_in lines.items))
+        ≡ lines_put box (lines_at reported.config who) (answers_in lines.items))
         reported.report.lines.items }
     ensures taken { (input text : List ℕ) (status : Status)
         (reported : IsRunText input text status) (box : ℕ) (m : BoardMailbox)
         (h : List (Entry BoardCmd Reply)) →
         IsDeclaredIn reported.config reported.report reported.order box m h →
         Each (λ who lines. own_words_taken who m h
-            ≡ lines_taken box (lines_at reported.config who) (answers_in lines.items))
+        ≡ lines_taken box (lines_at reported.config who) (answers_in lines.items))
         reported.report.lines.items }
 {}

@@ -37,7 +37,7 @@ pub fn commands_are_the_holders()
     ensures granted { (config : Configuration) (slots : List ℕ) (slot board : ℕ) (call : Call) →
         IsLawful config → turn_call config (state_after config slots) slot ≡ Some (board, call) →
         (machine_step (state_after config slots).machine board call).1
-            ≢ replies.Bus arb_replies.Denied }
+        ≢ replies.Bus arb_replies.Denied }
     ensures answers { (config : Configuration) (slots : List ℕ) (board : ℕ) (c : ScriptState) →
         IsLawful config → slice_get (state_after config slots).script_states board ≡ Some c →
         All IsGranted c.ended }

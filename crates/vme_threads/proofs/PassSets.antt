@@ -90,9 +90,10 @@ fits_first config ports i w built is =
       who = is.pass.who ∙ sym is.who;
       object_count = built.object_count ∙ ap (λ n. n + 1) (sym is.boards);
       boards = λ x less.
-          let own = element_at config.boards x (subst (λ n. x < n) is.boards less) in
-          (opening_memory own.0,
-          ap (λ (os : List BusObject). get_elem? os x) built.opened ∙ board_at config config.boards x own.0 own.1);
+          let own = element_at config.boards x (subst (λ n. x < n) is.boards less) in (
+            opening_memory own.0,
+            ap (λ (os : List BusObject). get_elem? os x) built.opened ∙ board_at config config.boards x own.0 own.1,
+          );
       bus =
           subst (λ n. (bus : Arbitration) × (get_elem? (opening ports.array) n ≡ some (objects.Arbiter bus))) (sym is.boards)
           (opening_bus config.arbiter, ap (λ (os : List BusObject). get_elem? os n) built.opened ∙ bus_at config config.boards);

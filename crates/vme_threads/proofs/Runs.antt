@@ -112,8 +112,12 @@ script_end config ports count w ran built is progress all =
     let numbers = map (λ (one : ScriptLine). one.number) script in
     let lines = lines_at config d.who in
     let short : length numbers ≤ count =
-    omega (arith, map_length (λ (one : ScriptLine). one.number) script, map_length (λ (one : ScriptLine). one.line) script,
-    all) in
+    omega (
+      arith,
+      map_length (λ (one : ScriptLine). one.number) script,
+      map_length (λ (one : ScriptLine). one.line) script,
+      all,
+    ) in
     let mine : ran.pass_set.pass.mine ≡ progress.made.entries =
     progress.made.pass.mine ∙ ap (λ es. es ++ progress.made.entries) is.pass.mine in
     let run : run_made_by ran ≡ progress.run = ap run_of mine ∙ progress.made.run_is in record {

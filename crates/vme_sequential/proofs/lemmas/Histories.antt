@@ -98,7 +98,7 @@ is_report config report is =
       bus = (
         is.bus.0,
         shared_by (λ m. bus_entry m.who m.event m.reply) (λ m e found. bus_whose m.who m.event m.reply e found) arbiter_step
-        (opening_bus config.arbiter) k is.run _ _ _ is.known is.bus.1,
+            (opening_bus config.arbiter) k is.run _ _ _ is.known is.bus.1,
       );
     }
   where

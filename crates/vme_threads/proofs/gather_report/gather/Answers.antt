@@ -79,8 +79,13 @@ pub report_boards-requires-clause-made : goal.report_boards-requires-clause-made
 report_boards-requires-clause-made c =
     let can = c.requires.1 in
     let count : vec_len c.collect_passes.new.counts ≡ length c.requires.0.boards =
-    omega (arith, c.collect_passes.new.counts.ok.0, ap length c.collect_passes.ensures.counts,
-    map_length (λ (r : Ran). r.pass_set.made) c.args.rans.items, can.count)
+    omega (
+      arith,
+      c.collect_passes.new.counts.ok.0,
+      ap length c.collect_passes.ensures.counts,
+      map_length (λ (r : Ran). r.pass_set.made) c.args.rans.items,
+      can.count,
+    )
     in
     λ k own k<. let its = can.built.report_buffers.made k own k< in (its.0, omega (arith, its.1, count))
 

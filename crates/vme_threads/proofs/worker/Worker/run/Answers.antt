@@ -15,8 +15,11 @@ loop-line-init g c =
       count = c.requires.worker.lines;
       buffers = c.requires.worker.buffers;
       capacity =
-          omega (arith, c.requires.worker.lines_capacity,
-          map_length (λ (one : ScriptLine). one.line) (script_at config w.pass_set.who));
+          omega (
+            arith,
+            c.requires.worker.lines_capacity,
+            map_length (λ (one : ScriptLine). one.line) (script_at config w.pass_set.who),
+          );
       progress =
           script_start config w.pass_set w.lines.items
           (nil_of w.lines.items (omega (arith, c.requires.worker.lines, w.lines.ok.0)));
@@ -28,8 +31,13 @@ number-number-requires g c =
     let who = c.args.self.pass_set.who in
     let script =
     script_is config who c.loop-line.pass_set.who c.script.result.now c.loop-line.invariant.progress.made.who c.script.ensures in
-    omega (arith, c.loop-line-test.true, c.line_count-line-end.ensures,
-    map_length (λ (one : ScriptLine). one.line) (script_at config who), ap length script)
+    omega (
+      arith,
+      c.loop-line-test.true,
+      c.line_count-line-end.ensures,
+      map_length (λ (one : ScriptLine). one.line) (script_at config who),
+      ap length script,
+    )
 
 -- the next buffer is taken
 pub take-buffer-requires : goal.take-buffer-requires
