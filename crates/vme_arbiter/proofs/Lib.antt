@@ -5,6 +5,7 @@ mod Pending
 mod Listed
 mod Nexts
 mod Steps
+mod States
 pub mod Holders
 mod Sets
 mod Shares

@@ -1,19 +1,18 @@
-ghost use Rattle.std.specs.Prelude.{◌≡◌, ◌<◌, ◌≤◌, length};
+ghost use Rattle.std.specs.Prelude.{◌≡◌, ◌<◌, ◌≤◌, IsTrue, length};
 ghost use Rattle.vme_arbiter.specs.Requests.{bus_request, is_slot};
 ghost use Rattle.vme_arbiter.specs.declared.kind.ArbiterKind.TheVariants.{Priority, Rotating};
+ghost use Rattle.vme_arbiter.specs.States.{is_in_range, bus_of_state, bus_from_state};
 ghost use Rattle.vme_arbiter.specs.Arbitration.{opening_bus, granted, holds, pends, can_ask, ask_step, look_step, done_step};
 
 use crate::command::{ArbCmd, ArbReply};
 use crate::kind::ArbiterKind;
 use crate::levels::{HIGHEST, LEVELS, Request, level_of, next_request};
+use crate::state::{ArbiterState, PLACES, are_in_range};
 use std::marker::Model;
 use vme_object::Object;
 
 /// The number of slots of a backplane. Slots are counted from 1.
 pub const SLOTS: u16 = 21;
-
-/// One place for each slot number, and place 0, which stays empty.
-const PLACES: usize = 22;
 
 /// The arbiter of IEEE 1014-1987, 3.3 (arbiter and requesters): the holder of the data transfer
 /// bus, and the pending requests with their levels. Contracts see it as its kind, the level at
@@ -64,6 +63,42 @@ impl Arbiter {
             holder: None,
             levels: [None; PLACES],
         }
+    }
+
+    /// Returns the state, for a caller that keeps or compares it between two steps.
+    #[tactic(auto, using(crate::proofs::States::all_in_range))]
+    pub fn state(&self) -> ArbiterState
+        ensures bus { bus_of_state result ≡ self.now }
+        ensures in_range { IsTrue (is_in_range result) }
+    {
+        ArbiterState {
+            kind: self.kind,
+            first: self.first,
+            holder: self.holder,
+            levels: self.levels,
+        }
+    }
+
+    /// Returns the arbiter in a state, or `None` if a level of the state is out of range.
+    #[tactic(auto, using(crate::proofs::States::each_in_range))]
+    pub fn from_state(state: &ArbiterState) -> Option<Arbiter>
+        ensures { result ≡ bus_from_state state.now }
+    {
+        let ArbiterState {
+            kind,
+            first,
+            holder,
+            levels,
+        } = *state;
+        if first < LEVELS && are_in_range(&levels) {
+            return Some(Arbiter {
+                kind,
+                first,
+                holder,
+                levels,
+            });
+        }
+        None
     }
 
     /// Whether a slot holds the bus.

@@ -9,6 +9,7 @@ mod command;
 mod kind;
 mod laws;
 mod levels;
+mod state;
 
 pub use arbiter::{Arbiter, SLOTS};
 pub use command::{ArbCmd, ArbReply};
@@ -18,3 +19,4 @@ pub use laws::{
     one_slot_has_the_bus, pending_requests_are_a_set, replies_show_the_holder,
     replies_show_who_waits, states_are_orderly,
 };
+pub use state::{ArbiterState, PLACES};

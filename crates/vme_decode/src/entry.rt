@@ -45,7 +45,7 @@ impl Entry {
     }
 
     /// Whether the entry responds to a code and an address.
-    pub(crate) fn responds(&self, am: Am, addr: u32) -> bool
+    pub fn responds(&self, am: Am, addr: u32) -> bool
         ensures { result ≡ responds self.now am addr }
     {
         self.covers(am.space(), addr) && self.admits(am)

@@ -15,4 +15,4 @@ pub use laws::{
     one_entry_covers, overlap_is_a_shared_address, selected_is_the_one,
     selection_goes_by_the_address,
 };
-pub use map::AddressMap;
+pub use map::{AddressMap, check};

@@ -103,9 +103,14 @@ impl AddressMap {
     }
 }
 
-/// The first fault of some entries.
+/// Checks that some entries are a lawful map, without an allocation.
+///
+/// # Errors
+///
+/// The first fault in this order: `TooMany` (C4); entry by entry, `Misaligned` (C3) and
+/// `OutsideSpace` (C2) of that entry; `Overlap` (C1).
 #[tactic(auto, unfolding(crate::specs::Lawful::first_refusal))]
-fn check(entries: &[Entry]) -> Result<(), MapFault>
+pub fn check(entries: &[Entry]) -> Result<(), MapFault>
     ensures lawful { IsOk result ↔ (first_refusal entries.now ≡ None) }
     ensures refused { IfErr result (λ fault. first_refusal entries.now ≡ Some fault) }
     ensures not_memory { result ≢ Err MapFault.OutOfMemory }
