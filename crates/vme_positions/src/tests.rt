@@ -14,14 +14,21 @@ const DOCUMENTS: [&str; 12] = [
     "# no key",
     "\u{feff}rounds = 1_2 # note\r\n\"tries\"=0x10\n'x y' = [1, # ]\n {a = ']'}, '''}''']",
     "board = [1, {}, {slot = 1, a.b = 2, 'slots' = {c = [3]}, # }\n}, [{slot = 1}],]\nschedule = 7",
-    "schedule = [[1, 2], [3], [[4], {a = 5}], 6, [7, 8, 9]]\nmailbox = [{am = 9}]\nb.oard = 1\nb.c = 2",
-    "[[schedule]]\n[[ 'board' ]] # x\nslot.a = 1\nslot.b = 2\nscript=''''a'''''\n[[\"boar\\u0064\"]]",
-    "[[board]]\n[board . 'slot' . x]\nbase = 1\n[[board.y]]\n[[board.y]]\n[[mailbox]]\nz=1\ny=1\nx=1\n",
+    "schedule = [[1, 2], [3], [[4], {a = 5}], 6, [7, 8, 9]]\n\
+        mailbox = [{am = 9}]\nb.oard = 1\nb.c = 2",
+    "[[schedule]]\n[[ 'board' ]] # x\nslot.a = 1\n\
+        slot.b = 2\nscript=''''a'''''\n[[\"boar\\u0064\"]]",
+    "[[board]]\n[board . 'slot' . x]\n\
+        base = 1\n[[board.y]]\n[[board.y]]\n[[mailbox]]\nz=1\ny=1\nx=1\n",
     "[board]\nslot = 1\n[x.board]\nslot = 2\n[mailbox.am]\n[rounds]\n[[tries]]\n[[tries]]",
-    "[[board]]\nscript = \"\\x41\\u00e9\\U0001D11E é\\t\\\"\\\\\\b\\e\\f\\r\\n\\u000Ab\\n\\nc\\x0a\"\n",
-    "[[board]]\nscript = \"\"\"\r\n\\  \r\n  a\\\n\n \tb\\\\\n\"\" c\"\"\\n\\\n  \"\"\"\"\"\nslot = 1",
-    "[[board]]\nscript = '''\n\\n é\r\n\r\nb''\n'''\n[[board]]\nscript = ''\n[[board]]\nscript = 'a\\'",
-    "[[board]]\nslot = 07:32:00\nbase = 1979-05-27 07:32:00Z\nsize = -inf\nwidth = true\nuat = +1.5e3",
+    "[[board]]\nscript = \"\\x41\\u00e9\\U0001D11E é\\t\\\"\\\\\\b\\e\\f\\r\\n\\u000A\
+        b\\n\\nc\\x0a\"\n",
+    "[[board]]\nscript = \"\"\"\r\n\\  \r\n  a\\\n\n \tb\\\\\n\
+        \"\" c\"\"\\n\\\n  \"\"\"\"\"\nslot = 1",
+    "[[board]]\nscript = '''\n\\n é\r\n\r\nb''\n'''\n\
+        [[board]]\nscript = ''\n[[board]]\nscript = 'a\\'",
+    "[[board]]\nslot = 07:32:00\nbase = 1979-05-27 07:32:00Z\n\
+        size = -inf\nwidth = true\nuat = +1.5e3",
 ];
 
 #[test]
@@ -111,4 +118,25 @@ fn a_cursor_goes_both_ways(rt: HostRuntime) {
     }
     let bad = b"a\xff\xc3\xe2\x98b".as_slice();
     assert_eq!(rt; Position::of(bad, 5), Position { line: 1, column: 6 });
+}
+
+#[test]
+fn a_key_has_its_name(rt: HostRuntime) {
+    let keys = [
+        (
+            TableName::File,
+            "rounds schedule arbiter tries board mailbox",
+        ),
+        (
+            TableName::Board,
+            "slot level space base size width uat blt rmw supervisory script",
+        ),
+        (TableName::Mailbox, "am addr slots"),
+    ];
+    for (table, names) in &keys {
+        for name in names.split(' ') {
+            let found = Key::named(*table, name).map_or("", |key| key.name());
+            assert!(rt; found == name, "{name}");
+        }
+    }
 }

@@ -1,5 +1,5 @@
-//! Compares an outline with the table that `toml` reads: the text of each part, parsed alone, is the
-//! part.
+//! Compares an outline with the table that `toml` reads: the text of each part, parsed alone, is
+//! the part.
 use crate::{Key, Outline, Place, Span, TableName};
 use std::alloc::{AllocError, Global};
 use toml::{Table, Value};
