@@ -1,4 +1,7 @@
 //! Faults of a line.
+ghost use Rattle.std.specs.Prelude.{◌≡◌};
+ghost use Rattle.vme_findings.specs.Causes.{line_fault, script_refusal};
+
 use vme_script::{LineFault, ScriptRefusal};
 
 /// The form of a line: its command, and the function of a read-modify-write if it is known.
@@ -116,7 +119,9 @@ pub enum LineCause {
 
 impl LineCause {
     /// Returns the refusal of the line, or `None` for a script that has too many.
-    pub(crate) fn fault(self) -> Option<LineFault> {
+    pub(crate) fn fault(self) -> Option<LineFault>
+        ensures { result ≡ line_fault self }
+    {
         match self {
             LineCause::TooLong { .. } => Some(LineFault::LineTooLong),
             LineCause::UnknownCommand
@@ -139,7 +144,9 @@ impl LineCause {
     }
 
     /// Returns the refusal of a script whose line with this number has the fault.
-    pub(crate) fn refusal(self, number: u16) -> ScriptRefusal {
+    pub(crate) fn refusal(self, number: u16) -> ScriptRefusal
+        ensures { result ≡ script_refusal number (line_fault self) }
+    {
         match self.fault() {
             Some(fault) => ScriptRefusal::BadLine { number, fault },
             None => ScriptRefusal::TooManyLines,
