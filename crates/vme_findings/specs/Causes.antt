@@ -64,7 +64,7 @@ line_fault lines.NoHexDigits = Some line.BadBytes
 line_fault (lines.OddDigits digits) = Some line.BadBytes
 line_fault (lines.WrongLength form found wanted) = Some line.BadBytes
 line_fault (lines.TooManyLines count) = None
-line_fault (lines.TouchesMailbox slot low high mailbox mailbox_low mailbox_high) = Some line.MailboxBytes
+line_fault (lines.TouchesMailbox board low high mailbox mailbox_low mailbox_high) = Some line.MailboxBytes
 
 -- the refusal of a script by the fault of its line with a number
 abbrev pub script_refusal : ℕ → Option LineFault → ScriptRefusal

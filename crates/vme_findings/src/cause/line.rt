@@ -2,6 +2,7 @@
 ghost use Rattle.std.specs.Prelude.{◌≡◌};
 ghost use Rattle.vme_findings.specs.Causes.{line_fault, script_refusal};
 
+use crate::cause::board::BoardName;
 use vme_script::{LineFault, ScriptRefusal};
 
 /// The form of a line: its command, and the function of a read-modify-write if it is known.
@@ -105,10 +106,10 @@ pub enum LineCause {
     TooManyLines {
         lines: usize,
     },
-    /// S9: the line accesses the bytes from `low` to `high` of the board in `slot`, and the mailbox
-    /// with index `mailbox` has those from `mailbox_low` to `mailbox_high`.
+    /// S9: the line accesses the bytes from `low` to `high` of the board, and the mailbox with index
+    /// `mailbox` has those from `mailbox_low` to `mailbox_high`.
     TouchesMailbox {
-        slot: u16,
+        board: BoardName,
         low: u32,
         high: u32,
         mailbox: usize,
