@@ -5,9 +5,14 @@
 //! columns.
 #![tactic(auto)]
 
+mod board;
 mod cause;
 mod finding;
 mod laws;
+mod ranges;
+mod schedule;
+mod section;
+mod tables;
 
 pub use cause::{
     BoardCause, BoardName, Cause, CycleCause, DataLength, DocumentCause, FileWarning, Lack,
