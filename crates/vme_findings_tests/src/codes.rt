@@ -161,7 +161,7 @@ static SEVERAL: [(&str, &str); 7] = [
 ];
 
 /// Configurations with warnings.
-static WARNED: [(&str, &str); 5] = [
+static WARNED: [(&str, &str); 6] = [
     (
         "rounds = 20\n[[board]]\nslot = 1\nbase = 0\nsize = 16\nscript = \"lr 00000000 4\"\n",
         "",
@@ -181,6 +181,10 @@ static WARNED: [(&str, &str); 5] = [
     (
         "rounds = 99\n[[board]]\nslot = 1\nbase = 0\nsize = 16\nwidth = 16\nblt = false\nrmw = false\nscript = \"\"\"\nr 09 00000000 4\nr 10 00000000 1\nbr 0b 00000000 2 2\nlock 09 00000000\nr 09 0000000e 2\n\"\"\"\n[[board]]\nslot = 2\nbase = 16\nsize = 16\nsupervisory = true\nuat = false\nscript = \"\"\"\nr 09 00000010 4\nr 0d 00000010 3\nunlock 0d 00000010\n\"\"\"\n",
         " board-lacks K2 board-lacks board-lacks nobody-answers board-lacks",
+    ),
+    (
+        "rounds = 99\n[[board]]\nslot = 1\nbase = 0\nsize = 64\nscript = \"\"\"\nlock 09 00000000\nlock 09 00000004\nunlock 09 00000004\nm 09 00000004 1 set\nawait 09 00000008 0001\nawait 09 00000010 00\nawait 09 00000009 ff\n\"\"\"\n[[board]]\nslot = 2\nbase = 64\nsize = 16\nscript = \"\"\"\nw 09 00000000 00\nbf 0b 0000000a 2 3 0102\n\"\"\"\n",
+        " lock-kept lock-written never-met never-met",
     ),
 ];
 

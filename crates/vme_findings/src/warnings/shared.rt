@@ -74,7 +74,7 @@ pub(crate) fn change_of(line: &Line) -> Option<Change> {
 }
 
 /// The awaited bytes of a line that are not 00, as bits; no bits for a lock. Returns `None` for
-/// other lines.
+/// other lines, and for a line that awaits only 00.
 pub(crate) fn awaited_of(line: &Line) -> Option<u32> {
     match line {
         Line::Lock { .. } => Some(0),
@@ -85,7 +85,7 @@ pub(crate) fn awaited_of(line: &Line) -> Option<u32> {
                     bits |= 1 << index;
                 }
             }
-            Some(bits)
+            if bits == 0 { None } else { Some(bits) }
         }
         _ => None,
     }
