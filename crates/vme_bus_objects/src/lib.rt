@@ -10,4 +10,4 @@ mod operation;
 pub use command::BusCommand;
 pub use laws::{histories_are_runs, replies_have_their_kind};
 pub use object::BusObject;
-pub use operation::BoardOperation;
+pub use operation::{ArbiterOperation, BoardOperation};

@@ -15,7 +15,7 @@ use crossbeam_utils::Backoff;
 use std::sync::Wait;
 use std::sync::atomic::Ordering;
 use vme_arbiter::{ArbCmd, ArbReply};
-use vme_bus_objects::{BoardOperation, BusCommand, BusObject, replies_have_their_kind};
+use vme_bus_objects::{ArbiterOperation, BoardOperation, BusObject, replies_have_their_kind};
 use vme_bus_wait::WaitState;
 use vme_core::{EventRef, EventReply};
 use vme_cycle::BlockBuffer;
@@ -59,8 +59,10 @@ impl PassSet {
     {
         replies_have_their_kind();
         let releases = ports.waiters.releases();
-        let command = BusCommand::Arbiter(*cmd);
-        let reply = ports.array.call(rt, &mut self.pass, self.boards, &command)?;
+        let operation = ArbiterOperation { cmd };
+        let reply = ports
+            .array
+            .call_operation(rt, &mut self.pass, self.boards, &operation)?;
         self.made[self.boards] += 1;
         match &reply {
             EventReply::Bus(ArbReply::Waiting) => ports
