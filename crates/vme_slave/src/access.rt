@@ -1,19 +1,34 @@
 //! Data of transfers as accesses to a slave, without the lines of their cycles.
-ghost use Rattle.std.specs.Prelude.{◌≡◌, ◌≢◌, ◌≤◌, ◌&&◌, ℕ, List, length, false, IsTrue};
+ghost use Rattle.std.specs.Prelude.{◌≡◌, ◌≢◌, ◌≤◌, ◌&&◌, ℕ, List, length, false, IsTrue, IfSome, IfNone};
 ghost use Rattle.std.specs.Option.{option_map_or};
 ghost use Rattle.vme_lanes.specs.Rows.{location_at};
 ghost use Rattle.vme_memory.specs.Classes.{answers, is_block_place, is_modify_place};
+ghost use Rattle.vme_memory.specs.declared.reply.Reply.TheVariants.{Bytes, Berr};
 ghost use Rattle.vme_memory.specs.Steps as Steps;
 ghost use Rattle.vme_memory.specs.Steps.{step, fits, can_answer, has_block_cycle, read_command, write_command};
 ghost use Rattle.vme_slave.specs.Slices.{board_of};
 
-use crate::bytes::{datum, fits, overwrite};
+use crate::bytes::{bytes_at, datum_of, fits, overwrite};
 use vme_cycle::Modify;
-use vme_lanes::Datum;
 use vme_memory::{Class, Reply, Width8To32};
 
 /// The number of bytes of a datum on all eight lanes.
 const WIDE_LEN: u8 = 8;
+
+/// Returns the bytes of the reply to a read of `n` bytes at offset `at`, single or as one datum of a
+/// block, or `None` for a bus error.
+#[inline(always)]
+pub fn bytes_read(bytes: &[u8], class: Class, block: bool, at: u32, n: u8) -> Option<&[u8]>
+    ensures bytes { IfSome result (λ read. Bytes (record { items = read.now })
+        ≡ (step (board_of bytes.now class) (read_command block at n)).0) }
+    ensures berr { IfNone result (Berr ≡ (step (board_of bytes.now class) (read_command block at n)).0) }
+    ensures short { IfSome result (λ read. length read.now ≤ 8) }
+{
+    if !reaches(bytes, class, block, at, n) {
+        return None;
+    }
+    Some(bytes_at(bytes, at, n))
+}
 
 /// Returns the reply to a read of `n` bytes at offset `at`, single or as one datum of a block.
 #[inline(always)]
@@ -21,26 +36,25 @@ pub fn read(bytes: &[u8], class: Class, block: bool, at: u32, n: u8) -> Reply
     ensures reply { result ≡ (step (board_of bytes.now class) (read_command block at n)).0 }
     ensures memory { board_of bytes.now class ≡ (step (board_of bytes.now class) (read_command block at n)).1 }
 {
-    if !reaches(bytes, class, block, at, n) {
-        return Reply::Berr;
+    match bytes_read(bytes, class, block, at, n) {
+        Some(read) => Reply::Bytes(datum_of(read)),
+        None => Reply::Berr,
     }
-    Reply::Bytes(datum(bytes, at, n))
 }
 
 /// Returns the reply to a write of some bytes at offset `at`, single or as one datum of a block.
 /// After `Berr` nothing has changed.
 #[inline(always)]
-pub fn write(bytes: &mut [u8], class: Class, block: bool, at: u32, new: &Datum) -> Reply
-    ensures reply { result ≡ (step (board_of bytes.old class) (write_command block at new.now.items)).0 }
-    ensures memory { board_of bytes.new class
-        ≡ (step (board_of bytes.old class) (write_command block at new.now.items)).1 }
+pub fn write(bytes: &mut [u8], class: Class, block: bool, at: u32, new: &[u8]) -> Reply
+    requires short { length new.now ≤ 8 }
+    ensures reply { result ≡ (step (board_of bytes.old class) (write_command block at new.now)).0 }
+    ensures memory { board_of bytes.new class ≡ (step (board_of bytes.old class) (write_command block at new.now)).1 }
     ensures berr { result ≡ Reply.Berr → bytes.new ≡ bytes.old }
 {
-    let n = new.len() as u8;
-    if !reaches(bytes, class, block, at, n) {
+    if !reaches(bytes, class, block, at, new.len() as u8) {
         return Reply::Berr;
     }
-    overwrite(bytes, at, new.as_slice());
+    overwrite(bytes, at, new);
     Reply::Done
 }
 
@@ -55,7 +69,7 @@ pub fn modify(bytes: &mut [u8], class: Class, at: u32, n: u8, f: &Modify) -> Rep
     if !(has_place && class.rmw && f.has_len(n)) {
         return Reply::Berr;
     }
-    let old = datum(bytes, at, n);
+    let old = datum_of(bytes_at(bytes, at, n));
     let new = f.value(&old);
     overwrite(bytes, at, new.as_slice());
     Reply::Bytes(old)
@@ -101,11 +115,12 @@ fn has_cycle(class: Class, at: u32, n: u8) -> bool
     ensures cycle { result ≡ option_map_or (answers class) (location_at at n) false }
     ensures short { IsTrue result → n ≤ 4 }
 {
-    match (at % 4, n) {
-        (_, 1) => true,
-        (0 | 2, 2) => class.width != Width8To32::D08,
-        (0, 4) => class.width == Width8To32::D32,
-        (1, 2) | (0 | 1, 3) => class.width == Width8To32::D32 && class.uat,
+    let place = at % 4;
+    match n {
+        1 => true,
+        2 if place % 2 == 0 => class.width != Width8To32::D08,
+        4 => class.width == Width8To32::D32 && place == 0,
+        2 | 3 => class.width == Width8To32::D32 && class.uat && place + u32::from(n) <= 4,
         _ => false,
     }
 }

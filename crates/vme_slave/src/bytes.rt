@@ -14,15 +14,23 @@ pub(crate) fn fits(bytes: &[u8], at: u32, len: u8) -> bool
 
 /// The `len` bytes at an offset.
 #[inline(always)]
-pub(crate) fn datum(bytes: &[u8], at: u32, len: u8) -> Datum
-    requires within { at + len ≤ length bytes.now }
-    requires short { len ≤ 8 }
-    ensures value { result.items ≡ slice_range bytes.now at (at + len) }
-    ensures len { length result.items ≡ len }
+pub(crate) fn bytes_at(bytes: &[u8], at: u32, len: u8) -> &[u8]
+    requires { at + len ≤ length bytes.now }
+    ensures value { result.now ≡ slice_range bytes.now at (at + len) }
+    ensures len { length result.now ≡ len }
 {
     let start = at as usize;
+    &bytes[start..start + usize::from(len)]
+}
+
+/// The datum of some bytes.
+#[inline(always)]
+pub(crate) fn datum_of(bytes: &[u8]) -> Datum
+    requires { length bytes.now ≤ 8 }
+    ensures { result.items ≡ bytes.now }
+{
     // The lengths are literals, so that the compiler copies without a call.
-    match &bytes[start..start + usize::from(len)] {
+    match bytes {
         [a] => Datum::try_from(&[*a][..]).unwrap(),
         [a, b] => Datum::try_from(&[*a, *b][..]).unwrap(),
         [a, b, c, d] => Datum::try_from(&[*a, *b, *c, *d][..]).unwrap(),

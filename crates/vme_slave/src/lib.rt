@@ -8,6 +8,6 @@ mod bytes;
 mod local;
 mod slave;
 
-pub use access::{modify, read, write};
+pub use access::{bytes_read, modify, read, write};
 pub use local::{local_modify, local_read, local_write};
 pub use slave::cycle;

@@ -76,7 +76,7 @@ fn wide_cycle(
     if !lines.carries_all() {
         return Reply::Berr;
     }
-    write(bytes, class, true, at, &pick_wide(lines))
+    write(bytes, class, true, at, pick_wide(lines).as_slice())
 }
 
 /// The reply to a write of the bytes on the lanes of a location.
@@ -96,5 +96,5 @@ fn drive(
     if !lines.carries(location) {
         return Reply::Berr;
     }
-    write(bytes, class, block, at, &pick(location, lines))
+    write(bytes, class, block, at, pick(location, lines).as_slice())
 }
