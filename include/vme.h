@@ -5,8 +5,8 @@
  * thread, never waits, uses no global variable, and keeps no pointer after a call.
  *
  * Memory.   The caller owns all objects. A pointer is not null, not even with length 0, and points
- *           to an initialized object of its type. An object that a call writes overlaps no other
- *           argument of the call.
+ *           to an object of its type, which is initialized unless the call only writes it (out). An
+ *           object that a call writes overlaps no other argument of the call.
  * Threads.  Calls on different objects may run at the same time. While a call writes an object, no
  *           other call may read or write it: the caller locks where necessary. Signal handlers may
  *           call every function.
@@ -16,8 +16,8 @@
  *           the list. A width or a space that is not listed counts as the next one below, or as the
  *           first.
  * Bytes.    The byte at the lowest address is the most significant one of a datum.
- * Results.  A function that can fail returns VME_OK or a reason. Unless it returns VME_OK, it has
- *           written nothing.
+ * Results.  A result is VME_OK or the reason of a failure, but for the replies of the arbiter. A call
+ *           that fails has written nothing.
  */
 #ifndef VME_H
 #define VME_H

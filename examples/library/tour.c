@@ -1,5 +1,5 @@
 /* What the software of a VMEbus master does first: it probes for boards, takes a semaphore by test-and-set, and moves a
- * block. The file is C99 and C++17.
+ * block. Then two masters share the bus, and a processor uses the local port of its own board. The file is C99 and C++17.
  *
  *   cc tour.c $(pkg-config --cflags --libs vme) -o tour && ./tour
  */
@@ -106,6 +106,45 @@ static uint8_t move(uint32_t addr, uint16_t count)
     return VME_OK;
 }
 
+/* Two slots on one level request the bus: the second one waits until the first one releases it. */
+static void share(void)
+{
+    static const char *const replies[] = { "ok", "granted", "waiting", "freed", "denied" };
+    vme_arbiter arbiter;
+    vme_arbiter_open(VME_PRIORITY, &arbiter);
+    printf("arbiter: %s", replies[vme_arbiter_ask(&arbiter, 2, 3)]);
+    printf(" %s", replies[vme_arbiter_ask(&arbiter, 5, 3)]);
+    printf(" %s", replies[vme_arbiter_look(&arbiter, 5)]);
+    printf(" %s", replies[vme_arbiter_done(&arbiter, 2)]);
+    printf(" %s", replies[vme_arbiter_look(&arbiter, 5)]);
+    printf(" %s\n", replies[vme_arbiter_done(&arbiter, 2)]);
+}
+
+/* Adds to a word by the local port, writes two bytes of it, and reads it. */
+static void use_local_port(uint32_t at)
+{
+    vme_modify add;
+    vme_datum datum;
+    memset(&add, 0, sizeof add);
+    add.function = VME_ADD;
+    add.operand.n = 4;
+    add.operand.bytes[3] = 0xc1;
+    vme_local_modify(memory, sizeof memory, at, 4, &add, &datum);
+    datum.n = 2;
+    vme_local_write(memory, sizeof memory, at + 1, &datum);
+    vme_local_read(memory, sizeof memory, at, 4, &datum);
+    printf("local port: %02x%02x%02x%02x\n", datum.bytes[0], datum.bytes[1], datum.bytes[2], datum.bytes[3]);
+}
+
+/* Prints the strobes of n bytes at an address, and the bytes that a slave senses from them. */
+static void print_strobes(uint32_t addr, uint8_t n)
+{
+    vme_strobes s;
+    vme_place place;
+    if (vme_strobes_drive(addr, n, &s) == VME_OK && vme_strobes_sense(&s, &place) == VME_OK)
+        printf("strobes: ds1=%d ds0=%d a01=%d lword=%d, %d bytes from %d\n", s.ds1, s.ds0, s.a01, s.lword, place.n, place.first);
+}
+
 int main(void)
 {
     if (vme_version() != VME_VERSION || vme_map_check(map, BOARDS) != VME_OK)
@@ -126,6 +165,8 @@ int main(void)
 
     printf("block of 64 words: %s\n", name_of(move(0x200100, 64)));
     printf("block of 65 words: %s\n", name_of(move(0x200100, 65)));
-    printf("last word of the first: %02x%02x%02x%02x\n", memory[0x1fc], memory[0x1fd], memory[0x1fe], memory[0x1ff]);
+    share();
+    use_local_port(0x1fc);
+    print_strobes(0x200001, 2);
     return 0;
 }

@@ -1,10 +1,24 @@
 """What the software of a VMEbus master does first: it probes for boards, takes a semaphore by test-and-set, and moves a
-block. Prints the same as tour.c.
+block. Then two masters share the bus, and a processor uses the local port of its own board. Prints the same as tour.c.
 
     LIBVME=build/libvme.so python3 tour.py
 """
 
-from pyvme import AddressMap, Board, BusError, Entry, Function, Modify, NoBoard, Refused, Request, RequestKind
+from pyvme import (
+    AddressMap,
+    Arbiter,
+    Board,
+    BusError,
+    Entry,
+    Function,
+    Modify,
+    NoBoard,
+    Refused,
+    Request,
+    RequestKind,
+    driven,
+    sensed,
+)
 
 MAP = AddressMap([Entry(0x200000, 4096, 24, 0), Entry(0xE000, 256, 16, 1)])
 BOARDS = [Board(4096), Board(256, 16, uat=False, blt=False)]
@@ -62,7 +76,15 @@ def main() -> None:
     print("semaphore:", *(int(it) for it in [*taken, take(0x200800)]))
     print("block of 64 words:", move(0x200100, 64))
     print("block of 65 words:", move(0x200100, 65))
-    print("last word of the first:", BOARDS[0].local_read(0x1FC, 4).hex())
+    arbiter = Arbiter()
+    replies = [arbiter.ask(2, 3), arbiter.ask(5, 3), arbiter.look(5), arbiter.done(2), arbiter.look(5), arbiter.done(2)]
+    print("arbiter:", *(reply.name.lower() for reply in replies))
+    old = BOARDS[0].local_modify(0x1FC, 4, Function.ADD, bytes([0, 0, 0, 0xC1]))
+    BOARDS[0].local_write(0x1FD, old[:2])
+    print("local port:", BOARDS[0].local_read(0x1FC, 4).hex())
+    s = driven(0x200001, 2)
+    first, n = sensed(s)
+    print(f"strobes: ds1={s.ds1} ds0={s.ds0} a01={s.a01} lword={s.lword}, {n} bytes from {first}")
 
 
 main()

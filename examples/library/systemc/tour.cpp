@@ -1,5 +1,6 @@
 // What the software of a VMEbus master does first, as a SystemC initiator: it probes for boards, takes a semaphore by
-// test-and-set, and moves a block. Prints the same as tour.c.
+// test-and-set, and moves a block. Then two masters share the bus, and a processor uses the local port of its own board.
+// Prints the same as tour.c.
 //
 //   g++ -std=c++17 tour.cpp $(pkg-config --cflags --libs vme) -lsystemc -o tour && ./tour
 #include <cstdio>
@@ -13,9 +14,11 @@ public:
     tlm_utils::simple_initiator_socket<master> socket{"socket"};
 
     SC_HAS_PROCESS(master);
-    explicit master(const sc_core::sc_module_name &name) : sc_module(name) { SC_THREAD(work); }
+    master(const sc_core::sc_module_name &name, vme::board &own) : sc_module(name), own(own) { SC_THREAD(work); }
 
 private:
+    vme::board &own;
+
     static vme_request request_of(uint8_t kind, uint8_t am, uint32_t addr, uint8_t n, uint16_t count = 0)
     {
         vme_request request{};
@@ -103,6 +106,41 @@ private:
         return read == words ? answer : "other";
     }
 
+    // Two slots on one level request the bus: the second one waits until the first one releases it.
+    void share()
+    {
+        static const char *const replies[] = {"ok", "granted", "waiting", "freed", "denied"};
+        vme_arbiter arbiter;
+        vme_arbiter_open(VME_PRIORITY, &arbiter);
+        std::printf("arbiter: %s", replies[vme_arbiter_ask(&arbiter, 2, 3)]);
+        std::printf(" %s", replies[vme_arbiter_ask(&arbiter, 5, 3)]);
+        std::printf(" %s", replies[vme_arbiter_look(&arbiter, 5)]);
+        std::printf(" %s", replies[vme_arbiter_done(&arbiter, 2)]);
+        std::printf(" %s", replies[vme_arbiter_look(&arbiter, 5)]);
+        std::printf(" %s\n", replies[vme_arbiter_done(&arbiter, 2)]);
+    }
+
+    // Reads a word by the local port of this processor's board, adds to it, and writes it.
+    void use_local_port(uint32_t at)
+    {
+        vme_datum word{};
+        own.local_read(at, 4, word);
+        word.bytes[3] = static_cast<uint8_t>(word.bytes[3] + 0xc1);
+        own.local_write(at, word);
+        own.local_read(at, 4, word);
+        std::printf("local port: %02x%02x%02x%02x\n", word.bytes[0], word.bytes[1], word.bytes[2], word.bytes[3]);
+    }
+
+    // Prints the strobes of n bytes at an address, and the bytes that a slave senses from them.
+    static void print_strobes(uint32_t addr, uint8_t n)
+    {
+        vme_strobes s;
+        vme_place place;
+        if (vme_strobes_drive(addr, n, &s) == VME_OK && vme_strobes_sense(&s, &place) == VME_OK)
+            std::printf("strobes: ds1=%d ds0=%d a01=%d lword=%d, %d bytes from %d\n", s.ds1, s.ds0, s.a01, s.lword, place.n,
+                        place.first);
+    }
+
     void work()
     {
         probe(0x39, 0x200000, 4);
@@ -112,15 +150,16 @@ private:
         probe(0x2d, 0xe000, 2);
         probe(0x2d, 0xe000, 4);
         probe(0x29, 0xe000, 2);
-        bytes nothing, word;
+        bytes nothing;
         std::printf("semaphore: %d", take(0x200800));
         std::printf(" %d", take(0x200800));
         perform(request_of(VME_WRITE, 0x3d, 0x200800, 1), {0}, nothing);
         std::printf(" %d\n", take(0x200800));
         std::printf("block of 64 words: %s\n", move(0x200100, 64));
         std::printf("block of 65 words: %s\n", move(0x200100, 65));
-        perform(request_of(VME_READ, 0x3d, 0x2001fc, 4), {}, word);
-        std::printf("last word of the first: %02x%02x%02x%02x\n", word[0], word[1], word[2], word[3]);
+        share();
+        use_local_port(0x1fc);
+        print_strobes(0x200001, 2);
     }
 };
 
@@ -130,7 +169,7 @@ int sc_main(int, char **)
     vme::backplane backplane("backplane", {{0x200000, 4096, 24, 0}, {0xe000, 256, 16, 1}});
     vme::board memory("memory", 4096, {32, 1, 1, 1}, access);
     vme::board io("io", 256, {16, 0, 0, 1}, access);
-    master master("master");
+    master master("master", memory);
     master.socket.bind(backplane.in);
     backplane.out[0]->bind(memory.bus);
     backplane.out[1]->bind(io.bus);

@@ -28,8 +28,8 @@ struct cycle : tlm::tlm_extension<cycle> {
     void copy_from(const tlm::tlm_extension_base &other) override { *this = static_cast<const cycle &>(other); }
 };
 
-// A board. Its socket takes cycles of the bus with offsets for addresses; its debug transport is the local port.
-// BERR* is TLM_GENERIC_ERROR_RESPONSE.
+// A board. Its socket bus takes cycles with offsets for addresses; BERR* is TLM_GENERIC_ERROR_RESPONSE. Debug transport is the
+// local port, as are local_read and local_write.
 class board : public sc_core::sc_module {
 public:
     tlm_utils::simple_target_socket<board> bus{"bus"};
@@ -39,6 +39,18 @@ public:
     {
         bus.register_b_transport(this, &board::transport);
         bus.register_transport_dbg(this, &board::debug);
+    }
+
+    // Reads 1, 2 or 4 bytes at an offset. Returns VME_OK or VME_BERR.
+    uint8_t local_read(uint32_t at, uint8_t n, vme_datum &out) const
+    {
+        return vme_local_read(bytes.data(), bytes.size(), at, n, &out);
+    }
+
+    // Writes 1, 2 or 4 bytes at an offset. Returns VME_OK or VME_BERR.
+    uint8_t local_write(uint32_t at, const vme_datum &datum)
+    {
+        return vme_local_write(bytes.data(), bytes.size(), at, &datum);
     }
 
 private:
@@ -71,9 +83,7 @@ private:
         for (unsigned i = 0; i < payload.get_data_length(); i++) {
             const uint32_t at = static_cast<uint32_t>(payload.get_address()) + i;
             vme_datum one{1, {payload.get_data_ptr()[i]}};
-            const uint8_t result = payload.is_read() ? vme_local_read(bytes.data(), bytes.size(), at, 1, &one)
-                                                     : vme_local_write(bytes.data(), bytes.size(), at, &one);
-            if (result != VME_OK)
+            if ((payload.is_read() ? local_read(at, 1, one) : local_write(at, one)) != VME_OK)
                 return i;
             if (payload.is_read())
                 payload.get_data_ptr()[i] = one.bytes[0];

@@ -17,7 +17,7 @@ from .board import Board
 from .decoder import AddressMap
 from .errors import BusError, NoBoard, Refused, VmeError
 from .library import VERSION, version
-from .request import Request, am_row, answered
+from .request import Request, answered
 from .structures import (
     IDLE,
     AmRow,
@@ -32,6 +32,7 @@ from .structures import (
     Result,
     Strobes,
 )
+from .tables import am_row, driven, sensed
 
 __all__ = [
     "IDLE",
@@ -57,5 +58,7 @@ __all__ = [
     "VmeError",
     "am_row",
     "answered",
+    "driven",
+    "sensed",
     "version",
 ]

@@ -6,14 +6,7 @@ from ctypes import byref
 
 from .errors import require
 from .library import lib
-from .structures import AmRow, Datum, Lines, Modify, RequestKind, RequestStruct
-
-
-def am_row(code: int) -> AmRow:
-    """The row of an address modifier code. Raises `Refused` with K1, K2 or K9 if it has none."""
-    row = AmRow()
-    require(lib.vme_am_read(code, byref(row)))
-    return row
+from .structures import Datum, Lines, Modify, RequestKind, RequestStruct
 
 
 class Request:
