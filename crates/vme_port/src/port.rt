@@ -14,7 +14,8 @@ use std::alloc::{AllocError, Global};
 use std::snapshot::Snapshot;
 use vme_object::Object;
 
-/// The greatest number of passes of a port. This limit does not come from a backplane.
+/// The greatest number of passes of a port. A backplane has as many slots, but a port knows no
+/// slots, so this constant is separate.
 const MOST_PASSES: usize = 21;
 
 /// One object that callers on any threads share, each through a pass of its own.
@@ -71,8 +72,8 @@ impl<O: Object> Port<O> {
         Ok((port, passes))
     }
 
-    /// Returns whether a call may be waiting, or be about to wait, for the object. Other threads
-    /// may change this at any time, so no clause describes the result.
+    /// Returns whether the object is marked as wanted: a pass holds it, and its put wakes one call,
+    /// if any waits. Other threads may change this at any time, so no clause describes the result.
     pub fn is_wanted(&self) -> bool {
         self.table.shared.peek(0) == WANTED
     }

@@ -10,7 +10,7 @@ use vme_run_laws::each_line_comes_to_its_end;
 use vme_runner::{Gate, Report, RunFault, run_threads};
 use vme_script::Config;
 
-/// Runs the scripts on threads. In the report, every line has its reply.
+/// Runs the scripts on threads. In the report, no line is unfinished.
 pub fn run_to_the_end<R: Threads + Wait + Sync, G: Gate + Sync>(
     rt: &R,
     alloc: Global,
