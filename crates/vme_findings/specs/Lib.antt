@@ -1,0 +1,5 @@
+pub mod Causes
+pub mod Boards
+pub mod Lines
+pub mod Verdicts
+pub mod Requests

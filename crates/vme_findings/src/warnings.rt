@@ -1,0 +1,92 @@
+//! The warnings of a configuration.
+ghost use Rattle.std.specs.Prelude.{◌≡◌, true, IfOk};
+ghost use Rattle.std.specs.List.{list_all};
+ghost use Rattle.vme_findings.specs.Verdicts.{is_warning};
+
+mod lines;
+mod list;
+mod requests;
+mod shared;
+mod turns;
+
+use crate::cause::FileWarning;
+use crate::finding::Finding;
+use list::Warnings;
+use requests::Backplane;
+use shared::{Uses, find_shared};
+use std::alloc::{AllocError, Global};
+use toml::Table;
+use turns::{Demand, find_turns};
+use vme_config_toml::{FileTable, file_values, table_of};
+use vme_positions::{Place, TableName};
+use vme_script::Config;
+
+/// The warnings of the configuration of a file.
+pub(crate) fn warnings_of(
+    alloc: Global,
+    text: &[u8],
+    config: &Config,
+) -> Result<Vec<Finding>, AllocError>
+    ensures { IfOk result (λ found. list_all is_warning found.items ≡ true) }
+{
+    let mut warnings = Warnings::new(alloc);
+    match table_of(alloc, text) {
+        Ok(table) => find_in(alloc, &table, config, &mut warnings)?,
+        Err(_) => return Err(AllocError),
+    }
+    Ok(warnings.into_findings())
+}
+
+/// Finds the warnings of a document.
+fn find_in(
+    alloc: Global,
+    table: &Table,
+    config: &Config,
+    warnings: &mut Warnings,
+) -> Result<(), AllocError> {
+    match file_values(alloc, table) {
+        Ok(file) => find_all(alloc, &file, config, warnings),
+        Err(_) => Err(AllocError),
+    }
+}
+
+/// Finds the warnings of all scripts, and those of the file.
+fn find_all<'a>(
+    alloc: Global,
+    file: &'a FileTable<'_>,
+    config: &'a Config,
+    warnings: &mut Warnings,
+) -> Result<(), AllocError> {
+    let mut demands: Vec<Demand> = Vec::new(alloc);
+    let mut named: u32 = 0;
+    let mut uses = Uses {
+        accesses: Vec::new(alloc),
+        watches: Vec::new(alloc),
+    };
+    let backplane = Backplane {
+        map: config.map(),
+        boards: &file.boards,
+    };
+    for (board, table) in file.boards.iter().enumerate() {
+        let demand = lines::find_lines(board, table, &backplane, &mut uses, warnings)?;
+        named |= demand.mailboxes;
+        demands.push(demand)?;
+    }
+    find_shared(&uses, warnings)?;
+    find_turns(&demands, config, warnings)?;
+    find_idle(config.mailboxes().len(), named, warnings)
+}
+
+/// Finds the mailboxes that no line names. Bit i of `named` is set where a line names mailbox i.
+fn find_idle(count: usize, named: u32, warnings: &mut Warnings) -> Result<(), AllocError> {
+    for index in 0..count {
+        if index < 31 && named & (2 << index) == 0 {
+            let place = Place::Table {
+                table: TableName::Mailbox,
+                index,
+            };
+            warnings.file(FileWarning::IdleMailbox, place)?;
+        }
+    }
+    Ok(())
+}
