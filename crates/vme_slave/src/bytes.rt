@@ -5,7 +5,6 @@ ghost use Rattle.vme_memory.specs.Boards.{bytes_after_write};
 use vme_lanes::Datum;
 
 /// Whether `len` bytes at an offset lie within a slice.
-#[inline(always)]
 pub(crate) fn fits(bytes: &[u8], at: u32, len: u8) -> bool
     ensures { result ≡ nat_le (at + len) (length bytes.now) }
 {
@@ -13,7 +12,6 @@ pub(crate) fn fits(bytes: &[u8], at: u32, len: u8) -> bool
 }
 
 /// The `len` bytes at an offset.
-#[inline(always)]
 pub(crate) fn bytes_at(bytes: &[u8], at: u32, len: u8) -> &[u8]
     requires { at + len ≤ length bytes.now }
     ensures value { result.now ≡ slice_range bytes.now at (at + len) }
@@ -24,7 +22,6 @@ pub(crate) fn bytes_at(bytes: &[u8], at: u32, len: u8) -> &[u8]
 }
 
 /// The datum of some bytes.
-#[inline(always)]
 pub(crate) fn datum_of(bytes: &[u8]) -> Datum
     requires { length bytes.now ≤ 8 }
     ensures { result.items ≡ bytes.now }
@@ -39,7 +36,6 @@ pub(crate) fn datum_of(bytes: &[u8]) -> Datum
 }
 
 /// Replaces the bytes at an offset; all others are unchanged.
-#[inline(always)]
 pub(crate) fn overwrite(bytes: &mut [u8], at: u32, new: &[u8])
     requires { at + length new.now ≤ length bytes.old }
     ensures { bytes.new ≡ bytes_after_write bytes.old at new.now }
