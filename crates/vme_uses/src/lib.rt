@@ -28,6 +28,7 @@ pub mod runner;
 pub mod script;
 pub mod sequential;
 pub mod shared;
+pub mod slave;
 pub mod stepper;
 #[cfg(test)]
 mod tests;

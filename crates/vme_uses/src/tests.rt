@@ -3,7 +3,7 @@
 use crate::{
     am, arbiter, bus_objects, bus_wait, config_toml, cores, cycle, decode, devices, engines,
     grammar, lanes, lexer, line_task, mailbox_laws, master, memory, object, port, report, run_laws,
-    runner, script, shared, stepper, threads,
+    runner, script, shared, slave, stepper, threads,
 };
 use std::test::Fail;
 use vme_am::{Am, Space};
@@ -13,7 +13,7 @@ use vme_core::{Core, EventReply};
 use vme_cycle::Request;
 use vme_decode::{AddressMap, Entry};
 use vme_io::RoomSink;
-use vme_memory::BoardCmd;
+use vme_memory::{BoardCmd, Reply};
 use vme_object::{Counter, Object};
 use vme_port::Port;
 use vme_runner::{Gate, Status};
@@ -93,6 +93,15 @@ fn objects_and_ports(rt: HostRuntime) -> Result<(), Fail> {
     assert_eq!(&rt; port::bump(&rt, &port, &mut pass).ok(), Some(7));
     let all = Vec::from_array(rt.alloc(), [pass])?;
     assert_eq!(&rt; port::total(port, all), Some(1));
+    Ok(())
+}
+
+#[test]
+fn a_board_of_lent_bytes(rt: HostRuntime) -> Result<(), Fail> {
+    let Reply::Bytes(four) = slave::first_four(&[1, 2, 3, 4, 5]) else {
+        panic!(&rt; "no bytes")
+    };
+    assert_eq!(&rt; four.as_slice(), [1, 2, 3, 4].as_slice());
     Ok(())
 }
 

@@ -1,0 +1,9 @@
+pub mod Results
+pub mod Data
+pub mod Tables
+pub mod Lines
+pub mod Requests
+pub mod Boards
+pub mod Maps
+pub mod Arbiters
+pub mod Fills

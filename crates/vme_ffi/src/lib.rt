@@ -1,0 +1,21 @@
+//! `libvme`: the data transfer bus (ANSI/IEEE Std 1014-1987) for C and the languages that call C.
+//! The exports are the tables of the bus, the lines of each datum of a request, a slave over bytes
+//! that the caller holds, the address decoder and the arbiter. Each takes and returns plain structs,
+//! calls a function of a crate below, and states that function's contract for what the structs stand
+//! for (`specs/`). `include/vme.h` declares them.
+#![tactic(auto)]
+
+mod arbiter;
+mod datum;
+mod laws;
+mod lines;
+mod local;
+mod map;
+mod modify;
+mod request;
+mod results;
+mod slave;
+mod tables;
+mod version;
+
+pub use laws::block_writes_are_given_by_data;

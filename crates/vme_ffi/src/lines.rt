@@ -1,0 +1,102 @@
+//! The lines of a cycle.
+ghost use Rattle.std.specs.Prelude.{◌≡◌, ◌%◌, ◌<◌, ◌≤◌, length, IsTrue, IsFalse, IfSome, IfNone};
+ghost use Rattle.vme_am.specs.Spaces.{addresses_of};
+ghost use Rattle.vme_cycle.specs.SignalLines.{answered_lines};
+ghost use Rattle.vme_ffi.specs.Data.{datum_of};
+ghost use Rattle.vme_ffi.specs.Lines.{sensed, cycle_shown, selects, Shows};
+ghost use Rattle.vme_ffi.specs.Results.{ok, bad_lines, bad_call};
+
+use crate::datum::{VmeDatum, datum_of, lane_numbers, lanes_of, level_number, level_of};
+use crate::results::{BAD_CALL, BAD_LINES, OK};
+use crate::tables::{VmeStrobes, strobes_from, strobes_of};
+use vme_am::Am;
+use vme_cycle::Signals;
+use vme_lanes::DataLines;
+
+/// The lines of one cycle.
+#[repr(C)]
+#[derive(Clone, Copy)]
+pub struct VmeLines {
+    /// The address lines from A02 up, as the address of a group of four.
+    pub addr: u32,
+    /// The address modifier code.
+    pub am: u8,
+    /// WRITE*: low for a write.
+    pub write: u8,
+    /// DS1*, DS0*, A01 and LWORD*.
+    pub strobes: VmeStrobes,
+    /// What the lanes carry, from D63-D56 on; the data lines are the last four.
+    pub lanes: [u16; 8],
+}
+
+/// The signals of a cycle, if the lines show one.
+pub(crate) fn signals_of(lines: &VmeLines) -> Option<Signals>
+    ensures { result ≡ cycle_shown lines.now }
+{
+    match Am::from_code(lines.am) {
+        Ok(am) if lines.addr % 4 == 0 && u64::from(lines.addr) < am.space().addresses() => {
+            sensed(lines, am)
+        }
+        _ => None,
+    }
+}
+
+/// The signals of a cycle with an address modifier, if the strobes select bytes.
+fn sensed(lines: &VmeLines, am: Am) -> Option<Signals>
+    requires aligned { lines.now.addr % 4 ≡ 0 }
+    requires in_space { lines.now.addr < addresses_of am.space }
+    ensures { result ≡ sensed lines.now am }
+{
+    let data = DataLines {
+        lanes: lanes_of(&lines.lanes),
+    };
+    let write = level_of(lines.write);
+    Signals::from_lines(am, lines.addr, strobes_of(&lines.strobes), write, data)
+}
+
+/// The struct that shows some signals.
+pub(crate) fn lines_from(signals: &Signals) -> VmeLines
+    ensures { Shows result signals.now }
+{
+    VmeLines {
+        addr: signals.addr(),
+        am: signals.am().code(),
+        write: level_number(signals.write()),
+        strobes: strobes_from(signals.strobes()),
+        lanes: lane_numbers(&signals.lines().lanes),
+    }
+}
+
+/// Whether code and strobes select as many bytes as there are.
+fn selects(signals: &Signals, bytes: &[u8]) -> bool
+    requires { length bytes.now ≤ 8 }
+    ensures { result ≡ selects signals.now bytes.now }
+{
+    let len = usize::from(signals.location().len());
+    if signals.am().wide() {
+        len == 4 && bytes.len() == 8
+    } else {
+        bytes.len() == len
+    }
+}
+
+/// Puts the bytes that a slave replied to a read on the lanes that code and strobes select. Returns
+/// `BAD_LINES` if the lines show no cycle, and `BAD_CALL` if they select another number of bytes.
+#[unsafe(no_mangle)]
+pub extern "C" fn vme_lines_answer(lines: &mut VmeLines, datum: &VmeDatum) -> u8
+    ensures answered { IfSome (cycle_shown lines.old) (λ s. IsTrue (selects s (datum_of datum.now)) →
+        (result ≡ ok) × Shows lines.new (answered_lines s (datum_of datum.now))) }
+    ensures other_len { IfSome (cycle_shown lines.old) (λ s. IsFalse (selects s (datum_of datum.now)) →
+        (result ≡ bad_call) × (lines.new ≡ lines.old)) }
+    ensures no_cycle { IfNone (cycle_shown lines.old) ((result ≡ bad_lines) × (lines.new ≡ lines.old)) }
+{
+    let Some(signals) = signals_of(lines) else {
+        return BAD_LINES;
+    };
+    let datum = datum_of(datum);
+    if !selects(&signals, datum.as_slice()) {
+        return BAD_CALL;
+    }
+    *lines = lines_from(&signals.answered(datum.as_slice()));
+    OK
+}

@@ -1,0 +1,139 @@
+//! The address decoder, over an array of entries that the caller holds.
+ghost use Rattle.std.specs.Prelude.{◌≡◌, ◌↔◌, map, None, Some, IsOk, IfOk, IfErr, IfSome, IfNone};
+ghost use Rattle.vme_am.specs.Codes.{read_code};
+ghost use Rattle.vme_decode.specs.Lawful.{first_refusal};
+ghost use Rattle.vme_decode.specs.Select.{selection_at};
+ghost use Rattle.vme_ffi.specs.Maps.{space_of, entry_of};
+ghost use Rattle.vme_ffi.specs.Results.{ok, no_board, code_refusal_number, map_result};
+
+use crate::datum::level_of;
+use crate::results::{NO_BOARD, OK, code_refusal_number, map_refusal_number};
+use vme_am::{Am, Space};
+use vme_decode::{Entry, MapFault, check};
+
+/// The greatest number of entries of a map.
+const MOST_ENTRIES: usize = 21;
+
+/// An entry that covers no address.
+const EMPTY: Entry = Entry {
+    space: Space::A32,
+    base: 0,
+    size: 0,
+    supervisory: false,
+};
+
+/// The addresses at which one board responds.
+#[repr(C)]
+#[derive(Clone, Copy)]
+pub struct VmeEntry {
+    /// The first address.
+    pub base: u32,
+    /// The number of bytes. An entry of size 0 covers no address.
+    pub size: u32,
+    /// The address space: 16, 24 or 32.
+    pub space: u8,
+    /// Whether only supervisory codes are admitted.
+    pub supervisory: u8,
+}
+
+/// The selected entry, and the offset in it.
+#[repr(C)]
+#[derive(Clone, Copy)]
+pub struct VmeSelection {
+    /// The index of the entry.
+    pub place: usize,
+    /// The offset of the address from the entry's base.
+    pub offset: u32,
+}
+
+/// The address space that a number selects.
+fn space_of(number: u8) -> Space
+    ensures { result ≡ space_of number }
+{
+    if number < 24 {
+        Space::A16
+    } else if number < 32 {
+        Space::A24
+    } else {
+        Space::A32
+    }
+}
+
+/// The entry that a struct stands for.
+fn entry_of(entry: &VmeEntry) -> Entry
+    ensures { result ≡ entry_of entry.now }
+{
+    Entry {
+        space: space_of(entry.space),
+        base: entry.base,
+        size: entry.size,
+        supervisory: level_of(entry.supervisory),
+    }
+}
+
+/// Checks that the entries are a lawful map.
+#[tactic(auto, unfolding(vme_decode::specs::Lawful::first_refusal))]
+fn check_entries(entries: &[VmeEntry]) -> Result<(), MapFault>
+    ensures lawful { IsOk result ↔ (first_refusal (map entry_of entries.now) ≡ None) }
+    ensures refused { IfErr result (λ fault. first_refusal (map entry_of entries.now) ≡ Some fault) }
+{
+    if entries.len() > MOST_ENTRIES {
+        return Err(MapFault::TooMany);
+    }
+    let mut read = [EMPTY; MOST_ENTRIES];
+    for (place, entry) in entries.iter().enumerate() {
+        read[place] = entry_of(entry);
+    }
+    check(&read[..entries.len()])
+}
+
+/// Returns `OK` if the entries are a lawful map, and otherwise their first refusal: C1 to C4.
+#[unsafe(no_mangle)]
+pub extern "C" fn vme_map_check(entries: &[VmeEntry]) -> u8
+    ensures { result ≡ map_result (first_refusal (map entry_of entries.now)) }
+{
+    match check_entries(entries) {
+        Ok(()) => OK,
+        Err(fault) => map_refusal_number(fault),
+    }
+}
+
+/// The first entry that responds to a code and an address, and the offset in it.
+fn selected(entries: &[VmeEntry], am: Am, addr: u32) -> Option<(usize, u32)>
+    ensures { result ≡ selection_at (map entry_of entries.now) am addr }
+{
+    for (place, entry) in entries.iter().enumerate() {
+        let entry = entry_of(entry);
+        if entry.responds(am, addr) {
+            return Some((place, addr - entry.base));
+        }
+    }
+    None
+}
+
+/// Writes the entry that a code and the address of a first byte select, and the offset in it.
+/// Returns `NO_BOARD` if no entry responds, and K1, K2 or K9 if the code has no row.
+#[unsafe(no_mangle)]
+pub extern "C" fn vme_map_select(
+    entries: &[VmeEntry],
+    am: u8,
+    addr: u32,
+    out: &mut VmeSelection,
+) -> u8
+    ensures found { IfOk (read_code am) (λ row. IfSome (selection_at (map entry_of entries.now) row addr) (λ found.
+        (result ≡ ok) × (out.new.place ≡ found.0) × (out.new.offset ≡ found.1))) }
+    ensures none { IfOk (read_code am) (λ row. IfNone (selection_at (map entry_of entries.now) row addr)
+        ((result ≡ no_board) × (out.new ≡ out.old))) }
+    ensures refused { IfErr (read_code am) (λ fault.
+        (result ≡ code_refusal_number fault) × (out.new ≡ out.old)) }
+{
+    let am = match Am::from_code(am) {
+        Ok(am) => am,
+        Err(fault) => return code_refusal_number(fault),
+    };
+    let Some((place, offset)) = selected(entries, am, addr) else {
+        return NO_BOARD;
+    };
+    *out = VmeSelection { place, offset };
+    OK
+}

@@ -1,0 +1,67 @@
+//! The functions of read-modify-write cycles.
+ghost use Rattle.std.specs.Prelude.{◌≡◌, length, IsTrue, IsFalse};
+ghost use Rattle.vme_cycle.specs.declared.fault.CycleFault.TheVariants.{BadCount};
+ghost use Rattle.vme_cycle.specs.Functions.{value, has_len};
+ghost use Rattle.vme_ffi.specs.Data.{datum_of};
+ghost use Rattle.vme_ffi.specs.Requests.{modify_of, function_of};
+ghost use Rattle.vme_ffi.specs.Results.{ok, refusal_number};
+
+use crate::datum::{VmeDatum, datum_from, datum_of};
+use crate::results::{BAD_COUNT, OK};
+use vme_cycle::Modify;
+
+/// The function of a read-modify-write cycle.
+#[repr(C)]
+#[derive(Clone, Copy)]
+pub struct VmeModify {
+    /// 0: the cycle is not a read-modify-write. 1: set. 2: exchange. 3: add. 4: compare.
+    pub function: u8,
+    /// The bytes that are exchanged, added or expected.
+    pub operand: VmeDatum,
+    /// The bytes that replace the expected ones.
+    pub put: VmeDatum,
+}
+
+/// The function of a read-modify-write.
+pub(crate) fn modify_of(f: &VmeModify) -> Modify
+    ensures { result ≡ modify_of f.now }
+{
+    match f.function {
+        1 => Modify::Set,
+        2 => Modify::Exchange(datum_of(&f.operand)),
+        3 => Modify::Add(datum_of(&f.operand)),
+        _ => Modify::Compare {
+            expect: datum_of(&f.operand),
+            put: datum_of(&f.put),
+        },
+    }
+}
+
+/// The function of a cycle, if it is a read-modify-write.
+pub(crate) fn function_of(f: &VmeModify) -> Option<Modify>
+    ensures { result ≡ function_of f.now }
+{
+    if f.function == 0 {
+        None
+    } else {
+        Some(modify_of(f))
+    }
+}
+
+/// Writes the bytes that a function puts in place of the old ones, or returns K8 if its operands
+/// have another length.
+#[unsafe(no_mangle)]
+pub extern "C" fn vme_modify_value(f: &VmeModify, old: &VmeDatum, out: &mut VmeDatum) -> u8
+    ensures value { IsTrue (has_len (modify_of f.now) (length (datum_of old.now))) →
+        (result ≡ ok) × (datum_of out.new ≡ value (modify_of f.now) (datum_of old.now)) }
+    ensures other_len { IsFalse (has_len (modify_of f.now) (length (datum_of old.now))) →
+        (result ≡ refusal_number BadCount) × (out.new ≡ out.old) }
+{
+    let f = modify_of(f);
+    let old = datum_of(old);
+    if !f.has_len(old.len() as u8) {
+        return BAD_COUNT;
+    }
+    *out = datum_from(f.value(&old).as_slice());
+    OK
+}

@@ -1,0 +1,177 @@
+//! The requests of a master, and the lines of each of their data.
+ghost use Rattle.std.specs.Prelude.{◌≡◌, ◌<◌, ◌≤◌, IfOk, IfErr, IsTrue, IsFalse};
+ghost use Rattle.vme_cycle.specs.Lawful.{first_refusal, transfer_of};
+ghost use Rattle.vme_cycle.specs.Plans.{signals_of, write_half_of};
+ghost use Rattle.vme_cycle.specs.Requests.{count_of};
+ghost use Rattle.vme_ffi.specs.Data.{datum_of};
+ghost use Rattle.vme_ffi.specs.Requests.{request_of, is_modified};
+ghost use Rattle.vme_ffi.specs.Lines.{Shows};
+ghost use Rattle.vme_ffi.specs.Results.{ok, bad_call, refusal_number, request_result};
+
+use crate::datum::{VmeDatum, datum_of};
+use crate::lines::{VmeLines, lines_from};
+use crate::modify::{VmeModify, modify_of};
+use crate::results::{BAD_CALL, OK, refusal_number};
+use std::mem;
+use vme_cycle::{Plan, Request};
+use vme_lanes::Datum;
+
+/// A request of a master to the bus.
+#[repr(C)]
+#[derive(Clone, Copy)]
+pub struct VmeRequest {
+    /// The address of the first byte.
+    pub addr: u32,
+    /// The number of data of a block.
+    pub count: u16,
+    /// The address modifier code.
+    pub am: u8,
+    /// 0: read. 1: write. 2: block read. 3: block write. 4: read-modify-write.
+    pub kind: u8,
+    /// The number of bytes of each datum.
+    pub n: u8,
+    /// The function of a read-modify-write.
+    pub f: VmeModify,
+}
+
+/// The request, with the datum that it writes.
+fn request_of(request: &VmeRequest, datum: &VmeDatum) -> Request
+    ensures { result ≡ request_of request.now (datum_of datum.now) }
+{
+    let (am, addr, n) = (request.am, request.addr, request.n);
+    match request.kind {
+        0 => Request::Read { am, addr, n },
+        1 => Request::Write {
+            am,
+            addr,
+            bytes: datum_of(datum),
+        },
+        2 => Request::BlockRead {
+            am,
+            addr,
+            n,
+            count: request.count,
+        },
+        3 => Request::BlockFill {
+            am,
+            addr,
+            n,
+            count: request.count,
+            bytes: datum_of(datum),
+        },
+        _ => Request::Modify {
+            am,
+            addr,
+            n,
+            f: modify_of(&request.f),
+        },
+    }
+}
+
+/// The result of the check of a request.
+fn check(request: &Request) -> u8
+    ensures { result ≡ request_result (first_refusal request.now) }
+{
+    match Plan::of(request) {
+        Ok(_plan) => OK,
+        Err(fault) => refusal_number(fault),
+    }
+}
+
+/// Returns `OK` if a request is lawful, and otherwise its first refusal. `datum` is one that it
+/// writes.
+#[unsafe(no_mangle)]
+pub extern "C" fn vme_request_check(request: &VmeRequest, datum: &VmeDatum) -> u8
+    ensures { result ≡ request_result (first_refusal (request_of request.now (datum_of datum.now))) }
+{
+    let request = request_of(request, datum);
+    let result = check(&request);
+    // A request can own a block, but this one does not: without its drop the library frees nothing.
+    mem::forget(request);
+    result
+}
+
+/// Writes the lines of datum `i` of a request.
+fn write_lines(request: &Request, i: u16, out: &mut VmeLines) -> u8
+    ensures lines { IfOk (transfer_of request.now) (λ t.
+        i < count_of t.request → (result ≡ ok) × Shows out.new (signals_of t i)) }
+    ensures past { IfOk (transfer_of request.now) (λ t.
+        count_of t.request ≤ i → (result ≡ bad_call) × (out.new ≡ out.old)) }
+    ensures refused { IfErr (transfer_of request.now) (λ fault.
+        (result ≡ refusal_number fault) × (out.new ≡ out.old)) }
+{
+    let plan = match Plan::of(request) {
+        Ok(plan) => plan,
+        Err(fault) => return refusal_number(fault),
+    };
+    if i >= plan.len() {
+        return BAD_CALL;
+    }
+    *out = lines_from(&plan.signals(i));
+    OK
+}
+
+/// Writes the lines of datum `i` of a lawful request before a slave replies; `datum` is datum `i` of
+/// a write. Returns the first refusal of the request, or `BAD_CALL` if it has no datum `i`.
+#[unsafe(no_mangle)]
+pub extern "C" fn vme_request_lines(
+    request: &VmeRequest,
+    i: u16,
+    datum: &VmeDatum,
+    out: &mut VmeLines,
+) -> u8
+    ensures lines { IfOk (transfer_of (request_of request.now (datum_of datum.now))) (λ t.
+        i < count_of t.request → (result ≡ ok) × Shows out.new (signals_of t i)) }
+    ensures past { IfOk (transfer_of (request_of request.now (datum_of datum.now))) (λ t.
+        count_of t.request ≤ i → (result ≡ bad_call) × (out.new ≡ out.old)) }
+    ensures refused { IfErr (transfer_of (request_of request.now (datum_of datum.now))) (λ fault.
+        (result ≡ refusal_number fault) × (out.new ≡ out.old)) }
+{
+    let request = request_of(request, datum);
+    let result = write_lines(&request, i, out);
+    mem::forget(request);
+    result
+}
+
+/// Writes the lines of the write half of a read-modify-write.
+fn write_half(request: &Request, bytes: &Datum, out: &mut VmeLines) -> u8
+    ensures lines { IfOk (transfer_of request.now) (λ t. IsTrue (is_modified t.request bytes.now.items) →
+        (result ≡ ok) × Shows out.new (write_half_of t bytes.now.items)) }
+    ensures other { IfOk (transfer_of request.now) (λ t. IsFalse (is_modified t.request bytes.now.items) →
+        (result ≡ bad_call) × (out.new ≡ out.old)) }
+    ensures refused { IfErr (transfer_of request.now) (λ fault.
+        (result ≡ refusal_number fault) × (out.new ≡ out.old)) }
+{
+    let plan = match Plan::of(request) {
+        Ok(plan) => plan,
+        Err(fault) => return refusal_number(fault),
+    };
+    if plan.modify().is_none() || bytes.len() != usize::from(plan.datum_len()) {
+        return BAD_CALL;
+    }
+    *out = lines_from(&plan.write_half(bytes));
+    OK
+}
+
+/// Writes the lines of the write half of a lawful read-modify-write that drives a datum. Returns the
+/// first refusal of the request, or `BAD_CALL` if it is not a read-modify-write of as many bytes.
+#[unsafe(no_mangle)]
+pub extern "C" fn vme_request_write_half(
+    request: &VmeRequest,
+    datum: &VmeDatum,
+    out: &mut VmeLines,
+) -> u8
+    ensures lines { IfOk (transfer_of (request_of request.now (datum_of datum.now))) (λ t.
+        IsTrue (is_modified t.request (datum_of datum.now)) →
+        (result ≡ ok) × Shows out.new (write_half_of t (datum_of datum.now))) }
+    ensures other { IfOk (transfer_of (request_of request.now (datum_of datum.now))) (λ t.
+        IsFalse (is_modified t.request (datum_of datum.now)) →
+        (result ≡ bad_call) × (out.new ≡ out.old)) }
+    ensures refused { IfErr (transfer_of (request_of request.now (datum_of datum.now))) (λ fault.
+        (result ≡ refusal_number fault) × (out.new ≡ out.old)) }
+{
+    let request = request_of(request, datum);
+    let result = write_half(&request, &datum_of(datum), out);
+    mem::forget(request);
+    result
+}

@@ -1,0 +1,35 @@
+"""Results of calls as exceptions."""
+
+from .structures import Result
+
+
+class VmeError(Exception):
+    """A call did not succeed. `result` says why."""
+
+    def __init__(self, result: Result) -> None:
+        super().__init__(result.name)
+        self.result = result
+
+
+class Refused(VmeError):
+    """A request (K1 to K9) or an address map (C1 to C4) is not lawful."""
+
+
+class BusError(VmeError):
+    """A slave drove BERR*. Nothing has changed."""
+
+
+class NoBoard(VmeError):
+    """No board responds, so the bus timer drives BERR*."""
+
+
+def require(result: int) -> None:
+    """Raises the exception of a result, unless it is OK."""
+    found = Result(result)
+    if found is Result.OK:
+        return
+    if found is Result.BERR:
+        raise BusError(found)
+    if found is Result.NO_BOARD:
+        raise NoBoard(found)
+    raise (Refused if found <= Result.C4 else VmeError)(found)
