@@ -12,6 +12,7 @@ pub mod cycle;
 pub mod decode;
 pub mod devices;
 pub mod engines;
+pub mod explore;
 pub mod grammar;
 pub mod lanes;
 pub mod lexer;
