@@ -30,6 +30,7 @@ pub mod runner;
 pub mod script;
 pub mod sequential;
 pub mod shared;
+pub mod states;
 pub mod stepper;
 #[cfg(test)]
 mod tests;

@@ -5,7 +5,7 @@ ghost use Rattle.std.specs.Prelude.{◌==◌, true, false, if◌then◌else◌};
 use crate::{
     am, arbiter, bus_objects, bus_wait, config_toml, cores, cycle, decode, devices, engines,
     explore, grammar, lanes, lexer, line_task, mailbox_laws, master, memory, object, port, report,
-    run_laws, runner, script, shared, stepper, threads,
+    run_laws, runner, script, shared, states, stepper, threads,
 };
 use std::alloc::{AllocError, Global};
 use std::test::Fail;
@@ -157,6 +157,7 @@ fn files_and_their_runs(rt: HostRuntime) -> Result<(), Fail> {
     );
     assert!(&rt; threads::run(&rt, alloc, &config).is_ok());
     assert!(&rt; run_laws::run_to_the_end(&rt, alloc, &config, &Open).is_ok());
+    assert!(&rt; states::all_states(alloc, &config).is_ok());
     mailbox_laws::no_entry_no_word();
     let mut cycles = RoomSink::new(alloc, usize::MAX, 4096)?;
     assert_eq!(&rt;
