@@ -10,7 +10,7 @@ use crate::fault::MemoryFault;
 use crate::reply::Reply;
 use crate::storage::{Row, Storage};
 use crate::word::{driven_word, placed_word};
-use std::alloc::Global;
+use std::alloc::{AllocError, Global};
 use std::marker::Model;
 use vme_cycle::{Modify, Signals};
 use vme_lanes::{DataLines, Datum, Location, pick_wide};
@@ -58,6 +58,28 @@ impl ByteMemory {
             Ok(storage) => Ok(ByteMemory { storage, class }),
             Err(_) => Err(MemoryFault::OutOfMemory),
         }
+    }
+
+    /// Returns a copy of the memory.
+    ///
+    /// # Errors
+    ///
+    /// `AllocError`: an allocation failed.
+    pub fn copy(&self, alloc: Global) -> Result<ByteMemory, AllocError>
+        ensures { IfOk result (λ m. m ≡ self.now) }
+    {
+        let storage = self.storage.copy(alloc)?;
+        Ok(ByteMemory {
+            storage,
+            class: self.class,
+        })
+    }
+
+    /// Returns `true` only if another memory has the same bytes and the same class.
+    pub fn is_same(&self, other: &ByteMemory) -> bool
+        ensures { IsTrue result → self.now ≡ other.now }
+    {
+        self.class == other.class && self.storage.is_same(&other.storage)
     }
 
     /// Returns whether a memory can have this number of bytes: 4 to 1,048,576, a multiple of four.

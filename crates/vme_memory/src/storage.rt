@@ -1,4 +1,4 @@
-ghost use Rattle.std.specs.Prelude.{◌≡◌, ◌+◌, ◌%◌, ◌≤◌, ◌<◌, true, IfOk, length, take, drop, slice_get, slice_range};
+ghost use Rattle.std.specs.Prelude.{◌≡◌, ◌+◌, ◌%◌, ◌≤◌, ◌<◌, true, IfOk, IsTrue, length, take, drop, slice_get, slice_range};
 ghost use Rattle.vme_lanes.specs.Rows.{row_of};
 ghost use Rattle.vme_memory.specs.Words.{bytes_after_write, part_of, word_bytes};
 ghost use Rattle.vme_memory.specs.Boards.{is_board_size, zeros};
@@ -44,6 +44,21 @@ impl Storage {
     {
         let words = vec![in alloc; 0; (size / 4) as usize]?;
         Ok(Storage { words })
+    }
+
+    /// A copy.
+    pub(crate) fn copy(&self, alloc: Global) -> Result<Storage, AllocError>
+        ensures { IfOk result (λ storage. storage ≡ self.now) }
+    {
+        let words = Vec::from_slice(alloc, self.words.as_slice())?;
+        Ok(Storage { words })
+    }
+
+    /// Whether the bytes are those of another storage.
+    pub(crate) fn is_same(&self, other: &Storage) -> bool
+        ensures { IsTrue result → self.now ≡ other.now }
+    {
+        self.words.as_slice() == other.words.as_slice()
     }
 
     /// The number of bytes.

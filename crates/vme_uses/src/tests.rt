@@ -1,10 +1,13 @@
-//! Each use, run once, except those of `vme_port_array` and `vme_sequential`. No program has a
-//! report of one order yet.
+//! Each use, run once, except those of `vme_port_array`, `vme_sequential` and `vme_outcomes`. No
+//! program has a report of one order yet.
+ghost use Rattle.std.specs.Prelude.{◌==◌, true, false, if◌then◌else◌};
+
 use crate::{
     am, arbiter, bus_objects, bus_wait, config_toml, cores, cycle, decode, devices, engines,
-    grammar, lanes, lexer, line_task, mailbox_laws, master, memory, object, port, report, run_laws,
-    runner, script, shared, slave, stepper, threads,
+    explore, grammar, lanes, lexer, line_task, mailbox_laws, master, memory, object, port, report,
+    run_laws, runner, script, shared, slave, states, stepper, threads,
 };
+use std::alloc::{AllocError, Global};
 use std::test::Fail;
 use vme_am::{Am, Space};
 use vme_arbiter::{ArbReply, Arbiter};
@@ -12,6 +15,7 @@ use vme_bus_wait::{BusWaiters, WaitState};
 use vme_core::{Core, EventReply};
 use vme_cycle::Request;
 use vme_decode::{AddressMap, Entry};
+use vme_explore::System;
 use vme_io::RoomSink;
 use vme_memory::{BoardCmd, Reply};
 use vme_object::{Counter, Object};
@@ -162,6 +166,7 @@ fn files_and_their_runs(rt: HostRuntime) -> Result<(), Fail> {
     );
     assert!(&rt; threads::run(&rt, alloc, &config).is_ok());
     assert!(&rt; run_laws::run_to_the_end(&rt, alloc, &config, &Open).is_ok());
+    assert!(&rt; states::all_states(alloc, &config).is_ok());
     mailbox_laws::no_entry_no_word();
     let mut cycles = RoomSink::new(alloc, usize::MAX, 4096)?;
     assert_eq!(&rt;
@@ -171,5 +176,58 @@ fn files_and_their_runs(rt: HostRuntime) -> Result<(), Fail> {
     let waiters = BusWaiters::new(alloc, 1)?;
     let mut state = WaitState::new();
     bus_wait::poll(&rt, &waiters, &mut state, &mut Arbiter::new());
+    Ok(())
+}
+
+/// Two latches. One actor sets the first latch, the other copies the first into the second.
+#[derive(Drop)]
+pub struct Latches;
+
+impl System for Latches {
+    type State = (bool, bool);
+
+    ghost initial = { λ _. (false, false) };
+
+    ghost count = { λ _. 2 };
+
+    ghost step = { λ _ latches actor. if actor == 0 then (true, latches.1) else (latches.0, latches.0) };
+
+    fn actors(&self) -> usize {
+        2
+    }
+
+    fn initial_state(&self, _alloc: Global) -> Result<(bool, bool), AllocError> {
+        Ok((false, false))
+    }
+
+    fn turn(
+        &self,
+        _alloc: Global,
+        latches: &(bool, bool),
+        actor: usize,
+    ) -> Result<Option<(bool, bool)>, AllocError> {
+        let (first, second) = *latches;
+        Ok(Some(if actor == 0 {
+            (true, second)
+        } else {
+            (first, first)
+        }))
+    }
+
+    fn is_same(&self, a: &(bool, bool), b: &(bool, bool)) -> bool {
+        a.0 == b.0 && a.1 == b.1
+    }
+
+    fn digest(&self, latches: &(bool, bool)) -> u64 {
+        u64::from(latches.0) * 2 + u64::from(latches.1)
+    }
+}
+
+#[test]
+fn a_search(rt: HostRuntime) -> Result<(), Fail> {
+    let Ok(turns) = explore::turns_to_the_last(rt.alloc(), &Latches) else {
+        panic!(&rt; "not explored")
+    };
+    assert_eq!(&rt; turns.as_slice(), [0, 1].as_slice());
     Ok(())
 }
