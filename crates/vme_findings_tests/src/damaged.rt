@@ -53,9 +53,36 @@ fn finds_the_refusal_of_each_damaged_file(rt: HostRuntime) {
 /// Files with errors of all kinds, and with warnings.
 static FILES: [&str; 4] = [
     "am = 09",
-    "schedule = [[1, 1], 5, [9, 1]]\n[[board]]\nslot = 1\nbase = 2\nsize = 18\nlevle = 2\nscript = \"x\"\n",
-    "schedule = [[1, 1], [9, 1]]\n[[mailbox]]\nam = 9\naddr = 0\nslots = 1\n[[board]]\nslot = 1\nbase = 0\nsize = 64\nscript = \"lr 00000000 4\\nput 2 01\"\n",
-    "rounds = 1\n[[mailbox]]\nam = 9\naddr = 0\nslots = 1\n[[board]]\nslot = 1\nbase = 0\nsize = 64\nscript = \"r 39 00000000 4\\nr 10 00000000 1\"\n",
+    "schedule = [[1, 1], 5, [9, 1]]
+[[board]]
+slot = 1
+base = 2
+size = 18
+levle = 2
+script = \"x\"
+",
+    "schedule = [[1, 1], [9, 1]]
+[[mailbox]]
+am = 9
+addr = 0
+slots = 1
+[[board]]
+slot = 1
+base = 0
+size = 64
+script = \"lr 00000000 4\\nput 2 01\"
+",
+    "rounds = 1
+[[mailbox]]
+am = 9
+addr = 0
+slots = 1
+[[board]]
+slot = 1
+base = 0
+size = 64
+script = \"r 39 00000000 4\\nr 10 00000000 1\"
+",
 ];
 
 /// The codes of the findings of these files.
