@@ -2,10 +2,29 @@
 use crate::support::check_codes;
 
 /// Configurations with warnings.
-static WARNED: [(&str, &str); 6] = [
+static WARNED: [(&str, &str); 7] = [
     (
         "rounds = 20\n[[board]]\nslot = 1\nbase = 0\nsize = 16\nscript = \"lr 00000000 4\"\n",
         "",
+    ),
+    (
+        "rounds = 9
+[[board]]
+slot = 1
+base = 1000
+size = 64
+script = \"lr 00000000 4\"
+[[board]]
+slot = 2
+base = 0x7d0
+size = 64
+script = \"take 1\"
+[[mailbox]]
+am = 9
+addr = 2000
+slots = 1
+",
+        " decimal decimal",
     ),
     (
         "[[board]]\nslot = 1\nbase = 0\nsize = 16\nscript = \"r 09 00000000 1\"\n",
