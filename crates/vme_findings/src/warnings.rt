@@ -3,6 +3,7 @@ ghost use Rattle.std.specs.Prelude.{◌≡◌, true, IfOk};
 ghost use Rattle.std.specs.List.{list_all};
 ghost use Rattle.vme_findings.specs.Verdicts.{is_warning};
 
+mod decimal;
 mod lines;
 mod list;
 mod requests;
@@ -16,9 +17,9 @@ use requests::Backplane;
 use shared::{Uses, find_shared};
 use std::alloc::{AllocError, Global};
 use toml::Table;
-use turns::{Demand, find_turns};
+use turns::{Demand, FIRST_BOARD, find_turns};
 use vme_config_toml::{FileTable, file_values, table_of};
-use vme_positions::{Place, TableName};
+use vme_positions::{Key, Place, TableName};
 use vme_script::Config;
 
 /// The warnings of the configuration of a file.
@@ -31,7 +32,7 @@ pub(crate) fn warnings_of(
 {
     let mut warnings = Warnings::new(alloc);
     match table_of(alloc, text) {
-        Ok(table) => find_in(alloc, &table, config, &mut warnings)?,
+        Ok(table) => find_in(alloc, text, &table, config, &mut warnings)?,
         Err(_) => return Err(AllocError),
     }
     Ok(warnings.into_findings())
@@ -40,21 +41,40 @@ pub(crate) fn warnings_of(
 /// Finds the warnings of a document.
 fn find_in(
     alloc: Global,
+    text: &[u8],
     table: &Table,
     config: &Config,
     warnings: &mut Warnings,
 ) -> Result<(), AllocError> {
     match file_values(alloc, table) {
-        Ok(file) => find_all(alloc, &file, config, warnings),
+        Ok(file) => {
+            find_all(alloc, &file, config, turns_place(table), warnings)?;
+            decimal::find_decimals(alloc, text, &file, warnings)
+        }
         Err(_) => Err(AllocError),
     }
 }
 
-/// Finds the warnings of all scripts, and those of the file.
+/// The place of the file's turns: the rounds, the schedule, or the header of the first board.
+fn turns_place(table: &Table) -> Place {
+    for key in [Key::Rounds, Key::Schedule] {
+        if table.get(key.name()).is_some() {
+            return Place::Value {
+                table: TableName::File,
+                index: 0,
+                key,
+            };
+        }
+    }
+    FIRST_BOARD
+}
+
+/// Finds the warnings of all scripts, and those of the file. `turns` is the place of its turns.
 fn find_all<'a>(
     alloc: Global,
     file: &'a FileTable<'_>,
     config: &'a Config,
+    turns: Place,
     warnings: &mut Warnings,
 ) -> Result<(), AllocError> {
     let mut demands: Vec<Demand> = Vec::new(alloc);
@@ -73,7 +93,7 @@ fn find_all<'a>(
         demands.push(demand)?;
     }
     find_shared(&uses, warnings)?;
-    find_turns(&demands, config, warnings)?;
+    find_turns(&demands, config, turns, warnings)?;
     find_idle(config.mailboxes().len(), named, warnings)
 }
 
