@@ -40,7 +40,7 @@ def read_line(line: str) -> Request:
         "r": lambda: Request(RequestKind.READ, *head, n),
         "br": lambda: Request(RequestKind.BLOCK_READ, *head, n, count=int(rest[1])),
         "bw": lambda: Request.block_write(*head, n, bytes.fromhex(rest[1])),
-        "bf": lambda: Request(RequestKind.BLOCK_WRITE, *head, n, count=int(rest[1]), data=bytes.fromhex(rest[2])),
+        "bf": lambda: Request.block_fill(*head, n, int(rest[1]), bytes.fromhex(rest[2])),
         "m": lambda: Request(RequestKind.MODIFY, *head, n, f=Modify.of(FUNCTIONS[rest[1]], *map(bytes.fromhex, rest[2:]))),
     }
     return forms[word]()
