@@ -1,7 +1,7 @@
 """Answers request lines from standard input as `vme cycles` does: the signals of each cycle, and the reply of one board of
 4,096 bytes. A line that is not a request raises an exception.
 
-    LIBVME=build/libvme.so python3 cycles.py <requests
+    make -C lib && LIBVME=lib/build/libvme.so python3 examples/library/python/cycles.py <requests
 """
 
 import sys
