@@ -8,6 +8,7 @@ import sys
 from collections.abc import Callable, Iterator
 
 from pyvme import (
+    IDLE,
     AddressMap,
     Board,
     BusError,
@@ -50,7 +51,7 @@ def shown(lines: Lines) -> str:
     """The signals of a cycle as text."""
     s = lines.strobes
     lanes = lines.lanes[0 if am_row(lines.am).wide else 4 :]
-    data = "".join("--" if lane > 0xFF else f"{lane:02x}" for lane in lanes)
+    data = "".join("--" if lane == IDLE else f"{lane:02x}" for lane in lanes)
     levels = f"ds1={s.ds1} ds0={s.ds0} a01={s.a01} lword={s.lword} write={lines.write}"
     return f"am={lines.am:02x} a={lines.addr:08x} {levels} data={data}"
 
