@@ -166,7 +166,7 @@ enum { VME_READ = 0, VME_WRITE = 1, VME_BLOCK_READ = 2, VME_BLOCK_WRITE = 3, VME
 
 /* A request of a master. A block write is given datum by datum: the struct has their number, and
  * each call takes one of them. For a block whose length is not a multiple of n, set count to 0: the
- * request then has the refusal of this block, VME_K8. */
+ * request then has the refusals of this block, among them VME_K8. */
 typedef struct vme_request {
     uint32_t addr;  /* the address of the first byte */
     uint16_t count; /* the number of data of a block, 1 to 256; ignored otherwise */
@@ -267,7 +267,10 @@ uint8_t vme_map_select(const vme_entry *entries, size_t count, uint8_t am, uint3
 
 /* ---- Arbiter (3.3) ---- */
 
-enum { VME_PRIORITY = 0, VME_ROTATING = 1 }; /* vme_arbiter.kind */
+/* vme_arbiter.kind. By priority (PRI), each grant goes to the greatest level that has a pending
+ * request. Rotating (RRS), a grant begins at the level below that of the grant before it, and at 3
+ * after 0. On one level the lowest slot is granted first. */
+enum { VME_PRIORITY = 0, VME_ROTATING = 1 };
 
 /* Replies of an arbiter. */
 enum { VME_GRANTED = 1, VME_WAITING = 2, VME_FREED = 3, VME_DENIED = 4 };

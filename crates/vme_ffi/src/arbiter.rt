@@ -14,7 +14,7 @@ use vme_object::Object;
 #[repr(C)]
 #[derive(Clone, Copy)]
 pub struct VmeArbiter {
-    /// 0: priority. Every other number: rotating.
+    /// 0: priority (PRI). Every other number: rotating (RRS).
     pub kind: u8,
     /// The level at which the next grant begins, 0 to 3.
     pub first: u8,
