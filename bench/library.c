@@ -11,7 +11,7 @@ enum { RUNS = 9 };
 static uint8_t memory[1 << 16];
 static const vme_class board = { 32, 1, 1, 1 };
 static unsigned long sum;
-static double figure; /* of the last TIME */
+static double figure; /* the nanoseconds that the last TIME printed */
 
 static double now(void)
 {

@@ -11,13 +11,14 @@
  *           other call may read or write it: the caller locks where necessary. Signal handlers may
  *           call every function.
  * Levels.   0 is low; every other number is high. DS1*, DS0*, LWORD* and WRITE* are active low, so 0
- *           is asserted. A switch is off at 0 and on at every other number.
+ *           is asserted. A switch is off at 0 and on at every other number. The library writes 0 or 1.
  * Numbers.  A kind, a function or another number that its enum does not list counts as the last of
  *           the list. A width or a space that is not listed counts as the next one below, or as the
- *           first.
+ *           first. Sizes, lengths and offsets are in bytes.
  * Bytes.    The byte at the lowest address is the most significant one of a datum.
- * Results.  A result is VME_OK or the reason of a failure, but for the replies of the arbiter. A call
- *           that fails has written nothing.
+ * Results.  A result is VME_OK or the reason of a failure, except for the replies of the arbiter. A
+ *           call that fails has written nothing.
+ * Sections. The numbers in the titles below are the sections of the standard.
  */
 #ifndef VME_H
 #define VME_H
@@ -62,18 +63,19 @@ enum {
     VME_NO_BOARD = 0x21,  /* No entry responds, so the bus timer drives BERR*. */
     VME_BAD_LINES = 0x22, /* The lines show no cycle. */
     VME_BAD_CALL = 0x23,  /* An index or a length does not match the request or the lines. */
-    VME_BAD_STATE = 0x24  /* The struct is not a state of an arbiter. */
+    VME_BAD_STATE = 0x24  /* A level in the state of an arbiter is above 3. */
 };
 
 /* ---- Data ---- */
 
-/* The bytes of one datum in order of address: the first n of bytes. n above 8 counts as 8. */
+/* The bytes of one datum in order of address: the first n of bytes. n above 8 counts as 8; the library
+ * writes at most 8. */
 typedef struct vme_datum {
     uint8_t n;
     uint8_t bytes[8];
 } vme_datum;
 
-/* ---- Tables of address modifiers and byte locations ---- */
+/* ---- Tables of address modifiers (2.2.2) and byte locations (2.2.1) ---- */
 
 enum { VME_DATA = 1, VME_PROGRAM = 2, VME_BLOCK = 3, VME_SHORT = 4 }; /* vme_am.kind */
 
@@ -109,7 +111,7 @@ uint8_t vme_strobes_drive(uint32_t addr, uint8_t n, vme_strobes *out);
 /* Writes the bytes that a slave senses from strobes. Fails with VME_BAD_LINES if they select none. */
 uint8_t vme_strobes_sense(const vme_strobes *strobes, vme_place *out);
 
-/* ---- Lines of a cycle ---- */
+/* ---- Lines of a cycle (2.2) ---- */
 
 /* Indices of vme_lines.lanes. The first four are the address lines, which carry data only in blocks
  * of eight-byte data. */
@@ -124,10 +126,12 @@ enum {
     VME_D07_D00 = 7
 };
 
-/* A lane that nothing drives. Every number above 0xff means the same. */
+/* A lane that nothing drives, or a slot without a pending request. Every number above 0xff means the
+ * same; the library writes this one. */
 #define VME_IDLE 0xffffu
 
-/* The lines of one cycle. */
+/* The lines of one cycle. They show a cycle if am has a row, addr is a multiple of four in its space,
+ * and the strobes select bytes. */
 typedef struct vme_lines {
     uint32_t addr;       /* A31 to A02, as the address of a group of four */
     uint8_t am;          /* AM5 to AM0 */
@@ -141,15 +145,16 @@ typedef struct vme_lines {
  * of bytes. */
 uint8_t vme_lines_answer(vme_lines *lines, const vme_datum *datum);
 
-/* ---- Requests of a master ---- */
+/* ---- Requests of a master (2.3.6 to 2.3.9) ---- */
 
 /* vme_modify.function */
 enum { VME_NO_FUNCTION = 0, VME_SET = 1, VME_EXCHANGE = 2, VME_ADD = 3, VME_COMPARE = 4 };
 
 /* What a read-modify-write puts in place of the old bytes. VME_SET sets bit 7 of the first byte,
- * VME_EXCHANGE puts operand, VME_ADD the sum with operand, and VME_COMPARE puts put if the old bytes
- * equal operand, and otherwise the old bytes. VME_NO_FUNCTION is for cycles that are not a
- * read-modify-write; where a function is required, it counts as VME_COMPARE. */
+ * VME_EXCHANGE puts operand, VME_ADD the sum with operand without its carry, and VME_COMPARE puts put
+ * if the old bytes equal operand, and otherwise the old bytes. The operands that a function uses have
+ * as many bytes as the old ones. VME_NO_FUNCTION is for cycles that are not a read-modify-write; where
+ * a function is required, it counts as VME_COMPARE. */
 typedef struct vme_modify {
     uint8_t function;
     vme_datum operand;
@@ -160,18 +165,19 @@ typedef struct vme_modify {
 enum { VME_READ = 0, VME_WRITE = 1, VME_BLOCK_READ = 2, VME_BLOCK_WRITE = 3, VME_MODIFY = 4 };
 
 /* A request of a master. A block write is given datum by datum: the struct has their number, and
- * each call takes one of them. If a block's length is not a multiple of n, count is 0. */
+ * each call takes one of them. For a block whose length is not a multiple of n, set count to 0: the
+ * request then has the refusals of this block, among them VME_K8. */
 typedef struct vme_request {
     uint32_t addr;  /* the address of the first byte */
-    uint16_t count; /* the number of data of a block */
+    uint16_t count; /* the number of data of a block, 1 to 256; ignored otherwise */
     uint8_t am;     /* the address modifier code */
     uint8_t kind;   /* VME_READ to VME_MODIFY */
     uint8_t n;      /* the number of bytes of each datum; VME_WRITE uses the datum's length instead */
     vme_modify f;   /* the function of VME_MODIFY; ignored, but initialized, otherwise */
 } vme_request;
 
-/* Returns VME_OK if a request is lawful, and otherwise its first refusal, VME_K1 to VME_K9. datum is
- * one that a write drives; other requests ignore it. */
+/* Returns VME_OK if a request is lawful, and otherwise its first refusal: VME_K9, K2 or K1; then K5,
+ * K7, K8, K4, K3 and K6 in this order. datum is one that a write drives; other requests ignore it. */
 uint8_t vme_request_check(const vme_request *request, const vme_datum *datum);
 
 /* Writes the lines of datum i before a slave replies. datum is datum i of a write; other requests
@@ -186,7 +192,7 @@ uint8_t vme_request_write_half(const vme_request *request, const vme_datum *datu
  * have another length. */
 uint8_t vme_modify_value(const vme_modify *f, const vme_datum *old, vme_datum *out);
 
-/* ---- Slave of a board whose bytes the caller holds ---- */
+/* ---- Slave of a board whose bytes the caller holds (2.3.6 to 2.3.9) ---- */
 
 /* The cycles to which the slave of a board replies. */
 typedef struct vme_class {
@@ -200,8 +206,10 @@ typedef struct vme_class {
  * block this is one datum: the slave increments the offset, and takes A01 from it. A
  * read-modify-write shows its read half and has its function in f; f->function is VME_NO_FUNCTION in
  * every other cycle. Returns VME_OK for DTACK* and writes the bytes that were read, none after a
- * write, and the old ones in a read-modify-write. Fails with VME_BERR, or with VME_BAD_LINES if the
- * lines show no cycle. */
+ * write, and the old ones in a read-modify-write. Fails with VME_BAD_LINES if the lines show no cycle,
+ * and with VME_BERR if the class does not have it, if its bytes are outside of the board, if the
+ * operands of f have another length, if a lane of a write is idle, or if at modulo 4 is not the place
+ * of the first byte that the lines select. */
 uint8_t vme_slave_cycle(uint8_t *bytes, size_t size, const vme_class *board, const vme_lines *lines,
                         uint32_t at, const vme_modify *f, vme_datum *out);
 
@@ -216,7 +224,7 @@ uint8_t vme_slave_write(uint8_t *bytes, size_t size, const vme_class *board, uin
                         const vme_datum *datum);
 
 /* Replies to a read-modify-write of n bytes at offset at, without lines. Returns VME_OK for DTACK*
- * and writes the old bytes to out. Fails with VME_BERR. */
+ * and writes the old bytes to out. Fails with VME_BERR, also if the operands of f do not have n bytes. */
 uint8_t vme_slave_modify(uint8_t *bytes, size_t size, const vme_class *board, uint32_t at, uint8_t n,
                          const vme_modify *f, vme_datum *out);
 
@@ -227,11 +235,11 @@ uint8_t vme_local_read(const uint8_t *bytes, size_t size, uint32_t at, uint8_t n
 uint8_t vme_local_write(uint8_t *bytes, size_t size, uint32_t at, const vme_datum *datum);
 
 /* Modifies 1, 2 or 4 bytes by the local port in one step, at any offset and for every class, and
- * writes the old ones to out. Fails with VME_BERR. */
+ * writes the old ones to out. Fails with VME_BERR, also if the operands of f do not have n bytes. */
 uint8_t vme_local_modify(uint8_t *bytes, size_t size, uint32_t at, uint8_t n, const vme_modify *f,
                          vme_datum *out);
 
-/* ---- Address decoder ---- */
+/* ---- Address decoder (2.3.5) ---- */
 
 /* The addresses at which one board responds. */
 typedef struct vme_entry {
@@ -257,36 +265,40 @@ uint8_t vme_map_check(const vme_entry *entries, size_t count);
 uint8_t vme_map_select(const vme_entry *entries, size_t count, uint8_t am, uint32_t addr,
                        vme_selection *out);
 
-/* ---- Arbiter ---- */
+/* ---- Arbiter (3.3) ---- */
 
-enum { VME_PRIORITY = 0, VME_ROTATING = 1 }; /* vme_arbiter.kind */
+/* vme_arbiter.kind. By priority (PRI), each grant goes to the greatest level that has a pending
+ * request. Rotating (RRS), a grant begins at the level below that of the grant before it, and at 3
+ * after 0. On one level the lowest slot is granted first. */
+enum { VME_PRIORITY = 0, VME_ROTATING = 1 };
 
 /* Replies of an arbiter. */
 enum { VME_GRANTED = 1, VME_WAITING = 2, VME_FREED = 3, VME_DENIED = 4 };
 
 /* The state of an arbiter. vme_arbiter_open writes the first one, and the three calls after it change
- * it. A copy is a state of its own. */
+ * it. A copy is a state of its own. The calls check the levels alone, so write no field yourself. */
 typedef struct vme_arbiter {
     uint8_t kind;        /* VME_PRIORITY or VME_ROTATING */
     uint8_t first;       /* the level at which the next grant begins, 0 to 3 */
     uint8_t held;        /* whether a slot holds the bus */
     uint16_t holder;     /* the slot that holds the bus, if one does */
-    uint16_t levels[22]; /* by slot: the level of its pending request, 0 to 3, or VME_IDLE */
+    uint16_t levels[22]; /* by slot, 1 to 21: the level of its pending request, 0 to 3, or VME_IDLE */
 } vme_arbiter;
 
 /* Writes the state of a free bus without pending requests. */
 void vme_arbiter_open(uint8_t kind, vme_arbiter *out);
 
-/* Requests the bus for a slot, 1 to 21, on a level, 0 to 3. Returns VME_GRANTED, VME_WAITING or
- * VME_DENIED; or VME_BAD_STATE. */
+/* Requests the bus for a slot, 1 to 21, on a level, 0 to 3. Returns VME_GRANTED if the bus was free;
+ * VME_WAITING if another slot holds it; VME_DENIED if the slot holds it or has a pending request, or
+ * if a number is out of range; or VME_BAD_STATE. */
 uint8_t vme_arbiter_ask(vme_arbiter *arbiter, uint16_t slot, uint8_t level);
 
-/* Asks whether a slot holds the bus. Returns VME_GRANTED, VME_WAITING or VME_DENIED; or
- * VME_BAD_STATE. It changes nothing that another call can see. */
+/* Asks whether a slot holds the bus. Returns VME_GRANTED if it does; VME_WAITING if its request is
+ * pending; VME_DENIED otherwise; or VME_BAD_STATE. It changes nothing that another call can see. */
 uint8_t vme_arbiter_look(vme_arbiter *arbiter, uint16_t slot);
 
-/* Releases the bus, which is granted to the next pending request. Returns VME_FREED or VME_DENIED; or
- * VME_BAD_STATE. */
+/* Releases the bus, which is granted to the next pending request. Returns VME_FREED; VME_DENIED if the
+ * slot does not hold the bus; or VME_BAD_STATE. */
 uint8_t vme_arbiter_done(vme_arbiter *arbiter, uint16_t slot);
 
 #ifdef __cplusplus

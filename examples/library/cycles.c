@@ -18,7 +18,7 @@ static void print_lines(const vme_lines *lines)
     printf("am=%02x a=%08x ds1=%d ds0=%d a01=%d lword=%d write=%d data=", lines->am, (unsigned)lines->addr, s->ds1, s->ds0,
            s->a01, s->lword, lines->write);
     for (int lane = am.wide ? VME_D63_D56 : VME_D31_D24; lane <= VME_D07_D00; lane++)
-        if (lines->lanes[lane] > 0xff)
+        if (lines->lanes[lane] == VME_IDLE)
             printf("--");
         else
             printf("%02x", lines->lanes[lane]);

@@ -30,6 +30,7 @@ static uint8_t cycle(const vme_request *request, uint16_t i, vme_datum *datum)
                            board.offset + (uint32_t)i * request->n, &request->f, datum);
 }
 
+/* A request without data, count or function. */
 static vme_request request_of(uint8_t kind, uint8_t am, uint32_t addr, uint8_t n)
 {
     vme_request request;
@@ -72,6 +73,7 @@ static int take(uint32_t addr)
     return cycle(&request, 0, &old) == VME_OK && (old.bytes[0] & 0x80) == 0;
 }
 
+/* Releases the semaphore at an address: clears its byte. */
 static uint8_t give(uint32_t addr)
 {
     vme_request request = request_of(VME_WRITE, 0x3d, addr, 1);

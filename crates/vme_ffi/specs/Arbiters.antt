@@ -30,6 +30,6 @@ state_of v = record {
   levels = map lane_of v.levels;
 }
 
--- the state of the arbitration bus, if the levels of a struct are in range
+-- the state of the arbitration bus that a struct stands for, if its levels are in range
 abbrev pub bus_of : VmeArbiter → Option Arbitration
 bus_of v = bus_from_state (state_of v)

@@ -31,7 +31,7 @@ bad_lines = 0x22
 abbrev pub bad_call : ℕ
 bad_call = 0x23
 
--- the result where a struct is not a state of an arbiter
+-- the result where a level in the state of an arbiter is out of range
 abbrev pub bad_state : ℕ
 bad_state = 0x24
 

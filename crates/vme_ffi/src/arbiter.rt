@@ -14,15 +14,15 @@ use vme_object::Object;
 #[repr(C)]
 #[derive(Clone, Copy)]
 pub struct VmeArbiter {
-    /// 0: priority. 1: rotating.
+    /// 0: priority (PRI). Every other number: rotating (RRS).
     pub kind: u8,
-    /// The level at which the next grant begins.
+    /// The level at which the next grant begins, 0 to 3.
     pub first: u8,
     /// Whether a slot holds the bus.
     pub held: u8,
     /// The slot that holds the bus, if one does.
     pub holder: u16,
-    /// By slot: the level of its pending request, or `IDLE`.
+    /// By slot: the level of its pending request, 0 to 3, or a number above 255 if it has none.
     pub levels: [u16; 22],
 }
 
@@ -59,7 +59,7 @@ fn reply_number(reply: ArbReply) -> u8
     }
 }
 
-/// The arbiter in a state, if its levels are in range.
+/// The arbiter in a state, if the levels of the state are in range.
 fn arbiter_of(state: &VmeArbiter) -> Option<Arbiter>
     ensures { result ≡ bus_of state.now }
 {
@@ -93,7 +93,7 @@ fn state_from(arbiter: &Arbiter) -> VmeArbiter
     }
 }
 
-/// Gives the arbiter a command.
+/// Applies a command to a state. Returns the number of the reply, or `BAD_STATE`.
 fn apply(state: &mut VmeArbiter, cmd: ArbCmd) -> u8
     ensures step { IfSome (bus_of state.old) (λ bus. (result ≡ reply_number (arbiter_step bus cmd).1)
         × (bus_of state.new ≡ Some (arbiter_step bus cmd).0)) }
@@ -107,7 +107,8 @@ fn apply(state: &mut VmeArbiter, cmd: ArbCmd) -> u8
     reply_number(reply)
 }
 
-/// Writes the state of an arbiter of a free bus without pending requests.
+/// Writes the first state of an arbiter, of a free bus without pending requests: IEEE 1014-1987,
+/// 3.3 (arbiter and requesters).
 #[unsafe(no_mangle)]
 pub extern "C" fn vme_arbiter_open(kind: u8, out: &mut VmeArbiter)
     ensures { bus_of out.new ≡ Some (opening_bus (kind_of kind)) }
@@ -115,7 +116,9 @@ pub extern "C" fn vme_arbiter_open(kind: u8, out: &mut VmeArbiter)
     *out = state_from(&Arbiter::of(kind_of(kind)));
 }
 
-/// Requests the bus for a slot on a level. Returns the number of the reply, or `BAD_STATE`.
+/// Requests the bus for a slot on a level: IEEE 1014-1987, 3.3 (arbiter and requesters). Returns
+/// the number of the reply (granted, waiting, or denied), or `BAD_STATE` if a level of the state is
+/// above 3.
 #[unsafe(no_mangle)]
 pub extern "C" fn vme_arbiter_ask(arbiter: &mut VmeArbiter, slot: u16, level: u8) -> u8
     ensures step { IfSome (bus_of arbiter.old) (λ bus. (result ≡ reply_number (arbiter_step bus (Ask slot level)).1)
@@ -125,7 +128,8 @@ pub extern "C" fn vme_arbiter_ask(arbiter: &mut VmeArbiter, slot: u16, level: u8
     apply(arbiter, ArbCmd::Ask { slot, level })
 }
 
-/// Asks whether a slot holds the bus. Returns the number of the reply, or `BAD_STATE`.
+/// Asks whether a slot holds the bus. Returns the number of the reply (granted, waiting, or
+/// denied), or `BAD_STATE` if a level of the state is above 3.
 #[unsafe(no_mangle)]
 pub extern "C" fn vme_arbiter_look(arbiter: &mut VmeArbiter, slot: u16) -> u8
     ensures step { IfSome (bus_of arbiter.old) (λ bus. (result ≡ reply_number (arbiter_step bus (Look slot)).1)
@@ -135,8 +139,9 @@ pub extern "C" fn vme_arbiter_look(arbiter: &mut VmeArbiter, slot: u16) -> u8
     apply(arbiter, ArbCmd::Look { slot })
 }
 
-/// Releases the bus, which is granted to the next request. Returns the number of the reply, or
-/// `BAD_STATE`.
+/// Releases the bus, which is granted to the next request: IEEE 1014-1987, 3.3 (arbiter and
+/// requesters). Returns the number of the reply (freed, or denied), or `BAD_STATE` if a level of
+/// the state is above 3.
 #[unsafe(no_mangle)]
 pub extern "C" fn vme_arbiter_done(arbiter: &mut VmeArbiter, slot: u16) -> u8
     ensures step { IfSome (bus_of arbiter.old) (λ bus. (result ≡ reply_number (arbiter_step bus (Done slot)).1)

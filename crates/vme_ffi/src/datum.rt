@@ -4,7 +4,7 @@ ghost use Rattle.vme_ffi.specs.Data.{level_of, lane_of, datum_of};
 
 use vme_lanes::Datum;
 
-/// A lane that carries no byte, or a slot without a request.
+/// A lane that carries no byte, or a slot without a pending request.
 const IDLE: u16 = 0xffff;
 
 /// The greatest number of bytes of a datum.
@@ -20,7 +20,7 @@ pub struct VmeDatum {
     pub bytes: [u8; 8],
 }
 
-/// The level of a line, or the position of a switch.
+/// The level of a line, or the position of a switch: every number but 0 is high or on.
 pub(crate) fn level_of(number: u8) -> bool
     ensures { result ≡ level_of number }
 {
@@ -34,7 +34,7 @@ pub(crate) fn level_number(level: bool) -> u8
     if level { 1 } else { 0 }
 }
 
-/// What a lane carries.
+/// What a lane carries: a byte, or nothing if the number is above 255.
 fn lane_of(number: u16) -> Option<u8>
     ensures { result ≡ lane_of number }
 {
@@ -77,7 +77,7 @@ pub(crate) fn lane_numbers<const N: usize>(lanes: &[Option<u8>; N]) -> [u16; N]
     numbers
 }
 
-/// The bytes of a datum, where they lie.
+/// Borrows the bytes of a datum.
 pub(crate) fn bytes_of(datum: &VmeDatum) -> &[u8]
     ensures value { result.now ≡ datum_of datum.now }
     ensures len { length result.now ≤ 8 }
@@ -100,12 +100,13 @@ pub(crate) fn datum_of(datum: &VmeDatum) -> Datum
     }
 }
 
-/// A datum of some bytes, followed by zeros.
+/// The struct of a datum of some bytes, which zeros follow.
 pub(crate) fn datum_from(bytes: &[u8]) -> VmeDatum
     requires { length bytes.now ≤ 8 }
     ensures { datum_of result ≡ bytes.now }
 {
     let n = bytes.len() as u8;
+    // The lengths are literals, so that the compiler copies without a call.
     match bytes {
         [] => VmeDatum { n, bytes: [0; 8] },
         [a] => VmeDatum {

@@ -1,3 +1,4 @@
+//! Laws of what the structs for C stand for.
 ghost use Rattle.std.specs.Prelude.{◌≡◌, ◌<◌, ℕ, List, length, Ok};
 ghost use Rattle.vme_cycle.specs.BlockBuffers.{BlockBytes};
 ghost use Rattle.vme_cycle.specs.declared.request.Request.TheVariants as requests;

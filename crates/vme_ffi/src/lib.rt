@@ -1,8 +1,8 @@
 //! `libvme`: the data transfer bus (ANSI/IEEE Std 1014-1987) for C and the languages that call C.
 //! The exports are the tables of the bus, the lines of each datum of a request, a slave over bytes
-//! that the caller holds, the address decoder and the arbiter. Each takes and returns plain structs,
-//! calls a function of a crate below, and states that function's contract for what the structs stand
-//! for (`specs/`). `include/vme.h` declares them.
+//! that the caller holds, the address decoder and the arbiter. Each takes and returns plain
+//! structs, calls a function of a crate below, and states that function's contract for what the
+//! structs stand for (`specs/`). `include/vme.h` declares them.
 #![tactic(auto)]
 
 mod arbiter;

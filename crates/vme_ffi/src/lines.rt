@@ -13,7 +13,7 @@ use vme_am::Am;
 use vme_cycle::Signals;
 use vme_lanes::DataLines;
 
-/// The lines of one cycle.
+/// The lines of one cycle: IEEE 1014-1987, 2.2 (data transfer bus lines).
 #[repr(C)]
 #[derive(Clone, Copy)]
 pub struct VmeLines {
@@ -25,11 +25,13 @@ pub struct VmeLines {
     pub write: u8,
     /// DS1*, DS0*, A01 and LWORD*.
     pub strobes: VmeStrobes,
-    /// What the lanes carry, from D63-D56 on; the data lines are the last four.
+    /// What the lanes carry, from D63-D56 on: a byte each, or nothing if the number is above 255.
+    /// The data lines are the last four.
     pub lanes: [u16; 8],
 }
 
-/// The signals of a cycle, if the lines show one.
+/// The signals of a cycle, if the lines show one: the code has a row, the address is a multiple of
+/// four in its space, and the strobes select bytes.
 pub(crate) fn signals_of(lines: &VmeLines) -> Option<Signals>
     ensures { result ≡ cycle_shown lines.now }
 {
@@ -80,8 +82,9 @@ fn selects(signals: &Signals, bytes: &[u8]) -> bool
     }
 }
 
-/// Puts the bytes that a slave replied to a read on the lanes that code and strobes select. Returns
-/// `BAD_LINES` if the lines show no cycle, and `BAD_CALL` if they select another number of bytes.
+/// Puts the bytes that a slave replied to a read on the lanes that code and strobes select: IEEE
+/// 1014-1987, 2.2.3 (data lines). Returns `BAD_LINES` if the lines show no cycle, and `BAD_CALL` if
+/// they select another number of bytes.
 #[unsafe(no_mangle)]
 pub extern "C" fn vme_lines_answer(lines: &mut VmeLines, datum: &VmeDatum) -> u8
     ensures answered { IfSome (cycle_shown lines.old) (λ s. IsTrue (selects s (datum_of datum.now)) →

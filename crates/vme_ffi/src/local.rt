@@ -12,8 +12,8 @@ use crate::datum::{VmeDatum, bytes_of};
 use crate::modify::{VmeModify, modify_of};
 use crate::slave::{result_of, write_reply};
 
-/// Replies to a local read of `n` bytes at offset `at`. Returns `OK` and writes the bytes, or
-/// `BUS_ERROR`.
+/// Replies to a read of `n` bytes, 1, 2 or 4, at offset `at` by the local port. Returns `OK` and
+/// writes the bytes, or `BUS_ERROR`.
 #[unsafe(no_mangle)]
 pub extern "C" fn vme_local_read(bytes: &[u8], at: u32, n: u8, out: &mut VmeDatum) -> u8
     ensures result { (class : BoardClass) →
@@ -24,7 +24,8 @@ pub extern "C" fn vme_local_read(bytes: &[u8], at: u32, n: u8, out: &mut VmeDatu
     write_reply(&vme_slave::local_read(bytes, at, n), out)
 }
 
-/// Replies to a local write of a datum at offset `at`. Returns `OK`, or `BUS_ERROR`.
+/// Replies to a write of a datum of 1, 2 or 4 bytes at offset `at` by the local port. Returns `OK`,
+/// or `BUS_ERROR`.
 #[unsafe(no_mangle)]
 pub extern "C" fn vme_local_write(bytes: &mut [u8], at: u32, datum: &VmeDatum) -> u8
     ensures result { (class : BoardClass) →
@@ -35,8 +36,8 @@ pub extern "C" fn vme_local_write(bytes: &mut [u8], at: u32, datum: &VmeDatum) -
     result_of(&vme_slave::local_write(bytes, at, bytes_of(datum)))
 }
 
-/// Replies to a local read-modify-write of `n` bytes at offset `at`. Returns `OK` and writes the old
-/// bytes, or `BUS_ERROR`.
+/// Replies to a read-modify-write of `n` bytes, 1, 2 or 4, at offset `at` by the local port.
+/// Returns `OK` and writes the old bytes, or `BUS_ERROR`.
 #[unsafe(no_mangle)]
 pub extern "C" fn vme_local_modify(
     bytes: &mut [u8],

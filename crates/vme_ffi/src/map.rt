@@ -11,7 +11,7 @@ use crate::results::{NO_BOARD, OK, code_refusal_number, map_refusal_number};
 use vme_am::{Am, Space};
 use vme_decode::{Entry, MapFault, check};
 
-/// The greatest number of entries of a map.
+/// The greatest number of entries of a map: one for each slot of a backplane.
 const MOST_ENTRIES: usize = 21;
 
 /// An entry that covers no address.
@@ -22,7 +22,7 @@ const EMPTY: Entry = Entry {
     supervisory: false,
 };
 
-/// The addresses at which one board responds.
+/// The addresses at which one board responds: IEEE 1014-1987, 2.3.5 (addressing).
 #[repr(C)]
 #[derive(Clone, Copy)]
 pub struct VmeEntry {
@@ -30,7 +30,7 @@ pub struct VmeEntry {
     pub base: u32,
     /// The number of bytes. An entry of size 0 covers no address.
     pub size: u32,
-    /// The address space: 16, 24 or 32.
+    /// The address space: 16, 24 or 32. Another number counts as the next one below, or as 16.
     pub space: u8,
     /// Whether only supervisory codes are admitted.
     pub supervisory: u8,
@@ -46,7 +46,7 @@ pub struct VmeSelection {
     pub offset: u32,
 }
 
-/// The address space that a number selects.
+/// The address space that a number selects: 16, 24 or 32, or the next one below.
 fn space_of(number: u8) -> Space
     ensures { result ≡ space_of number }
 {
@@ -111,8 +111,9 @@ fn selected(entries: &[VmeEntry], am: Am, addr: u32) -> Option<(usize, u32)>
     None
 }
 
-/// Writes the entry that a code and the address of a first byte select, and the offset in it.
-/// Returns `NO_BOARD` if no entry responds, and K1, K2 or K9 if the code has no row.
+/// Writes the first entry that responds to a code and the address of a first byte, and the offset
+/// in it: IEEE 1014-1987, 2.3.5 (addressing). Returns `NO_BOARD` if no entry responds, and K1, K2
+/// or K9 if the code has no row.
 #[unsafe(no_mangle)]
 pub extern "C" fn vme_map_select(
     entries: &[VmeEntry],

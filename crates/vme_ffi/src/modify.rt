@@ -10,11 +10,12 @@ use crate::datum::{VmeDatum, datum_from, datum_of};
 use crate::results::{BAD_COUNT, OK};
 use vme_cycle::Modify;
 
-/// The function of a read-modify-write cycle.
+/// The function of a read-modify-write cycle: IEEE 1014-1987, 2.3.8 (read-modify-write).
 #[repr(C)]
 #[derive(Clone, Copy)]
 pub struct VmeModify {
-    /// 0: the cycle is not a read-modify-write. 1: set. 2: exchange. 3: add. 4: compare.
+    /// 0: the cycle is not a read-modify-write. 1: set. 2: exchange. 3: add. Every other number:
+    /// compare. Where a function is required, 0 is compare too.
     pub function: u8,
     /// The bytes that are exchanged, added or expected.
     pub operand: VmeDatum,

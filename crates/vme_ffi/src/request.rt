@@ -22,19 +22,19 @@ use vme_lanes::Datum;
 pub struct VmeRequest {
     /// The address of the first byte.
     pub addr: u32,
-    /// The number of data of a block.
+    /// The number of data of a block, 1 to 256. Other requests ignore it.
     pub count: u16,
     /// The address modifier code.
     pub am: u8,
-    /// 0: read. 1: write. 2: block read. 3: block write. 4: read-modify-write.
+    /// 0: read. 1: write. 2: block read. 3: block write. Every other number: read-modify-write.
     pub kind: u8,
-    /// The number of bytes of each datum.
+    /// The number of bytes of each datum. A write uses the length of its datum instead.
     pub n: u8,
     /// The function of a read-modify-write.
     pub f: VmeModify,
 }
 
-/// The request, with the datum that it writes.
+/// The request that a struct stands for, with the datum that it writes.
 fn request_of(request: &VmeRequest, datum: &VmeDatum) -> Request
     ensures { result ≡ request_of request.now (datum_of datum.now) }
 {
@@ -78,20 +78,21 @@ fn check(request: &Request) -> u8
     }
 }
 
-/// Returns `OK` if a request is lawful, and otherwise its first refusal. `datum` is one that it
-/// writes.
+/// Returns `OK` if a request is lawful, and otherwise its first refusal, K1 to K9. `datum` is one
+/// that it writes.
 #[unsafe(no_mangle)]
 pub extern "C" fn vme_request_check(request: &VmeRequest, datum: &VmeDatum) -> u8
     ensures { result ≡ request_result (first_refusal (request_of request.now (datum_of datum.now))) }
 {
     let request = request_of(request, datum);
     let result = check(&request);
-    // A request can own a block, but this one does not: without its drop the library frees nothing.
+    // A request can own a block. This one does not, so the library calls no allocator for its drop.
     mem::forget(request);
     result
 }
 
-/// Writes the lines of datum `i` of a request.
+/// Writes the lines of datum `i` of a request. Returns the first refusal of the request, or
+/// `BAD_CALL` if it has no datum `i`.
 fn write_lines(request: &Request, i: u16, out: &mut VmeLines) -> u8
     ensures lines { IfOk (transfer_of request.now) (λ t.
         i < count_of t.request → (result ≡ ok) × Shows out.new (signals_of t i)) }
@@ -111,8 +112,9 @@ fn write_lines(request: &Request, i: u16, out: &mut VmeLines) -> u8
     OK
 }
 
-/// Writes the lines of datum `i` of a lawful request before a slave replies; `datum` is datum `i` of
-/// a write. Returns the first refusal of the request, or `BAD_CALL` if it has no datum `i`.
+/// Writes the lines of datum `i` of a lawful request before a slave replies: IEEE 1014-1987, 2.3.6
+/// (basic data transfer) to 2.3.9 (unaligned transfer). `datum` is datum `i` of a write. Returns
+/// the first refusal of the request, or `BAD_CALL` if it has no datum `i`.
 #[unsafe(no_mangle)]
 pub extern "C" fn vme_request_lines(
     request: &VmeRequest,
@@ -133,7 +135,8 @@ pub extern "C" fn vme_request_lines(
     result
 }
 
-/// Writes the lines of the write half of a read-modify-write.
+/// Writes the lines of the write half of a read-modify-write that drives some bytes. Returns the
+/// first refusal of the request, or `BAD_CALL` if it is not a read-modify-write of as many bytes.
 fn write_half(request: &Request, bytes: &Datum, out: &mut VmeLines) -> u8
     ensures lines { IfOk (transfer_of request.now) (λ t. IsTrue (is_modified t.request bytes.now.items) →
         (result ≡ ok) × Shows out.new (write_half_of t bytes.now.items)) }
@@ -153,8 +156,9 @@ fn write_half(request: &Request, bytes: &Datum, out: &mut VmeLines) -> u8
     OK
 }
 
-/// Writes the lines of the write half of a lawful read-modify-write that drives a datum. Returns the
-/// first refusal of the request, or `BAD_CALL` if it is not a read-modify-write of as many bytes.
+/// Writes the lines of the write half of a lawful read-modify-write that drives a datum: IEEE
+/// 1014-1987, 2.3.8 (read-modify-write). Returns the first refusal of the request, or `BAD_CALL` if
+/// it is not a read-modify-write of as many bytes.
 #[unsafe(no_mangle)]
 pub extern "C" fn vme_request_write_half(
     request: &VmeRequest,

@@ -1,4 +1,4 @@
-//! The results of calls. Those of refusals are at their enums' functions.
+//! The numbers of results. The functions give those of the refusals of codes, requests and maps.
 ghost use Rattle.std.specs.Prelude.{◌≡◌};
 ghost use Rattle.vme_ffi.specs.Results.{code_refusal_number, refusal_number, map_refusal_number};
 
@@ -27,7 +27,7 @@ pub(crate) const BAD_LINES: u8 = 0x22;
 /// An index or a length does not match the request or the lines.
 pub(crate) const BAD_CALL: u8 = 0x23;
 
-/// The struct is not a state of an arbiter.
+/// A level in the state of an arbiter is out of range.
 pub(crate) const BAD_STATE: u8 = 0x24;
 
 /// The number of a refusal of a code: K1, K2 or K9.

@@ -19,7 +19,8 @@ use vme_memory::{Class, Reply, Width8To32};
 #[repr(C)]
 #[derive(Clone, Copy)]
 pub struct VmeClass {
-    /// The data width: 8, 16 or 32.
+    /// The data width: 8 is D08(EO), 16 is D16 and 32 is D32. Another number counts as the next one
+    /// below, or as 8.
     pub width: u8,
     /// Unaligned cycles.
     pub uat: u8,
@@ -48,7 +49,7 @@ fn class_of(class: &VmeClass) -> Class
     }
 }
 
-/// Writes the bytes of a reply, and returns its result.
+/// Writes the bytes of a reply unless it is a bus error, and returns its result.
 pub(crate) fn write_reply(reply: &Reply, out: &mut VmeDatum) -> u8
     ensures result { result ≡ result_of reply.now }
     ensures bytes { Writes reply.now out.old out.new }
@@ -71,9 +72,10 @@ pub(crate) fn result_of(reply: &Reply) -> u8
     }
 }
 
-/// Replies to the cycle that the lines show, with its first byte at offset `at` of the board and the
-/// function of a read-modify-write. Returns `OK` for DTACK* and writes the bytes that were read;
-/// `BUS_ERROR`; or `BAD_LINES` if the lines show no cycle.
+/// Replies to the cycle that the lines show, with its first byte at offset `at` of the board and
+/// the function of a read-modify-write: IEEE 1014-1987, 2.3.6 (basic data transfer) to 2.3.9
+/// (unaligned transfer). Returns `OK` for DTACK* and writes the bytes that were read, none after a
+/// write; `BUS_ERROR`; or `BAD_LINES` if the lines show no cycle.
 #[unsafe(no_mangle)]
 pub extern "C" fn vme_slave_cycle(
     bytes: &mut [u8],
@@ -100,8 +102,9 @@ pub extern "C" fn vme_slave_cycle(
     write_reply(&reply, out)
 }
 
-/// Replies to a read of `n` bytes at offset `at`, single or as one datum of a block. Returns `OK`
-/// for DTACK* and writes the bytes, or `BUS_ERROR`.
+/// Replies to a read of `n` bytes at offset `at`, single or as one datum of a block: IEEE
+/// 1014-1987, 2.3.6 (basic data transfer) and 2.3.7 (block transfer). Returns `OK` for DTACK* and
+/// writes the bytes, or `BUS_ERROR`.
 #[unsafe(no_mangle)]
 pub extern "C" fn vme_slave_read(
     bytes: &[u8],
@@ -123,8 +126,8 @@ pub extern "C" fn vme_slave_read(
     OK
 }
 
-/// Replies to a write of a datum at offset `at`, single or as one datum of a block. Returns `OK` for
-/// DTACK*, or `BUS_ERROR`.
+/// Replies to a write of a datum at offset `at`, single or as one datum of a block: IEEE 1014-1987,
+/// 2.3.6 (basic data transfer) and 2.3.7 (block transfer). Returns `OK` for DTACK*, or `BUS_ERROR`.
 #[unsafe(no_mangle)]
 pub extern "C" fn vme_slave_write(
     bytes: &mut [u8],
@@ -142,8 +145,8 @@ pub extern "C" fn vme_slave_write(
     result_of(&vme_slave::write(bytes, class_of(class), level_of(block), at, new))
 }
 
-/// Replies to a read-modify-write of `n` bytes at offset `at`. Returns `OK` for DTACK* and writes the
-/// old bytes, or `BUS_ERROR`.
+/// Replies to a read-modify-write of `n` bytes at offset `at`: IEEE 1014-1987, 2.3.8
+/// (read-modify-write). Returns `OK` for DTACK* and writes the old bytes, or `BUS_ERROR`.
 #[unsafe(no_mangle)]
 pub extern "C" fn vme_slave_modify(
     bytes: &mut [u8],

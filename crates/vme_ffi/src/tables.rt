@@ -12,13 +12,13 @@ use crate::results::{BAD_LINES, NO_CYCLE, OK, code_refusal_number};
 use vme_am::{Am, Kind, Space};
 use vme_lanes::{Location, Strobes};
 
-/// The row of an address modifier code.
+/// The row of an address modifier code: IEEE 1014-1987, 2.2.2 (address modifier lines).
 #[repr(C)]
 #[derive(Clone, Copy)]
 pub struct VmeAm {
     /// The number of address lines that count: 16, 24 or 32.
     pub space: u8,
-    /// Data, program, block or short access: 1 to 4.
+    /// 1: data access. 2: program access. 3: block access. 4: short access.
     pub kind: u8,
     /// Whether the code is supervisory.
     pub supervisory: u8,
@@ -26,17 +26,18 @@ pub struct VmeAm {
     pub wide: u8,
 }
 
-/// The levels of the lines that select byte locations.
+/// The levels of the lines that select byte locations, 0 for low: IEEE 1014-1987, 2.2.1 (addressing
+/// lines).
 #[repr(C)]
 #[derive(Clone, Copy)]
 pub struct VmeStrobes {
-    /// DS1*
+    /// DS1*.
     pub ds1: u8,
-    /// DS0*
+    /// DS0*.
     pub ds0: u8,
-    /// A01
+    /// A01.
     pub a01: u8,
-    /// LWORD*
+    /// LWORD*.
     pub lword: u8,
 }
 
@@ -97,7 +98,8 @@ pub(crate) fn strobes_from(strobes: Strobes) -> VmeStrobes
     }
 }
 
-/// Writes the row of an address modifier code, or returns why the code has none: K1, K2 or K9.
+/// Writes the row of an address modifier code: IEEE 1014-1987, 2.2.2 (address modifier lines).
+/// Returns K1, K2 or K9 if the code has none.
 #[unsafe(no_mangle)]
 pub extern "C" fn vme_am_read(code: u8, out: &mut VmeAm) -> u8
     ensures row { IfOk (read_code code) (λ row. (result ≡ ok)
@@ -119,8 +121,8 @@ pub extern "C" fn vme_am_read(code: u8, out: &mut VmeAm) -> u8
     }
 }
 
-/// Writes the strobes of `n` bytes that begin at an address, or returns K3 if no single cycle
-/// reaches these bytes.
+/// Writes the strobes of `n` bytes that begin at an address: IEEE 1014-1987, 2.2.1 (addressing
+/// lines). Returns K3 if no single cycle reaches these bytes.
 #[unsafe(no_mangle)]
 pub extern "C" fn vme_strobes_drive(addr: u32, n: u8, out: &mut VmeStrobes) -> u8
     ensures found { IfSome (location_at addr n) (λ l. (result ≡ ok) × (strobes_of out.new ≡ (row_of l).strobes)) }
@@ -133,8 +135,8 @@ pub extern "C" fn vme_strobes_drive(addr: u32, n: u8, out: &mut VmeStrobes) -> u
     OK
 }
 
-/// Writes the bytes that a slave senses from the strobes, or returns `BAD_LINES` if they select
-/// none.
+/// Writes the place and the number of the bytes that a slave senses from the strobes: IEEE
+/// 1014-1987, 2.2.1 (addressing lines). Returns `BAD_LINES` if they select none.
 #[unsafe(no_mangle)]
 pub extern "C" fn vme_strobes_sense(strobes: &VmeStrobes, out: &mut VmePlace) -> u8
     ensures found { IfSome (location_sensed (strobes_of strobes.now)) (λ l. (result ≡ ok)

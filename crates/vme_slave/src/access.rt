@@ -1,6 +1,6 @@
-//! Data of transfers as accesses to a slave, without the lines of their cycles. The functions that are
-//! always inlined are the path of a read and a write of the library for C: a read of four bytes
-//! takes 3.6 ns with them inlined, and 5.7 ns without (`bench/library`).
+//! Reads, writes and read-modify-writes of a slave at an offset, without the lines of a cycle. Some
+//! functions are always inlined because reads and writes of the library for C call them: there a
+//! read of four bytes takes 3.6 ns with them inlined, and 5.7 ns without (`bench/library`).
 ghost use Rattle.std.specs.Prelude.{◌≡◌, ◌≢◌, ◌≤◌, ◌&&◌, ℕ, List, length, false, IsTrue, IfSome, IfNone};
 ghost use Rattle.std.specs.Option.{option_map_or};
 ghost use Rattle.vme_lanes.specs.Rows.{location_at};
@@ -15,10 +15,11 @@ use vme_cycle::Modify;
 use vme_memory::{Class, Reply, Width8To32};
 
 /// The number of bytes of a datum on all eight lanes.
-const WIDE_LEN: u8 = 8;
+pub(crate) const WIDE_LEN: u8 = 8;
 
-/// Returns the bytes of the reply to a read of `n` bytes at offset `at`, single or as one datum of a
-/// block, or `None` for a bus error.
+/// Returns the bytes of the reply to a read of `n` bytes at offset `at`, single or as one datum of
+/// a block: IEEE 1014-1987, 2.3.6 (basic data transfer) and 2.3.7 (block transfer). `None` is a bus
+/// error: the bytes are not within the slice, or the class does not have this cycle.
 #[inline(always)]
 pub fn bytes_read(bytes: &[u8], class: Class, block: bool, at: u32, n: u8) -> Option<&[u8]>
     ensures bytes { IfSome result (λ read. Bytes (record { items = read.now })
@@ -32,7 +33,9 @@ pub fn bytes_read(bytes: &[u8], class: Class, block: bool, at: u32, n: u8) -> Op
     Some(bytes_at(bytes, at, n))
 }
 
-/// Returns the reply to a read of `n` bytes at offset `at`, single or as one datum of a block.
+/// Returns the reply to a read of `n` bytes at offset `at`, single or as one datum of a block: IEEE
+/// 1014-1987, 2.3.6 (basic data transfer) and 2.3.7 (block transfer). The reply is `Berr` if the
+/// bytes are not within the slice, or if the class does not have this cycle.
 pub fn read(bytes: &[u8], class: Class, block: bool, at: u32, n: u8) -> Reply
     ensures reply { result ≡ (step (board_of bytes.now class) (read_command block at n)).0 }
     ensures memory { board_of bytes.now class ≡ (step (board_of bytes.now class) (read_command block at n)).1 }
@@ -43,8 +46,10 @@ pub fn read(bytes: &[u8], class: Class, block: bool, at: u32, n: u8) -> Reply
     }
 }
 
-/// Returns the reply to a write of some bytes at offset `at`, single or as one datum of a block.
-/// After `Berr` nothing has changed.
+/// Returns the reply to a write of some bytes at offset `at`, single or as one datum of a block:
+/// IEEE 1014-1987, 2.3.6 (basic data transfer) and 2.3.7 (block transfer). The reply is `Berr` if
+/// the bytes are not within the slice, or if the class does not have this cycle. After `Berr`
+/// nothing has changed.
 #[inline(always)]
 pub fn write(bytes: &mut [u8], class: Class, block: bool, at: u32, new: &[u8]) -> Reply
     requires short { length new.now ≤ 8 }
@@ -59,8 +64,10 @@ pub fn write(bytes: &mut [u8], class: Class, block: bool, at: u32, new: &[u8]) -
     Reply::Done
 }
 
-/// Returns the reply to a read-modify-write of `n` bytes at offset `at`: the old bytes. After
-/// `Berr` nothing has changed.
+/// Returns the reply to a read-modify-write of `n` bytes at offset `at`, which has the old bytes:
+/// IEEE 1014-1987, 2.3.8 (read-modify-write). The reply is `Berr` if the bytes are not within the
+/// slice, if the class does not have this cycle, or if an operand of `f` does not have `n` bytes.
+/// After `Berr` nothing has changed.
 pub fn modify(bytes: &mut [u8], class: Class, at: u32, n: u8, f: &Modify) -> Reply
     ensures reply { result ≡ (step (board_of bytes.old class) (Steps.Modify at n f.now)).0 }
     ensures memory { board_of bytes.new class ≡ (step (board_of bytes.old class) (Steps.Modify at n f.now)).1 }
@@ -92,8 +99,8 @@ fn reaches(bytes: &[u8], class: Class, block: bool, at: u32, n: u8) -> bool
     }
 }
 
-/// Whether `n` bytes at an offset lie within a slice, and the class has the cycle of this datum of a
-/// block.
+/// Whether `n` bytes at an offset lie within a slice, and the class has the cycle of this datum of
+/// a block.
 fn reaches_block(bytes: &[u8], class: Class, at: u32, n: u8) -> bool
     ensures reaches { result ≡ (fits (board_of bytes.now class) at n && has_block_cycle (board_of bytes.now class) at n
         && is_block_place at n && class.blt) }

@@ -1,4 +1,4 @@
-//! Some bytes of a slice, and others in their place.
+//! The bytes of a slice at an offset: how they are read and replaced.
 ghost use Rattle.std.specs.Prelude.{◌≡◌, ◌+◌, ◌≤◌, length, nat_le, slice_range};
 ghost use Rattle.vme_memory.specs.Boards.{bytes_after_write};
 
@@ -42,6 +42,7 @@ pub(crate) fn overwrite(bytes: &mut [u8], at: u32, new: &[u8])
 {
     let start = at as usize;
     let old = &mut bytes[start..start + new.len()];
+    // The lengths are literals, so that the compiler copies without a call.
     match new {
         [a] => old.copy_from_slice(&[*a]),
         [a, b] => old.copy_from_slice(&[*a, *b]),

@@ -1,20 +1,19 @@
-//! Cycles of the data transfer bus.
+//! The reply of a slave to a cycle of the data transfer bus.
 ghost use Rattle.std.specs.Prelude.{◌≡◌};
 ghost use Rattle.std.specs.Option.{option_map};
 ghost use Rattle.vme_memory.specs.Steps.{answer, driven_write, wide_command, cycle};
 ghost use Rattle.vme_slave.specs.Slices.{board_of};
 
-use crate::access::{modify, read, write};
+use crate::access::{WIDE_LEN, modify, read, write};
 use vme_cycle::{Modify, Signals};
 use vme_lanes::{DataLines, Location, pick, pick_wide};
 use vme_memory::{Class, Reply};
 
-/// The number of bytes of a datum on all eight lanes.
-const WIDE_LEN: u8 = 8;
-
 /// Returns the reply to the cycle that the signals show, with its first byte at offset `at` and the
 /// function of a read-modify-write: IEEE 1014-1987, 2.3.6 (basic data transfer) to 2.3.9 (unaligned
-/// transfer). After `Berr` nothing has changed.
+/// transfer). The reply is `Berr` if the class does not have the cycle, if its bytes are not within
+/// the slice, or if `at` modulo four is not the place of the first byte that the strobes select.
+/// After `Berr` nothing has changed.
 ///
 /// In a block, this is one datum: the slave increments the address and takes A01 from `at`. A
 /// read-modify-write shows its read half, and the reply has the old bytes.

@@ -1,13 +1,14 @@
 """Answers request lines from standard input as `vme cycles` does: the signals of each cycle, and the reply of one board of
 4,096 bytes. A line that is not a request raises an exception.
 
-    LIBVME=build/libvme.so python3 cycles.py <requests
+    make -C lib && LIBVME=lib/build/libvme.so python3 examples/library/python/cycles.py <requests
 """
 
 import sys
 from collections.abc import Callable, Iterator
 
 from pyvme import (
+    IDLE,
     AddressMap,
     Board,
     BusError,
@@ -40,7 +41,7 @@ def read_line(line: str) -> Request:
         "r": lambda: Request(RequestKind.READ, *head, n),
         "br": lambda: Request(RequestKind.BLOCK_READ, *head, n, count=int(rest[1])),
         "bw": lambda: Request.block_write(*head, n, bytes.fromhex(rest[1])),
-        "bf": lambda: Request(RequestKind.BLOCK_WRITE, *head, n, count=int(rest[1]), data=bytes.fromhex(rest[2])),
+        "bf": lambda: Request.block_fill(*head, n, int(rest[1]), bytes.fromhex(rest[2])),
         "m": lambda: Request(RequestKind.MODIFY, *head, n, f=Modify.of(FUNCTIONS[rest[1]], *map(bytes.fromhex, rest[2:]))),
     }
     return forms[word]()
@@ -50,7 +51,7 @@ def shown(lines: Lines) -> str:
     """The signals of a cycle as text."""
     s = lines.strobes
     lanes = lines.lanes[0 if am_row(lines.am).wide else 4 :]
-    data = "".join("--" if lane > 0xFF else f"{lane:02x}" for lane in lanes)
+    data = "".join("--" if lane == IDLE else f"{lane:02x}" for lane in lanes)
     levels = f"ds1={s.ds1} ds0={s.ds0} a01={s.a01} lword={s.lword} write={lines.write}"
     return f"am={lines.am:02x} a={lines.addr:08x} {levels} data={data}"
 

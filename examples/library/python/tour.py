@@ -1,7 +1,7 @@
 """What the software of a VMEbus master does first: it probes for boards, takes a semaphore by test-and-set, and moves a
 block. Then two masters share the bus, and a processor uses the local port of its own board. Prints the same as tour.c.
 
-    LIBVME=build/libvme.so python3 tour.py
+    make -C lib && LIBVME=lib/build/libvme.so python3 examples/library/python/tour.py
 """
 
 from pyvme import (

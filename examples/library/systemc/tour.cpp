@@ -51,7 +51,8 @@ private:
             switch (transport(request, i, cycle, datum)) {
             case tlm::TLM_OK_RESPONSE: break;
             case tlm::TLM_ADDRESS_ERROR_RESPONSE: return "no board";
-            default: return "berr";
+            case tlm::TLM_GENERIC_ERROR_RESPONSE: return "berr";
+            default: return "other";
             }
             if (cycle.lines.write)
                 read.insert(read.end(), datum.bytes, datum.bytes + request.n);
@@ -59,6 +60,7 @@ private:
         return "dtack";
     }
 
+    // Makes the cycle of datum i over the socket. The bytes that were read are in datum.
     tlm::tlm_response_status transport(const vme_request &request, uint16_t i, vme::cycle &cycle, vme_datum &datum)
     {
         tlm::tlm_generic_payload payload;

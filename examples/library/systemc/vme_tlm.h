@@ -18,7 +18,8 @@
 namespace vme {
 
 // The lines of a cycle, which a generic payload does not have. A payload is one cycle, so one datum: its address is that of
-// the datum's first byte, and its data are the datum. A transfer has an extension on each of its payloads.
+// the datum's first byte, and its data take the bytes that are read. A write takes its bytes from the lanes of the lines.
+// A transfer has an extension on each of its payloads.
 struct cycle : tlm::tlm_extension<cycle> {
     vme_lines lines{};
     vme_modify f{};        // the function of a read-modify-write
@@ -28,8 +29,9 @@ struct cycle : tlm::tlm_extension<cycle> {
     void copy_from(const tlm::tlm_extension_base &other) override { *this = static_cast<const cycle &>(other); }
 };
 
-// A board. Its socket bus takes cycles with offsets for addresses; BERR* is TLM_GENERIC_ERROR_RESPONSE. Debug transport is the
-// local port, as are local_read and local_write.
+// A board of one byte or more. Its socket bus takes cycles with offsets for addresses; BERR* is TLM_GENERIC_ERROR_RESPONSE, and
+// a payload that shows no cycle has TLM_COMMAND_ERROR_RESPONSE. Debug transport is the local port, byte by byte, as are
+// local_read and local_write.
 class board : public sc_core::sc_module {
 public:
     tlm_utils::simple_target_socket<board> bus{"bus"};
@@ -70,7 +72,8 @@ private:
         const uint8_t result = vme_slave_cycle(bytes.data(), bytes.size(), &slave, &shown->lines, at, &shown->f, &found);
         delay += access;
         if (result != VME_OK) {
-            payload.set_response_status(tlm::TLM_GENERIC_ERROR_RESPONSE);
+            payload.set_response_status(
+                result == VME_BERR ? tlm::TLM_GENERIC_ERROR_RESPONSE : tlm::TLM_COMMAND_ERROR_RESPONSE);
             return;
         }
         if (found.n > 0 && found.n <= payload.get_data_length())
@@ -92,8 +95,8 @@ private:
     }
 };
 
-// The backplane: an address map of boards. If none responds, the bus timer drives BERR*, which is
-// TLM_ADDRESS_ERROR_RESPONSE.
+// The backplane: an address map of one board or more. If none responds, the bus timer drives BERR*, which is
+// TLM_ADDRESS_ERROR_RESPONSE. A payload that shows no cycle has TLM_COMMAND_ERROR_RESPONSE.
 class backplane : public sc_core::sc_module {
 public:
     tlm_utils::simple_target_socket<backplane> in{"in"};
@@ -115,9 +118,15 @@ private:
     void transport(tlm::tlm_generic_payload &payload, sc_core::sc_time &delay)
     {
         const cycle *shown = payload.get_extension<cycle>();
+        if (!shown) {
+            payload.set_response_status(tlm::TLM_COMMAND_ERROR_RESPONSE);
+            return;
+        }
         vme_selection found{};
-        if (!shown || vme_map_select(map.data(), map.size(), shown->lines.am, shown->first, &found) != VME_OK) {
-            payload.set_response_status(tlm::TLM_ADDRESS_ERROR_RESPONSE);
+        const uint8_t result = vme_map_select(map.data(), map.size(), shown->lines.am, shown->first, &found);
+        if (result != VME_OK) {
+            payload.set_response_status(
+                result == VME_NO_BOARD ? tlm::TLM_ADDRESS_ERROR_RESPONSE : tlm::TLM_COMMAND_ERROR_RESPONSE);
             return;
         }
         const sc_dt::uint64 addr = payload.get_address();

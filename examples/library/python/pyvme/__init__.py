@@ -9,7 +9,8 @@ here: `Refused` for K1 to K9 and C1 to C4, `BusError`, `NoBoard`, and `VmeError`
     >>> board.read(5, 2).hex()
     '0203'
 
-The variable LIBVME names the shared object, if it is not where the loader looks for libvme.so.1.
+Numbers are converted as in C: one that is too large for its type loses its upper bits. The variable LIBVME names the shared
+object, if it is not where the loader looks for libvme.so.1.
 """
 
 from .arbiter import Arbiter

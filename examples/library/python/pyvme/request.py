@@ -29,6 +29,8 @@ class Request:
         self.f = f or Modify()
         self._data = data
         is_block = kind in (RequestKind.BLOCK_READ, RequestKind.BLOCK_WRITE)
+        if kind == RequestKind.BLOCK_WRITE and len(data) not in (n, n * count):
+            count = 0  # so the refusal is K8
         self._count = count if is_block else 1
         self._struct = RequestStruct(addr, self._count if is_block else 0, am, kind, n, self.f)
         first = self._datum(0)
@@ -40,13 +42,20 @@ class Request:
         count = len(data) // n if n and len(data) % n == 0 else 0
         return cls(RequestKind.BLOCK_WRITE, am, addr, n, count=count, data=data)
 
+    @classmethod
+    def block_fill(cls, am: int, addr: int, n: int, count: int, datum: bytes) -> Request:
+        """A block write of count data that all have the same n bytes. Raises `Refused`."""
+        count = count if len(datum) == n else 0
+        return cls(RequestKind.BLOCK_WRITE, am, addr, n, count=count, data=datum)
+
     def __len__(self) -> int:
         """The number of data."""
         return self._count
 
     def _datum(self, i: int) -> Datum:
+        """Datum i of a write. No lawful datum has more than eight bytes, and a struct has no place for them."""
         start = i * self.n if len(self._data) > self.n else 0
-        return Datum.of(self._data[start : start + self.n])
+        return Datum.of(self._data[start : start + min(self.n, 8)])
 
     def lines(self, i: int) -> Lines:
         """The lines of datum i before a slave replies. Raises `VmeError` if there is none."""
@@ -63,7 +72,7 @@ class Request:
 
 
 def answered(lines: Lines, data: bytes) -> Lines:
-    """The lines after a slave has replied to a read with these bytes. Raises `VmeError` if they select others."""
+    """The lines after a slave has replied to a read with these bytes. Raises `VmeError` if they select another number."""
     out, datum = Lines.from_buffer_copy(lines), Datum.of(data)
     require(lib.vme_lines_answer(byref(out), byref(datum)))
     return out

@@ -83,7 +83,9 @@ class Datum(Structure):
 
     @classmethod
     def of(cls, data: bytes) -> "Datum":
-        """The datum of at most eight bytes."""
+        """The datum of at most eight bytes. Raises `ValueError` if there are more."""
+        if len(data) > 8:
+            raise ValueError(f"a datum has at most 8 bytes, not {len(data)}")
         return cls(len(data), (c_uint8 * 8)(*data))
 
     @property
