@@ -1,48 +1,10 @@
-//! The keys and values of a table, with its faults: unknown and absent keys, and values of another
+//! The keys and values of a table, and their faults: unknown and absent keys, and values of another
 //! kind or out of range.
 use crate::cause::{Cause, DocumentCause, ValueKind};
 use crate::finding::{Finding, find};
 use std::alloc::AllocError;
 use toml::{Table, Value};
 use vme_positions::{Key, Place, TableName};
-
-/// The keys at the top of a file.
-static FILE_KEYS: [Key; 6] = [
-    Key::Rounds,
-    Key::Schedule,
-    Key::Arbiter,
-    Key::Tries,
-    Key::Board,
-    Key::Mailbox,
-];
-
-/// The keys of a board.
-static BOARD_KEYS: [Key; 11] = [
-    Key::Slot,
-    Key::Level,
-    Key::Space,
-    Key::Base,
-    Key::Size,
-    Key::Width,
-    Key::Uat,
-    Key::Blt,
-    Key::Rmw,
-    Key::Supervisory,
-    Key::Script,
-];
-
-/// The keys of a mailbox.
-static MAILBOX_KEYS: [Key; 3] = [Key::Am, Key::Addr, Key::Slots];
-
-/// Whether `name` is the name of one of the keys.
-fn is_one_of(keys: &[Key], name: &str) -> bool {
-    for key in keys {
-        if key.name() == name {
-            return true;
-        }
-    }
-    false
-}
 
 /// A table of a file.
 #[derive(Clone, Copy)]
@@ -80,14 +42,9 @@ impl<'a> Section<'a> {
 
     /// Finds the unknown keys.
     pub(crate) fn find_unknown(&self, found: &mut Vec<Finding>) -> Result<(), AllocError> {
-        let keys: &[Key] = match self.table {
-            TableName::File => &FILE_KEYS,
-            TableName::Board => &BOARD_KEYS,
-            TableName::Mailbox => &MAILBOX_KEYS,
-        };
         let mut nth: usize = 0;
         for name in self.values.keys() {
-            if !is_one_of(keys, name.as_str()) {
+            if Key::named(self.table, name.as_str()).is_none() {
                 let place = Place::Unknown {
                     table: self.table,
                     index: self.index,
@@ -100,7 +57,7 @@ impl<'a> Section<'a> {
         Ok(())
     }
 
-    /// The value of a required key, whose absence is found.
+    /// The value of a required key. If the key is absent, that is found.
     fn required(
         &self,
         key: Key,
@@ -205,8 +162,8 @@ impl<'a> Section<'a> {
         }
     }
 
-    /// The elements of the array at `key`, or `None` if the value has another kind. An absent array
-    /// has none.
+    /// The elements of the array at `key`, or no elements if the key is absent. Returns `None` if
+    /// the value has another kind, which is found.
     pub(crate) fn elements(
         &self,
         key: Key,
@@ -223,7 +180,7 @@ impl<'a> Section<'a> {
     }
 }
 
-/// A number from 0 to 2^32 - 1; another number is found.
+/// The number, if it is from 0 to 2^32 - 1. Another number is found, at `place`.
 pub(crate) fn find_range(
     number: i64,
     place: Place,
@@ -237,11 +194,10 @@ pub(crate) fn find_range(
     Ok(None)
 }
 
-/// The tables of an array, one for each element; an element that is no table is `None`, and found.
-/// Neighbours of one kind are one finding.
+/// Finds the elements of an array that are not tables. Neighbours of one kind are one finding.
 pub(crate) fn find_tables(
     key: Key,
-    items: &'_ [Value],
+    items: &[Value],
     found: &mut Vec<Finding>,
 ) -> Result<(), AllocError> {
     let mut run: Option<(usize, ValueKind, usize)> = None;
@@ -260,7 +216,8 @@ pub(crate) fn find_tables(
     find_no_table(key, run, found)
 }
 
-/// Finds elements of one kind that are not tables: the first of them, and how many come after it.
+/// Finds a run of elements of one kind, unless they are tables: the first of them, and how many
+/// come after it.
 fn find_no_table(
     key: Key,
     run: Option<(usize, ValueKind, usize)>,
