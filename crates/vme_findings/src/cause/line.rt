@@ -1,0 +1,170 @@
+//! Faults of a line.
+use vme_script::{LineFault, ScriptRefusal};
+
+/// The form of a line: its command, and the function of a read-modify-write if it is known.
+#[derive(Clone, Copy, Debug, PartialEq, Eq)]
+pub enum LineForm {
+    Read,
+    Write,
+    BlockRead,
+    BlockWrite,
+    BlockFill,
+    /// `m` without a function.
+    Modify,
+    ModifySet,
+    ModifyExchange,
+    ModifyAdd,
+    ModifyCompare,
+    LocalRead,
+    LocalWrite,
+    /// `lm` without a function.
+    LocalModify,
+    LocalModifySet,
+    LocalModifyExchange,
+    LocalModifyAdd,
+    LocalModifyCompare,
+    Await,
+    Lock,
+    Unlock,
+    Put,
+    Take,
+}
+
+/// The numbers of bytes that a field has.
+#[derive(Clone, Copy, Debug, PartialEq, Eq)]
+pub enum DataLength {
+    /// This many.
+    Exactly(u8),
+    /// From 1 to 8.
+    UpTo8,
+    /// 1, 2 or 4.
+    PowerOfTwo,
+    /// One or more.
+    Any,
+}
+
+/// A fault of a line: S1 to S9. The place is the faulty word unless a variant states another.
+#[derive(Clone, Copy, Debug, PartialEq, Eq)]
+pub enum LineCause {
+    /// S1: the line has this many bytes, more than 80. The place is the bytes from the 81st on.
+    TooLong {
+        bytes: usize,
+    },
+    /// S2: no command has this name.
+    UnknownCommand,
+    /// S2: a comment does not begin in the first column. The place is the `#`.
+    IndentedComment,
+    /// S2: the command belongs to scripts, and this is a request line.
+    ScriptCommand {
+        form: LineForm,
+    },
+    /// S2: no function has this name.
+    UnknownFunction,
+    /// S3: a line of this form has `wanted` words after the first one, and this line has `found`.
+    /// The place is the first word too many, or the end of the line.
+    WordCount {
+        form: LineForm,
+        wanted: usize,
+        found: usize,
+    },
+    /// S4: the code is not two hexadecimal digits.
+    BadCode,
+    /// S5: the address is not eight hexadecimal digits.
+    BadAddress,
+    /// S5: the offset is not eight hexadecimal digits.
+    BadOffset,
+    /// S6: the number of bytes is not a digit from 1 to 8.
+    BadByteCount,
+    /// S6: the number of bytes of a local line is not 1, 2 or 4.
+    BadLocalByteCount,
+    /// S6: the number of data is not one to four decimal digits.
+    BadDataCount,
+    /// S6: the number of a mailbox is not one or two decimal digits.
+    BadMailboxNumber,
+    /// S6: the file declares this many mailboxes, and none has the number.
+    NoMailbox {
+        number: u8,
+        declared: usize,
+    },
+    /// S7: the word is not all hexadecimal digits.
+    NoHexDigits,
+    /// S7: the word has this odd number of hexadecimal digits.
+    OddDigits {
+        digits: usize,
+    },
+    /// S7: the word is `found` bytes, and a line of this form has `wanted`.
+    WrongLength {
+        form: LineForm,
+        found: usize,
+        wanted: DataLength,
+    },
+    /// S8: the script has this many lines, more than 1,000. The place is line 1,001.
+    TooManyLines {
+        lines: usize,
+    },
+    /// S9: the line accesses the bytes from `low` to `high` of the board in `slot`, and the mailbox
+    /// with index `mailbox` has those from `mailbox_low` to `mailbox_high`.
+    TouchesMailbox {
+        slot: u16,
+        low: u32,
+        high: u32,
+        mailbox: usize,
+        mailbox_low: u32,
+        mailbox_high: u32,
+    },
+}
+
+impl LineCause {
+    /// Returns the refusal of the line, or `None` for a script that has too many.
+    pub(crate) fn fault(self) -> Option<LineFault> {
+        match self {
+            LineCause::TooLong { .. } => Some(LineFault::LineTooLong),
+            LineCause::UnknownCommand
+            | LineCause::IndentedComment
+            | LineCause::ScriptCommand { .. }
+            | LineCause::UnknownFunction => Some(LineFault::UnknownWord),
+            LineCause::WordCount { .. } => Some(LineFault::WordCount),
+            LineCause::BadCode => Some(LineFault::BadCode),
+            LineCause::BadAddress | LineCause::BadOffset => Some(LineFault::BadAddress),
+            LineCause::BadByteCount
+            | LineCause::BadLocalByteCount
+            | LineCause::BadDataCount
+            | LineCause::BadMailboxNumber
+            | LineCause::NoMailbox { .. } => Some(LineFault::BadNumber),
+            LineCause::NoHexDigits | LineCause::OddDigits { .. } | LineCause::WrongLength { .. } =>
+                Some(LineFault::BadBytes),
+            LineCause::TooManyLines { .. } => None,
+            LineCause::TouchesMailbox { .. } => Some(LineFault::MailboxBytes),
+        }
+    }
+
+    /// Returns the refusal of a script whose line with this number has the fault.
+    pub(crate) fn refusal(self, number: u16) -> ScriptRefusal {
+        match self.fault() {
+            Some(fault) => ScriptRefusal::BadLine { number, fault },
+            None => ScriptRefusal::TooManyLines,
+        }
+    }
+
+    /// Returns the number of the refusal.
+    pub(crate) fn code(self) -> &'static str {
+        match self.fault() {
+            Some(fault) => fault_code(fault),
+            None => "S8",
+        }
+    }
+}
+
+/// Returns the number of a refusal.
+pub(crate) fn fault_code(fault: LineFault) -> &'static str {
+    match fault {
+        LineFault::LineTooLong => "S1",
+        LineFault::UnknownWord => "S2",
+        LineFault::WordCount => "S3",
+        LineFault::BadCode => "S4",
+        LineFault::BadAddress => "S5",
+        LineFault::BadNumber => "S6",
+        LineFault::BadBytes => "S7",
+        LineFault::MailboxBytes => "S9",
+    }
+}

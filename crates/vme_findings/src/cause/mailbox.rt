@@ -1,0 +1,74 @@
+//! Faults of a mailbox.
+use vme_am::Space;
+use vme_positions::{Key, Place, TableName};
+
+/// A fault of a mailbox: C13.
+#[derive(Clone, Copy, Debug, PartialEq, Eq)]
+pub enum MailboxCause {
+    /// There are this many mailboxes, more than 16. The place is the 17th.
+    TooManyMailboxes {
+        mailboxes: usize,
+    },
+    /// The code is not one of data or short access.
+    CodeRange {
+        am: u32,
+    },
+    /// The address is not a multiple of four.
+    AddressNotAligned {
+        addr: u32,
+    },
+    /// The slots are not from 1 to 64.
+    SlotsRange {
+        slots: u32,
+    },
+    /// No board of the code's space has the address. `there` is a space in which a board has it.
+    NoBoardThere {
+        am: u8,
+        addr: u32,
+        space: Space,
+        there: Option<Space>,
+    },
+    /// The board in `slot` has the address, and responds to supervisory codes only, as `instead`.
+    SupervisoryBoard {
+        slot: u16,
+        am: u8,
+        instead: u8,
+    },
+    /// The mailbox needs `needed` bytes, and the board in `slot` has `left` from its address on.
+    TooLong {
+        slots: u32,
+        needed: u32,
+        slot: u16,
+        left: u32,
+    },
+    /// The board in `slot` has `width` data lines, fewer than 32.
+    NarrowBoard {
+        slot: u16,
+        width: u8,
+    },
+    /// The board in `slot` has no read-modify-writes.
+    NoModify {
+        slot: u16,
+    },
+    /// The mailbox shares a byte with an earlier one, with index `other`, which has the addresses
+    /// from `low` to `high`.
+    Shared {
+        other: usize,
+        low: u32,
+        high: u32,
+    },
+}
+
+impl MailboxCause {
+    /// Returns the place of the other mailbox's address.
+    pub(crate) fn other_place(self) -> Option<Place> {
+        match self {
+            MailboxCause::Shared { other, .. } => Some(Place::Value {
+                table: TableName::Mailbox,
+                index: other,
+                key: Key::Addr,
+            }),
+            _ => None,
+        }
+    }
+}
