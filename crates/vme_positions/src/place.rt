@@ -37,6 +37,53 @@ pub enum Key {
 }
 
 impl Key {
+    /// The key of a table with this name.
+    pub fn named(table: TableName, name: &str) -> Option<Key> {
+        match table {
+            TableName::File => Key::of_file(name),
+            TableName::Board => Key::of_board(name),
+            TableName::Mailbox => Key::of_mailbox(name),
+        }
+    }
+
+    fn of_file(name: &str) -> Option<Key> {
+        match name {
+            "rounds" => Some(Key::Rounds),
+            "schedule" => Some(Key::Schedule),
+            "arbiter" => Some(Key::Arbiter),
+            "tries" => Some(Key::Tries),
+            "board" => Some(Key::Board),
+            "mailbox" => Some(Key::Mailbox),
+            _ => None,
+        }
+    }
+
+    fn of_board(name: &str) -> Option<Key> {
+        match name {
+            "slot" => Some(Key::Slot),
+            "level" => Some(Key::Level),
+            "space" => Some(Key::Space),
+            "base" => Some(Key::Base),
+            "size" => Some(Key::Size),
+            "width" => Some(Key::Width),
+            "uat" => Some(Key::Uat),
+            "blt" => Some(Key::Blt),
+            "rmw" => Some(Key::Rmw),
+            "supervisory" => Some(Key::Supervisory),
+            "script" => Some(Key::Script),
+            _ => None,
+        }
+    }
+
+    fn of_mailbox(name: &str) -> Option<Key> {
+        match name {
+            "am" => Some(Key::Am),
+            "addr" => Some(Key::Addr),
+            "slots" => Some(Key::Slots),
+            _ => None,
+        }
+    }
+
     /// The key as it is written in a file.
     pub fn name(self) -> &'static str {
         match self {
@@ -71,9 +118,15 @@ pub enum Place {
     /// The file as a whole.
     File,
     /// The bytes of the text from `from` to before `to`.
-    Bytes { from: usize, to: usize },
+    Bytes {
+        from: usize,
+        to: usize,
+    },
     /// The header of a table, or the `{` of an inline table.
-    Table { table: TableName, index: usize },
+    Table {
+        table: TableName,
+        index: usize,
+    },
     /// A key of a table.
     Key {
         table: TableName,
@@ -93,11 +146,18 @@ pub enum Place {
         nth: usize,
     },
     /// An element of an array at the top of the file.
-    Element { key: Key, index: usize },
+    Element {
+        key: Key,
+        index: usize,
+    },
     /// The slot of an element of `schedule`.
-    PairSlot { index: usize },
+    PairSlot {
+        index: usize,
+    },
     /// The turns of an element of `schedule`.
-    PairTurns { index: usize },
+    PairTurns {
+        index: usize,
+    },
     /// The bytes from `from` to before `to` of a line of a board's script.
     Word {
         board: usize,
