@@ -1,4 +1,6 @@
 //! The causes of findings. A cause has the values that its text names, and allocates nothing.
+ghost use Rattle.std.specs.Prelude.{◌≡◌};
+ghost use Rattle.vme_findings.specs.Causes.{refusal_of};
 
 mod board;
 mod cycle;
@@ -101,7 +103,9 @@ impl Cause {
     ///
     /// The slot is 0 where the file has no lawful slot for the script's board. Then another fault
     /// comes first.
-    pub fn refusal(self) -> Option<ConfigFault> {
+    pub fn refusal(self) -> Option<ConfigFault>
+        ensures { result ≡ refusal_of self }
+    {
         match self {
             Cause::Document(cause) => Some(cause.refusal()),
             Cause::Board(cause) => Some(cause.refusal()),

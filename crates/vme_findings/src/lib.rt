@@ -7,10 +7,12 @@
 
 mod cause;
 mod finding;
+mod laws;
 
 pub use cause::{
     BoardCause, BoardName, Cause, CycleCause, DataLength, DocumentCause, FileWarning, Lack,
     LineCause, LineForm, LineWarning, MailboxCause, ScheduleCause, Severity, ValueKind,
 };
 pub use finding::Finding;
+pub use laws::the_first_is_reported;
 pub use vme_positions::{Key, Place, TableName};

@@ -1,4 +1,7 @@
 //! Faults of a board.
+ghost use Rattle.std.specs.Prelude.{◌≡◌};
+ghost use Rattle.vme_findings.specs.Causes.{board_refusal};
+
 use vme_am::Space;
 use vme_positions::{Key, Place, TableName};
 use vme_script::ConfigFault;
@@ -94,7 +97,9 @@ impl BoardCause {
     }
 
     /// Returns the refusal.
-    pub(crate) fn refusal(self) -> ConfigFault {
+    pub(crate) fn refusal(self) -> ConfigFault
+        ensures { result ≡ board_refusal self }
+    {
         match self {
             BoardCause::SlotRange { .. }
             | BoardCause::SlotTaken { .. }

@@ -1,4 +1,7 @@
 //! Faults of a file as a document.
+ghost use Rattle.std.specs.Prelude.{◌≡◌};
+ghost use Rattle.vme_findings.specs.Causes.{document_refusal};
+
 use toml::Value;
 use toml::de::Error;
 use vme_positions::Key;
@@ -69,7 +72,9 @@ impl DocumentCause {
     }
 
     /// Returns the refusal.
-    pub(crate) fn refusal(self) -> ConfigFault {
+    pub(crate) fn refusal(self) -> ConfigFault
+        ensures { result ≡ document_refusal self }
+    {
         match self {
             DocumentCause::NotToml { .. } => ConfigFault::NotToml,
             DocumentCause::NoBoard => ConfigFault::NoBoard,

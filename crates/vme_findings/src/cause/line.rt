@@ -1,4 +1,8 @@
 //! Faults of a line.
+ghost use Rattle.std.specs.Prelude.{◌≡◌};
+ghost use Rattle.vme_findings.specs.Causes.{line_fault, script_refusal};
+
+use crate::cause::board::BoardName;
 use vme_script::{LineFault, ScriptRefusal};
 
 /// The form of a line: its command, and the function of a read-modify-write if it is known.
@@ -102,10 +106,10 @@ pub enum LineCause {
     TooManyLines {
         lines: usize,
     },
-    /// S9: the line accesses the bytes from `low` to `high` of the board in `slot`, and the mailbox
-    /// with index `mailbox` has those from `mailbox_low` to `mailbox_high`.
+    /// S9: the line accesses the bytes from `low` to `high` of the board, and the mailbox with index
+    /// `mailbox` has those from `mailbox_low` to `mailbox_high`.
     TouchesMailbox {
-        slot: u16,
+        board: BoardName,
         low: u32,
         high: u32,
         mailbox: usize,
@@ -116,7 +120,9 @@ pub enum LineCause {
 
 impl LineCause {
     /// Returns the refusal of the line, or `None` for a script that has too many.
-    pub(crate) fn fault(self) -> Option<LineFault> {
+    pub(crate) fn fault(self) -> Option<LineFault>
+        ensures { result ≡ line_fault self }
+    {
         match self {
             LineCause::TooLong { .. } => Some(LineFault::LineTooLong),
             LineCause::UnknownCommand
@@ -139,7 +145,9 @@ impl LineCause {
     }
 
     /// Returns the refusal of a script whose line with this number has the fault.
-    pub(crate) fn refusal(self, number: u16) -> ScriptRefusal {
+    pub(crate) fn refusal(self, number: u16) -> ScriptRefusal
+        ensures { result ≡ script_refusal number (line_fault self) }
+    {
         match self.fault() {
             Some(fault) => ScriptRefusal::BadLine { number, fault },
             None => ScriptRefusal::TooManyLines,

@@ -1,4 +1,5 @@
 //! Faults of a mailbox.
+use crate::cause::board::BoardName;
 use vme_am::Space;
 use vme_positions::{Key, Place, TableName};
 
@@ -28,30 +29,30 @@ pub enum MailboxCause {
         space: Space,
         there: Option<Space>,
     },
-    /// The board in `slot` has the address, and responds to supervisory codes only, as `instead`.
+    /// The board has the address, and responds to supervisory codes only, as `instead`.
     SupervisoryBoard {
-        slot: u16,
+        board: BoardName,
         am: u8,
         instead: u8,
     },
-    /// The mailbox needs `needed` bytes, and the board in `slot` has `left` from its address on.
+    /// The mailbox needs `needed` bytes, and the board has `left` from its address on.
     TooLong {
         slots: u32,
         needed: u32,
-        slot: u16,
+        board: BoardName,
         left: u32,
     },
-    /// The board in `slot` has `width` data lines, fewer than 32.
+    /// The board has `width` data lines, fewer than 32.
     NarrowBoard {
-        slot: u16,
-        width: u8,
+        board: BoardName,
+        width: u32,
     },
-    /// The board in `slot` has no read-modify-writes.
+    /// The board has no read-modify-writes.
     NoModify {
-        slot: u16,
+        board: BoardName,
     },
-    /// The mailbox shares a byte with an earlier one, with index `other`, which has the addresses
-    /// from `low` to `high`.
+    /// The mailbox shares a byte with an earlier one, with index `other`, which has the bytes from
+    /// `low` to `high` of its board.
     Shared {
         other: usize,
         low: u32,

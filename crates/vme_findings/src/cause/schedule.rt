@@ -1,4 +1,7 @@
 //! Faults of the arbiter and of the turns.
+ghost use Rattle.std.specs.Prelude.{◌≡◌};
+ghost use Rattle.vme_findings.specs.Causes.{schedule_refusal};
+
 use vme_script::ConfigFault;
 
 /// A fault of the arbiter or of the turns: C10 and C12.
@@ -27,7 +30,9 @@ impl ScheduleCause {
     }
 
     /// Returns the refusal.
-    pub(crate) fn refusal(self) -> ConfigFault {
+    pub(crate) fn refusal(self) -> ConfigFault
+        ensures { result ≡ schedule_refusal self }
+    {
         match self {
             ScheduleCause::NoArbiter => ConfigFault::BadWord,
             _ => ConfigFault::BadSchedule,
