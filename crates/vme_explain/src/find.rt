@@ -53,8 +53,8 @@ pub fn texts_in(alloc: Global, line: &str) -> Result<Asked, AllocError> {
     Ok(Asked::Texts(texts))
 }
 
-/// The text of a code, if it has one.
-fn text_of(code: &str) -> Option<Text> {
+/// Returns the text of a code in any case, if it has one.
+pub fn text_of(code: &str) -> Option<Text> {
     for table in all() {
         if let Some(text) = text_in(table, code) {
             return Some(text);

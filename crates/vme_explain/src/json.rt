@@ -1,6 +1,7 @@
 //! A text as a JSON object.
 use crate::entry::{Example, Text};
 use std::alloc::AllocError;
+use std::fmt::Write;
 
 /// Appends a text as one line: a JSON object of strings and one list. An absent part has no key.
 ///
@@ -34,7 +35,7 @@ fn write_example(example: &Example, to: &mut String) -> Result<(), AllocError> {
     to.push_str(",\"input\":\"")?;
     for (text, times) in example.parts() {
         for _ in 0..times {
-            escaped(text, to)?;
+            write_escaped(text, to)?;
         }
     }
     to.push('"')?;
@@ -55,18 +56,26 @@ fn field(key: &str, text: &str, to: &mut String) -> Result<(), AllocError> {
 /// Appends a JSON string.
 fn quoted(text: &str, to: &mut String) -> Result<(), AllocError> {
     to.push('"')?;
-    escaped(text, to)?;
+    write_escaped(text, to)?;
     to.push('"')
 }
 
-/// Appends the characters of a JSON string. The only control character of the texts is the line
-/// feed.
-fn escaped(text: &str, to: &mut String) -> Result<(), AllocError> {
+/// Appends the characters of a JSON string, without its quotes. Control characters and the two
+/// characters that a string cannot contain are escaped.
+///
+/// # Errors
+///
+/// An allocation failed.
+pub fn write_escaped(text: &str, to: &mut String) -> Result<(), AllocError> {
     for c in text.chars() {
         match c {
             '"' => to.push_str("\\\"")?,
             '\\' => to.push_str("\\\\")?,
             '\n' => to.push_str("\\n")?,
+            '\0'..='\x1f' => {
+                let code = u32::from(c);
+                write!(to, "\\u{code:04x}")?;
+            }
             _ => to.push(c)?,
         }
     }

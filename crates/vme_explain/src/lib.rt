@@ -15,4 +15,5 @@ mod tables;
 
 pub use answer::{Answer, explain, explain_all};
 pub use entry::{Example, Input, Text};
-pub use find::{Asked, all, texts_in};
+pub use find::{Asked, all, text_of, texts_in};
+pub use json::write_escaped;

@@ -5,7 +5,7 @@ pub(crate) static FILES: [Text; 14] = [
     Text {
         code: "C6",
         others: &[],
-        title: "no TOML",
+        title: "not TOML",
         cause: "The file is not a TOML document, and nothing else of it is tested. Common causes: a \
             leading zero (`am = 09`), a word without quotes (`space = a24`), a key given twice, \
             a string that is not closed, bytes that are not UTF-8.",
