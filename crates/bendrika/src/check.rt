@@ -17,6 +17,7 @@ const STANDARD_INPUT: &str = "-";
 const STANDARD_INPUT_NAME: &str = "<stdin>";
 
 /// What was found in all inputs so far.
+#[derive(Drop)]
 struct Found {
     counts: Counts,
     /// Whether some input could not be read.

@@ -7,6 +7,7 @@
 
 mod check;
 mod context;
+mod cycles;
 mod device;
 mod excerpt;
 mod form;
@@ -20,6 +21,7 @@ mod text;
 mod texts;
 
 pub use check::{CheckEnd, check_engine};
+pub use cycles::request_check_engine;
 pub use device::InputReader;
 pub use form::{Counts, Form, summary};
 pub use report::shown_name;
