@@ -20,16 +20,16 @@ use Rattle.vme_bus_objects.specs.declared.command.BusCommand.{BusCommand}
 use Rattle.vme_bus_objects.specs.declared.command.BusCommand.TheVariants as commands
 use Rattle.vme_bus_objects.specs.Objects.{bus_object_step}
 
--- an entry of a port array of boards and their arbiter
+-- an entry in the history of a port array of boards and their arbiter
 abbrev pub BusEntry : Type 0
 BusEntry = Entry (Indexed BusCommand) EventReply
 
--- the event of a command to the object at an index
+-- the event of a command to the object at an index; the arbiter needs no index
 abbrev pub event_at : ℕ → BusCommand → Event
 event_at index (commands.Board cmd) = events.Board index cmd
 event_at index (commands.Arbiter cmd) = events.Bus cmd
 
--- the transition of an entry
+-- the transition of an entry: its caller, its event and its reply
 abbrev pub transition_of : BusEntry → Transition
 transition_of e = move e.who (event_at e.cmd.index e.cmd.cmd) e.reply
 
@@ -41,7 +41,7 @@ run_of h = map transition_of h
 abbrev pub transitions_of : ℕ → List Transition → List Transition
 transitions_of who run = filter (λ m. m.who == who) run
 
--- a command to the object at an index and the reply are of its kind: boards below n, and the arbiter at n
+-- a command to the object at an index and its reply are of that object's kind: boards below n, and the arbiter at n
 abbrev pub MatchesKindAt : ℕ → ℕ → BusCommand → EventReply → Type 0
 MatchesKindAt n index (commands.Board cmd) (replies.Board reply) = index < n
 MatchesKindAt n index (commands.Board cmd) (replies.Bus reply) = ⊥
@@ -56,14 +56,17 @@ MatchesKind n e = MatchesKindAt n e.cmd.index e.cmd.cmd e.reply
 -- and has as many entries
 pub record IsBoardHistory (x : ℕ) (memory : Board) (h : List BusEntry) : Type 0 where
   pub legal : IsLegal board_step memory (board_part x (run_of h))
-  pub object : replay bus_object_step (objects.Board memory) (part x h) ≡ objects.Board (replay board_step memory (board_part x (run_of h)))
+  pub object :
+      replay bus_object_step (objects.Board memory) (part x h)
+      ≡ objects.Board (replay board_step memory (board_part x (run_of h)))
   pub count : length (part x h) ≡ length (board_part x (run_of h))
 
 -- the part of the arbiter, which is object n, in a history is its part of the run: that part is legal from the arbiter's
 -- state, leads to the same state and has as many entries
 pub record IsArbiterHistory (n : ℕ) (bus : Arbitration) (h : List BusEntry) : Type 0 where
   pub legal : IsLegal arbiter_step bus (bus_part (run_of h))
-  pub object : replay bus_object_step (objects.Arbiter bus) (part n h) ≡ objects.Arbiter (replay arbiter_step bus (bus_part (run_of h)))
+  pub object :
+      replay bus_object_step (objects.Arbiter bus) (part n h) ≡ objects.Arbiter (replay arbiter_step bus (bus_part (run_of h)))
   pub count : length (part n h) ≡ length (bus_part (run_of h))
 
 -- a reply is that of a board

@@ -1,5 +1,5 @@
-//! The objects of one backplane as one type: the memories of its boards and the arbiter of their
-//! bus, so that one port array can hold all of them.
+//! The objects of one backplane (ANSI/IEEE Std 1014-1987, chapters 2 and 3) as one type: the
+//! memories of its boards and the arbiter of their bus, so that one port array can hold all of them.
 #![tactic(auto)]
 
 mod command;

@@ -33,4 +33,6 @@ mod support;
 #[cfg(test)]
 mod surface;
 #[cfg(test)]
+mod surface_runs;
+#[cfg(test)]
 mod words;

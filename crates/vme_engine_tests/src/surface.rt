@@ -1,4 +1,5 @@
-//! Each public name through the crate that gives it: types in signatures, and each function once.
+//! Public types and functions of the crates below `vme_runner`, each through the crate that exports
+//! it: types in signatures, and each function once.
 ghost use Rattle.std.specs.Prelude.{◌≡◌, ◌<◌, ◌≤◌, IsTrue, IsSome, Ok, [], length, All};
 ghost use Rattle.vme_cycle.specs.Requests.{datum_len, function_of, read_len};
 ghost use Rattle.vme_cycle.specs.Functions.{has_len};
@@ -8,16 +9,13 @@ ghost use Rattle.vme_lanes.specs.Rows.{row_of};
 ghost use Rattle.vme_core.specs.Machines.{process_count, IsThere};
 ghost use Rattle.vme_core.specs.Runs.{target_of};
 ghost use Rattle.vme_port.specs.Ports.{IsPassOf};
-ghost use Rattle.vme_script.specs.Configurations.{Configuration};
 ghost use Rattle.vme_shared.specs.Mailboxes.{IsMailbox};
-ghost use Rattle.vme_runner.specs.Ports.{IsBuilt, IsWorkerOf};
-ghost use Rattle.vme_runner.specs.Reports.{CanGather};
 
 use crate::support::torn_block;
+use crate::surface_runs::check_runs;
 use std::alloc::{AllocError, Global};
 use std::process::Abort;
 use std::sync::Wait;
-use std::thread::Threads;
 use vme_am::{Am, AmFault, Kind, Space};
 use vme_arbiter::{ArbCmd, ArbReply, Arbiter};
 use vme_core::{Core, Event, EventReply, OutOfMemory, RunStop, Target};
@@ -29,12 +27,6 @@ use vme_master::{Outcome, Task, Todo};
 use vme_memory::{BoardCmd, ByteMemory, Class, MemoryFault, Reply, Width8To32};
 use vme_object::{Counter, CounterCmd, Object};
 use vme_port::{Pass, Port, PortFault, TryFault, Unsettled};
-use vme_runner::{
-    BoardReport, Gate, LineTask, LineTodo, Ports, Ran, Report, RunFault, Status, Worker,
-    a_turn_makes_its_call_alone, commands_are_the_holders, declared_mailboxes_are_queues,
-    each_line_comes_to_its_end, gather, no_line_is_denied, report_text, run_steps, run_threads,
-    texts_show_queues, the_arbiter_denies_nobody, turns_are_a_run_of_moves,
-};
 use vme_script::{
     Config, ConfigFault, Line, LineFault, LineReply, Mailbox, Script, ScriptFault, parse_line,
     reply_line,
@@ -258,82 +250,6 @@ fn copy<S: Source, W: Sink>(source: &mut S, sink: &mut W, buffer: &mut [u8]) -> 
     Ok(())
 }
 
-// vme_runner
-fn stepped(alloc: Global, config: &Config) -> Result<Status, RunFault> {
-    let mut sink = RoomSink::new(alloc, usize::MAX, 4096)?;
-    run_steps(alloc, config, &[2, 1], &mut sink)
-}
-
-fn built(alloc: Global, config: &Config) -> Result<(Ports, Vec<Worker>), OutOfMemory> {
-    Ports::build(alloc, config)
-}
-
-fn worked<R: Wait, G: Gate>(
-    rt: &R,
-    worker: Worker,
-    config: &Config,
-    ports: &Ports,
-    gate: &G,
-) -> Result<Ran, RunFault>
-    requires built { IsBuilt config.now ports.now }
-    requires worker { IsWorkerOf config.now ports.now 0 worker }
-    requires board { 0 < length config.now.boards }
-{
-    worker.run(rt, config, ports, gate)
-}
-
-fn gathered(ports: Ports, rans: Vec<Ran>) -> Report
-    requires { (config : Configuration) × CanGather config ports rans.items }
-{
-    gather(ports, rans)
-}
-
-fn next_of_line(task: &mut LineTask<'_>, reply: Option<EventReply>) -> LineTodo {
-    task.next(reply)
-}
-
-/// A gate that is always open.
-struct Open;
-
-impl Gate for Open {
-    fn before(&self, _slot: u16, _line: u16) {}
-
-    fn after(&self, _slot: u16, _line: u16) {}
-}
-
-fn steps_of(board: &BoardReport) -> (u16, u64, usize, Option<u8>) {
-    (
-        board.slot,
-        board.steps,
-        board.made.len(),
-        board.memory.byte(0),
-    )
-}
-
-fn reported<R: Threads + Wait + Sync>(
-    rt: &R,
-    alloc: Global,
-    config: &Config,
-) -> Result<Status, RunFault> {
-    let report = run_threads(rt, alloc, config, &Open)?;
-    let mut sink = RoomSink::new(alloc, usize::MAX, 4096)?;
-    if report.lines.len() != report.boards.len() {
-        return Err(RunFault::Write);
-    }
-    report_text(alloc, &report, &mut sink)
-}
-
-fn laws() {
-    no_line_is_denied();
-    the_arbiter_denies_nobody();
-    each_line_comes_to_its_end();
-    commands_are_the_holders();
-    a_turn_makes_its_call_alone();
-    turns_are_a_run_of_moves();
-    declared_mailboxes_are_queues();
-    texts_show_queues();
-}
-
 /// A board of 16 bytes at address 0.
 const ENTRY: Entry = Entry {
     space: Space::A32,
@@ -376,6 +292,7 @@ fn check_tasks(rt: &impl Abort, alloc: Global) {
 fn check_scripts(rt: &impl Abort, alloc: Global) {
     assert!(rt; line(b"take 1").is_ok());
     assert!(rt; script(alloc, b"take 1").is_ok());
+    assert!(rt; config(alloc, torn_block().input.as_bytes()).is_ok());
     let text = replied(alloc).expect(rt, "no memory");
     assert_eq!(rt; text.as_slice(), b"1:2 met\n".as_slice());
 }
@@ -383,13 +300,6 @@ fn check_scripts(rt: &impl Abort, alloc: Global) {
 fn check_copy(rt: &impl Abort, alloc: Global) {
     let mut sink = RoomSink::new(alloc, usize::MAX, 16).expect(rt, "no memory");
     assert!(rt; copy(&mut Io::new(&b"abc"[..]), &mut sink, &mut [0; 4]).is_ok());
-}
-
-fn check_runs<R: Threads + Wait + Abort + Sync>(rt: &R, alloc: Global) {
-    let config = config(alloc, torn_block().input.as_bytes()).expect(rt, "refused");
-    assert!(rt; built(alloc, &config).is_ok());
-    assert_eq!(rt; stepped(alloc, &config), Ok(Status::Marked));
-    assert_eq!(rt; reported(rt, alloc, &config), Ok(Status::Clean));
 }
 
 #[test]
@@ -400,5 +310,4 @@ fn each_name_is_in_its_crate(rt: HostRuntime) {
     check_scripts(&rt, rt.alloc());
     check_copy(&rt, rt.alloc());
     check_runs(&rt, rt.alloc());
-    laws();
 }

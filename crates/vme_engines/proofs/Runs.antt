@@ -1,4 +1,4 @@
--- Reports of runs of what was read.
+-- What an engine wrote is the text of a run of the configuration that it read.
 use Rattle.std.proofs.Common.{◌≡◌, ℕ, List, Option, Some, None, IfSome, Result, Ok, Err, OnErr, refl, ap, ◌∙◌, inr}
 use Rattle.std.specs.Io.KnownBytes.{Appends}
 use Rattle.vme_io.specs.Prefixes.{AppendsPrefix}
@@ -10,7 +10,7 @@ use Rattle.vme_stepper.specs.Reports.{run_text}
 use Rattle.vme_threads.specs.declared.report.Report.{Report}
 use Rattle.vme_threads.specs.OneOrder.{IsReportOfOneOrder}
 use Rattle.vme_threads.specs.ReportTexts.{texts_of_report}
-use Rattle.vme_sequential.proofs.lemmas.Reports.{run_is_step}
+use Rattle.vme_sequential.proofs.lemmas.Reports.{report_of_turns}
 use Rattle.vme_engines.specs.declared.fault.ProgramFault.{ProgramFault}
 use Rattle.vme_engines.specs.Files.{Configures}
 use Rattle.vme_engines.specs.RunTexts.{IsRunText, IsSomeRunText, IsStepText, WritesPrefix}
@@ -21,29 +21,32 @@ run_text_of : (input : List ℕ) (config : Configuration) (report : Report) (sta
     → IsReportOfOneOrder config report → status ≡ report_status (texts_of_report report)
     → IsRunText input (report_text (texts_of_report report)) status
 run_text_of input config report status configures order good =
-    let turns = run_is_step config report (read_lawful input config configures) order in
+    let turns = report_of_turns config report (read_lawful input config configures) order in
     record {
       config = config;
       configures = configures;
       slots = turns.0;
-      whole = ap report_text turns.1;
-      good = good ∙ ap report_status turns.1;
+      whole = ap report_text turns.1.boards;
+      good = good ∙ ap report_status turns.1.boards;
       report = report;
       order = order;
-      entries = turns.1;
+      state = turns.1;
     }
 
--- the text of a report was written
-pub text_written : (reported old new : Option (List ℕ)) (config : Configuration) (report : Report) (status : Status) → IfSome reported (λ input. Configures input config)
-    → IsReportOfOneOrder config report → status ≡ report_status (texts_of_report report) → Appends old new (report_text (texts_of_report report))
+-- if the text of a report of one order was written, it is that of a run of the input
+pub text_written : (reported old new : Option (List ℕ)) (config : Configuration) (report : Report) (status : Status)
+    → IfSome reported (λ input. Configures input config)
+    → IsReportOfOneOrder config report → status ≡ report_status (texts_of_report report)
+    → Appends old new (report_text (texts_of_report report))
     → IfSome reported (λ input. (text : List ℕ) × IsRunText input text status × Appends old new text)
 text_written None old new config report status configures order good written = tt
 text_written (Some input) old new config report status configures order good written =
     (report_text (texts_of_report report), run_text_of input config report status configures order good, written)
 
--- the prefix that was written is that of an end with a fault
+-- if a prefix of the text of a report of one order was written before a fault, it is that of a run of the input
 pub prefix_written : (reported old new : Option (List ℕ)) (end : Result Status ProgramFault) (config : Configuration) (report : Report)
-    → IfSome reported (λ input. Configures input config) → IsReportOfOneOrder config report → AppendsPrefix old new (report_text (texts_of_report report))
+    → IfSome reported (λ input. Configures input config) → IsReportOfOneOrder config report
+    → AppendsPrefix old new (report_text (texts_of_report report))
     → IfSome reported (λ input. OnErr end (WritesPrefix (IsSomeRunText input) old new))
 prefix_written None old new end config report configures order written = tt
 prefix_written (Some input) old new (Ok status) config report configures order written = tt
@@ -51,7 +54,7 @@ prefix_written (Some input) old new (Err fault) config report configures order w
     let good = report_status (texts_of_report report) in
     inr (report_text (texts_of_report report), (good, run_text_of input config report good configures order refl), written)
 
--- a prefix of the text of the run on one thread was written
+-- if a prefix of the text of the file's own turns was written before a fault, it is that of the run on one thread
 pub step_prefix_written : (reported old new : Option (List ℕ)) (end : Result Status ProgramFault) (config : Configuration)
     → IfSome reported (λ input. Configures input config) → AppendsPrefix old new (run_text config (file_turns config))
     → IfSome reported (λ input. OnErr end (WritesPrefix (IsStepText input) old new))

@@ -22,7 +22,7 @@ use Rattle.vme_engines.specs.Lines.{request_of}
 use Rattle.vme_grammar.specs.Texts as outcomes
 use Rattle.vme_grammar.specs.Texts.{signals_text, OutcomeText, outcome_text, cycle_fault_text, line_fault_text, output_line}
 
--- the text of a line, the board after it, and its status
+-- the output of a line: its text, the board after it, and its status
 pub record Answer : Type 0 where
   pub text : List ℕ
   pub board : Board
@@ -41,7 +41,7 @@ final_signals s (Bytes datum) = answered_lines s datum.items
 final_signals s Done = s
 final_signals s Berr = s
 
--- the map of the one board: 4,096 addresses from 0 on in the extended space, for all its codes
+-- the address map of the one board: 4,096 addresses from 0 on in the extended space, for all codes of that space
 abbrev pub board_map : List Entry
 board_map = record { space = A32; base = 0; size = 4096; supervisory = false } ∷ []
 
@@ -59,7 +59,7 @@ reply_at board t i (Some offset) = cycle board (signals_of t i) (offset + i * da
 abbrev pub reply_to : Board → Transfer → ℕ → Reply × Board
 reply_to board t i = reply_at board t i (offset_of t)
 
--- the text of the write half of a read-modify-write that found bytes
+-- the text of the write half of a read-modify-write, if its read half returned bytes
 abbrev pub write_half_text : Transfer → Option Modify → Reply → List ℕ
 write_half_text t (Some f) (Bytes old) = output_line (signals_text (write_half_of t (value f old.items)))
 write_half_text t (Some f) Done = []
@@ -71,29 +71,29 @@ abbrev pub datum_text : Transfer → ℕ → Reply → List ℕ
 datum_text t i reply =
     output_line (signals_text (final_signals (signals_of t i) reply)) ++ write_half_text t (function_of t.request) reply
 
--- the output that consists of an outcome
+-- the output that consists of an outcome alone
 abbrev pub outcome_answer : Board → OutcomeText → Answer
 outcome_answer board outcome = record { text = output_line (outcome_text outcome); board = board; status = status_of outcome }
 
--- the output that consists of a refusal
+-- the output that consists of the text of a refusal alone
 abbrev pub refusal_answer : Board → List ℕ → Answer
 refusal_answer board text = record { text = output_line text; board = board; status = Marked }
 
--- an output after some text
+-- an output with this text before it
 abbrev pub after_text : List ℕ → Answer → Answer
 after_text text answer = record answer { text = text ++ answer.text }
 
--- the outcome of a transfer none of whose data ended with a bus error, with the bytes that it read
+-- the outcome of a transfer without a bus error, with the bytes that it read
 abbrev pub outcome_of : Transfer → List ℕ → OutcomeText
 outcome_of t replied =
     if reads t.request then outcomes.Read replied else
     (if is_some (function_of t.request) then outcomes.Old replied else outcomes.Done)
 
--- the output after a datum: `stopped` after a bus error, else `next` with the bytes that were read
-abbrev pub goes_on : Reply → Answer → (List ℕ → Answer) → Answer
-goes_on (Bytes datum) stopped next = next datum.items
-goes_on Done stopped next = next []
-goes_on Berr stopped next = stopped
+-- the output after the reply to a datum: `stopped` after a bus error, else `next` with the bytes that were read
+abbrev pub after_datum : Reply → Answer → (List ℕ → Answer) → Answer
+after_datum (Bytes datum) stopped next = next datum.items
+after_datum Done stopped next = next []
+after_datum Berr stopped next = stopped
 
 -- the output of the last data of a transfer, from datum i on and with the bytes read before: the signals of each datum,
 -- and then the outcome
@@ -102,14 +102,14 @@ data_answer zero board t i read = outcome_answer board (outcome_of t read)
 data_answer (suc left) board t i read =
     let reply = reply_to board t i in
     after_text (datum_text t i reply.0)
-    (goes_on reply.0 (outcome_answer reply.1 (outcomes.Berr i read))
+    (after_datum reply.0 (outcome_answer reply.1 (outcomes.Berr i read))
     (λ bytes. data_answer left reply.1 t (i + 1) (read ++ bytes)))
 
 -- the output of a lawful request
 unfoldable pub transfer_answer : Board → Transfer → Answer
 transfer_answer board t = data_answer (count_of t.request) board t 0 []
 
--- the output of a plan or of its refusal; a refused request has no signals
+-- the output of a lawful request; that of any other request is its refusal alone, without signals
 abbrev pub planned_answer : Board → Result Transfer CycleFault → Answer
 planned_answer board (Ok t) = transfer_answer board t
 planned_answer board (Err fault) = refusal_answer board (codes "refused " ++ cycle_fault_text fault)

@@ -22,11 +22,11 @@ asked_by form.Cycles = Cycles
 asked_by (form.Step path) = Step (string_bytes path)
 asked_by (form.Run path) = Run (string_bytes path)
 
--- `--`: any word after it is a path
+-- whether a word is `--`, after which any word is a path
 abbrev pub is_separator : Word → Bool
 is_separator word = bytes_eq word (codes "--")
 
--- a word is a path, if no `--` precedes it: it is empty, is one byte, or does not begin with a hyphen
+-- whether a word is a path if no `--` precedes it: it is empty, is one byte, or does not begin with a hyphen
 abbrev pub is_path : Word → Bool
 is_path [] = true
 is_path (first ∷ []) = true
@@ -40,7 +40,7 @@ path_in (first ∷ second ∷ []) =
     if is_separator first then Some second else (if is_path first && is_separator second then Some first else None)
 path_in (first ∷ second ∷ third ∷ rest) = None
 
--- `cycles`, if no word follows it but one `--`
+-- what the words after `cycles` ask for: `cycles`, if there is none or only one `--`
 abbrev pub cycles_in : List Word → Option Asked
 cycles_in [] = Some Cycles
 cycles_in (word ∷ []) = if is_separator word then Some Cycles else None

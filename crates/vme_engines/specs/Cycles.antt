@@ -8,7 +8,8 @@ use Rattle.vme_shared.specs.declared.status.Status.TheVariants.{Clean}
 use Rattle.vme_engines.specs.Answers.{answer}
 use Rattle.vme_shared.specs.Statuses.{worse_of}
 
--- the board of `vme cycles`: 4,096 zero bytes, 32 data lines, and all three kinds of transfers
+-- the board of `vme cycles` at its start: 4,096 zero bytes, 32 data lines, and unaligned, block and read-modify-write
+-- transfers
 unfoldable pub fresh_board : Board
 fresh_board = record { bytes = zeros 4096; class = record { width = D32; uat = true; blt = true; rmw = true } }
 

@@ -74,18 +74,18 @@ EndsUnwritten (Err Spent) = Unit {0}
 EndsUnwritten (Err (Config fault)) = Unit {0}
 EndsUnwritten end = ⊥
 
--- exactly one byte more than the limit was read
+-- the bytes that were read are exactly one more than the limit
 abbrev pub ReadsPastLimit : ℕ → Option (List ℕ) → Option (List ℕ) → Type 0
 ReadsPastLimit limit old new = (bytes : List ℕ) × (length bytes ≡ limit + 1) × Consumes old new bytes
 
--- after `TooLong` the input has more bytes than the limit, and exactly one of them was read; a file is refused as a
+-- after `TooLong` the input has more bytes than the limit, of which `limit + 1` were read; a file is refused as a
 -- configuration only if it has no more bytes than the limit
 abbrev pub StopsWithin : ℕ → Option (List ℕ) → Option (List ℕ) → ProgramFault → Type 0
 StopsWithin limit old new TooLong = IfSome old (λ input. limit < length input) × ReadsPastLimit limit old new
 StopsWithin limit old new (Config fault) = IfSome old (λ input. length input ≤ limit)
 StopsWithin limit old new fault = Unit {0}
 
--- an input is processed only if it has no more bytes than the limit
+-- an input is processed only if it has no more bytes than the limit, and `TooLong` is returned only if it has more
 abbrev pub ReadsWithin : {T : Type 0} → ℕ → Option (List ℕ) → Option (List ℕ) → Result T ProgramFault → Type 0
 ReadsWithin limit old new (Ok x) = IfSome old (λ input. length input ≤ limit)
 ReadsWithin limit old new (Err fault) = StopsWithin limit old new fault

@@ -19,21 +19,21 @@ abbrev pub is_other_word : Option (List ℕ) → Bool
 is_other_word None = false
 is_other_word (Some word) = not (is_request_word word)
 
--- the request of a line that was read; any other line is refused
-abbrev pub request_alone : Result (Option Line) LineFault → Result (Option Request) LineFault
-request_alone (Ok None) = Ok None
-request_alone (Ok (Some (Bus request))) = Ok (Some request)
-request_alone (Ok (Some (Local command))) = Err UnknownWord
-request_alone (Ok (Some (Await am addr bytes))) = Err UnknownWord
-request_alone (Ok (Some (Lock am addr))) = Err UnknownWord
-request_alone (Ok (Some (Unlock am addr))) = Err UnknownWord
-request_alone (Ok (Some (Put mailbox number))) = Err UnknownWord
-request_alone (Ok (Some (Take mailbox))) = Err UnknownWord
-request_alone (Err fault) = Err fault
+-- the request of a parsed line; a line that parses as anything else is refused
+abbrev pub request_of_parsed : Result (Option Line) LineFault → Result (Option Request) LineFault
+request_of_parsed (Ok None) = Ok None
+request_of_parsed (Ok (Some (Bus request))) = Ok (Some request)
+request_of_parsed (Ok (Some (Local command))) = Err UnknownWord
+request_of_parsed (Ok (Some (Await am addr bytes))) = Err UnknownWord
+request_of_parsed (Ok (Some (Lock am addr))) = Err UnknownWord
+request_of_parsed (Ok (Some (Unlock am addr))) = Err UnknownWord
+request_of_parsed (Ok (Some (Put mailbox number))) = Err UnknownWord
+request_of_parsed (Ok (Some (Take mailbox))) = Err UnknownWord
+request_of_parsed (Err fault) = Err fault
 
 -- the request of a line, None for a line without words, or its refusal: a first word that only scripts know is unknown,
 -- whatever follows it
 unfoldable pub request_of : List ℕ → Result (Option Request) LineFault
 request_of line =
     if nat_lt 80 (length line) then Err LineTooLong else
-    (if is_other_word (slice_get (words_of line) 0) then Err UnknownWord else request_alone (line_of line))
+    (if is_other_word (slice_get (words_of line) 0) then Err UnknownWord else request_of_parsed (line_of line))

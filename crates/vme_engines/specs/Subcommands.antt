@@ -5,19 +5,19 @@ use Rattle.clap.specs.Words.{App, Row, Rule, Shape, first_of, new_rule}
 use Rattle.clap.specs.Simple.{new_shape}
 use Rattle.vme_engines.specs.CommandLines.{Word, Asked, Cycles, Step, Run}
 
--- the required argument FILE
+-- the parser's rule for FILE: a required argument
 abbrev pub file_rule : Rule
 file_rule = record (new_rule (codes "FILE")) { required = true }
 
 -- a subcommand that requires FILE
-abbrev pub of_file : Word → Shape
-of_file name = record (new_shape name) { rules = file_rule ∷ [] }
+abbrev pub file_shape : Word → Shape
+file_shape name = record (new_shape name) { rules = file_rule ∷ [] }
 
 -- the command line of the program: one of three subcommands is required
 abbrev pub command_line : App
 command_line = record {
   top = record (new_shape (codes "vme")) { is_leaf = false; subcommand_required = true };
-  subs = new_shape (codes "cycles") ∷ of_file (codes "step") ∷ of_file (codes "run") ∷ [];
+  subs = new_shape (codes "cycles") ∷ file_shape (codes "step") ∷ file_shape (codes "run") ∷ [];
 }
 
 -- the name of a subcommand, and the path that its FILE has

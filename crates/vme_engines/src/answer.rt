@@ -19,7 +19,7 @@ use vme_memory::Reply;
 use vme_shared::Status;
 
 /// Processes a line: appends its output, and leaves the board as the line's cycles do. `replied` is
-/// the buffer of the bytes that the transfer reads; it is reused for each line.
+/// a buffer for the bytes that a transfer reads; each line reuses it.
 #[tactic(auto, unfolding(crate::specs::Answers::answer))]
 pub(crate) fn answer_line(
     bus: &mut Bus,
@@ -43,6 +43,7 @@ pub(crate) fn answer_line(
     }
 }
 
+/// Processes a request: appends its output, which is that of its data or its refusal.
 fn answer_request(
     bus: &mut Bus,
     request: &Request,
@@ -65,7 +66,8 @@ fn answer_request(
     }
 }
 
-/// Makes the cycle of each datum, until the last one or the first that ends with a bus error.
+/// Performs the cycle of each datum, up to the first that ends with a bus error, and appends the
+/// signals of each and the outcome of the transfer.
 #[tactic(auto, unfolding(crate::specs::Answers::transfer_answer))]
 fn answer_data(
     bus: &mut Bus,
@@ -75,7 +77,8 @@ fn answer_data(
 ) -> Result<Status, AllocError>
     requires { block_limit ≤ replied.old.capacity }
     ensures capacity { replied.new.capacity ≡ replied.old.capacity }
-    ensures text { OnOk result (text.new.items ≡ text.old.items ++ (transfer_answer bus.old plan.now).text) }
+    ensures text { OnOk result (text.new.items
+        ≡ text.old.items ++ (transfer_answer bus.old plan.now).text) }
     ensures board { OnOk result (bus.new ≡ (transfer_answer bus.old plan.now).board) }
     ensures status { IfOk result (λ status. status ≡ (transfer_answer bus.old plan.now).status) }
 {
@@ -106,8 +109,8 @@ fn offset_of(bus: &Bus, plan: &Plan<'_>) -> Option<u32>
     bus.select(&plan.signals(0))
 }
 
-/// Makes the cycle of datum `i` and appends its signals, those of both halves of a
-/// read-modify-write.
+/// Performs the cycle of datum `i` and appends its signals. If the board replies to a
+/// read-modify-write with bytes, the signals of the write half follow.
 fn answer_datum(
     bus: &mut Bus,
     plan: &Plan<'_>,
@@ -132,7 +135,7 @@ fn answer_datum(
     Ok(reply)
 }
 
-/// Appends the signals of the write half of a read-modify-write that found bytes.
+/// Appends the signals of the write half of a read-modify-write, if its read half returned bytes.
 fn print_write_half(text: &mut Vec<u8>, plan: &Plan<'_>, reply: &Reply) -> Result<(), AllocError>
     requires { HasLen reply.now (datum_len plan.now.request) }
     ensures { OnOk result (text.new.items ≡ text.old.items
@@ -147,11 +150,12 @@ fn print_write_half(text: &mut Vec<u8>, plan: &Plan<'_>, reply: &Reply) -> Resul
     }
 }
 
-/// Appends the outcome of a transfer none of whose data ended with a bus error. `replied` contains
-/// the bytes that it read.
+/// Appends the outcome of a transfer without a bus error. `replied` contains the bytes that it
+/// read.
 fn print_outcome(text: &mut Vec<u8>, plan: &Plan<'_>, replied: &[u8]) -> Result<(), AllocError>
     ensures { OnOk result
-        (text.new.items ≡ text.old.items ++ output_line (outcome_text (outcome_of plan.now replied.now))) }
+        (text.new.items ≡ text.old.items
+        ++ output_line (outcome_text (outcome_of plan.now replied.now))) }
 {
     if plan.reads() {
         print_read(text, replied)
@@ -164,7 +168,8 @@ fn print_outcome(text: &mut Vec<u8>, plan: &Plan<'_>, replied: &[u8]) -> Result<
 
 /// The signals at the end of a cycle: in a read, with the data that the board drives.
 fn final_signals(signals: Signals, reply: &Reply) -> Signals
-    requires { (len : ℕ) × (row_len signals.am.wide signals.strobes ≡ Some len) × HasLen reply.now len }
+    requires { (len : ℕ) × (row_len signals.am.wide signals.strobes ≡ Some len)
+        × HasLen reply.now len }
     ensures { result ≡ final_signals signals reply.now }
 {
     match reply {
@@ -178,7 +183,8 @@ fn final_signals(signals: Signals, reply: &Reply) -> Signals
 fn reply_at(bus: &mut Bus, plan: &Plan<'_>, i: u16, offset: Option<u32>, signals: &Signals) -> Reply
     requires signals { signals.now ≡ signals_of plan.now i }
     requires in_count { i < count_of plan.now.request }
-    requires len { len_at signals.now (address_of plan.now.request i) ≡ Some (datum_len plan.now.request) }
+    requires len { len_at signals.now (address_of plan.now.request i)
+        ≡ Some (datum_len plan.now.request) }
     requires within { IfSome offset (λ offset.
         (offset < 4096) × (offset ≡ addr_of plan.now.request)) }
     ensures reply { result ≡ (reply_at bus.old plan.now i offset).0 }

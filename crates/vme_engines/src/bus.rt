@@ -59,17 +59,21 @@ impl Bus {
         Some(offset)
     }
 
-    /// The board's reply to a cycle at an offset.
+    /// The board's reply to a cycle whose first byte has the offset `at`. A read-modify-write
+    /// gives its function as `f`.
     pub(crate) fn cycle(&mut self, signals: &Signals, at: u32, f: Option<&Modify>) -> Reply
-        ensures reply { result ≡ (cycle self.old signals.now at (option_map (λ f. f.now) f.entry)).0 }
-        ensures board { self.new ≡ (cycle self.old signals.now at (option_map (λ f. f.now) f.entry)).1 }
+        ensures reply { result
+            ≡ (cycle self.old signals.now at (option_map (λ f. f.now) f.entry)).0 }
+        ensures board { self.new
+            ≡ (cycle self.old signals.now at (option_map (λ f. f.now) f.entry)).1 }
         ensures len { (len : ℕ) → len_at signals.now at ≡ Some len → HasLen result len }
     {
         self.memory.cycle(signals, at, f)
     }
 }
 
-/// The range of the board, which responds to all codes of the extended space.
+/// The entry of the board in the address map. The board responds to all codes of the extended
+/// space.
 const ENTRY: Entry = Entry {
     space: Space::A32,
     base: 0,
@@ -77,7 +81,8 @@ const ENTRY: Entry = Entry {
     supervisory: false,
 };
 
-/// The board's memory: all zero, 32 data lines, and all three kinds of transfers.
+/// The board's memory: all zero, 32 data lines, and unaligned, block and read-modify-write
+/// transfers.
 #[tactic(auto, unfolding(crate::specs::Cycles::fresh_board))]
 fn fresh_memory(alloc: Global) -> Result<ByteMemory, AllocError>
     ensures { IfOk result (λ memory. memory ≡ fresh_board) }

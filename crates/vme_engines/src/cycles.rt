@@ -49,14 +49,16 @@ pub fn cycles_engine<R: Source, W: Sink>(
     ensures text { IfSome (R.remaining reader.old) (λ input.
         OnOk result (Appends (W.contents writer.old) (W.contents writer.new) (cycles_text input))) }
     ensures prefix { IfSome (R.remaining reader.old) (λ input.
-        OnErr result (AppendsPrefix (W.contents writer.old) (W.contents writer.new) (cycles_text input))) }
+        OnErr result
+        (AppendsPrefix (W.contents writer.old) (W.contents writer.new) (cycles_text input))) }
     ensures nothing { EndsUnwritten result → writer.new ≡ writer.old }
     ensures status { IfSome (R.remaining reader.old) (λ input.
         IfOk result (λ status. status ≡ cycles_status input)) }
 
     // When each fault is returned. No clause states when `Memory` is.
     ensures read { R.is_marked reader.new ≡ is_read_failure result }
-    ensures limit { ReadsWithin INPUT_LIMIT (R.remaining reader.old) (R.remaining reader.new) result }
+    ensures limit { ReadsWithin INPUT_LIMIT
+        (R.remaining reader.old) (R.remaining reader.new) result }
     ensures write { W.is_marked writer.new ≡ is_write_failure result }
     ensures faults { IfErr result IsCyclesFault }
 {
@@ -65,7 +67,8 @@ pub fn cycles_engine<R: Source, W: Sink>(
     Ok(status)
 }
 
-/// Processes each line of a text. The output is gathered and written in large pieces.
+/// Processes each line of a text. The output is gathered in a buffer, which is written when it
+/// is full and after the last line.
 fn answer_all<W: Sink>(alloc: Global, input: &[u8], writer: &mut W) -> Result<Status, RunFault>
     requires { W.is_marked writer.old ≡ false }
     ensures text { OnOk result
@@ -87,7 +90,7 @@ fn answer_all<W: Sink>(alloc: Global, input: &[u8], writer: &mut W) -> Result<St
     Ok(status)
 }
 
-/// Processes one line, and gathers its output.
+/// Processes one line, and gathers its output in `text`, which is written when it is full.
 #[tactic(auto, using(vme_io::proofs::lemmas::Gathering::printed_gathers, vme_io::proofs::lemmas::Gathering::printed_prefix, vme_io::proofs::lemmas::Gathering::nothing_prefix))]
 fn gather_answer<W: Sink>(
     bus: &mut Bus,

@@ -15,6 +15,8 @@ pub const FILE_LIMIT: usize = 2_097_152;
 
 /// Reads a configuration file, to its end or to one byte past `FILE_LIMIT`.
 ///
+/// If the reader has no byte model, only the fault clauses hold.
+///
 /// # Errors
 ///
 /// `Config`: the bytes are not a configuration. `Read`: the reader failed. `TooLong`: the file has
@@ -26,16 +28,17 @@ pub fn read_config<R: Source>(alloc: Global, reader: &mut R) -> Result<Config, P
         IfSome (R.remaining reader.old) (λ input. Configures input config)) }
     ensures refused { (fault : ConfigFault) → result ≡ Err (ProgramFault.Config fault) →
         IfSome (R.remaining reader.old) (λ input. IsRefusedAs input fault) }
-    ensures limit { ReadsWithin FILE_LIMIT (R.remaining reader.old) (R.remaining reader.new) result }
+    ensures limit { ReadsWithin FILE_LIMIT
+        (R.remaining reader.old) (R.remaining reader.new) result }
     ensures read { R.is_marked reader.new ≡ is_read_failure result }
     ensures faults { IfErr result IsFileFault }
 {
     let input = read_input(alloc, reader, FILE_LIMIT)?;
-    configured(alloc, input.as_slice())
+    parse_config(alloc, input.as_slice())
 }
 
-/// The configuration that the bytes of a file are.
-fn configured(alloc: Global, input: &[u8]) -> Result<Config, ProgramFault>
+/// Parses the configuration that the bytes of a file encode.
+fn parse_config(alloc: Global, input: &[u8]) -> Result<Config, ProgramFault>
     ensures config { IfOk result (Configures input.now) }
     ensures refused { (fault : ConfigFault) →
         result ≡ Err (ProgramFault.Config fault) → IsRefusedAs input.now fault }

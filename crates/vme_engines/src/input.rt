@@ -6,10 +6,12 @@ use crate::fault::ProgramFault;
 use std::alloc::Global;
 use vme_io::Source;
 
-/// The number of bytes that are read at a time.
+/// The greatest number of bytes that one call of the reader returns.
 const READ_SIZE: usize = 16_384;
 
-/// Reads all bytes of a reader, to the end or to one byte past `limit`.
+/// Reads all bytes of a reader, to the end or to one byte past `limit`, which is below 2^32.
+///
+/// If the reader has no byte model, only the fault clauses hold and the length is within `limit`.
 ///
 /// # Errors
 ///

@@ -1,6 +1,6 @@
-//! The engines of the program: `vme cycles` makes the cycles of request lines, `vme step` runs the
-//! scripts of a configuration on one thread, and `vme run` runs them on threads. Its command line is
-//! read by [`read_words`].
+//! The engines of the program: `vme cycles` performs the cycles of request lines, `vme step` runs
+//! the scripts of a configuration on one thread, and `vme run` runs them on threads. [`read_words`]
+//! reads the command line.
 //!
 //! Each engine reads a source of bytes, writes to a sink, and returns a status or a fault.
 #![tactic(auto)]

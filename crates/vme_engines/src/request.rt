@@ -7,7 +7,8 @@ use vme_cycle::Request;
 use vme_grammar::{LINE_LIMIT, Line, LineFault, parse_line};
 use vme_lexer::first_word;
 
-/// The request of a line. A first word that only scripts know is unknown, whatever follows it.
+/// The request of a line. A line whose first word is not that of a request is refused as
+/// `UnknownWord`, whatever follows that word.
 #[tactic(auto, unfolding(crate::specs::Lines::request_of))]
 pub(crate) fn request_of(line: &[u8]) -> Result<Option<Request>, LineFault>
     ensures { result ≡ request_of line.now }
@@ -15,7 +16,7 @@ pub(crate) fn request_of(line: &[u8]) -> Result<Option<Request>, LineFault>
     if LINE_LIMIT < line.len() {
         return Err(LineFault::LineTooLong);
     }
-    if begins_otherwise(line) {
+    if begins_with_other_word(line) {
         return Err(LineFault::UnknownWord);
     }
     match parse_line(line)? {
@@ -26,7 +27,7 @@ pub(crate) fn request_of(line: &[u8]) -> Result<Option<Request>, LineFault>
 }
 
 /// Whether a line's first word is not that of a request.
-fn begins_otherwise(line: &[u8]) -> bool
+fn begins_with_other_word(line: &[u8]) -> bool
     ensures { result ≡ is_other_word (slice_get (words_of line.now) 0) }
 {
     match first_word(line) {
@@ -35,6 +36,7 @@ fn begins_otherwise(line: &[u8]) -> bool
     }
 }
 
+/// Whether a word is the first word of a request.
 fn is_request_word(word: &[u8]) -> bool
     ensures { result ≡ is_request_word word.now }
 {

@@ -31,9 +31,9 @@ impl Gate for OpenGate {
 ///
 /// Returns `Clean` if every reply is a success, otherwise `Marked`.
 ///
-/// Report and status are those of some turns of slots on one thread, after which no line is
-/// unfinished. Which turns they are is not stated, and they may be more than a file's schedule can
-/// have.
+/// Report and status are those of some turns of slots on one thread, after which each line has its
+/// reply. Which turns they are is not stated, and there may be more of them than a file's schedule
+/// and rounds can state.
 ///
 /// The engine first reads the input, to its end or to one byte past `FILE_LIMIT`; it writes nothing
 /// before all threads have ended. If the reader has no byte model, only the fault clauses hold; if
@@ -58,16 +58,19 @@ pub fn run_engine<T: Threads + Wait + Sync, R: Source, W: Sink>(
     // What is written is the text that `vme step` writes for some turns, by which each line has its
     // reply; before a fault, a prefix of such a text or nothing.
     ensures text { IfSome (R.remaining reader.old) (λ input. IfOk result (λ status.
-        (text : List ℕ) × IsRunText input text status × Appends (W.contents writer.old) (W.contents writer.new) text)) }
+        (text : List ℕ) × IsRunText input text status
+        × Appends (W.contents writer.old) (W.contents writer.new) text)) }
     ensures prefix { IfSome (R.remaining reader.old) (λ input.
-        OnErr result (WritesPrefix (IsSomeRunText input) (W.contents writer.old) (W.contents writer.new))) }
+        OnErr result (WritesPrefix (IsSomeRunText input)
+        (W.contents writer.old) (W.contents writer.new))) }
     ensures nothing { EndsUnwritten result → writer.new ≡ writer.old }
 
     // When each fault is returned. No clause states when `Memory`, `Thread` and `Spent` are.
     ensures refused { (fault : ConfigFault) → result ≡ Err (ProgramFault.Config fault) →
         IfSome (R.remaining reader.old) (λ input. IsRefusedAs input fault) }
     ensures read { R.is_marked reader.new ≡ is_read_failure result }
-    ensures limit { ReadsWithin FILE_LIMIT (R.remaining reader.old) (R.remaining reader.new) result }
+    ensures limit { ReadsWithin FILE_LIMIT
+        (R.remaining reader.old) (R.remaining reader.new) result }
     ensures write { W.is_marked writer.new ≡ is_write_failure result }
     ensures faults { IfErr result IsRunEngineFault }
 {

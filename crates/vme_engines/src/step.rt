@@ -43,19 +43,23 @@ pub fn step_engine<R: Source, W: Sink>(
     // it or nothing.
     ensures read { IfSome (R.remaining reader.old) (λ input.
         IfOk result (λ _. (config : Configuration) × Configures input config)) }
-    ensures text { (config : Configuration) → IfSome (R.remaining reader.old) (λ input. Configures input config →
-        OnOk result (Appends (W.contents writer.old) (W.contents writer.new) (run_text config (file_turns config)))) }
+    ensures text { (config : Configuration) → IfSome (R.remaining reader.old) (λ input.
+        Configures input config → OnOk result (Appends
+        (W.contents writer.old) (W.contents writer.new) (run_text config (file_turns config)))) }
     ensures prefix { IfSome (R.remaining reader.old) (λ input.
-        OnErr result (WritesPrefix (IsStepText input) (W.contents writer.old) (W.contents writer.new))) }
-    ensures status { (config : Configuration) → IfSome (R.remaining reader.old) (λ input. Configures input config →
-        IfOk result (λ status. status ≡ run_status config (file_turns config))) }
+        OnErr result (WritesPrefix (IsStepText input)
+        (W.contents writer.old) (W.contents writer.new))) }
+    ensures status { (config : Configuration) → IfSome (R.remaining reader.old) (λ input.
+        Configures input config → IfOk result (λ status.
+        status ≡ run_status config (file_turns config))) }
     ensures nothing { EndsUnwritten result → writer.new ≡ writer.old }
 
     // When each fault is returned. No clause states when `Memory` is.
     ensures refused { (fault : ConfigFault) → result ≡ Err (ProgramFault.Config fault) →
         IfSome (R.remaining reader.old) (λ input. IsRefusedAs input fault) }
     ensures read_fault { R.is_marked reader.new ≡ is_read_failure result }
-    ensures limit { ReadsWithin FILE_LIMIT (R.remaining reader.old) (R.remaining reader.new) result }
+    ensures limit { ReadsWithin FILE_LIMIT
+        (R.remaining reader.old) (R.remaining reader.new) result }
     ensures write { W.is_marked writer.new ≡ is_write_failure result }
     ensures faults { IfErr result IsStepFault }
 {

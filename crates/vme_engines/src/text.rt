@@ -12,7 +12,7 @@ use vme_report::{BoardReportRef, RunFault, write_report};
 use vme_shared::{LineReply, Status};
 use vme_threads::{BoardReport, Report};
 
-/// Writes the text of a report.
+/// Writes the text of a report. The report has a list of replies for each board.
 ///
 /// Returns `Clean` if every reply is a success, otherwise `Marked`.
 ///
@@ -27,10 +27,10 @@ pub fn report_text<W: Sink>(
 ) -> Result<Status, RunFault>
     requires unmarked { W.is_marked sink.old ≡ false }
     requires lists { length report.now.lines.items ≡ length report.now.boards.items }
-    ensures text { OnOk result
-        (Appends (W.contents sink.old) (W.contents sink.new) (report_text (texts_of_report report.now))) }
-    ensures prefix { OnErr result
-        (AppendsPrefix (W.contents sink.old) (W.contents sink.new) (report_text (texts_of_report report.now))) }
+    ensures text { OnOk result (Appends (W.contents sink.old) (W.contents sink.new)
+        (report_text (texts_of_report report.now))) }
+    ensures prefix { OnErr result (AppendsPrefix (W.contents sink.old) (W.contents sink.new)
+        (report_text (texts_of_report report.now))) }
     ensures status { IfOk result (λ status. status ≡ report_status (texts_of_report report.now)) }
     ensures write { W.is_marked sink.new ≡ is_write_end result }
     ensures faults { IfErr result IsReportFault }
@@ -40,14 +40,15 @@ pub fn report_text<W: Sink>(
     Ok(status)
 }
 
-/// The boards of a report, from the boards' ends and the replies to their processors' lines.
+/// The entry of each board, with the replies to the lines of its processor.
 fn board_refs<'a>(
     alloc: Global,
     ends: &'a [BoardReport],
     lines: &'a [Vec<(u16, LineReply)>],
 ) -> Result<Vec<BoardReportRef<'a>>, AllocError>
     requires { length lines.now ≡ length ends.now }
-    ensures { IfOk result (λ boards. boards.items ≡ texts_of_ends ends.now (map (λ one. one.items) lines.now)) }
+    ensures { IfOk result (λ boards.
+        boards.items ≡ texts_of_ends ends.now (map (λ one. one.items) lines.now)) }
 {
     let mut boards = Vec::with_capacity(alloc, ends.len())?;
     let mut ends = ends;
@@ -63,7 +64,7 @@ fn board_refs<'a>(
     Ok(boards)
 }
 
-/// One board of a report.
+/// The entry of one board, with the replies to the lines of its processor.
 fn board_ref<'a>(end: &'a BoardReport, lines: &'a [(u16, LineReply)]) -> BoardReportRef<'a>
     ensures { result ≡ record {
       slot = end.now.slot;

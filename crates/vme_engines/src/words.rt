@@ -5,7 +5,7 @@ ghost use Rattle.clap.specs.Walk.{rows_of};
 ghost use Rattle.clap.specs.declared.builder.command.Command.TheViews.{out-Command};
 ghost use Rattle.vme_engines.specs.declared.words.WordsFault.TheVariants.{Memory, Usage};
 ghost use Rattle.vme_engines.specs.CommandLines.{asked_by, asked_in, words_status_of};
-ghost use Rattle.vme_engines.specs.Subcommands.{asked_by_entered, command_line, of_file};
+ghost use Rattle.vme_engines.specs.Subcommands.{asked_by_entered, command_line, file_shape};
 
 use clap::error::{Error, ErrorKind};
 use clap::{Arg, ArgMatches, Command};
@@ -23,7 +23,7 @@ pub enum Form {
     Run(String),
 }
 
-/// Why the command line has no form. Its `Display` text is what the program reports.
+/// Why the command line was not read. Its `Display` text is what the program reports.
 #[derive(Clone, Copy, Debug, PartialEq, Eq, Fault)]
 pub enum WordsFault {
     /// The words match none of the forms.
@@ -60,7 +60,8 @@ impl WordsFault {
 ///
 /// `Usage`: the words match none of the forms. `Memory`: an allocation failed.
 pub fn read_words(alloc: Global, words: &[String]) -> Result<Form, WordsFault>
-    ensures form { IfOk result (λ form. asked_in (map string_bytes words.now) ≡ Some (asked_by form)) }
+    ensures form { IfOk result (λ form.
+        asked_in (map string_bytes words.now) ≡ Some (asked_by form)) }
     ensures usage { result ≡ Err Usage → asked_in (map string_bytes words.now) ≡ None }
 {
     match parsed(alloc, words) {
@@ -70,7 +71,7 @@ pub fn read_words(alloc: Global, words: &[String]) -> Result<Form, WordsFault>
     }
 }
 
-/// The matches of the words.
+/// Parses the words: the subcommand that they enter, and the path that its FILE has.
 fn parsed<'a>(alloc: Global, words: &'a [String]) -> Result<ArgMatches<'a>, Error>
     ensures entered { IfOk result (λ matches.
         subcommand_rows_of matches ≡ subcommand_of command_line (map string_bytes words.now)) }
@@ -79,13 +80,13 @@ fn parsed<'a>(alloc: Global, words: &'a [String]) -> Result<ArgMatches<'a>, Erro
     program(alloc)?.try_get_matches_from(words)
 }
 
-/// The command of the program, which requires one of its three subcommands.
+/// The parser of the command line, which requires one of three subcommands.
 fn program<'a>(alloc: Global) -> Result<Command<'a>, AllocError>
     ensures { IfOk result (λ program. app_of program ≡ command_line) }
 {
     let cycles = Command::new(alloc, "cycles");
-    let step = of_a_file(alloc, "step")?;
-    let run = of_a_file(alloc, "run")?;
+    let step = file_subcommand(alloc, "step")?;
+    let run = file_subcommand(alloc, "run")?;
     Command::new(alloc, "vme")
         .subcommand_required(true)
         .subcommand(cycles)?
@@ -93,9 +94,9 @@ fn program<'a>(alloc: Global) -> Result<Command<'a>, AllocError>
         .subcommand(run)
 }
 
-/// A command that requires the path of a file.
-fn of_a_file(alloc: Global, name: &str) -> Result<Command<'_>, AllocError>
-    ensures shape { IfOk result (λ command. (app_of command).top ≡ of_file name.entry.now) }
+/// A subcommand that requires the path of a file.
+fn file_subcommand(alloc: Global, name: &str) -> Result<Command<'_>, AllocError>
+    ensures shape { IfOk result (λ command. (app_of command).top ≡ file_shape name.entry.now) }
     ensures local { IfOk result (λ command. (out-Command command).has_globals ≡ false) }
 {
     let file = Arg::new(alloc, "FILE").required(true);
@@ -104,20 +105,21 @@ fn of_a_file(alloc: Global, name: &str) -> Result<Command<'_>, AllocError>
 
 /// The form of the subcommand that was entered.
 fn chosen(alloc: Global, matches: &ArgMatches<'_>) -> Result<Form, WordsFault>
-    ensures form { IfOk result (λ form. asked_by_entered (subcommand_rows_of matches.now) ≡ Some (asked_by form)) }
+    ensures form { IfOk result (λ form.
+        asked_by_entered (subcommand_rows_of matches.now) ≡ Some (asked_by form)) }
     ensures usage { IfErr result (λ fault. (fault ≡ Memory)
         ⊎ (asked_by_entered (subcommand_rows_of matches.now) ≡ None)) }
 {
     match matches.subcommand() {
         Some(("cycles", _)) => Ok(Form::Cycles),
-        Some(("step", step)) => Ok(Form::Step(path_in(alloc, step)?)),
-        Some(("run", run)) => Ok(Form::Run(path_in(alloc, run)?)),
+        Some(("step", step)) => Ok(Form::Step(file_path(alloc, step)?)),
+        Some(("run", run)) => Ok(Form::Run(file_path(alloc, run)?)),
         _ => Err(WordsFault::Usage),
     }
 }
 
-/// The path of the file that a command has.
-fn path_in(alloc: Global, command: &ArgMatches<'_>) -> Result<String, WordsFault>
+/// The path that the FILE of a subcommand has.
+fn file_path(alloc: Global, command: &ArgMatches<'_>) -> Result<String, WordsFault>
     ensures path { IfOk result (λ path.
         first_of (codes "FILE") (rows_of (found_of command.now)) ≡ Some (string_bytes path)) }
     ensures usage { IfErr result (λ fault. (fault ≡ Memory)

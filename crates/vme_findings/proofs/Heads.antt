@@ -1,9 +1,11 @@
 -- The first of all refusals of lines is the one with which the script is refused.
-use Rattle.std.proofs.Common.{◌≡◌, ℕ, ◌+◌, List, [], ◌∷◌, ◌++◌, Option, Some, None, Result, Ok, Err, refl}
+use Rattle.std.proofs.Common.{◌≡◌, ℕ, ◌+◌, List, [], ◌∷◌, ◌++◌, Option, Some, None, Result, Ok, Err, refl, sym}
 use Rattle.vme_grammar.specs.declared.line.Line.{Line}
 use Rattle.vme_grammar.specs.declared.fault.LineFault.{LineFault}
 use Rattle.vme_script.specs.declared.context.ScriptContext.{ScriptContext}
-use Rattle.vme_script.specs.Contexts.{line_within}
+use Rattle.vme_script.specs.Contexts.{refusal_of, unless_refused, line_within}
+use Rattle.vme_script.proofs.Asked.{refused, empty}
+use Rattle.vme_grammar.specs.Grammar.{line_of}
 use Rattle.vme_script.specs.declared.fault.ScriptRefusal.{ScriptRefusal}
 use Rattle.vme_script.specs.declared.script.ScriptLine.{ScriptLine}
 use Rattle.vme_script.specs.Scripts.{asked_at, line_before, lines_from}
@@ -24,3 +26,23 @@ lines_first rules number [] = refl
 lines_first rules number (line ∷ more) =
     one_first number (line_within rules line) (lines_from rules (number + 1) more) (line_refusals rules (number + 1) more)
     (lines_first rules (number + 1) more)
+
+-- a line that is refused by itself has that refusal in each context
+pub fault_refused :
+    (rules : ScriptContext) (text : List ℕ) (fault : LineFault) → line_of text ≡ Err fault → fault_of (line_within rules text) ≡ Some fault
+fault_refused rules text fault read = rw (refused rules text fault read) refl
+
+-- a line that requests nothing has no refusal
+pub fault_empty : (rules : ScriptContext) (text : List ℕ) → line_of text ≡ Ok None → fault_of (line_within rules text) ≡ None
+fault_empty rules text read = rw (empty rules text read) refl
+
+unless_faulted : (refusal : Option LineFault) (line : Line) → fault_of (unless_refused refusal line) ≡ refusal
+unless_faulted None line = refl
+unless_faulted (Some fault) line = refl
+
+-- a parsed line has the refusal of its context
+pub fault_asked :
+    (rules : ScriptContext) (text : List ℕ) (line : Line) (refusal : Option LineFault) → line_of text ≡ Ok (Some line)
+    → refusal ≡ refusal_of rules line → refusal ≡ fault_of (line_within rules text)
+unfolding line_within
+fault_asked rules text line refusal read is = rw (read, is) (sym (unless_faulted (refusal_of rules line) line))

@@ -2,6 +2,9 @@
 use Rattle.std.specs.Prelude.{ℕ, zero, Option, Some, None, unwrap_or}
 use Rattle.vme_grammar.specs.declared.fault.LineFault.{LineFault}
 use Rattle.vme_grammar.specs.declared.fault.LineFault.TheVariants as line
+use Rattle.vme_am.specs.declared.code.AmFault.TheVariants as am
+use Rattle.vme_cycle.specs.declared.fault.CycleFault.{CycleFault}
+use Rattle.vme_cycle.specs.declared.fault.CycleFault.TheVariants as cycle
 use Rattle.vme_script.specs.declared.fault.ScriptRefusal.{ScriptRefusal}
 use Rattle.vme_script.specs.declared.fault.ScriptRefusal.TheVariants as script
 use Rattle.vme_script.specs.declared.fault.ConfigFault.{ConfigFault}
@@ -16,6 +19,8 @@ use Rattle.vme_findings.specs.declared.cause.schedule.ScheduleCause.{ScheduleCau
 use Rattle.vme_findings.specs.declared.cause.schedule.ScheduleCause.TheVariants as schedules
 use Rattle.vme_findings.specs.declared.cause.line.LineCause.{LineCause}
 use Rattle.vme_findings.specs.declared.cause.line.LineCause.TheVariants as lines
+use Rattle.vme_findings.specs.declared.cause.cycle.CycleCause.{CycleCause}
+use Rattle.vme_findings.specs.declared.cause.cycle.CycleCause.TheVariants as cycles
 
 -- the refusal for a fault of the document
 abbrev pub document_refusal : DocumentCause → ConfigFault
@@ -70,6 +75,20 @@ line_fault (lines.TouchesMailbox board low high mailbox mailbox_low mailbox_high
 abbrev pub script_refusal : ℕ → Option LineFault → ScriptRefusal
 script_refusal number (Some fault) = script.BadLine number fault
 script_refusal number None = script.TooManyLines
+
+-- the refusal of a request by its fault
+abbrev pub cycle_fault : CycleCause → CycleFault
+cycle_fault (cycles.NoCode code) = cycle.Code am.TooLarge
+cycle_fault (cycles.UserCode code) = cycle.Code am.UserDefined
+cycle_fault (cycles.ReservedCode code) = cycle.Code am.Reserved
+cycle_fault (cycles.BlockCode code) = cycle.WrongKindOfCode
+cycle_fault (cycles.NoBlockCode code) = cycle.WrongKindOfCode
+cycle_fault (cycles.ProgramModify code) = cycle.ProgramModify
+cycle_fault (cycles.OutsideSpace space last) = cycle.OutsideSpace
+cycle_fault (cycles.NoLocation addr bytes) = cycle.NoCycle
+cycle_fault (cycles.AddressNotAligned addr datum) = cycle.NoCycle
+cycle_fault (cycles.Crosses addr last boundary) = cycle.CrossesBoundary
+cycle_fault _ = cycle.BadCount
 
 -- the refusal of a file whose first fault has this cause; a warning and a request line have none
 abbrev pub refusal_of : Cause → Option ConfigFault

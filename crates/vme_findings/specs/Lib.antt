@@ -1,3 +1,4 @@
 pub mod Causes
 pub mod Boards
 pub mod Lines
+pub mod Verdicts

@@ -1,5 +1,8 @@
 //! Findings: what is wrong, and where.
+ghost use Rattle.std.specs.Prelude.{◌≡◌, ◌∷◌, ◌++◌, [], IfOk};
+
 use crate::cause::Cause;
+use std::alloc::AllocError;
 use vme_positions::Place;
 
 /// A fault of a file, or a warning, and its place.
@@ -9,4 +12,12 @@ pub struct Finding {
     pub cause: Cause,
     /// Where it is.
     pub place: Place,
+}
+
+/// Appends a finding.
+pub(crate) fn find(found: &mut Vec<Finding>, cause: Cause, place: Place) -> Result<(), AllocError>
+    ensures { IfOk result (λ _. found.new.items ≡ found.old.items ++ record { cause = cause; place = place } ∷ []) }
+{
+    found.push(Finding { cause, place })?;
+    Ok(())
 }

@@ -5,14 +5,29 @@
 //! columns.
 #![tactic(auto)]
 
+mod board;
 mod cause;
+mod collect;
+mod cycle;
+mod fields;
 mod finding;
+mod findings;
+mod form;
 mod laws;
+mod mailboxes;
+mod ranges;
+mod schedule;
+mod script;
+mod section;
+mod tables;
+mod warnings;
+mod words;
 
 pub use cause::{
     BoardCause, BoardName, Cause, CycleCause, DataLength, DocumentCause, FileWarning, Lack,
     LineCause, LineForm, LineWarning, MailboxCause, ScheduleCause, Severity, ValueKind,
 };
 pub use finding::Finding;
-pub use laws::the_first_is_reported;
+pub use findings::findings_of;
+pub use laws::{no_file_is_both, the_first_is_reported};
 pub use vme_positions::{Key, Place, TableName};

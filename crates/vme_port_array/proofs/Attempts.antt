@@ -1,4 +1,4 @@
--- The effect of one try on a pass: the take, the command and the put, in order.
+-- The effect of one try on a pass: the take, the operation and the put, in order.
 use Rattle.std.proofs.Common.{ℕ, ◌≡◌, ◌+◌, ◌-◌, ◌^◌, ◌<◌, ◌≤◌, List, [], ◌∷◌, ◌++◌, length, All, refl, ap, sym, ◌∙◌, subst, arith, length-append, append_assoc, eq-eqb}
 use Rattle.std.proofs.lemmas.List.{append-nil}
 use Rattle.std.proofs.lemmas.List.Elements.{All-nil, All-cons}
@@ -23,7 +23,7 @@ use Rattle.vme_port_array.specs.Calls.{Adds}
 use Rattle.vme_port.proofs.lemmas.Accounts.{own_all}
 use Rattle.vme_port_array.proofs.lemmas.Parts.{part-append}
 
--- the first of the objects that are held
+-- the first of the objects that a seat holds, or `other` if it holds none
 abbrev first_home : {S : Type 0} → Home S → List (ℕ × Home S) → Home S
 first_home other [] = other
 first_home other (x ∷ xs) = x.1
@@ -32,8 +32,9 @@ first_home other (x ∷ xs) = x.1
 abbrev pub pass_view : {S C R : Type 0} → TableId → ℕ → Me (Home S) (ArrayView C R) → PassView C R
 pass_view port who m = record { port = port; who = who; made = length (made_by m.0.accounts); seen = seen_by m.0.accounts; mine = made_by m.0.accounts }
 
--- one entry of an object is the whole part of that object
-one_part : {C R : Type 0} (who i : ℕ) (cmd : C) (reply : R) → part i (entry who (indexed i cmd) reply ∷ []) ≡ entry who cmd reply ∷ []
+-- the part of an object in a history of one entry of it is that entry
+one_part : {C R : Type 0} (who i : ℕ) (cmd : C) (reply : R)
+    → part i (entry who (indexed i cmd) reply ∷ []) ≡ entry who cmd reply ∷ []
 one_part who i cmd reply = rw (eq-eqb i i refl) refl
 
 module _ {S C R : Type 0} (step : S → C → S × R) (starts : List S) (k i : ℕ) where
@@ -71,7 +72,8 @@ module _ {S C R : Type 0} (step : S → C → S × R) (starts : List S) (k i : �
         }
 
     -- a put of one entry is allowed after a command
-    pub put_one : (who : ℕ) (cmd : C) (reply : R) (m2 : Me (Home S) (ArrayView (Indexed C) R)) → a.who ≡ who → HasPerformed i step cmd reply m1 m2
+    pub put_one : (who : ℕ) (cmd : C) (reply : R) (m2 : Me (Home S) (ArrayView (Indexed C) R)) → a.who ≡ who
+        → HasPerformed i step cmd reply m1 m2
         → MayPut step starts i (entry who (indexed i cmd) reply ∷ []) m2
     put_one who cmd reply m2 named p =
         let seen : List (Entry (Indexed C) R) = a.seen ++ t.others in
@@ -122,7 +124,7 @@ module _ {S C R : Type 0} (step : S → C → S × R) (starts : List S) (k i : �
           let then : own who is_put.others ≡ [] = subst (λ w. own w is_put.others ≡ []) rest.named is_put.apart in
           own-append who t.others is_put.others ∙ (λ j. first j ++ then j)
 
-      -- what the pass had seen is a prefix of the history
+      -- the history is what the pass had seen, what is new to it, and the new entries
       all_seen : (found ++ is_put.others) ++ es ≡ seen_by m0.0.accounts ++ since ++ es
       all_seen = ap (λ l. l ++ es) (append_assoc rest.only.seen t.others is_put.others) ∙ ap (λ m. seen_by m.0.accounts ++ since ++ es) (sym rest.alone)
 
@@ -143,7 +145,8 @@ module _ {S C R : Type 0} (step : S → C → S × R) (starts : List S) (k i : �
       }
 
       -- after the put, the pass has added its own entries
-      pub adds_after : (port port' : TableId) → port' ≡ port → All (λ e. e.who ≡ who) es → Adds step starts es (pass_view port who m0) (pass_view port' who m3)
+      pub adds_after : (port port' : TableId) → port' ≡ port → All (λ e. e.who ≡ who) es
+          → Adds step starts es (pass_view port who m0) (pass_view port' who m3)
       adds_after port port' same_port whose = record {
         port = same_port;
         who = refl;
@@ -165,6 +168,7 @@ module _ {S C R : Type 0} (step : S → C → S × R) (starts : List S) (k i : �
 
     module _ (t : HasTaken step Opened i rest.only m1) (m2 m3 : Me (Home S) (ArrayView (Indexed C) R)) (full : IsFull i m1 m2) (reported : HasPut step Opened i [] m2 m3)
         (start : S) (there : get_elem? starts i ≡ some start) where
+      -- a command at a full part leaves the seat's view unchanged
       abbrev same_full : m2.0 ≡ m1.0
       same_full = ap (λ m. m.0) full.same
 
@@ -188,9 +192,11 @@ module _ {S C R : Type 0} (step : S → C → S × R) (starts : List S) (k i : �
 
     module _ (t : HasTaken step Opened i rest.only m1) (cmd : C) (reply : R) (m2 m3 : Me (Home S) (ArrayView (Indexed C) R)) (p : HasPerformed i step cmd reply m1 m2)
         (reported : HasPut step Opened i (entry who (indexed i cmd) reply ∷ []) m2 m3) where
+      -- the entry of the call
       abbrev e : Entry (Indexed C) R
       e = entry who (indexed i cmd) reply
 
+      -- a command leaves the seat's view unchanged
       abbrev same_one : m2.0 ≡ m1.0
       same_one = ap (λ m. m.0) p.after
 
@@ -199,11 +205,12 @@ module _ {S C R : Type 0} (step : S → C → S × R) (starts : List S) (k i : �
       rests_one = rests_after t (e ∷ []) m2 m3 same_one reported
 
       -- after a call with one entry, the pass has added it to the whole history
-      pub adds_one : (port port' : TableId) → port' ≡ port → Adds step starts (e ∷ []) (pass_view port who m0) (pass_view port' who m3)
+      pub adds_one : (port port' : TableId) → port' ≡ port
+          → Adds step starts (e ∷ []) (pass_view port who m0) (pass_view port' who m3)
       adds_one port port' same_port =
           adds_after t (e ∷ []) m2 m3 same_one reported port port' same_port (All-cons (λ (e : Entry (Indexed C) R). e.who ≡ who) e [] refl (All-nil (λ (e : Entry (Indexed C) R). e.who ≡ who)))
 
-      -- after a call with one entry, the entries of the object can be counted
+      -- after a call with one entry, the object has fewer than 2^64 entries
       pub counted_one : (start : S) → get_elem? starts i ≡ some start → length (part i (seen_by m3.0.accounts)) < 2 ^ 64
       counted_one start there =
           let put = is_put t (e ∷ []) m2 m3 same_one reported in

@@ -1,4 +1,4 @@
--- Passes are joined from the last to the first.
+-- The seats of passes are joined from the last to the first.
 use Rattle.std.proofs.Common.{◌≡◌, None, List, [], ◌∷◌, ◌++◌, map, ap, ◌∙◌, append_assoc}
 use Rattle.atomic_table.specs.Table.{Me}
 use Rattle.vme_port_array.specs.declared.rule.ArrayView.{ArrayView}
@@ -8,7 +8,7 @@ use Rattle.vme_port_array.specs.Steps.{joint_view}
 use Rattle.vme_port.specs.Passes.{PassView, account_of}
 
 module _ {S C R : Type 0} where
-  -- the seat has the accounts of all passes that are not left
+  -- the seat has the accounts of all passes behind those that are left, in order
   pub record IsGathered (all left : List (PassView C R)) (m : Me (Home S) (ArrayView C R)) : Type 0 where
     pub done : List (PassView C R)
     pub split : all ≡ left ++ done
@@ -20,7 +20,8 @@ module _ {S C R : Type 0} where
   first_joined all left p m split alone = record { done = p ∷ []; split = split; joined = alone }
 
   -- a gathered seat that joins one more pass is gathered
-  pub next_joined : (all rest left : List (PassView C R)) (p : PassView C R) (m n m' : Me (Home S) (ArrayView C R)) → IsGathered all rest m → rest ≡ left ++ p ∷ []
+  pub next_joined : (all rest left : List (PassView C R)) (p : PassView C R) (m n m' : Me (Home S) (ArrayView C R))
+      → IsGathered all rest m → rest ≡ left ++ p ∷ []
       → n ≡ (view (account_of p ∷ []) None, []) → m' ≡ (joint_view m.0 n.0, m.1) → IsGathered all left m'
   next_joined all rest left p m n m' was split alone after = record {
     done = p ∷ was.done;

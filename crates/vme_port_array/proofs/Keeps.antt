@@ -1,4 +1,4 @@
--- Each step of a call keeps the rule.
+-- Taking an object and marking it as wanted keep the rule.
 use Rattle.std.proofs.Common.{ℕ, ◌≡◌, ◌≢◌, ◌<◌, ◌≤◌, ◌⊎◌, inl, inr, Bool, cond, eqb, ltb, List, [], ◌∷◌, ◌++◌, length, set, All, slice_index, Option, Some, None, refl, ap, sym, ◌∙◌, subst, arith, length-set, ne_eqb}
 use Rattle.std.specs.List.{sum_by}
 use Rattle.std.proofs.lemmas.Bool.{cases_eq}
@@ -36,8 +36,9 @@ pub counts_else : (i j : ℕ) → j ≢ i → ◌≡◌ {A = ℕ} (cond (is_out 
 counts_else i j other = ap (λ (b : Bool). cond b 1 0) (out_else i j other)
 
 module _ {C R : Type 0} where
-  -- a view that holds the object at index i stands for at least one pass
-  pub out_weighs : (i : ℕ) (v : ArrayView (Indexed C) R) (h : List (Entry C R)) → ((v.out ≡ Some i) → (a : Account (Indexed C) R) × (v.accounts ≡ a ∷ []) × (part i a.seen ≡ h))
+  -- a view stands for at least one pass if it holds the object at index i
+  pub out_weighs : (i : ℕ) (v : ArrayView (Indexed C) R) (h : List (Entry C R))
+      → ((v.out ≡ Some i) → (a : Account (Indexed C) R) × (v.accounts ≡ a ∷ []) × (part i a.seen ≡ h))
       → (o : Option ℕ) → v.out ≡ o → cond (is_out i v.out) 1 0 ≤ weight v
   out_weighs i v h one None is =
       let zero : ◌≡◌ {A = ℕ} (cond (is_out i v.out) 1 0) 0 = ap (λ o. cond (is_out i o) 1 0) is in
@@ -51,13 +52,14 @@ module _ {C R : Type 0} where
         omega arith
   ]
 
-  -- a view that holds the object at index i is counted
-  pub out_counts : (i : ℕ) (views : List (ArrayView (Indexed C) R)) (j : ℕ) (u : ArrayView (Indexed C) R) → get_elem? views j ≡ some u → u.out ≡ Some i → 1 ≤ holders i views
+  -- if a view holds the object at index i, there is at least one holder
+  pub out_counts : (i : ℕ) (views : List (ArrayView (Indexed C) R)) (j : ℕ) (u : ArrayView (Indexed C) R)
+      → get_elem? views j ≡ some u → u.out ≡ Some i → 1 ≤ holders i views
   out_counts i views j u there out =
       let one : ◌≡◌ {A = ℕ} (cond (is_out i u.out) 1 0) 1 = ap (λ o. cond (is_out i o) 1 0) out ∙ counts_here i in
       omega (arith, sum_at (λ (v : ArrayView (Indexed C) R). cond (is_out i v.out) 1 0) views j u there)
 
-  -- the account of any view has a number below k
+  -- the account of a view with one account has a number below k
   pub who_below : (k : ℕ) (views : List (ArrayView C R)) (id : ℕ) (a : Account C R) (out : Option ℕ)
       → ((who : ℕ) → sum_by (names who) views ≡ cond (ltb who k) 1 0) → get_elem? views id ≡ some (view (a ∷ []) out) → a.who < k
   who_below k views id a out shared there =
@@ -92,6 +94,7 @@ module _ {S C R : Type 0} (step : S → C → S × R) (starts : List S) where
   })
 
   module _ (k : ℕ) where
+    -- the rule of this array
     abbrev Rule : State (Home S) (ArrayView (Indexed C) R) → Type 0
     Rule = Kept step starts k
 
@@ -123,8 +126,10 @@ module _ {S C R : Type 0} (step : S → C → S × R) (starts : List S) where
         subst (λ (views : List (ArrayView (Indexed C) R)). Rule (record { words = set s.words (word_of i) new; homes = s.homes; views = views })) (sym (set_again s.views id v there)) kept
 
     -- an exchange that finds the word free and takes the object keeps the rule
-    taking : (s : State (Home S) (ArrayView (Indexed C) R)) (id i new : ℕ) (a : Account (Indexed C) R) (r : Rule s) → 0 < new → i < length starts → get_elem? s.views id ≡ some (view (a ∷ []) None)
-        → (others : List (Entry (Indexed C) R)) → r.history ≡ a.seen ++ others → (fits : IsConsistent r.history a) → (home : AtHome step starts i r.history s)
+    taking : (s : State (Home S) (ArrayView (Indexed C) R)) (id i new : ℕ) (a : Account (Indexed C) R) (r : Rule s) → 0 < new
+        → i < length starts → get_elem? s.views id ≡ some (view (a ∷ []) None)
+        → (others : List (Entry (Indexed C) R)) → r.history ≡ a.seen ++ others → (fits : IsConsistent r.history a)
+        → (home : AtHome step starts i r.history s)
         → Rule (stepped s (word_of i) new id [] (view (account a.who (a.seen ++ others) a.mine ∷ []) (Some i)) (takes i home.home))
     taking s id i new a r some_new less there others is fits home =
         let v : ArrayView (Indexed C) R = view (a ∷ []) None in
@@ -172,19 +177,22 @@ module _ {S C R : Type 0} (step : S → C → S × R) (starts : List S) where
         }
 
     -- if some view holds the object, the object is away
-    pub is_away : (i : ℕ) (h : List (Entry (Indexed C) R)) (s : State (Home S) (ArrayView (Indexed C) R)) → 1 ≤ holders i s.views → AtHome step starts i h s ⊎ Away step starts i h s → Away step starts i h s
+    pub is_away : (i : ℕ) (h : List (Entry (Indexed C) R)) (s : State (Home S) (ArrayView (Indexed C) R))
+        → 1 ≤ holders i s.views → AtHome step starts i h s ⊎ Away step starts i h s → Away step starts i h s
     is_away i h s one (inl home) = absurd (omega (arith, home.none_out))
     is_away i h s one (inr away) = away
 
     -- if another view holds the object, the array has two passes or more
-    others_hold : (s : State (Home S) (ArrayView (Indexed C) R)) (id i : ℕ) (a : Account (Indexed C) R) (r : Rule s) → Away step starts i r.history s → get_elem? s.views id ≡ some (view (a ∷ []) None) → 2 ≤ k
+    others_hold : (s : State (Home S) (ArrayView (Indexed C) R)) (id i : ℕ) (a : Account (Indexed C) R) (r : Rule s)
+        → Away step starts i r.history s → get_elem? s.views id ≡ some (view (a ∷ []) None) → 2 ≤ k
     others_hold s id i a r away there =
         let less = λ (j : ℕ) (v : ArrayView (Indexed C) R) (at : get_elem? s.views j ≡ some v). out_weighs i v (part i r.history) (λ out. away.holder j v at out) v.out refl in
         let over = sum_over (λ (v : ArrayView (Indexed C) R). cond (is_out i v.out) 1 0) weight s.views id (view (a ∷ []) None) less there in
         omega (arith, away.one_out, r.weights)
 
     -- an exchange from a free word, by a seat with one account, keeps the rule and wins or loses
-    tries_alone : (opened : List S → ℕ → Type 0) → opened starts k → (slots id i new : ℕ) (a : Account (Indexed C) R) → 0 < new → i < length starts
+    tries_alone : (opened : List S → ℕ → Type 0) → opened starts k → (slots id i new : ℕ) (a : Account (Indexed C) R) → 0 < new
+        → i < length starts
         → Allows Rule slots id (view (a ∷ []) None, []) (word_of i) (λ x. either (eqb x 0) new x) (take_effect step opened (table_step slots (word_of i) 0 new none) (view (a ∷ []) None, []))
     tries_alone opened opens slots id i new a some_new less s r wide there fits64 =
         let me : Me (Home S) (ArrayView (Indexed C) R) = (view (a ∷ []) None, []) in
@@ -240,14 +248,16 @@ module _ {S C R : Type 0} (step : S → C → S × R) (starts : List S) where
         ])
 
     -- an exchange from a free word to a positive number, by an idle seat, keeps the rule and wins or loses
-    pub tries : (opened : List S → ℕ → Type 0) → opened starts k → (slots id i new : ℕ) (me : Me (Home S) (ArrayView (Indexed C) R)) → 0 < new → i < length starts → IsIdle me
+    pub tries : (opened : List S → ℕ → Type 0) → opened starts k
+        → (slots id i new : ℕ) (me : Me (Home S) (ArrayView (Indexed C) R)) → 0 < new → i < length starts → IsIdle me
         → Allows Rule slots id me (word_of i) (λ x. either (eqb x 0) new x) (take_effect step opened (table_step slots (word_of i) 0 new none) me)
     tries opened opens slots id i new me some_new less idle =
         subst (λ (m : Me (Home S) (ArrayView (Indexed C) R)). Allows Rule slots id m (word_of i) (λ x. either (eqb x 0) new x) (take_effect step opened (table_step slots (word_of i) 0 new none) m)) (sym idle.1)
         (tries_alone opened opens slots id i new idle.0 some_new less)
 
     -- the exchange that marks a taken object as wanted keeps the rule and changes no view
-    pub marks : (slots id i : ℕ) (me : Me (Home S) (ArrayView (Indexed C) R)) → i < length starts → Allows Rule slots id me (word_of i) (λ x. either (eqb x 1) 2 x) (λ n m'. m' ≡ me)
+    pub marks : (slots id i : ℕ) (me : Me (Home S) (ArrayView (Indexed C) R)) → i < length starts
+        → Allows Rule slots id me (word_of i) (λ x. either (eqb x 1) 2 x) (λ n m'. m' ≡ me)
     marks slots id i me less s r wide there fits64 =
         let word : ℕ = slice_index s.words (word_of i) in
         exchanged word 1 2

@@ -1,4 +1,4 @@
--- Opening an array and splitting its accounts keep the rule.
+-- Opening an array, splitting a seat's first account off and joining two seats keep the rule.
 use Rattle.std.proofs.Common.{ℕ, zero, suc, ◌≡◌, ◌+◌, ◌*◌, ◌<◌, ◌==◌, inl, inr, Option, None, Some, cond, ltb, List, [], ◌∷◌, ◌++◌, length, replicate, set, All, refl, ap, sym, ◌∙◌, subst, arith, length-append, append_assoc}
 use Rattle.std.specs.List.{sum_by}
 use Rattle.std.proofs.lemmas.List.Sums.{sum_by-append, sum_by_push}
@@ -27,6 +27,7 @@ use Rattle.vme_port_array.proofs.lemmas.Lists.{there_is, get_at, at_home_first}
 use Rattle.vme_port_array.proofs.Keeps.{left_alone}
 
 module _ {S C R : Type 0} (step : S → C → S × R) (starts : List S) (k : ℕ) where
+  -- the rule of this array
   abbrev Rule : State (Home S) (ArrayView (Indexed C) R) → Type 0
   Rule = Kept step starts k
 
@@ -61,10 +62,12 @@ module _ {S C R : Type 0} (step : S → C → S × R) (starts : List S) (k : ℕ
             });
       }
 
-  -- views that agree with the history, and have the same totals as the old ones, keep the rule
+  -- new views keep the rule if their accounts agree with the history, they have the same totals as the old ones, and each
+  -- view that holds an object is an old one
   reviewed : (s : State (Home S) (ArrayView (Indexed C) R)) (views : List (ArrayView (Indexed C) R)) (r : Rule s)
       → ((j : ℕ) (v : ArrayView (Indexed C) R) → get_elem? views j ≡ some v → All (IsConsistent r.history) v.accounts)
-      → ((who : ℕ) → sum_by (names who) views ≡ sum_by (names who) s.views) → sum_by weight views ≡ sum_by weight s.views → ((i : ℕ) → holders i views ≡ holders i s.views)
+      → ((who : ℕ) → sum_by (names who) views ≡ sum_by (names who) s.views) → sum_by weight views ≡ sum_by weight s.views
+      → ((i : ℕ) → holders i views ≡ holders i s.views)
       → ((i j : ℕ) (v : ArrayView (Indexed C) R) → get_elem? views j ≡ some v → v.out ≡ Some i → (n : ℕ) × (get_elem? s.views n ≡ some v))
       → Rule (record { words = s.words; homes = s.homes; views = views })
   reviewed s views r each shared weights held holder = record {
@@ -106,7 +109,8 @@ module _ {S C R : Type 0} (step : S → C → S × R) (starts : List S) (k : ℕ
       ])
 
   -- the join of two seats keeps the rule
-  pub gathers : (id other : ℕ) (v w : ArrayView (Indexed C) R) → v.out ≡ None → w.out ≡ None → Joins Rule id v other w (joint_view v w) empty_view
+  pub gathers : (id other : ℕ) (v w : ArrayView (Indexed C) R) → v.out ≡ None → w.out ≡ None
+      → Joins Rule id v other w (joint_view v w) empty_view
   gathers id other v w in' in'' s r at apart there =
       let both : ArrayView (Indexed C) R = joint_view v w in
       let spent : ArrayView (Indexed C) R = empty_view in
@@ -158,32 +162,33 @@ module _ {S C R : Type 0} where
   pub stands_first : (k : ℕ) (m : Me (Home S) (ArrayView C R)) → m ≡ (newcomer k, []) → StandsFor k 0 m
   stands_first k m is = (k, omega arith, is)
 
--- the objects that are not left have homes
-pub record Housing {S : Type 0} (all left : List S) (homes : List (Home S)) : Type 0 where
+-- the objects before those that are left have homes without entries, in order
+pub record HaveHomes {S : Type 0} (all left : List S) (homes : List (Home S)) : Type 0 where
   pub done : List S
   pub split : all ≡ done ++ left
-  pub housed : AllAt (λ i (o : S) (h : Home S). (h.object ≡ o) × (h.count ≡ 0)) done homes
+  pub unused : AllAt (λ i (o : S) (h : Home S). (h.object ≡ o) × (h.count ≡ 0)) done homes
 
 -- no object has a home yet
-pub housing_none : {S : Type 0} (all left : List S) (homes : List (Home S)) → left ≡ all → homes ≡ [] → Housing all left homes
-housing_none {S} all left homes same none = record {
+pub homes_none : {S : Type 0} (all left : List S) (homes : List (Home S)) → left ≡ all → homes ≡ [] → HaveHomes all left homes
+homes_none {S} all left homes same none = record {
   done = [];
   split = sym same;
-  housed = subst (AllAt (λ i (o : S) (h : Home S). (h.object ≡ o) × (h.count ≡ 0)) []) (sym none) (record { count = refl; each = λ k a b less. absurd (omega arith) });
+  unused = subst (AllAt (λ i (o : S) (h : Home S). (h.object ≡ o) × (h.count ≡ 0)) []) (sym none) (record { count = refl; each = λ k a b less. absurd (omega arith) });
 }
 
 -- one more object has a home
-pub housing_more : {S : Type 0} (all left rest : List S) (homes : List (Home S)) (o : S) (h : Home S) → Housing all left homes → left ≡ o ∷ rest
-    → h.object ≡ o → h.count ≡ 0 → Housing all rest (homes ++ h ∷ [])
-housing_more {S} all left rest homes o h was next object count = record {
+pub homes_more : {S : Type 0} (all left rest : List S) (homes : List (Home S)) (o : S) (h : Home S) → HaveHomes all left homes
+    → left ≡ o ∷ rest
+    → h.object ≡ o → h.count ≡ 0 → HaveHomes all rest (homes ++ h ∷ [])
+homes_more {S} all left rest homes o h was next object count = record {
   done = was.done ++ o ∷ [];
   split = was.split ∙ ap (λ l. was.done ++ l) next ∙ sym (append_assoc was.done (o ∷ []) rest);
-  housed = AllAt-push (λ i (o : S) (h : Home S). (h.object ≡ o) × (h.count ≡ 0)) was.done homes o h was.housed (object, count);
+  unused = AllAt-push (λ i (o : S) (h : Home S). (h.object ≡ o) × (h.count ≡ 0)) was.done homes o h was.unused (object, count);
 }
 
 -- all objects have homes
-pub housing_all : {S : Type 0} (all left : List S) (homes : List (Home S)) → Housing all left homes → left ≡ []
+pub homes_all : {S : Type 0} (all left : List S) (homes : List (Home S)) → HaveHomes all left homes → left ≡ []
     → AllAt (λ i (o : S) (h : Home S). (h.object ≡ o) × (h.count ≡ 0)) all homes
-housing_all {S} all left homes was none =
+homes_all {S} all left homes was none =
     let whole : was.done ≡ all = sym (was.split ∙ ap (λ l. was.done ++ l) none ∙ append-nil was.done) in
-    subst (λ l. AllAt (λ i (o : S) (h : Home S). (h.object ≡ o) × (h.count ≡ 0)) l homes) whole was.housed
+    subst (λ l. AllAt (λ i (o : S) (h : Home S). (h.object ≡ o) × (h.count ≡ 0)) l homes) whole was.unused

@@ -1,5 +1,5 @@
--- A put keeps the rule, whatever entries of its object the holder adds, and whatever entries of other objects were added since
--- the take.
+-- A put keeps the rule, whatever legal entries of its object the holder adds, and whatever entries of other objects were
+-- added since the take.
 use Rattle.std.proofs.Common.{ℕ, ◌≡◌, ◌≢◌, ◌<◌, inl, inr, cond, ltb, List, [], ◌∷◌, ◌++◌, length, All, Option, Some, None, refl, ap, sym, ◌∙◌, subst, arith, length-set}
 use Rattle.std.proofs.lemmas.Bool.{cases_eq}
 use Rattle.std.proofs.lemmas.List.{append-nil}
@@ -28,7 +28,7 @@ use Rattle.vme_port_array.proofs.lemmas.Lists.{found_within}
 use Rattle.vme_port_array.proofs.Keeps.{out_counts, counts_here, counts_else, who_below, is_away, left_alone}
 
 module _ {C R : Type 0} where
-  -- the account of a holder that has seen the whole history agrees with the history that its entries are appended to
+  -- after its entries are appended, the account of a holder that has seen the whole history agrees with the history
   holder_fits : (h es : List (Entry C R)) (a : Account C R) → All (λ e. e.who ≡ a.who) es → IsConsistent h a
       → IsConsistent (h ++ es) (account a.who (h ++ es) (a.mine ++ es))
   holder_fits h es a whose f =
@@ -37,8 +37,9 @@ module _ {C R : Type 0} where
       record { begins = ([], sym (append-nil (h ++ es))); sound = mine; whole = mine }
 
 module _ {S C R : Type 0} (step : S → C → S × R) (starts : List S) where
-  -- the history that the holder's entries are appended to is legal
-  legal_after : (i : ℕ) (start : S) (h es : List (Entry (Indexed C) R)) → get_elem? starts i ≡ some start → All (λ e. e.cmd.index ≡ i) es
+  -- a history stays legal for each object when legal entries of one object are appended
+  legal_after : (i : ℕ) (start : S) (h es : List (Entry (Indexed C) R)) → get_elem? starts i ≡ some start
+      → All (λ e. e.cmd.index ≡ i) es
       → IsLegal step (replay step start (part i h)) (part i es) → AreLegal step starts h → AreLegal step starts (h ++ es)
   legal_after i start h es opens indexes legal was j start' there = elim (cases_eq j i) [
     | inl same ↦
@@ -50,6 +51,7 @@ module _ {S C R : Type 0} (step : S → C → S × R) (starts : List S) where
   ]
 
   module _ (k : ℕ) where
+    -- the rule of this array
     abbrev Rule : State (Home S) (ArrayView (Indexed C) R) → Type 0
     Rule = Kept step starts k
 
@@ -61,10 +63,11 @@ module _ {S C R : Type 0} (step : S → C → S × R) (starts : List S) where
         let both = sum_two (names a.who) s.views id j (view (a ∷ []) out) u at there other in
         omega (arith, r.shared a.who, counts_once (ltb a.who k))
 
-    -- the rule holds in the state after a put
+    -- the rule holds in the state after the holder of an object put it back with its entries
     putting : (s : State (Home S) (ArrayView (Indexed C) R)) (id i : ℕ) (a : Account (Indexed C) R) (home : Home S) (start : S) (es : List (Entry (Indexed C) R)) (r : Rule s) → i < length starts
         → get_elem? s.views id ≡ some (view (a ∷ []) (Some i)) → Away step starts i r.history s → get_elem? starts i ≡ some start
-        → IsLegal step (replay step start (part i r.history)) (part i es) → All (λ e. e.who ≡ a.who) es → All (λ e. e.cmd.index ≡ i) es
+        → IsLegal step (replay step start (part i r.history)) (part i es) → All (λ e. e.who ≡ a.who) es
+        → All (λ e. e.cmd.index ≡ i) es
         → home.object ≡ replay step start (part i (r.history ++ es)) → home.count ≡ length (part i (r.history ++ es))
         → Rule (stepped s (word_of i) 0 id ((i, home) ∷ []) (view (account a.who (r.history ++ es) (a.mine ++ es) ∷ []) None) gives)
     putting s id i a home start es r less at away opens legal whose indexes object count =
@@ -111,7 +114,9 @@ module _ {S C R : Type 0} (step : S → C → S × R) (starts : List S) where
         }
 
     -- a put of the object with entries of the holder keeps the rule
-    pub puts : (opened : List S → ℕ → Type 0) → opened starts k → (slots id i : ℕ) (es : List (Entry (Indexed C) R)) (me : Me (Home S) (ArrayView (Indexed C) R)) → i < length starts → MayPut step starts i es me
+    pub puts : (opened : List S → ℕ → Type 0) → opened starts k
+        → (slots id i : ℕ) (es : List (Entry (Indexed C) R)) (me : Me (Home S) (ArrayView (Indexed C) R)) → i < length starts
+        → MayPut step starts i es me
         → Allows Rule slots id me (word_of i) (λ x. 0) (put_effect step opened es (table_step slots (word_of i) 0 0 none) me)
     puts opened opens slots id i es me less may =
         subst (λ (m : Me (Home S) (ArrayView (Indexed C) R)). Allows Rule slots id m (word_of i) (λ x. 0) (put_effect step opened es (table_step slots (word_of i) 0 0 none) m)) (sym may.has) (λ s r wide at fits64.

@@ -1,4 +1,4 @@
--- An array that is closed with a seat of all its passes determines the whole history.
+-- An array that is closed with a seat of all its passes has one history, with which all their accounts agree.
 use Rattle.std.proofs.Common.{ℕ, ◌≡◌, ◌<◌, ◌≤◌, ◌⊎◌, inl, inr, Bool, None, cond, ltb, List, [], length, map, refl, ap, sym, ◌∙◌, arith}
 use Rattle.std.proofs.lemmas.Bool.{lt-ltb}
 use Rattle.std.proofs.lemmas.List.{length-map}
@@ -25,11 +25,13 @@ use Rattle.vme_port_array.proofs.Keeps.{out_weighs}
 use Rattle.vme_port_array.proofs.lemmas.Lists.{found_within}
 
 module _ {S C R : Type 0} (step : S → C → S × R) (starts : List S) (k : ℕ) where
+  -- the rule of this array
   abbrev Rule : State (Home S) (ArrayView (Indexed C) R) → Type 0
   Rule = Kept step starts k
 
   -- if a seat stands for k passes and holds no object, each object is in its slot
-  at_home : (s : State (Home S) (ArrayView (Indexed C) R)) (id i : ℕ) (accounts : List (Account (Indexed C) R)) (r : Rule s) → get_elem? s.views id ≡ some (view accounts None)
+  at_home : (s : State (Home S) (ArrayView (Indexed C) R)) (id i : ℕ) (accounts : List (Account (Indexed C) R)) (r : Rule s)
+      → get_elem? s.views id ≡ some (view accounts None)
       → k ≤ length accounts → AtHome step starts i r.history s ⊎ Away step starts i r.history s → AtHome step starts i r.history s
   at_home s id i accounts r at enough (inl home) = home
   at_home s id i accounts r at enough (inr away) =
@@ -38,7 +40,8 @@ module _ {S C R : Type 0} (step : S → C → S × R) (starts : List S) (k : ℕ
       absurd (omega (arith, away.one_out, r.weights))
 
   -- a seat that stands for k passes has one account for each number below k
-  each_named : (s : State (Home S) (ArrayView (Indexed C) R)) (id : ℕ) (accounts : List (Account (Indexed C) R)) (r : Rule s) → get_elem? s.views id ≡ some (view accounts None)
+  each_named : (s : State (Home S) (ArrayView (Indexed C) R)) (id : ℕ) (accounts : List (Account (Indexed C) R)) (r : Rule s)
+      → get_elem? s.views id ≡ some (view accounts None)
       → k ≤ length accounts → (who : ℕ) → who < k → names_among who accounts ≡ 1
   each_named s id accounts r at enough who below =
       let less = λ (j : ℕ) (v : ArrayView (Indexed C) R) (there : get_elem? s.views j ≡ some v). names_within who v.accounts in
@@ -47,9 +50,10 @@ module _ {S C R : Type 0} (step : S → C → S × R) (starts : List S) (k : ℕ
       let one : ◌≡◌ {A = ℕ} (cond (ltb who k) 1 0) 1 = ap (λ (b : Bool). cond b 1 0) (lt-ltb who k below) in
       omega (arith, r.shared who, r.weights)
 
-  -- the objects are in their slots, and the accounts agree with the one history
+  -- if a seat stands for k passes and holds no object, its accounts and the objects in the slots close the array
   pub closes : (s : State (Home S) (ArrayView (Indexed C) R)) (id : ℕ) (accounts : List (Account (Indexed C) R)) (homes : List (Home S)) → Rule s → get_elem? s.views id ≡ some (view accounts None)
-      → k ≤ length accounts → length homes ≡ length starts → ((i : ℕ) (home : Home S) → get_elem? s.homes i ≡ some (some home) → get_elem? homes i ≡ some home)
+      → k ≤ length accounts → length homes ≡ length starts
+      → ((i : ℕ) (home : Home S) → get_elem? s.homes i ≡ some (some home) → get_elem? homes i ≡ some home)
       → Closes step starts k accounts homes
   closes s id accounts homes r at enough count back = record {
     history = r.history;
@@ -69,7 +73,8 @@ module _ {S C R : Type 0} (step : S → C → S × R) (starts : List S) (k : ℕ
   }
 
   -- an array closes with the objects that its table returns
-  pub last : (id : ℕ) (m : Me (Home S) (ArrayView (Indexed C) R)) (words : List ℕ) (slots homes : List (Home S)) → Final (Seen Rule id m.0) words slots
+  pub last : (id : ℕ) (m : Me (Home S) (ArrayView (Indexed C) R)) (words : List ℕ) (slots homes : List (Home S))
+      → Final (Seen Rule id m.0) words slots
       → ((i : ℕ) (home : Home S) → get_elem? slots i ≡ some home → get_elem? homes i ≡ some home) → length homes ≡ length starts
       → m ≡ (view m.0.accounts None, []) → k ≤ length m.0.accounts → Closes step starts k m.0.accounts homes
   last id m words slots homes final back count idle enough =
@@ -78,7 +83,8 @@ module _ {S C R : Type 0} (step : S → C → S × R) (starts : List S) (k : ℕ
       closes s id m.0.accounts homes final.1.0 there enough count (λ i home at. back i home (final.4 i home at))
 
   -- passes settle if their accounts close
-  pub settled : (passes : List (PassView (Indexed C) R)) (homes : List (Home S)) → Closes step starts k (map account_of passes) homes → Settles step starts k passes homes
+  pub settled : (passes : List (PassView (Indexed C) R)) (homes : List (Home S))
+      → Closes step starts k (map account_of passes) homes → Settles step starts k passes homes
   settled passes homes reported =
       let h : List (Entry (Indexed C) R) = reported.history in
       let fits = fits_passes h passes reported.fits in record {

@@ -14,7 +14,7 @@ use Rattle.vme_port_array.specs.declared.indexed.Indexed.{Indexed}
 use Rattle.vme_port_array.specs.Parts.{part, AreLegal}
 
 module _ {S C R : Type 0} (step : S → C → S × R) (starts : List S) where
-  -- each object is the replay of its part of a history, and has the number of entries of that part
+  -- each object is the replay of its part of a history, and comes with the number of entries of that part
   pub record AreEnds (h : List (Entry (Indexed C) R)) (homes : List (Home S)) : Type 0 where
     pub count : length homes ≡ length starts
     pub each : (i : ℕ) (start : S) (home : Home S) → get_elem? starts i ≡ some start → get_elem? homes i ≡ some home

@@ -30,7 +30,7 @@ module _ {C R : Type 0} where
   abbrev pub empty_view : ArrayView C R
   empty_view = view [] None
 
--- mark wanted: the seat's view is unchanged
+-- mark wanted: the seat is unchanged, with its view and what it holds
 abbrev pub mark_effect : {T C R : Type 0} → Step T → Me T (ArrayView C R) → ℕ → Me T (ArrayView C R) → Type 0
 mark_effect st m n m' = m' ≡ m
 
@@ -59,18 +59,20 @@ module _ {S C R : Type 0} (step : S → C → S × R) (opened : List S → ℕ �
     pub shared : 2 ≤ passes
 
   -- a take of the object whose word the step names wins if the exchange found the word free, and loses otherwise
-  abbrev pub take_effect : Step (Home S) → Me (Home S) (ArrayView (Indexed C) R) → ℕ → Me (Home S) (ArrayView (Indexed C) R) → Type 0
+  abbrev pub take_effect :
+      Step (Home S) → Me (Home S) (ArrayView (Indexed C) R) → ℕ → Me (Home S) (ArrayView (Indexed C) R) → Type 0
   take_effect st m n m' = (i : ℕ) (a : Account (Indexed C) R) → st.word ≡ word_of i → m ≡ (view (a ∷ []) None, [])
       → (n ≡ 0 → HasTaken i a m') × (n ≢ 0 → HasLost m m')
 
   -- a take of the object at index i from a seat that stands for one pass, by whether it won
   abbrev pub HasTried : ℕ → Me (Home S) (ArrayView (Indexed C) R) → Bool → Me (Home S) (ArrayView (Indexed C) R) → Type 0
-  HasTried i m won m' = (a : Account (Indexed C) R) → m ≡ (view (a ∷ []) None, []) → MatchBool won (HasTaken i a m') (HasLost m m')
+  HasTried i m won m' = (a : Account (Indexed C) R) → m ≡ (view (a ∷ []) None, [])
+      → MatchBool won (HasTaken i a m') (HasLost m m')
 
   -- a put of the object at index i: others had added entries at other objects since the take, and then the entries `es`
   -- are appended; the whole is legal, and the seat no longer holds the object
-  pub record IsPut (i : ℕ) (es : List (Entry (Indexed C) R)) (a : Account (Indexed C) R) (m' : Me (Home S) (ArrayView (Indexed C) R)) :
-      Type 0 where
+  pub record IsPut (i : ℕ) (es : List (Entry (Indexed C) R)) (a : Account (Indexed C) R)
+      (m' : Me (Home S) (ArrayView (Indexed C) R)) : Type 0 where
     pub starts : List S
     pub passes : ℕ
     pub opens : opened starts passes
@@ -81,11 +83,14 @@ module _ {S C R : Type 0} (step : S → C → S × R) (opened : List S → ℕ �
     pub after : m' ≡ (view (account a.who (a.seen ++ others ++ es) (a.mine ++ es) ∷ []) None, [])
 
   -- a put of the object at index i from a seat that stands for one pass
-  abbrev pub HasPut : ℕ → List (Entry (Indexed C) R) → Me (Home S) (ArrayView (Indexed C) R) → Me (Home S) (ArrayView (Indexed C) R) → Type 0
+  abbrev pub HasPut :
+      ℕ → List (Entry (Indexed C) R) → Me (Home S) (ArrayView (Indexed C) R) → Me (Home S) (ArrayView (Indexed C) R) → Type 0
   HasPut i es m m' = (a : Account (Indexed C) R) → m.0 ≡ view (a ∷ []) (Some i) → IsPut i es a m'
 
   -- the effect of a put, with the entries `es`, of the object whose word the step names
-  abbrev pub put_effect : List (Entry (Indexed C) R) → Step (Home S) → Me (Home S) (ArrayView (Indexed C) R) → ℕ → Me (Home S) (ArrayView (Indexed C) R) → Type 0
+  abbrev pub put_effect :
+      List (Entry (Indexed C) R) → Step (Home S) → Me (Home S) (ArrayView (Indexed C) R) → ℕ
+      → Me (Home S) (ArrayView (Indexed C) R) → Type 0
   put_effect es st m n m' = (i : ℕ) → st.word ≡ word_of i → HasPut i es m m'
 
 -- the condition of a put: the seat holds the object at index i, which is the replay of what the holder has seen of its

@@ -19,7 +19,11 @@ use vme_port::{FREE, Spent, TAKEN, Taking, TryFault, WANTED};
 const TRIES: u32 = 10;
 
 impl<O: Object> PortArray<O> {
-    /// Makes one try: takes the object at an index, performs the command on it, and puts it back.
+    /// Makes one try: takes the object at an index, performs the operation on it, and puts it back.
+    ///
+    /// # Errors
+    /// `Busy` if another pass holds the object, and `Spent` if the object's part of the history has
+    /// 2^64 - 1 entries. Neither adds an entry.
     fn attempt<A: Operation<O>>(
         &self,
         pass: &mut Pass<O>,
@@ -31,7 +35,8 @@ impl<O: Object> PortArray<O> {
         requires index { index < objects_of self.now }
         ensures pass { IsPassOf self.now pass.new }
         ensures adds { UnlessBusy result
-            (Adds O.step (opening self.now) (entries_of pass.old.who index (A.command asked.now) result) pass.old pass.new) }
+            (Adds O.step (opening self.now)
+            (entries_of pass.old.who index (A.command asked.now) result) pass.old pass.new) }
         ensures busy { IfBusy result (pass.new ≡ pass.old) }
         ensures shared { IfBusy result (2 ≤ passes_of self.now) }
         ensures full { IfSpent result (length (part index pass.new.seen) ≡ 2 ^ 64 - 1) }
@@ -64,7 +69,8 @@ impl<O: Object> PortArray<O> {
         requires index { index < objects_of self.now }
         ensures pass { IsPassOf self.now pass.new }
         ensures adds { UnlessBusy result
-            (Adds O.step (opening self.now) (entries_of pass.old.who index cmd.now result) pass.old pass.new) }
+            (Adds O.step (opening self.now)
+            (entries_of pass.old.who index cmd.now result) pass.old pass.new) }
         ensures busy { IfBusy result (pass.new ≡ pass.old) }
         ensures shared { IfBusy result (2 ≤ passes_of self.now) }
         ensures full { IfSpent result (length (part index pass.new.seen) ≡ 2 ^ 64 - 1) }
@@ -73,8 +79,8 @@ impl<O: Object> PortArray<O> {
         self.attempt(pass, index, &CommandRef { cmd }, Taking::Alone)
     }
 
-    /// Marks the word of the object as wanted if the object is taken, and returns the value of the
-    /// word before.
+    /// Marks the word of the object at an index as wanted if it is `TAKEN`, and returns its value
+    /// before.
     fn mark(&self, pass: &mut Pass<O>, index: usize) -> u64
         requires array { IsPassOf self.now pass.old }
         requires index { index < objects_of self.now }
@@ -86,8 +92,8 @@ impl<O: Object> PortArray<O> {
     }
 
     /// Performs one command on the object at an index as soon as no other pass holds it, and
-    /// returns the reply. It tries ten times, with growing pauses, and then parks until a put of
-    /// the object wakes it.
+    /// returns the reply. It tries ten times, with growing pauses. Then, before each further try,
+    /// it parks until the object may be free.
     ///
     /// # Errors
     /// `Spent` if the object's part of the history has 2^64 - 1 entries. No entry is added.
@@ -100,7 +106,8 @@ impl<O: Object> PortArray<O> {
     ) -> Result<O::Reply, Spent>
         requires array { IsPassOf self.now pass.old }
         requires index { index < objects_of self.now }
-        ensures adds { Adds O.step (opening self.now) (entries_of pass.old.who index cmd.now result) pass.old pass.new }
+        ensures adds { Adds O.step (opening self.now)
+            (entries_of pass.old.who index cmd.now result) pass.old pass.new }
         ensures counted { HasCount result (length (part index pass.new.seen)) }
     {
         self.call_operation(rt, pass, index, &CommandRef { cmd })
@@ -108,7 +115,8 @@ impl<O: Object> PortArray<O> {
 
     /// Performs one operation on the object at an index as soon as no other pass holds it, and
     /// returns the reply. The new entry has the command that the operation stands for
-    /// (`A.command`). It waits as `call` does.
+    /// (`A.command`). It tries ten times, with growing pauses. Then, before each further try, it
+    /// parks until the object may be free.
     ///
     /// # Errors
     /// `Spent` if the object's part of the history has 2^64 - 1 entries. No entry is added.
@@ -121,7 +129,8 @@ impl<O: Object> PortArray<O> {
     ) -> Result<O::Reply, Spent>
         requires array { IsPassOf self.now pass.old }
         requires index { index < objects_of self.now }
-        ensures adds { Adds O.step (opening self.now) (entries_of pass.old.who index (A.command asked.now) result) pass.old pass.new }
+        ensures adds { Adds O.step (opening self.now)
+            (entries_of pass.old.who index (A.command asked.now) result) pass.old pass.new }
         ensures counted { HasCount result (length (part index pass.new.seen)) }
     {
         match self.attempt(pass, index, asked, Taking::Alone) {
@@ -134,6 +143,9 @@ impl<O: Object> PortArray<O> {
     /// Makes the remaining tries, each after a longer pause. Then it parks until the object may be
     /// free and tries, until a try is not `Busy`. A try that takes the object after parking marks
     /// its word as wanted, so that its put wakes the next waiting call.
+    ///
+    /// # Errors
+    /// `Spent` if the object's part of the history has 2^64 - 1 entries. No entry is added.
     ///
     /// It is `cold`, like `wake` and `put_unchanged`, so that it stays out of the code of a call
     /// that does not wait.
@@ -148,7 +160,8 @@ impl<O: Object> PortArray<O> {
     ) -> Result<O::Reply, Spent>
         requires array { IsPassOf self.now pass.old }
         requires index { index < objects_of self.now }
-        ensures adds { Adds O.step (opening self.now) (entries_of pass.old.who index (A.command asked.now) result) pass.old pass.new }
+        ensures adds { Adds O.step (opening self.now)
+            (entries_of pass.old.who index (A.command asked.now) result) pass.old pass.new }
         ensures counted { HasCount result (length (part index pass.new.seen)) }
     {
         let backoff = Backoff::new();

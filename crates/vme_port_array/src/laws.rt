@@ -19,37 +19,45 @@ use vme_object::Object;
 /// sequence over both.
 pub fn calls_compose<O: Object>()
     ensures none { (p : PassView (Indexed O.Cmd) O.Reply) → Makes [] p p }
-    ensures one { (starts : List O) (es : List (Entry (Indexed O.Cmd) O.Reply)) (p q : PassView (Indexed O.Cmd) O.Reply) →
+    ensures one { (starts : List O) (es : List (Entry (Indexed O.Cmd) O.Reply))
+        (p q : PassView (Indexed O.Cmd) O.Reply) →
         Adds O.step starts es p q → Makes es p q }
-    ensures more { (a b : List (Entry (Indexed O.Cmd) O.Reply)) (p q r : PassView (Indexed O.Cmd) O.Reply) →
+    ensures more { (a b : List (Entry (Indexed O.Cmd) O.Reply))
+        (p q r : PassView (Indexed O.Cmd) O.Reply) →
         Makes a p q → Makes b q r → Makes (a ++ b) p r }
 {}
 
 /// The calls of all passes of a settled array make one history of all its objects.
 ///
 /// Each entry that a pass made after some moment has exactly one place in the history. That place
-/// is behind everything that the pass had seen at that moment, whatever objects it is about, and
-/// behind the entries that the pass made before this one; the entry has the reply of its object's
-/// step there. The history has no other entries than those of the passes, and as many as they made
-/// together. A pass that was unused at that moment made exactly its own part of the history.
+/// is behind everything that the pass had seen of any objects at that moment, and behind the
+/// entries that the pass made before this one. The entry has the reply of its object's step there.
+/// Each entry of the history is one that a pass made, and the history has as many entries as the
+/// passes made together. If a pass was unused at that moment, the entries that it made are all
+/// entries of its caller in the history.
 pub fn calls_make_one_history<O: Object>()
-    ensures placed { (starts : List O) (homes : List (Home O)) (k : ℕ) (passes : List (PassView (Indexed O.Cmd) O.Reply))
+    ensures placed { (starts : List O) (homes : List (Home O)) (k : ℕ)
+        (passes : List (PassView (Indexed O.Cmd) O.Reply))
         (reported : Settles O.step starts k passes homes)
         (es : List (Entry (Indexed O.Cmd) O.Reply)) (p q : PassView (Indexed O.Cmd) O.Reply) →
         Contains passes q → Makes es p q →
         Each (λ i e. StandsIn O.step starts reported.history p.seen (p.mine ++ take i es) e) es }
-    ensures one_place { (starts : List O) (h seen others mine : List (Entry (Indexed O.Cmd) O.Reply))
+    ensures one_place { (starts : List O)
+        (h seen others mine : List (Entry (Indexed O.Cmd) O.Reply))
         (e f : Entry (Indexed O.Cmd) O.Reply) → e.who ≡ f.who →
         (a : StandsIn O.step starts h seen mine e) → (b : StandsIn O.step starts h others mine f) →
         a.before ≡ b.before }
-    ensures no_others { (starts : List O) (homes : List (Home O)) (k : ℕ) (passes : List (PassView (Indexed O.Cmd) O.Reply))
+    ensures no_others { (starts : List O) (homes : List (Home O)) (k : ℕ)
+        (passes : List (PassView (Indexed O.Cmd) O.Reply))
         (reported : Settles O.step starts k passes homes) (e : Entry (Indexed O.Cmd) O.Reply) →
         Contains reported.history e →
         (p : PassView (Indexed O.Cmd) O.Reply) × Contains passes p × Contains p.mine e }
-    ensures as_many { (starts : List O) (homes : List (Home O)) (k : ℕ) (passes : List (PassView (Indexed O.Cmd) O.Reply))
+    ensures as_many { (starts : List O) (homes : List (Home O)) (k : ℕ)
+        (passes : List (PassView (Indexed O.Cmd) O.Reply))
         (reported : Settles O.step starts k passes homes) →
         length reported.history ≡ sum_by (λ p. length p.mine) passes }
-    ensures parts { (starts : List O) (homes : List (Home O)) (k : ℕ) (passes : List (PassView (Indexed O.Cmd) O.Reply))
+    ensures parts { (starts : List O) (homes : List (Home O)) (k : ℕ)
+        (passes : List (PassView (Indexed O.Cmd) O.Reply))
         (reported : Settles O.step starts k passes homes) (port : TableId) (who : ℕ)
         (es : List (Entry (Indexed O.Cmd) O.Reply)) (p q : PassView (Indexed O.Cmd) O.Reply) →
         IsUnused port who p → Makes es p q → Contains passes q → own who reported.history ≡ es }

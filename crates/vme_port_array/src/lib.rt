@@ -1,6 +1,6 @@
-//! An array of ports: several objects of one type that callers on any threads share, each through
-//! one pass. The calls of all objects make one history that only grows, in which the part of each
-//! object is legal. A pass knows the prefix of that history that it has seen.
+//! An array of ports: callers on any threads share several objects of one type, and each caller has
+//! one pass for all of them. The calls of all objects make one history that only grows, in which
+//! the part of each object is legal. A pass knows the prefix of that history that it has seen.
 #![tactic(auto)]
 
 mod calls;

@@ -1,4 +1,4 @@
-//! How an array was opened.
+//! What an array keeps of its opening, for its contracts.
 use std::snapshot::Snapshot;
 
 /// How an array was opened: with which objects, and for how many passes.

@@ -26,7 +26,13 @@ impl<O: Object> Model for Pass<O> {
 
     ghost Value = { PassView (Indexed O.Cmd) O.Reply };
 
-    ghost view = { λ p. record { port = p.seat.table_id; who = p.who; made = length (made_by p.seat.me.0.accounts); seen = seen_by p.seat.me.0.accounts; mine = made_by p.seat.me.0.accounts } };
+    ghost view = { λ p. record {
+      port = p.seat.table_id;
+      who = p.who;
+      made = length (made_by p.seat.me.0.accounts);
+      seen = seen_by p.seat.me.0.accounts;
+      mine = made_by p.seat.me.0.accounts;
+    } };
 
     ghost invariant = { λ p. IsAtRest p.seat.me p.who };
 }

@@ -16,13 +16,14 @@ use std::snapshot::Snapshot;
 use vme_object::Object;
 use vme_port::{FREE, Home, WANTED};
 
-/// The greatest number of passes of an array. This limit does not come from a backplane.
+/// The greatest number of passes of an array. A backplane has as many slots, but an array knows no
+/// slots, so this constant is separate.
 const MOST_PASSES: usize = 21;
 
 /// The greatest number of objects of an array, so that the index of a word can't overflow.
 const MOST_OBJECTS: usize = 64;
 
-/// Several objects that callers on any threads share, each through one pass.
+/// Several objects that callers on any threads share. Each caller has one pass for all of them.
 #[derive(Drop)]
 pub struct PortArray<O: Object> {
     pub(crate) table: Table<
@@ -66,7 +67,8 @@ impl<O: Object> PortArray<O> {
     ) -> Result<(PortArray<O>, Vec<Pass<O>>), ArrayFault>
     where
         O: Drop,
-        ensures bad_count { IsBadCount result ↔ (((count ≡ 0) ⊎ (21 < count)) ⊎ ((vec_len objects ≡ 0) ⊎ (64 < vec_len objects))) }
+        ensures bad_count { IsBadCount result ↔ (((count ≡ 0) ⊎ (21 < count))
+            ⊎ ((vec_len objects ≡ 0) ⊎ (64 < vec_len objects))) }
         ensures opening { IfOk result (λ r. opening r.0 ≡ objects.items) }
         ensures objects { IfOk result (λ r. objects_of r.0 ≡ vec_len objects) }
         ensures passes { IfOk result (λ r. passes_of r.0 ≡ count) }
@@ -104,8 +106,9 @@ impl<O: Object> PortArray<O> {
         self.objects
     }
 
-    /// Returns whether a call may be waiting, or be about to wait, for the object at an index.
-    /// Other threads may change this at any time, so no clause describes the result.
+    /// Returns whether the object at an index is marked as wanted: a pass holds it, and its put
+    /// wakes one call, if any waits. Other threads may change this at any time, so no clause
+    /// describes the result.
     pub fn is_wanted(&self, index: usize) -> bool
         requires { index < objects_of self.now }
     {
@@ -114,6 +117,9 @@ impl<O: Object> PortArray<O> {
 
     /// Opens the table of an array, and returns the array with one seat that stands for all its
     /// passes.
+    ///
+    /// # Errors
+    /// `AllocError` if an allocation fails. The objects are dropped.
     fn open(alloc: Global, objects: Vec<O>, passes: usize) -> Result<Opened<O>, AllocError>
     where
         O: Drop,
@@ -163,7 +169,7 @@ impl<O: Object> PortArray<O> {
         Pass { seat, who }
     }
 
-    /// Makes a pass for each account of the seat.
+    /// Pushes a pass for each account of the seat, in the order of their numbers.
     fn deal(
         &self,
         mut seat: Seat<Home<O>, ArrayView<Indexed<O::Cmd>, O::Reply>>,
@@ -184,8 +190,13 @@ impl<O: Object> PortArray<O> {
 }
 
 /// Returns the slot contents for objects whose histories are empty.
+///
+/// # Errors
+/// `AllocError` if the allocation fails. The objects are dropped.
 fn homes<O: Drop>(alloc: Global, objects: Vec<O>) -> Result<Vec<Home<O>>, AllocError>
-    ensures { IfOk result (λ homes. AllAt (λ i (o : O) (h : Home O). (h.object ≡ o) × (h.count ≡ 0)) objects.items homes.items) }
+    ensures { IfOk result (λ homes.
+        AllAt (λ i (o : O) (h : Home O). (h.object ≡ o) × (h.count ≡ 0)) objects.items
+        homes.items) }
 {
     let mut homes = Vec::with_capacity(alloc, objects.len())?;
     for object in objects {

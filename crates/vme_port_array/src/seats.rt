@@ -15,12 +15,12 @@ use std::marker::Brand;
 use vme_object::{Object, Operation, next_count};
 use vme_port::{FREE, Home, Taking, WANTED};
 
-/// The distance between the words of two neighbouring objects, so that they lie on different cache
-/// lines.
+/// The distance between the words of two neighbouring objects, in words of 8 bytes, so that they
+/// lie on different cache lines of 64 bytes.
 pub(crate) const STRIDE: usize = 8;
 
 impl<O: Object> PortArray<O> {
-    /// Takes the object at an index if it is in its slot, and returns whether it did.
+    /// Takes the object at an index if it is in its slot, and returns whether it took it.
     pub(crate) fn take<W: OpeningWitness<O>>(
         &self,
         seat: &mut Seat<Home<O>, ArrayView<Indexed<O::Cmd>, O::Reply>>,
@@ -51,7 +51,8 @@ impl<O: Object> PortArray<O> {
         requires array { seat.old.table_id ≡ array_id self.now }
         requires out { IsOut index seat.old.me }
         ensures array { seat.new.table_id ≡ seat.old.table_id }
-        ensures done { MatchOption result (IsFull index seat.old.me seat.new.me) (λ r. HasPerformed index O.step (A.command asked.now) r seat.old.me seat.new.me) }
+        ensures done { MatchOption result (IsFull index seat.old.me seat.new.me)
+            (λ r. HasPerformed index O.step (A.command asked.now) r seat.old.me seat.new.me) }
     {
         let home = seat.slot_mut(&self.table.shared, index);
         let Some(count) = next_count(home.count) else {
@@ -61,8 +62,8 @@ impl<O: Object> PortArray<O> {
         Some(asked.perform(&mut home.object))
     }
 
-    /// Puts the object back, with these entries appended to the history. If the object is marked as
-    /// wanted, it wakes one call that waits for the object.
+    /// Puts the object at an index back, with the entries `E.entries` appended to the history. If
+    /// the object is marked as wanted, it wakes one call that waits for the object.
     pub(crate) fn put_entries<W: OpeningWitness<O>, E: EntryWitness<O::Cmd, O::Reply>>(
         &self,
         seat: &mut Seat<Home<O>, ArrayView<Indexed<O::Cmd>, O::Reply>>,
@@ -112,8 +113,8 @@ impl<O: Object> PortArray<O> {
         self.put_entries::<W, Brand>(seat, index);
     }
 
-    /// Puts the object back with one entry. The entry is a parameter so that the proof of the call
-    /// can choose it.
+    /// Puts the object back with one entry. It uses `who`, `asked` and `reply` in its contract
+    /// alone, which names the entry by them.
     pub(crate) fn put_entry<
         A: Operation<O>,
         W: OpeningWitness<O>,
@@ -129,10 +130,14 @@ impl<O: Object> PortArray<O> {
         requires array { seat.old.table_id ≡ array_id self.now }
         requires index { index < objects_of self.now }
         requires opened { W.opened (opening self.now) (passes_of self.now) }
-        requires entry { E.entries ≡ entry who (indexed index (A.command asked.now)) reply.now ∷ [] }
-        requires out { MayPut O.step (opening self.now) index (entry who (indexed index (A.command asked.now)) reply.now ∷ []) seat.old.me }
+        requires entry { E.entries
+            ≡ entry who (indexed index (A.command asked.now)) reply.now ∷ [] }
+        requires out { MayPut O.step (opening self.now) index
+            (entry who (indexed index (A.command asked.now)) reply.now ∷ []) seat.old.me }
         ensures array { seat.new.table_id ≡ seat.old.table_id }
-        ensures reported { HasPut O.step W.opened index (entry who (indexed index (A.command asked.now)) reply.now ∷ []) seat.old.me seat.new.me }
+        ensures reported { HasPut O.step W.opened index
+            (entry who (indexed index (A.command asked.now)) reply.now ∷ []) seat.old.me
+            seat.new.me }
     {
         self.put_entries::<W, E>(seat, index);
     }

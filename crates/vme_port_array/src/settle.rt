@@ -1,4 +1,4 @@
-//! The end of an array: all its passes come together, and the array returns its objects.
+//! Closes an array with all its passes, and returns its objects.
 ghost use Rattle.std.specs.Prelude.{◌≡◌, ◌<◌, ◌≤◌, ◌∷◌, [], None, length, map, vec_len, vec_capacity, All, IfOk, IfErr};
 ghost use Rattle.vme_port.specs.Passes.{account_of};
 ghost use Rattle.vme_port_array.specs.Views.{view};
@@ -24,8 +24,8 @@ pub struct Unsettled<O: Object> {
 
 impl<O: Object> PortArray<O> {
     /// Closes the array with all its passes. It pushes the objects as the one history left them
-    /// onto `homes`, in the order of their indexes, each with the number of its entries. It
-    /// allocates nothing.
+    /// onto `homes`, in the order of their indexes, each with the number of its entries. `homes`
+    /// must be empty and have capacity for all objects, so that nothing is allocated.
     ///
     /// # Errors
     /// `Unsettled` if fewer passes are given than the array has. It holds the array and the passes,
@@ -34,7 +34,8 @@ impl<O: Object> PortArray<O> {
         requires array { All (IsPassOf self) passes.items }
         requires empty { vec_len homes.old ≡ 0 }
         requires capacity { objects_of self ≤ vec_capacity homes.old }
-        ensures settled { IfOk result (λ _. Settles O.step (opening self) (passes_of self) passes.items homes.new.items) }
+        ensures settled { IfOk result (λ _.
+            Settles O.step (opening self) (passes_of self) passes.items homes.new.items) }
         ensures not_all { IfErr result (λ u. vec_len passes < passes_of self) }
         ensures array { IfErr result (λ u. u.array ≡ self) }
         ensures passes { IfErr result (λ u. u.passes ≡ passes) }
@@ -73,7 +74,8 @@ impl<O: Object> PortArray<O> {
         joined
     }
 
-    /// Closes the array with a seat that stands for all its passes.
+    /// Closes the array with a seat that stands for all its passes, and pushes its objects onto
+    /// `homes`, in the order of their indexes.
     fn close(
         self,
         seat: Seat<Home<O>, ArrayView<Indexed<O::Cmd>, O::Reply>>,

@@ -1,4 +1,4 @@
--- The effect of a call on the bus, and that its reply is a good one.
+-- The effect of a call on the arbiter's state, and that its reply fits the call and is no denial.
 use Rattle.std.proofs.Common.{◌≡◌, ◌≢◌, ℕ, true, false, Bool, Option, Some, None, refl, sym, ◌∙◌}
 use Rattle.std.specs.Prelude.{slice_get}
 use Rattle.std.specs.Prelude.{◌&&◌}
@@ -25,13 +25,14 @@ use Rattle.vme_core.specs.Calls.{Call, OnBoard, OnBus, command_step, board_after
 use Rattle.vme_master.proofs.lemmas.Locals.{board_fits, turn_fits}
 use Rattle.vme_line_task.specs.Tenures.{IsGood}
 
--- a call on a board leaves the bus unchanged, and its reply is one of a board
+-- a call on a board leaves the arbiter unchanged, and its reply is one of a board and fits the call
 pub record BoardCalled (machine : Machine) (who x : ℕ) (command : Option Command) (after : Machine × EventReply) : Type 0 where
   pub bus : after.0.bus ≡ machine.bus
   pub reply : Reply
   pub replied : after.1 ≡ replies.Board reply
   pub good : IsGood (OnBoard x command) (replies.Board reply)
 
+-- a call on a board leaves the arbiter unchanged, whether a board is at that place or not
 by_found : (machine : Machine) (who x : ℕ) (command : Option Command) (found : Option (CountedState Board))
     → BoardCalled machine who x command (board_after machine who x command found)
 by_found machine who x command None =
@@ -43,18 +44,20 @@ by_found machine who x command (Some board) = record {
   good = record { fit = board_fits board.object x command; granted = λ same. absurd cc };
 }
 
+-- each call on a board leaves the arbiter unchanged
 pub board_called : (machine : Machine) (who x : ℕ) (command : Option Command)
     → BoardCalled machine who x command (machine_step machine who (OnBoard x command))
 board_called machine who x command = by_found machine who x command (slice_get machine.boards x)
 
--- a slot's command to the arbiter that follows its last reply is not denied, and the slot is in the state of its new
--- reply
+-- a slot's command to the arbiter is not denied, leads to an orderly state, and names the slot, whose state agrees with
+-- the new reply
 pub record BusCalled (bus : Arbitration) (slot : ℕ) (cmd : ArbCmd) : Type 0 where
   pub orderly : IsOrderly (arbiter_step bus cmd).0
   pub own : slot_of cmd ≡ slot
   pub stands : StandsAsReplied (arbiter_step bus cmd).0 slot (Some (arbiter_step bus cmd).1)
   pub good : IsGood (OnBus cmd) (replies.Bus (arbiter_step bus cmd).1)
 
+-- a reply that agrees with a slot's state is no denial
 never_denied : (bus : Arbitration) (slot : ℕ) (reply : ArbReply) → StandsAsReplied bus slot (Some reply)
     → replies.Bus reply ≢ replies.Bus arb_replies.Denied
 never_denied bus slot arb_replies.Denied stands = λ same. stands
@@ -62,6 +65,7 @@ never_denied bus slot arb_replies.Granted stands = λ same. absurd cc
 never_denied bus slot arb_replies.Waiting stands = λ same. absurd cc
 never_denied bus slot arb_replies.Freed stands = λ same. absurd cc
 
+-- a true conjunction has a true first part
 and_left : (a b : Bool) → (a && b) ≡ true → a ≡ true
 and_left true b both = refl
 and_left false b both = absurd cc
@@ -74,6 +78,7 @@ own_slot slot (Some arb_replies.Waiting) (arb_commands.Look s) may = eqb-true s 
 own_slot slot (Some arb_replies.Granted) (arb_commands.Done s) may = eqb-true s slot may
 own_slot slot last cmd may = absurd cc
 
+-- each command that a slot may give after its last reply is not denied
 pub bus_called : (bus : Arbitration) (slot : ℕ) (last : Option ArbReply) (cmd : ArbCmd) → IsOrderly bus → is_slot slot ≡ true
     → StandsAsReplied bus slot last → may_give slot last cmd ≡ true → BusCalled bus slot cmd
 bus_called bus slot last cmd orderly lawful stands may =
@@ -87,7 +92,8 @@ bus_called bus slot last cmd orderly lawful stands may =
 
 -- the reply to a call is not a denial
 pub call_granted : (machine : Machine) (who slot : ℕ) (last : Option ArbReply) (call : Call) → IsOrderly machine.bus.object
-    → is_slot slot ≡ true → StandsAsReplied machine.bus.object slot last → ((cmd : ArbCmd) → call ≡ OnBus cmd → may_give slot last cmd ≡ true)
+    → is_slot slot ≡ true → StandsAsReplied machine.bus.object slot last
+    → ((cmd : ArbCmd) → call ≡ OnBus cmd → may_give slot last cmd ≡ true)
     → (machine_step machine who call).1 ≢ replies.Bus arb_replies.Denied
 call_granted machine who slot last (OnBoard x command) orderly lawful stands may =
     let called = board_called machine who x command in

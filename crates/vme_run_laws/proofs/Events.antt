@@ -48,7 +48,6 @@ use Rattle.vme_shared.proofs.lemmas.Tenures.{shown_makes}
 use Rattle.vme_line_task.specs.Scripts.{Attempt, Transferring, Awaiting, Sharing, slot_at, level_at, mailbox_at, transfer_job, request_attempt, unless_refused, shared_job, line_attempt}
 use Rattle.vme_line_task.specs.Tables.{attempt_next, attempts_of, lawful_next, next_given}
 use Rattle.vme_line_task.proofs.lemmas.Below.{moves_makes, waits_makes, shares_makes}
-use Rattle.vme_shared.proofs.lemmas.Tenures.{shown_makes}
 use Rattle.vme_line_task.specs.Events.{IsCallBelow}
 use Rattle.vme_mailbox_laws.proofs.lemmas.OwnJobs.{OwnJob, own_job}
 
@@ -57,7 +56,7 @@ pub record HasEvent (call : Call) : Type 0 where
   pub event : Event
   pub is : call_of event ≡ call
 
--- the cycle of a datum at its place is the request's own command
+-- the command of a datum's bus cycle, at its place on the board, is the call of that datum
 datum_is : (job : BusJob) (place : ℕ × ℕ) (i at : ℕ) (signals : SignalLines) (f : Option Modify) → job.place ≡ Some place
     → at ≡ place.1 + i * datum_len job.transfer.request → signals ≡ signals_of job.transfer i
     → f ≡ function_of job.transfer.request → IsLawfulTransfer job.transfer → i < count_of job.transfer.request
@@ -69,8 +68,9 @@ datum_is job place i at signals f placed here shown function lawful less same =
     let own = own_command job.transfer i at lawful less aligned in
     rw (placed, shown, function) (ap (OnBoard place.0) own ∙ ap (λ n. OnBoard place.0 (Some (datum_command job.transfer.request i n))) here)
 
--- a datum of a lawful transfer, on a board whose range begins at a multiple of four
-data_event : (config : Configuration) → IsLawful config → (slot level : ℕ) (t : Transfer) → IsLawfulTransfer t → (g : Inputs) (x : ℕ)
+-- each call of a lawful transfer on a board is the call of a bus cycle
+data_event : (config : Configuration) → IsLawful config → (slot level : ℕ) (t : Transfer) → IsLawfulTransfer t
+    → (g : Inputs) (x : ℕ)
     (command : Option Command) → next_of (bus_job (entries_of config.boards) slot level t) g ≡ Invokes (OnBoard x command)
     → HasEvent (OnBoard x command)
 data_event config lawful slot level t whole g x command made =
@@ -86,15 +86,16 @@ data_event config lawful slot level t whole g x command made =
           ∙ ap (λ place. datum_call j place i) datum.placed ∙ ap (OnBoard x) (sym datum.own);
     }
 
--- a command to the local port
+-- each call of a command to the local port has an event
 local_event : (board : ℕ) (cmd : BoardCmd) (g : Inputs) (x : ℕ) (command : Option Command)
     → next_of (local_job board cmd) g ≡ Invokes (OnBoard x command) → HasEvent (OnBoard x command)
 local_event board cmd g x command made =
     let own : OnBoard x command ≡ OnBoard board (command_given cmd) = local_calls (record { board = board; cmd = cmd }) g (OnBoard x command) made in
     record { event = events.Board board cmd; is = sym own }
 
--- a call of a request
-lawful_event : (config : Configuration) → IsLawful config → (board : ℕ) (request : Request) (transfer : Result Transfer CycleFault)
+-- each call of a request on a board has an event
+lawful_event : (config : Configuration) → IsLawful config
+    → (board : ℕ) (request : Request) (transfer : Result Transfer CycleFault)
     (attempt : Transfer → Attempt) (given : Inputs) (x : ℕ) (command : Option Command) → transfer_of request ≡ transfer
     → ((t : Transfer) (g : Inputs) → attempt_next (attempt t) g ≡ Invokes (OnBoard x command)
     → next_of (transfer_job config board t) g ≡ Invokes (OnBoard x command))
@@ -104,7 +105,7 @@ lawful_event config lawful board request (Ok t) attempt given x command is makes
     let g = (attempts_of (attempt t) config.tries given).given in
     data_event config lawful (slot_at config board) (level_at config board) t (transfer_is_lawful request t is) g x command (makes t g made)
 
--- each call of a lock or a mailbox is a call of a stage's transfer
+-- a call is one of the transfer of a stage of a lock or a mailbox
 record IsOfStage (s : SharedJob) (call : Call) : Type 0 where
   stage : Stage
   job : Job
@@ -112,11 +113,13 @@ record IsOfStage (s : SharedJob) (call : Call) : Type 0 where
   own : stage_job s stage ≡ Ok job
   makes : next_of job given ≡ Invokes call
 
+-- each call of a lock or a mailbox is a call of a stage's transfer
 stage_calls : (s : SharedJob) (p : Progress) (call : Call) → OwnJob s p → next_at p ≡ Invokes call → IsOfStage s call
 stage_calls s (At stage job given) call own made =
     record { stage = stage; job = job; given = given; own = own; makes = shown_makes (next_of job given) call made }
 stage_calls s (Over end) call own made = absurd cc
 
+-- each call of a stage's transfer has an event
 stage_event : (config : Configuration) → IsLawful config → (board : ℕ) (request : SharedRequest) (cycle : Request)
     (transfer : Result Transfer CycleFault) (job : Job) (g : Inputs) (x : ℕ) (command : Option Command) → transfer_of cycle ≡ transfer
     → shared_transfer (shared_job config board request) transfer ≡ Ok job → next_of job g ≡ Invokes (OnBoard x command)
@@ -127,7 +130,9 @@ stage_event config lawful board request cycle (Ok t) job g x command is own made
     data_event config lawful (slot_at config board) (level_at config board) t (transfer_is_lawful cycle t is) g x command
     (subst (λ (one : Job). next_of one g ≡ Invokes (OnBoard x command)) same made)
 
-shared_event : (config : Configuration) → IsLawful config → (board : ℕ) (request : SharedRequest) (refusal : Option CycleFault) (given : Inputs)
+-- each call of a lock or a mailbox on a board has an event
+shared_event : (config : Configuration) → IsLawful config
+    → (board : ℕ) (request : SharedRequest) (refusal : Option CycleFault) (given : Inputs)
     (x : ℕ) (command : Option Command)
     → lawful_next config.tries (unless_refused (Sharing (shared_job config board request)) refusal) given ≡ Invokes (OnBoard x command)
     → HasEvent (OnBoard x command)
@@ -139,6 +144,7 @@ shared_event config lawful board request None given x command made =
     stage_event config lawful board request (stage_request request at.stage) (transfer_of (stage_request request at.stage)) at.job at.given x command
     refl at.own at.makes
 
+-- each call of a line's attempt has an event
 line_event : (config : Configuration) → IsLawful config → (board : ℕ) (line : Line) (given : Inputs) (call : Call)
     → lawful_next config.tries (line_attempt config board line) given ≡ Invokes call → HasEvent call
 line_event config lawful board line given (OnBus cmd) made = record { event = events.Bus cmd; is = refl }
@@ -163,13 +169,15 @@ line_event config lawful board (lines.Take box) given (OnBoard x command) made =
     let request = asked_shared.Take (mailbox_at config box) in
     shared_event config lawful board request (shared_refusal request) given x command made
 
+-- each call of a line has an event
 pub has_event : (config : Configuration) → IsLawful config → (board : ℕ) (line : Line) (given : Inputs) (call : Call)
     → next_given config board line given ≡ Invokes call → HasEvent call
 unfolding next_given
 has_event config lawful board line given call made = line_event config lawful board line given call made
 
--- the event of a call on an existing board
-pub event_there : (machine : Machine) (event : Event) (call : Call) → call_of event ≡ call → IsCallBelow (length machine.boards) call
+-- the target of an event exists if its call is to the arbiter or on an existing board
+pub event_there : (machine : Machine) (event : Event) (call : Call) → call_of event ≡ call
+    → IsCallBelow (length machine.boards) call
     → IsThere machine (target_of event)
 event_there machine (events.Board x cmd) call is below = subst (IsCallBelow (length machine.boards)) (sym is) below
 event_there machine (events.Bus cmd) call is below = tt

@@ -1,4 +1,4 @@
--- The table of lines never ends a line as unfinished.
+-- No line ends with the reply `Unfinished`.
 use Rattle.std.proofs.Common.{◌≡◌, ◌≢◌, ◌<◌, ℕ, Bool, true, false, if◌then◌else◌, List, [], ◌∷◌, length, slice_index_or, All, Result, Ok, Err, arith}
 use Rattle.std.specs.Str.{bytes_eq}
 use Rattle.std.proofs.lemmas.List.Elements.{All-nil, All-cons}
@@ -25,61 +25,66 @@ use Rattle.vme_threads.specs.OneOrder.{IsReportOfOneOrder}
 use Rattle.vme_sequential.proofs.lemmas.Lists.{element_at}
 use Rattle.vme_run_laws.specs.Finished.{AreFinished}
 
--- a transfer or a command
+-- a transfer or a local command does not end with `Unfinished`
 by_moves : (next : NextStep Outcome) (answer : LineReply) → moves_next next ≡ Returns answer → answer ≢ Unfinished
 by_moves NotStarted answer ends over = cc
 by_moves (Invokes call) answer ends over = cc
 by_moves (Returns outcome) answer ends over = cc
 
--- an awaited read, whether its bytes were found or not
+-- an awaited read that found its bytes, or not, does not end with `Unfinished`
 by_bytes : (found : Bool) (answer : LineReply) → Returns (if found then Met else Timeout) ≡ Returns answer → answer ≢ Unfinished
 by_bytes true answer ends over = cc
 by_bytes false answer ends over = cc
 
-by_waits : (want : List ℕ) (next : NextStep Outcome) (answer : LineReply) → waits_next want next ≡ Returns answer → answer ≢ Unfinished
+-- an awaited read does not end with `Unfinished`
+by_waits : (want : List ℕ) (next : NextStep Outcome) (answer : LineReply) → waits_next want next ≡ Returns answer
+    → answer ≢ Unfinished
 by_waits want NotStarted answer ends over = cc
 by_waits want (Invokes call) answer ends over = cc
 by_waits want (Returns (outcomes.Read bytes)) answer ends over = by_bytes (bytes_eq bytes.items want) answer ends over
 by_waits want (Returns outcome) answer ends over = cc
 
--- a lock or a mailbox
+-- a line of a lock or a mailbox does not end with `Unfinished`
 by_shares : (next : NextStep SharedOutcome) (answer : LineReply) → shares_next next ≡ Returns answer → answer ≢ Unfinished
 by_shares NotStarted answer ends over = cc
 by_shares (Invokes call) answer ends over = cc
 by_shares (Returns outcome) answer ends over = cc
 
+-- no attempt ends with `Unfinished`
 by_attempt : (a : Attempt) (given : Inputs) (answer : LineReply) → attempt_next a given ≡ Returns answer → answer ≢ Unfinished
 by_attempt (Transferring job) given answer ends over = by_moves (next_of job given) answer ends over
 by_attempt (Awaiting job want) given answer ends over = by_waits want (next_of job given) answer ends over
 by_attempt (Sharing s) given answer ends over = by_shares (shared_next s given) answer ends over
 
--- any attempt
-by_line : (tries : ℕ) (attempt : Result Attempt CycleFault) (given : Inputs) (answer : LineReply) → lawful_next tries attempt given ≡ Returns answer
+-- no line, rejected or attempted up to `tries` times, ends with `Unfinished`
+by_line : (tries : ℕ) (attempt : Result Attempt CycleFault) (given : Inputs) (answer : LineReply)
+    → lawful_next tries attempt given ≡ Returns answer
     → answer ≢ Unfinished
 by_line tries (Ok a) given answer ends over = by_attempt a (attempts_of a tries given).given answer ends over
 by_line tries (Err fault) given answer ends over = cc
 
--- any line, by the table
-by_table : (config : Configuration) (board : ℕ) (line : Line) (given : Inputs) (answer : LineReply) → next_given config board line given ≡ Returns answer
+-- no line of a script ends with `Unfinished`
+by_table : (config : Configuration) (board : ℕ) (line : Line) (given : Inputs) (answer : LineReply)
+    → next_given config board line given ≡ Returns answer
     → answer ≢ Unfinished
 unfolding next_given
 by_table config board line given answer ends over = by_line config.tries (line_attempt config board line) given answer ends over
 
--- all lines of a script
-script_state_finished : (config : Configuration) (board : ℕ) (ls : List Line) (run : List Transition) (answers : List LineReply)
+-- no reply of the trace of a script is `Unfinished`
+trace_finished : (config : Configuration) (board : ℕ) (ls : List Line) (run : List Transition) (answers : List LineReply)
     → IsTrace config board ls run answers → All (λ (answer : LineReply). answer ≢ Unfinished) answers
-script_state_finished config board [] run [] script_state = All-nil (λ (answer : LineReply). answer ≢ Unfinished)
-script_state_finished config board [] run (answer ∷ answers) script_state = absurd script_state
-script_state_finished config board (line ∷ ls) run [] script_state = absurd script_state
-script_state_finished config board (line ∷ ls) run (answer ∷ answers) script_state =
-    All-cons (λ (answer : LineReply). answer ≢ Unfinished) answer answers (by_table config board line _ answer script_state.3.ends)
-    (script_state_finished config board ls script_state.1 answers script_state.4)
+trace_finished config board [] run [] trace = All-nil (λ (answer : LineReply). answer ≢ Unfinished)
+trace_finished config board [] run (answer ∷ answers) trace = absurd trace
+trace_finished config board (line ∷ ls) run [] trace = absurd trace
+trace_finished config board (line ∷ ls) run (answer ∷ answers) trace =
+    All-cons (λ (answer : LineReply). answer ≢ Unfinished) answer answers (by_table config board line _ answer trace.3.ends)
+    (trace_finished config board ls trace.1 answers trace.4)
 
--- all lines of a report
+-- no line of a report is unfinished
 pub report_finished : (config : Configuration) (report : Report) → IsReportOfOneOrder config report
     → Each (λ who lines. AreFinished lines.items) report.lines.items
 report_finished config report is who d below =
     let there : who < length config.boards = omega (arith, below, is.trace.count) in
-    script_state_finished config who (lines_at config who) (transitions_of who is.run)
+    trace_finished config who (lines_at config who) (transitions_of who is.run)
     (answers_in (slice_index_or report.lines.items who d).items)
     (is.trace.each who (element_at config.boards who there).0 d there)

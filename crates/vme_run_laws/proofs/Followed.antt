@@ -27,16 +27,18 @@ use Rattle.vme_run_laws.proofs.Runs.{script_state_begun}
 abbrev pub AllFollow : Configuration → List Transition → SystemState → Type 0
 AllFollow config moves system = (b : ℕ) (c : ScriptState) → slice_get system.script_states b ≡ Some c → IsTracePrefix config b (transitions_of b moves) c
 
--- further turns make further transitions
-pub record Goes (config : Configuration) (before : List Transition) (calls : List (ℕ × Call)) (from to : SystemState) : Type 0 where
+-- the system advances from one state to another by transitions whose calls are these, after the transitions `before`
+pub record AdvancesBy (config : Configuration) (before : List Transition) (calls : List (ℕ × Call)) (from to : SystemState) : Type 0 where
   pub more : List Transition
   pub same : calls_in more ≡ calls
   pub did : IsRun more from.machine to.machine
   pub follow : AllFollow config (before ++ more) to
   pub count : length to.machine.boards ≡ length from.machine.boards
 
-goes_nowhere : (config : Configuration) (before : List Transition) (system : SystemState) → AllFollow config before system → Goes config before [] system system
-goes_nowhere config before system follow = record {
+-- without a call, the system stays in its state
+no_advance : (config : Configuration) (before : List Transition) (system : SystemState) → AllFollow config before system
+    → AdvancesBy config before [] system system
+no_advance config before system follow = record {
   more = [];
   same = refl;
   did = did_nil system.machine;
@@ -44,11 +46,12 @@ goes_nowhere config before system follow = record {
   count = refl;
 }
 
+-- the system advances by the turn of a board's processor
 by_script_state : (config : Configuration) (before : List Transition) (system : SystemState) (board : ℕ) (found : Option ScriptState) → IsLawful config
     → board < length config.boards → length system.machine.boards ≡ length config.boards → AllFollow config before system
     → slice_get system.script_states board ≡ found
-    → Goes config before (option_to_list (script_state_call config board found)) system (turn_in config system board found)
-by_script_state config before system board None lawful there count follow is = goes_nowhere config before system follow
+    → AdvancesBy config before (option_to_list (script_state_call config board found)) system (turn_in config system board found)
+by_script_state config before system board None lawful there count follow is = no_advance config before system follow
 by_script_state config before system board (Some c) lawful there count follow is =
     record { more = moved.more; same = moved.calls; did = moved.did; follow = each; count = moved.count }
   where
@@ -64,14 +67,16 @@ by_script_state config before system board (Some c) lawful there count follow is
         (ap (λ ms. transitions_of board before ++ ms) (sym moved.own) ∙ sym (filter-append (λ (m : Transition). m.who == board) before moved.more))
         moved.follows
 
-    other : (b : ℕ) (one : ScriptState) → b ≢ board → slice_get system.script_states b ≡ Some one → IsTracePrefix config b (transitions_of b (before ++ moved.more)) one
+    other : (b : ℕ) (one : ScriptState) → b ≢ board → slice_get system.script_states b ≡ Some one
+        → IsTracePrefix config b (transitions_of b (before ++ moved.more)) one
     other b one apart at =
         subst (λ (ms : List Transition). IsTracePrefix config b ms one)
         (sym (append-nil (transitions_of b before)) ∙ ap (λ ms. transitions_of b before ++ ms) (sym (moved.others b (λ same. apart (sym same))))
         ∙ sym (filter-append (λ (m : Transition). m.who == b) before moved.more))
         (follow b one at)
 
-    each : (b : ℕ) (one : ScriptState) → slice_get (slice_set system.script_states board next.1) b ≡ Some one → IsTracePrefix config b (transitions_of b (before ++ moved.more)) one
+    each : (b : ℕ) (one : ScriptState) → slice_get (slice_set system.script_states board next.1) b ≡ Some one
+        → IsTracePrefix config b (transitions_of b (before ++ moved.more)) one
     each b one at =
         elim (eqb_tells b board) [
           | inl same ↦
@@ -82,27 +87,31 @@ by_script_state config before system board (Some c) lawful there count follow is
           | inr apart ↦ other b one apart.1 (sym (set_other system.script_states board b next.1 (λ same. apart.1 (sym same))) ∙ at)
         ]
 
-by_place : (config : Configuration) (before : List Transition) (system : SystemState) (slot : ℕ) (place : Option ℕ) → IsLawful config
+-- the system advances by the turn of a slot, whether it has a board or not
+by_place : (config : Configuration) (before : List Transition) (system : SystemState) (slot : ℕ) (place : Option ℕ)
+    → IsLawful config
     → length system.machine.boards ≡ length config.boards → AllFollow config before system → board_in_slot config slot ≡ place
-    → Goes config before (option_to_list (place_call config system place)) system (turn_at config system place)
-by_place config before system slot None lawful count follow is = goes_nowhere config before system follow
+    → AdvancesBy config before (option_to_list (place_call config system place)) system (turn_at config system place)
+by_place config before system slot None lawful count follow is = no_advance config before system follow
 by_place config before system slot (Some board) lawful count follow is =
     by_script_state config before system board (slice_get system.script_states board) lawful (place_is config slot board is).there count follow refl
 
-turn_goes : (config : Configuration) (before : List Transition) (system : SystemState) (slot : ℕ) → IsLawful config
+-- the system advances by each turn
+turn_advances : (config : Configuration) (before : List Transition) (system : SystemState) (slot : ℕ) → IsLawful config
     → length system.machine.boards ≡ length config.boards → AllFollow config before system
-    → Goes config before (option_to_list (turn_call config system slot)) system (turn config system slot)
+    → AdvancesBy config before (option_to_list (turn_call config system slot)) system (turn config system slot)
 unfolding turn turn_call
-turn_goes config before system slot lawful count follow = by_place config before system slot (board_in_slot config slot) lawful count follow refl
+turn_advances config before system slot lawful count follow = by_place config before system slot (board_in_slot config slot) lawful count follow refl
 
-run_goes : (config : Configuration) (before : List Transition) (system : SystemState) (slots : List ℕ) → IsLawful config
+-- the system advances by turns, one after another
+run_advances : (config : Configuration) (before : List Transition) (system : SystemState) (slots : List ℕ) → IsLawful config
     → length system.machine.boards ≡ length config.boards → AllFollow config before system
-    → Goes config before (calls_from config system slots) system (run config system slots)
-run_goes config before system [] lawful count follow = goes_nowhere config before system follow
-run_goes config before system (slot ∷ slots) lawful count follow =
-    let one = turn_goes config before system slot lawful count follow in
+    → AdvancesBy config before (calls_from config system slots) system (run config system slots)
+run_advances config before system [] lawful count follow = no_advance config before system follow
+run_advances config before system (slot ∷ slots) lawful count follow =
+    let one = turn_advances config before system slot lawful count follow in
     let next = turn config system slot in
-    let then = run_goes config (before ++ one.more) next slots lawful (one.count ∙ count) one.follow in
+    let then = run_advances config (before ++ one.more) next slots lawful (one.count ∙ count) one.follow in
     record {
       more = one.more ++ then.more;
       same = map-append (λ (m : Transition). (m.who, call_of m.event)) one.more then.more
@@ -112,18 +121,20 @@ run_goes config before system (slot ∷ slots) lawful count follow =
       count = then.count ∙ one.count;
     }
 
--- the state before the first turn
+-- before the first turn, each processor has followed its script by no transition
 opening_follow : (config : Configuration) → AllFollow config [] (initial_state config)
 opening_follow config b c found = subst (IsTracePrefix config b []) (script_state_begun config.scripts b c found) (follows_nothing config b)
 
+-- before the first turn, the machine has the boards of the configuration
 opening_count : (config : Configuration) → length (initial_state config).machine.boards ≡ length config.boards
 opening_count config =
     length-map (map opening_memory config.boards) (fresh_count (length config.boards)) ∙ length-map config.boards opening_memory
 
+-- turns of a lawful configuration are a run of transitions
 pub are_run : (config : Configuration) (slots : List ℕ) → IsLawful config → (run : List Transition) × AreRun config slots run
 unfolding state_after
 are_run config slots lawful =
-    let all = run_goes config [] (initial_state config) slots lawful (opening_count config) (opening_follow config) in
+    let all = run_advances config [] (initial_state config) slots lawful (opening_count config) (opening_follow config) in
     let memories = map opening_memory config.boards in
     let after = run config (initial_state config) slots in (
       all.more,

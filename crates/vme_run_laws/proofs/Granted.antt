@@ -37,7 +37,8 @@ use Rattle.vme_run_laws.proofs.Runs.{AllStand, opening_stand, turn_stand, after_
 use Rattle.vme_run_laws.proofs.Orders.{AtTurn, Along, report_along}
 
 -- the reply of a turn's call is of its event's kind; one of the arbiter fits its command and is not a denial
-one_turned : (config : Configuration) (system : SystemState) (who : ℕ) (event : Event) (reply : EventReply) → IsLawful config → AllStand config system
+one_turned : (config : Configuration) (system : SystemState) (who : ℕ) (event : Event) (reply : EventReply) → IsLawful config
+    → AllStand config system
     → AtTurn config system (move who event reply) → IsTurned event reply
 one_turned config system who (events.Board x cmd) reply lawful stand at =
     subst (IsTurned (events.Board x cmd)) (sym (at.reply ∙ (board_called system.machine who x (command_given cmd)).replied)) tt
@@ -45,6 +46,7 @@ one_turned config system who (events.Bus cmd) reply lawful stand at =
     subst (IsTurned (events.Bus cmd)) (sym at.reply)
     (turn_fits system.machine.bus.object cmd, granted_is config system (slot_at config who) who (OnBus cmd) lawful stand at.call)
 
+-- all replies of the calls of turns satisfy `IsTurned`
 along_turned : (config : Configuration) (run : List Transition) (system : SystemState) → IsLawful config → AllStand config system
     → Along config system run → AllTurned run
 along_turned config [] system lawful stand along = tt
@@ -53,23 +55,28 @@ along_turned config (m ∷ run) system lawful stand along = (
   along_turned config run (turn config system (slot_at config m.who)) lawful (turn_stand config system (slot_at config m.who) lawful stand) along.1,
 )
 
--- so is each reply in a report
-pub run_turned : (config : Configuration) (report : Report) → IsLawful config → (is : IsReportOfOneOrder config report) → AllTurned is.run
+-- all replies in the order of a report satisfy `IsTurned`
+pub run_turned : (config : Configuration) (report : Report) → IsLawful config → (is : IsReportOfOneOrder config report)
+    → AllTurned is.run
 run_turned config report lawful is =
     along_turned config is.run (initial_state config) lawful (opening_stand config lawful) (report_along config report lawful is)
 
-abbrev Granted : Entry ArbCmd ArbReply → Type 0
-Granted e = e.reply ≢ arb_replies.Denied
+-- an entry of the arbiter whose reply is no denial
+abbrev IsNotDenied : Entry ArbCmd ArbReply → Type 0
+IsNotDenied e = e.reply ≢ arb_replies.Denied
 
-one_granted : (who : ℕ) (event : Event) (reply : EventReply) (run : List Transition) → IsTurned event reply → All Granted (bus_part run)
-    → All Granted (bus_part (move who event reply ∷ run))
+-- one more transition adds no denial to the part of the arbiter
+one_granted : (who : ℕ) (event : Event) (reply : EventReply) (run : List Transition) → IsTurned event reply
+    → All IsNotDenied (bus_part run)
+    → All IsNotDenied (bus_part (move who event reply ∷ run))
 one_granted who (events.Board x cmd) reply run turned rest = rest
 one_granted who (events.Bus cmd) (event_replies.Board reply) run turned rest = absurd turned
 one_granted who (events.Bus cmd) (event_replies.Bus reply) run turned rest =
-    All-cons Granted (entry who cmd reply) (bus_part run) (λ denied. turned.1 (ap (λ (r : ArbReply). event_replies.Bus r) denied)) rest
+    All-cons IsNotDenied (entry who cmd reply) (bus_part run) (λ denied. turned.1 (ap (λ (r : ArbReply). event_replies.Bus r) denied)) rest
 
-all_granted : (run : List Transition) → AllTurned run → All Granted (bus_part run)
-all_granted [] turned = All-nil Granted
+-- if all replies satisfy `IsTurned`, no reply of the arbiter is a denial
+all_granted : (run : List Transition) → AllTurned run → All IsNotDenied (bus_part run)
+all_granted [] turned = All-nil IsNotDenied
 all_granted (m ∷ run) turned = one_granted m.who m.event m.reply run turned.0 (all_granted run turned.1)
 
 -- the arbiter of a report denies no command

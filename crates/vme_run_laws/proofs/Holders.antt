@@ -43,7 +43,9 @@ abbrev NamesSlot : ℕ → Call → Type 0
 NamesSlot slot (OnBoard place command) = Unit {0}
 NamesSlot slot (OnBus cmd) = slot_of cmd ≡ slot
 
-line_names : (config : Configuration) (lawful : IsLawful config) (board : ℕ) → board < length config.boards → (bus : Arbitration) (line : Line)
+-- a line's command to the arbiter names the slot of the line's processor
+line_names : (config : Configuration) (lawful : IsLawful config) (board : ℕ) → board < length config.boards
+    → (bus : Arbitration) (line : Line)
     (replies : List EventReply) (call : Call) → IsOwnLine line → StandsAsReplied bus (slot_at config board) (line_arb_reply config board line replies)
     → line_next config board line replies ≡ Invokes call → NamesSlot (slot_at config board) call
 line_names config lawful board there bus line replies (OnBoard place command) own stands made = tt
@@ -52,7 +54,8 @@ line_names config lawful board there bus line replies (OnBus cmd) own stands mad
     (line_turns config board line replies cmd (lawful_level config board lawful there) made)
 
 -- a turn's command to the arbiter names the turn's slot
-names_slot : (config : Configuration) (system : SystemState) (slot board : ℕ) (call : Call) → IsLawful config → AllStand config system
+names_slot : (config : Configuration) (system : SystemState) (slot board : ℕ) (call : Call) → IsLawful config
+    → AllStand config system
     → turn_call config system slot ≡ Some (board, call) → NamesSlot slot call
 names_slot config system slot board call lawful stand is =
     let one = call_is config system slot board call is in
@@ -64,12 +67,13 @@ names_slot config system slot board call lawful stand is =
     (lines_left config board one.c) one.c.replies call (left_own config board one.c lawful at.there) stands.stands stands.opens one.first in
     subst (λ (s : ℕ). NamesSlot s call) at.own names
 
--- the holder stays the holder until it gives the bus back
+-- the holder stays the holder when a slot requests the bus
 asked : (holder : Option ℕ) (bus : Arbitration) (new : BusRequest) (slot : ℕ) → holder ≡ Some slot → bus.holder ≡ Some slot
     → (lawful_ask holder bus new).0.holder ≡ Some slot
 asked None bus new slot is held = absurd cc
 asked (Some other) bus new slot is held = held
 
+-- the holder stays the holder until it gives the bus back
 holder_stays : (bus : Arbitration) (cmd : ArbCmd) (slot : ℕ) → bus.holder ≡ Some slot → ((s : ℕ) → cmd ≡ Done s → s ≢ slot)
     → (arbiter_step bus cmd).0.holder ≡ Some slot
 holder_stays bus (Ask s level) slot held other =
@@ -92,9 +96,11 @@ same_who config a b lawful first second same =
       | inr apart ↦ absurd (slots_apart config a b lawful first second apart same)
     ]
 
--- a transition that moves data over the bus is its holder's
-over_bus : (config : Configuration) (system : SystemState) (who : ℕ) (event : Event) (reply : EventReply) → IsLawful config → AllStand config system
-    → AtTurn config system (move who event reply) → IsOverBus (call_of event) → system.machine.bus.object.holder ≡ Some (slot_at config who)
+-- a transition that moves data over the bus is made by the processor of the holder
+over_bus : (config : Configuration) (system : SystemState) (who : ℕ) (event : Event) (reply : EventReply) → IsLawful config
+    → AllStand config system
+    → AtTurn config system (move who event reply) → IsOverBus (call_of event)
+    → system.machine.bus.object.holder ≡ Some (slot_at config who)
 over_bus config system who (events.Board x cmd) reply lawful stand at over =
     elim (holder_is config system (slot_at config who) who x (command_given cmd) lawful stand at.call) [
       | inl local ↦ absurd (over local)
@@ -102,13 +108,14 @@ over_bus config system who (events.Board x cmd) reply lawful stand at over =
     ]
 over_bus config system who (events.Bus cmd) reply lawful stand at over = absurd over
 
--- it does not give the bus back
+-- a transition that moves data over the bus does not give the bus back
 no_release : (event : Event) → IsOverBus (call_of event) → IsRelease event → ⊥
 no_release (events.Board x cmd) over release = release
 no_release (events.Bus cmd) over release = over
 
--- a transition that does not give the bus back leaves its holder
-held_after : (config : Configuration) (system : SystemState) (who : ℕ) (event : Event) (reply : EventReply) (slot : ℕ) → IsLawful config
+-- after a transition that does not give the bus back for the holder, the holder is the same
+held_after : (config : Configuration) (system : SystemState) (who : ℕ) (event : Event) (reply : EventReply) (slot : ℕ)
+    → IsLawful config
     → AllStand config system → AtTurn config system (move who event reply) → system.machine.bus.object.holder ≡ Some slot
     → (slot_at config who ≡ slot → IsRelease event → ⊥)
     → (machine_step system.machine who (call_of event)).0.bus.object.holder ≡ Some slot
@@ -119,9 +126,11 @@ held_after config system who (events.Bus cmd) reply slot lawful stand at held ke
     holder_stays system.machine.bus.object cmd slot held
     (λ s done same. kept (sym names ∙ ap slot_of done ∙ same) (subst (λ (c : ArbCmd). IsRelease (events.Bus c)) (sym done) tt))
 
--- transitions of which none gives the bus back for its holder leave the holder
-held_along : (config : Configuration) (who : ℕ) (between rest : List Transition) (system : SystemState) → IsLawful config → who < length config.boards
-    → AllStand config system → Along config system (between ++ rest) → system.machine.bus.object.holder ≡ Some (slot_at config who)
+-- after transitions of which none gives the bus back for the holder, the holder is the same
+held_along : (config : Configuration) (who : ℕ) (between rest : List Transition) (system : SystemState) → IsLawful config
+    → who < length config.boards
+    → AllStand config system → Along config system (between ++ rest)
+    → system.machine.bus.object.holder ≡ Some (slot_at config who)
     → All (λ o. Releases who o → ⊥) between
     → (take_turns config system (slots_of config between)).machine.bus.object.holder ≡ Some (slot_at config who)
 held_along config who [] rest system lawful there stand along held kept = held
@@ -141,9 +150,10 @@ order_orderly config report is before after lawful whole =
     let place = place_in config report is before after lawful whole in
     subst (λ (w : Machine). IsOrderly w.bus.object) place.machine place.stand.orderly
 
--- each transition of a report that moves data over the bus is the holder's
+-- each transition of a report that moves data over the bus is made by the processor of the holder
 pub order_holder : (config : Configuration) (report : Report) (is : IsReportOfOneOrder config report) (before after : List Transition) (m : Transition)
-    → IsLawful config → is.run ≡ before ++ m ∷ after → MovesData m → (machine_after config before).bus.object.holder ≡ Some (slot_at config m.who)
+    → IsLawful config → is.run ≡ before ++ m ∷ after → MovesData m
+    → (machine_after config before).bus.object.holder ≡ Some (slot_at config m.who)
 order_holder config report is before after m lawful whole over =
     let place = place_in config report is before (m ∷ after) lawful whole in
     ap (λ (w : Machine). w.bus.object.holder) (sym place.machine)

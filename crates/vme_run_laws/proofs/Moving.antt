@@ -32,28 +32,34 @@ use Rattle.vme_run_laws.specs.Transitions.{calls_in}
 use Rattle.vme_run_laws.proofs.Places.{left_after}
 use Rattle.vme_run_laws.proofs.Events.{has_event, event_there}
 
--- the first remaining line stands in the script
-pub first_left : (n : ℕ) (lines : List Line) (line : Line) (rest : List Line) → drop n lines ≡ line ∷ rest → slice_get lines n ≡ Some line
+-- the first of the lines after the first n is the line at index n
+pub first_left : (n : ℕ) (lines : List Line) (line : Line) (rest : List Line) → drop n lines ≡ line ∷ rest
+    → slice_get lines n ≡ Some line
 first_left zero [] line rest left = absurd cc
 first_left zero (first ∷ lines) line rest left = cc
 first_left (suc n) [] line rest left = absurd cc
 first_left (suc n) (first ∷ lines) line rest left = first_left n lines line rest left
 
--- a call keeps the number of boards
+-- a call on a board keeps the number of boards
 board_count : (machine : Machine) (who x : ℕ) (command : Option Command) (found : Option (CountedState Board))
     → length (board_after machine who x command found).0.boards ≡ length machine.boards
 board_count machine who x command None = refl
 board_count machine who x command (Some board) = length-set machine.boards x _
 
-pub step_count : (machine : Machine) (who : ℕ) (call : Call) → length (machine_step machine who call).0.boards ≡ length machine.boards
+-- each call keeps the number of boards
+pub step_count : (machine : Machine) (who : ℕ) (call : Call)
+    → length (machine_step machine who call).0.boards ≡ length machine.boards
 step_count machine who (OnBoard x command) = board_count machine who x command (slice_get machine.boards x)
 step_count machine who (OnBus cmd) = refl
 
--- a transition of `who` is among its own, and not among those of another processor
-pub own_move : (who : ℕ) (event : Event) (reply : EventReply) → transitions_of who (move who event reply ∷ []) ≡ move who event reply ∷ []
+-- a transition of a processor is one of its own
+pub own_move : (who : ℕ) (event : Event) (reply : EventReply)
+    → transitions_of who (move who event reply ∷ []) ≡ move who event reply ∷ []
 own_move who event reply = let same : (who == who) ≡ true = eq-eqb who who refl in rw same refl
 
-pub other_move : (who other : ℕ) (event : Event) (reply : EventReply) → who ≢ other → transitions_of other (move who event reply ∷ []) ≡ []
+-- a transition of a processor is none of another processor
+pub other_move : (who other : ℕ) (event : Event) (reply : EventReply) → who ≢ other
+    → transitions_of other (move who event reply ∷ []) ≡ []
 other_move who other event reply apart =
     elim (eqb_tells who other) [ inl same ↦ absurd (apart same.1) | inr not_same ↦ let no : (who == other) ≡ false = not_same.0 in rw no refl ]
 
@@ -68,7 +74,7 @@ pub record Moved (config : Configuration) (board : ℕ) (machine : Machine) (min
   pub count : length after.0.boards ≡ length machine.boards
 
 module _ (config : Configuration) (lawful : IsLawful config) (board : ℕ) (there : board < length config.boards) where
-  -- a turn without a transition
+  -- a turn without a call makes no transition
   nothing_moved : (machine : Machine) (mine : List Transition) (c : ScriptState) → IsTracePrefix config board mine c
       → Moved config board machine mine None (machine, c)
   nothing_moved machine mine c follows = record {
@@ -81,16 +87,17 @@ module _ (config : Configuration) (lawful : IsLawful config) (board : ℕ) (ther
     count = refl;
   }
 
-  -- a line with these replies goes on or has ended
+  -- the processor has followed its script, whether the line with these replies has ended or not
   settled_follows : (mine : List Transition) (ended : List LineReply) (replies : List EventReply) (line : Line) (next : NextStep LineReply)
-      → slice_get (lines_at config board) (length ended) ≡ Some line → IsTracePrefix config board mine (script_state ended replies)
+      → slice_get (lines_at config board) (length ended) ≡ Some line
+      → IsTracePrefix config board mine (script_state ended replies)
       → line_next config board line replies ≡ next → IsTracePrefix config board mine (settled ended replies next)
   settled_follows mine ended replies line (Returns answer) found follows is =
       follows_answer config board mine (script_state ended replies) line answer follows found is
   settled_follows mine ended replies line (Invokes call) found follows is = follows
   settled_follows mine ended replies line NotStarted found follows is = follows
 
-  -- a turn with a call
+  -- a turn with a call makes the transition of that call
   call_moved : (machine : Machine) (mine : List Transition) (c : ScriptState) (line : Line) (call : Call)
       → slice_get (lines_at config board) (length c.ended) ≡ Some line → length machine.boards ≡ length config.boards
       → IsTracePrefix config board mine c → line_next config board line c.replies ≡ Invokes call
@@ -116,7 +123,7 @@ module _ (config : Configuration) (lawful : IsLawful config) (board : ℕ) (ther
         count = step_count machine board call;
       }
 
-  -- a turn with these remaining lines
+  -- a turn makes at most one transition, by the next step of the first remaining line
   by_next : (machine : Machine) (mine : List Transition) (c : ScriptState) (line : Line) (rest : List Line) (next : NextStep LineReply) (after : ScriptState → Machine × ScriptState)
       → lines_left config board c ≡ line ∷ rest → length machine.boards ≡ length config.boards → IsTracePrefix config board mine c
       → line_next config board line c.replies ≡ next
@@ -130,7 +137,9 @@ module _ (config : Configuration) (lawful : IsLawful config) (board : ℕ) (ther
       (follows_answer config board mine c line answer follows (first_left (length c.ended) (lines_at config board) line rest left) is)
   by_next machine mine c line rest NotStarted after left count follows is then = nothing_moved machine mine c follows
 
-  pub script_state_moved : (lines : List Line) (machine : Machine) (mine : List Transition) (c : ScriptState) → lines_left config board c ≡ lines
+  -- a turn of a processor with these remaining lines makes at most one transition
+  pub script_state_moved : (lines : List Line) (machine : Machine) (mine : List Transition) (c : ScriptState)
+      → lines_left config board c ≡ lines
       → length machine.boards ≡ length config.boards → IsTracePrefix config board mine c
       → Moved config board machine mine (first_call config board lines c.replies) (script_state_turn config board lines machine c)
   script_state_moved [] machine mine c left count follows = nothing_moved machine mine c follows

@@ -59,7 +59,9 @@ Along config system [] = Unit {0}
 Along config system (m ∷ run) = AtTurn config system m × Along config (turn config system (slot_at config m.who)) run
 
 module _ (config : Configuration) (lawful : IsLawful config) (reported : List (List LineReply)) where
-  call_there : (system : SystemState) (m : Transition) (moves : List Transition) → length reported ≡ length config.boards → m.who < length config.boards
+  -- the turn of the next transition's processor makes the call of that transition
+  call_there : (system : SystemState) (m : Transition) (moves : List Transition) → length reported ≡ length config.boards
+      → m.who < length config.boards
       → Ready config reported system (m ∷ moves) → turn_call config system (slot_at config m.who) ≡ Some (m.who, call_of m.event)
   unfolding turn_call
   call_there system m moves all there ready =
@@ -72,6 +74,7 @@ module _ (config : Configuration) (lawful : IsLawful config) (reported : List (L
       ∙ ap (λ (call : Option Call). option_map {U = ℕ × Call} (λ one. (b, one)) call)
       (first_leads config b (lines_left config b c.0) c.0.replies m (transitions_of b moves) can.more can.leads)
 
+  -- transitions that a machine performs are the calls of turns, one after another
   along : (moves : List Transition) (system : SystemState) (machine : Machine) → length reported ≡ length config.boards
       → All (λ m. m.who < length config.boards) moves → Performs system.machine moves machine → Ready config reported system moves
       → Along config system moves
@@ -93,8 +96,9 @@ report_along config report lawful is =
     let one = order config report lawful is in
     along config lawful replies is.run (initial_state config) end one.count one.known one.performed (begun config is.run replies end lawful one)
 
--- after the turns of the first transitions the others are the calls of turns
-pub dropped : (config : Configuration) (before rest : List Transition) (system : SystemState) → Along config system (before ++ rest)
+-- after the turns of the first transitions, the other transitions are the calls of turns
+pub dropped : (config : Configuration) (before rest : List Transition) (system : SystemState)
+    → Along config system (before ++ rest)
     → Along config (take_turns config system (slots_of config before)) rest
 dropped config [] rest system along = along
 dropped config (m ∷ before) rest system along = dropped config before rest (turn config system (slot_at config m.who)) along.1
@@ -118,6 +122,7 @@ pub record IsPlaceIn (config : Configuration) (before after : List Transition) (
   pub stand : AllStand config system
   pub machine : system.machine ≡ machine_after config before
 
+-- each prefix of a report's order leads to a place in it
 pub place_in : (config : Configuration) (report : Report) (is : IsReportOfOneOrder config report) (before after : List Transition) → IsLawful config
     → is.run ≡ before ++ after → IsPlaceIn config before after (take_turns config (initial_state config) (slots_of config before))
 place_in config report is before after lawful whole =

@@ -1,4 +1,4 @@
--- Places of boards, slots and lines in a lawful configuration.
+-- Facts about boards, slots and lines of a lawful configuration.
 use Rattle.std.proofs.Common.{◌≡◌, ◌≢◌, ℕ, zero, suc, ◌<◌, true, List, [], ◌∷◌, ◌++◌, length, map, drop, Some, None, refl, ap, sym, subst, ◌∙◌, inl, inr, arith}
 use Rattle.std.specs.Prelude.{slice_get, slice_set, slice_index_or, option_map, ◌==◌}
 use Rattle.std.proofs.lemmas.Bool.{eqb-true, and_from, le-leb, lt-ltb}
@@ -38,7 +38,9 @@ pub record HasBoard (config : Configuration) (board : ℕ) : Type 0 where
   pub slot : slot_at config board ≡ own.slot
   pub level : level_at config board ≡ own.level
 
-has_found : (config : Configuration) (board : ℕ) (own : BoardConfig) → slice_get config.boards board ≡ Some own → HasBoard config board
+-- a board that is found at a place has the slot and the level there
+has_found : (config : Configuration) (board : ℕ) (own : BoardConfig) → slice_get config.boards board ≡ Some own
+    → HasBoard config board
 has_found config board own found = record {
   own = own;
   found = found;
@@ -48,6 +50,7 @@ has_found config board own found = record {
       (slice_get-map (λ (one : BoardConfig). one.level) config.boards board ∙ ap (option_map (λ (one : BoardConfig). one.level)) found);
 }
 
+-- there is a board at each place below the number of boards
 pub has_board : (config : Configuration) (board : ℕ) → board < length config.boards → HasBoard config board
 has_board config board there =
     elim (slice_get_cases config.boards board).1 [
@@ -55,21 +58,25 @@ has_board config board there =
       | inr past ↦ absurd (omega (arith, past.0))
     ]
 
--- the slot and the level of a board are lawful
-pub lawful_slot : (config : Configuration) (board : ℕ) → IsLawful config → board < length config.boards → is_slot (slot_at config board) ≡ true
+-- the slot of a board is in range
+pub lawful_slot : (config : Configuration) (board : ℕ) → IsLawful config → board < length config.boards
+    → is_slot (slot_at config board) ≡ true
 lawful_slot config board lawful there =
     let has = has_board config board there in
     let own = lawful.boards board has.own has.found in
     subst (λ (s : ℕ). is_slot s ≡ true) (sym has.slot) (and_from _ _ (le-leb 1 has.own.slot own.first_slot) (le-leb has.own.slot 21 own.last_slot))
 
-pub lawful_level : (config : Configuration) (board : ℕ) → IsLawful config → board < length config.boards → is_level (level_at config board) ≡ true
+-- the request level of a board is in range
+pub lawful_level : (config : Configuration) (board : ℕ) → IsLawful config → board < length config.boards
+    → is_level (level_at config board) ≡ true
 lawful_level config board lawful there =
     let has = has_board config board there in
     let own = lawful.boards board has.own has.found in
     subst (λ (l : ℕ). is_level l ≡ true) (sym has.level) (lt-ltb has.own.level 4 (omega (arith, own.level)))
 
 -- no two boards are in one slot
-pub slots_apart : (config : Configuration) (a b : ℕ) → IsLawful config → a < length config.boards → b < length config.boards → a ≢ b
+pub slots_apart : (config : Configuration) (a b : ℕ) → IsLawful config → a < length config.boards → b < length config.boards
+    → a ≢ b
     → slot_at config a ≢ slot_at config b
 slots_apart config a b lawful first second apart = λ same.
     let one = has_board config a first in
@@ -81,6 +88,7 @@ pub record IsPlace (config : Configuration) (slot board : ℕ) : Type 0 where
   pub there : board < length config.boards
   pub own : slot_at config board ≡ slot
 
+-- the board that is found in a slot is in this slot
 pub place_is : (config : Configuration) (slot board : ℕ) → board_in_slot config slot ≡ Some board → IsPlace config slot board
 place_is config slot board placed = by_boards config.boards refl
   where
@@ -97,16 +105,19 @@ abbrev pub AllOwn : List Line → Type 0
 AllOwn [] = Unit {0}
 AllOwn (line ∷ lines) = IsOwnLine line × AllOwn lines
 
+-- if each line of a script is one that a script can have, so are all its lines
 script_own : (script : List ScriptLine) → ((j : ℕ) (line : ScriptLine) → slice_get script j ≡ Some line → IsOwnLine line.line)
     → AllOwn (map (λ one. one.line) script)
 script_own [] each = tt
 script_own (first ∷ script) each = (each 0 first refl, script_own script (λ j line found. each (suc j) line found))
 
+-- if all lines are lines that a script can have, so are those after the first n
 drop_own : (n : ℕ) (lines : List Line) → AllOwn lines → AllOwn (drop n lines)
 drop_own zero lines own = own
 drop_own (suc n) [] own = tt
 drop_own (suc n) (line ∷ lines) own = drop_own n lines own.1
 
+-- the remaining lines of a processor are lines that a script can have
 pub left_own : (config : Configuration) (board : ℕ) (c : ScriptState) → IsLawful config → board < length config.boards
     → AllOwn (lines_left config board c)
 left_own config board c lawful there =
@@ -115,9 +126,10 @@ left_own config board c lawful there =
     drop_own (length c.ended) (lines_at config board)
     (script_own (script_at config board) (λ j line at. lawful.own board j (script_at config board) line found at))
 
--- the lines after the next one
+-- when the first remaining line ends, the remaining lines are the others
 pub left_after : (config : Configuration) (board : ℕ) (ended : List LineReply) (answer : LineReply) (line : Line) (lines : List Line)
-    → drop (length ended) (lines_at config board) ≡ line ∷ lines → drop (length (ended ++ answer ∷ [])) (lines_at config board) ≡ lines
+    → drop (length ended) (lines_at config board) ≡ line ∷ lines
+    → drop (length (ended ++ answer ∷ [])) (lines_at config board) ≡ lines
 left_after config board ended answer line lines left =
     ap (λ n. drop n (lines_at config board)) (length_push ended answer) ∙ sym (drop-drop 1 (length ended) (lines_at config board))
     ∙ ap (λ ls. drop 1 ls) left

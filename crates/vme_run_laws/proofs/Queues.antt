@@ -23,12 +23,13 @@ use Rattle.vme_threads.specs.declared.report.Report.{Report}
 use Rattle.vme_threads.specs.Rans.{answers_in}
 use Rattle.vme_threads.specs.OneOrder.{IsReportOfOneOrder}
 use Rattle.vme_sequential.proofs.lemmas.Lists.{element_at}
-use Rattle.vme_run_laws.proofs.Shared.{own_runs, share, new_there, replies_in_report, reported_each}
+use Rattle.vme_run_laws.proofs.Shared.{own_runs, share, new_mailbox, replies_in_report, reported_each}
 
--- a history is proper for a mailbox, which is a queue there, and its words are those that the report's lines show
+-- a history is proper for a mailbox: there the mailbox is a queue, and each processor's words are those that the
+-- report's lines show
 pub record IsQueue (config : Configuration) (report : Report) (box : ℕ) (m : BoardMailbox) (h : List (Entry BoardCmd Reply))
     : Type 0 where
-  pub goes : IsProper m h
+  pub is_proper : IsProper m h
   pub order : IsPrefix (words_taken m h) (words_put m h)
   pub capacity : length (words_put m h) ≤ length (words_taken m h) + m.slots
   pub put :
@@ -38,6 +39,7 @@ pub record IsQueue (config : Configuration) (report : Report) (box : ℕ) (m : B
       Each (λ who lines. own_words_taken who m h ≡ lines_taken box (lines_at config who) (answers_in lines.items))
       report.lines.items
 
+-- if only the lines that name a mailbox touch its bytes, it is a queue in the history of its board
 pub queue : (config : Configuration) (report : Report) (lawful : IsLawful config) (is : IsReportOfOneOrder config report)
     (box board : ℕ) (m : BoardMailbox) (own : BoardConfig) → board < length config.boards
     → IsMailboxOf config box board m → LiesIn (opening_memory (slice_index_or config.boards board own)) m
@@ -49,12 +51,12 @@ queue config report lawful is box board m own below mailbox lies =
     let runs = own_runs config report lawful is in
     let end = element_at report.boards.items board (omega (arith, below, is.boards.count)) in
     let legal : IsLegal board_step memory h = (is.boards.each board own end.0 below).leads.legal in
-    let new = new_there there m lies in
+    let new = new_mailbox there m lies in
     let shared = share config report lawful is board in
-    let goes = proper config box board m memory h runs (replies_in_report report) mailbox new legal shared in
-    let fifo = is_queue memory m h new legal goes in
+    let is_proper = proper config box board m memory h runs (replies_in_report report) mailbox new legal shared in
+    let fifo = is_queue memory m h new legal is_proper in
     record {
-      goes = goes;
+      is_proper = is_proper;
       order = fifo.order;
       capacity = fifo.capacity;
       put = reported_each report (λ who reported. own_words_put who m h ≡ lines_put box (lines_at config who) reported)

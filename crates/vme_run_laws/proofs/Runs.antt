@@ -25,19 +25,24 @@ use Rattle.vme_run_laws.proofs.Places.{set_same, set_other, slots_apart, place_i
 use Rattle.vme_run_laws.proofs.Standing.{ScriptStands, rests_standing}
 use Rattle.vme_run_laws.proofs.Turned.{Stays, script_state_stays, first_is, HoldsFor, call_holds, replied_granted, machine_called, script_state_made}
 
--- the state of each processor's slot agrees with the replies to the processor
+-- the arbiter's state is orderly, and the state of each processor's slot agrees with the replies to the processor
 pub record AllStand (config : Configuration) (system : SystemState) : Type 0 where
   pub orderly : IsOrderly system.machine.bus.object
   pub count : length system.script_states ≡ length config.boards
-  pub each : (b : ℕ) (c : ScriptState) → slice_get system.script_states b ≡ Some c → ScriptStands config system.machine.bus.object b c
+  pub each : (b : ℕ) (c : ScriptState) → slice_get system.script_states b ≡ Some c
+      → ScriptStands config system.machine.bus.object b c
 
-within : (config : Configuration) (system : SystemState) (b : ℕ) (c : ScriptState) → AllStand config system → slice_get system.script_states b ≡ Some c
+-- each script state is the state of a board's processor
+within : (config : Configuration) (system : SystemState) (b : ℕ) (c : ScriptState) → AllStand config system
+    → slice_get system.script_states b ≡ Some c
     → b < length config.boards
 within config system b c stand found = subst (λ (n : ℕ). b < n) stand.count (slice_get_within system.script_states b c found)
 
--- a turn keeps that agreement
-by_script_state : (config : Configuration) (system : SystemState) (board : ℕ) (found : Option ScriptState) → IsLawful config → AllStand config system
-    → board < length config.boards → slice_get system.script_states board ≡ found → AllStand config (turn_in config system board found)
+-- a turn of a board's processor keeps `AllStand`
+by_script_state : (config : Configuration) (system : SystemState) (board : ℕ) (found : Option ScriptState) → IsLawful config
+    → AllStand config system
+    → board < length config.boards → slice_get system.script_states board ≡ found
+    → AllStand config (turn_in config system board found)
 by_script_state config system board None lawful stand there is = stand
 by_script_state config system board (Some c) lawful stand there is = record {
   orderly = stays.orderly;
@@ -51,7 +56,8 @@ by_script_state config system board (Some c) lawful stand there is = record {
     stays : Stays config board system.machine.bus.object next
     stays = script_state_stays config lawful board there (lines_left config board c) system.machine c refl stand.orderly (stand.each board c is)
 
-    other : (b : ℕ) (one : ScriptState) → b ≢ board → slice_get system.script_states b ≡ Some one → ScriptStands config next.0.bus.object b one
+    other : (b : ℕ) (one : ScriptState) → b ≢ board → slice_get system.script_states b ≡ Some one
+        → ScriptStands config next.0.bus.object b one
     other b one apart at =
         let was = stand.each b one at in
         record {
@@ -61,7 +67,8 @@ by_script_state config system board (Some c) lawful stand there is = record {
           granted = was.granted;
         }
 
-    each : (b : ℕ) (one : ScriptState) → slice_get (slice_set system.script_states board next.1) b ≡ Some one → ScriptStands config next.0.bus.object b one
+    each : (b : ℕ) (one : ScriptState) → slice_get (slice_set system.script_states board next.1) b ≡ Some one
+        → ScriptStands config next.0.bus.object b one
     each b one at =
         elim (eqb_tells b board) [
           | inl same ↦
@@ -72,32 +79,39 @@ by_script_state config system board (Some c) lawful stand there is = record {
           | inr apart ↦ other b one apart.1 (sym (set_other system.script_states board b next.1 (λ same. apart.1 (sym same))) ∙ at)
         ]
 
-by_place : (config : Configuration) (system : SystemState) (slot : ℕ) (place : Option ℕ) → IsLawful config → AllStand config system
+-- a turn of a slot keeps `AllStand`, whether the slot has a board or not
+by_place : (config : Configuration) (system : SystemState) (slot : ℕ) (place : Option ℕ) → IsLawful config
+    → AllStand config system
     → board_in_slot config slot ≡ place → AllStand config (turn_at config system place)
 by_place config system slot None lawful stand is = stand
 by_place config system slot (Some board) lawful stand is =
     by_script_state config system board (slice_get system.script_states board) lawful stand (place_is config slot board is).there refl
 
+-- each turn keeps `AllStand`
 pub turn_stand : (config : Configuration) (system : SystemState) (slot : ℕ) → IsLawful config → AllStand config system
     → AllStand config (turn config system slot)
 unfolding turn
 turn_stand config system slot lawful stand = by_place config system slot (board_in_slot config slot) lawful stand refl
 
+-- turns keep `AllStand`
 pub run_stand : (config : Configuration) (system : SystemState) (slots : List ℕ) → IsLawful config → AllStand config system
     → AllStand config (run config system slots)
 run_stand config system [] lawful stand = stand
 run_stand config system (slot ∷ slots) lawful stand =
     run_stand config (turn config system slot) slots lawful (turn_stand config system slot lawful stand)
 
--- the state before the first turn
-pub script_state_begun : (scripts : List (List ScriptLine)) (b : ℕ) (c : ScriptState) → slice_get (map (λ script. script_state [] []) scripts) b ≡ Some c
+-- before the first turn, each script state has no ended line and no reply
+pub script_state_begun : (scripts : List (List ScriptLine)) (b : ℕ) (c : ScriptState)
+    → slice_get (map (λ script. script_state [] []) scripts) b ≡ Some c
     → script_state [] [] ≡ c
 script_state_begun scripts b c found = by_script (slice_get scripts b) (sym (slice_get-map (λ (script : List ScriptLine). script_state [] []) scripts b) ∙ found)
   where
-    by_script : (script : Option (List ScriptLine)) → option_map (λ (one : List ScriptLine). script_state [] []) script ≡ Some c → script_state [] [] ≡ c
+    by_script : (script : Option (List ScriptLine)) → option_map (λ (one : List ScriptLine). script_state [] []) script ≡ Some c
+        → script_state [] [] ≡ c
     by_script None is = absurd cc
     by_script (Some script) is = cc
 
+-- `AllStand` holds before the first turn
 pub opening_stand : (config : Configuration) → IsLawful config → AllStand config (initial_state config)
 opening_stand config lawful = record {
   orderly = orderly-opening config.arbiter;
@@ -106,6 +120,7 @@ opening_stand config lawful = record {
       (rests_standing config (opening_bus config.arbiter) b [] (refl, refl) (λ k d less. absurd (omega (arith, less))));
 }
 
+-- `AllStand` holds after any turns
 pub after_stand : (config : Configuration) (slots : List ℕ) → IsLawful config → AllStand config (state_after config slots)
 unfolding state_after
 after_stand config slots lawful = run_stand config (initial_state config) slots lawful (opening_stand config lawful)
@@ -117,32 +132,41 @@ pub record IsCallOf (config : Configuration) (system : SystemState) (slot board 
   pub found : slice_get system.script_states board ≡ Some c
   pub first : first_call config board (lines_left config board c) c.replies ≡ Some call
 
+-- the pair of a place and a call determines both
 same_call : (b board : ℕ) (first : Option Call) (call : Call) → option_map {U = ℕ × Call} (λ one. (b, one)) first ≡ Some (board, call)
     → (b ≡ board) × (first ≡ Some call)
 same_call b board None call is = absurd cc
 same_call b board (Some one) call is =
     (ap (λ (o : Option (ℕ × Call)). option_map_or (λ p. p.0) o 0) is, ap (λ (o : Option (ℕ × Call)). option_map (λ p. p.1) o) is)
 
-call_by : (config : Configuration) (system : SystemState) (slot b board : ℕ) (call : Call) (found : Option ScriptState) → board_in_slot config slot ≡ Some b
-    → slice_get system.script_states b ≡ found → script_state_call config b found ≡ Some (board, call) → IsCallOf config system slot board call
+-- the call of the processor of a board
+call_by : (config : Configuration) (system : SystemState) (slot b board : ℕ) (call : Call) (found : Option ScriptState)
+    → board_in_slot config slot ≡ Some b
+    → slice_get system.script_states b ≡ found → script_state_call config b found ≡ Some (board, call)
+    → IsCallOf config system slot board call
 call_by config system slot b board call None placed at is = absurd cc
 call_by config system slot b board call (Some c) placed at is =
     let same = same_call b board (first_call config b (lines_left config b c) c.replies) call is in
     subst (λ (p : ℕ). IsCallOf config system slot p call) same.0 (record { place = placed; c = c; found = at; first = same.1 })
 
-call_at : (config : Configuration) (system : SystemState) (slot board : ℕ) (call : Call) (place : Option ℕ) → board_in_slot config slot ≡ place
+-- the call of the processor at a place
+call_at : (config : Configuration) (system : SystemState) (slot board : ℕ) (call : Call) (place : Option ℕ)
+    → board_in_slot config slot ≡ place
     → place_call config system place ≡ Some (board, call) → IsCallOf config system slot board call
 call_at config system slot board call None placed is = absurd cc
 call_at config system slot board call (Some b) placed is =
     call_by config system slot b board call (slice_get system.script_states b) placed refl is
 
-pub call_is : (config : Configuration) (system : SystemState) (slot board : ℕ) (call : Call) → turn_call config system slot ≡ Some (board, call)
+-- the call of a turn is that of its slot's processor
+pub call_is : (config : Configuration) (system : SystemState) (slot board : ℕ) (call : Call)
+    → turn_call config system slot ≡ Some (board, call)
     → IsCallOf config system slot board call
 unfolding turn_call
 call_is config system slot board call is = call_at config system slot board call (board_in_slot config slot) refl is
 
--- for data over the bus, the slot of the call holds the bus
-pub holder_is : (config : Configuration) (system : SystemState) (slot board place : ℕ) (command : Option Command) → IsLawful config
+-- a call on a board is one of the local port, or the slot of the turn holds the bus
+pub holder_is : (config : Configuration) (system : SystemState) (slot board place : ℕ) (command : Option Command)
+    → IsLawful config
     → AllStand config system → turn_call config system slot ≡ Some (board, OnBoard place command)
     → IsLocal command ⊎ (system.machine.bus.object.holder ≡ Some slot)
 holder_is config system slot board place command lawful stand is =
@@ -156,9 +180,11 @@ holder_is config system slot board place command lawful stand is =
     one.first in
     subst (λ (s : ℕ). IsLocal command ⊎ (bus.holder ≡ Some s)) at.own holds
 
--- the reply to the call is not a denial
-pub granted_is : (config : Configuration) (system : SystemState) (slot board : ℕ) (call : Call) → IsLawful config → AllStand config system
-    → turn_call config system slot ≡ Some (board, call) → (machine_step system.machine board call).1 ≢ replies.Bus arb_replies.Denied
+-- the reply to the call of a turn is no denial
+pub granted_is : (config : Configuration) (system : SystemState) (slot board : ℕ) (call : Call) → IsLawful config
+    → AllStand config system
+    → turn_call config system slot ≡ Some (board, call)
+    → (machine_step system.machine board call).1 ≢ replies.Bus arb_replies.Denied
 granted_is config system slot board call lawful stand is =
     let one = call_is config system slot board call is in
     let at = place_is config slot board one.place in
@@ -167,17 +193,19 @@ granted_is config system slot board call lawful stand is =
     (replied_granted config lawful board at.there system.machine stand.orderly) (lines_left config board one.c) one.c.replies call
     (left_own config board one.c lawful at.there) stands.stands stands.opens one.first
 
--- a turn changes the machine as its call does
+-- a turn of a board's processor changes the machine as its call does
 made_by : (config : Configuration) (system : SystemState) (board : ℕ) (found : Option ScriptState)
     → (turn_in config system board found).machine ≡ machine_called system.machine (script_state_call config board found)
 made_by config system board None = refl
 made_by config system board (Some c) = script_state_made config board (lines_left config board c) system.machine c
 
+-- a turn changes the machine as its call does, whether its slot has a board or not
 made_at : (config : Configuration) (system : SystemState) (place : Option ℕ)
     → (turn_at config system place).machine ≡ machine_called system.machine (place_call config system place)
 made_at config system None = refl
 made_at config system (Some board) = made_by config system board (slice_get system.script_states board)
 
+-- each turn changes the machine as its call does, or not at all
 pub turn_made : (config : Configuration) (system : SystemState) (slot : ℕ)
     → (turn config system slot).machine ≡ machine_called system.machine (turn_call config system slot)
 unfolding turn turn_call

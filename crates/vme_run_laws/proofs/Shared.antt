@@ -30,7 +30,7 @@ use Rattle.vme_sequential.proofs.lemmas.Histories.{known_of}
 use Rattle.vme_sequential.proofs.lemmas.Reports.{order}
 use Rattle.vme_run_laws.proofs.Granted.{run_turned}
 
--- what holds of all transitions of a run holds of those of one processor
+-- if all replies of a run satisfy `IsTurned`, so do those of one processor's transitions
 turned_own : (who : ℕ) (run : List Transition) → AllTurned run → AllTurned (transitions_of who run)
 turned_own who [] turned = tt
 turned_own who (m ∷ run) turned = elim (cases_eq m.who who) [
@@ -38,15 +38,16 @@ turned_own who (m ∷ run) turned = elim (cases_eq m.who who) [
   | inr other ↦ rw (ne_eqb m.who who other) (turned_own who run turned.1)
 ]
 
--- the replies to a report's lines
+-- the replies to a report's lines, by processor
 abbrev pub replies_in_report : Report → List (List LineReply)
 replies_in_report report = map (λ lines. answers_in lines.items) report.lines.items
 
 module _ (config : Configuration) (report : Report) (lawful : IsLawful config) (is : IsReportOfOneOrder config report) where
-  -- the transitions of each processor
+  -- the transitions of each processor in the report's order
   abbrev pub own_runs : List (List Transition)
   own_runs = values (λ who. transitions_of who is.run) 0 (length config.boards)
 
+  -- the processors share the history of each board
   pub share : (board : ℕ) → ShareHistory config board (board_part board is.run) own_runs (replies_in_report report)
   share board =
       let k : ℕ = length config.boards in
@@ -64,11 +65,12 @@ module _ (config : Configuration) (report : Report) (lawful : IsLawful config) (
         turned = each_value (λ who run. AllTurned run) (λ who. transitions_of who is.run) k (λ who less. turned_own who is.run (run_turned config report lawful is));
       }
 
--- a board of zeros has its size
+-- the zero memory of a board has the board's size
 zeros_len : (size : ℕ) → length (zeros size) ≡ size
 unfolding zeros
 zeros_len size = length-replicate size 0
 
+-- any range of a zero memory is zero
 zeros_at : (size at len : ℕ) → at + len ≤ size → slice_range (zeros size) at (at + len) ≡ zeros len
 unfolding zeros
 zeros_at size at len within =
@@ -76,12 +78,14 @@ zeros_at size at len within =
     ap (λ n. take n (drop at (replicate size 0))) count ∙ ap (take len) (drop-replicate at size 0)
     ∙ take-replicate len (size - at) 0 (omega arith)
 
-pub new_there : (there : BoardConfig) (m : BoardMailbox) → LiesIn (opening_memory there) m → IsNewMailbox (opening_memory there) m
-new_there there m lies =
+-- a mailbox in the zero memory of a board is new
+pub new_mailbox : (there : BoardConfig) (m : BoardMailbox) → LiesIn (opening_memory there) m
+    → IsNewMailbox (opening_memory there) m
+new_mailbox there m lies =
     let inside : end_of m ≤ there.entry.size = subst (λ n. end_of m ≤ n) (zeros_len there.entry.size) lies.within in
     record { lies = lies; zero = zeros_at there.entry.size m.offset (mailbox_len m.slots) inside }
 
--- the replies to one processor's lines
+-- what holds for each processor's replies holds for the replies in each processor's lines of the report
 pub reported_each : (report : Report) (P : ℕ → List LineReply → Type 0) → Each P (replies_in_report report)
     → Each (λ who lines. P who (answers_in lines.items)) report.lines.items
 reported_each report P each who d below =

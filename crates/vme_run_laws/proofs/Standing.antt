@@ -18,52 +18,57 @@ use Rattle.vme_line_task.specs.Tenures.{line_arb_reply, IsGood, IsGranted}
 use Rattle.vme_line_task.proofs.lemmas.Kept.{line_begins, line_ends}
 use Rattle.vme_stepper.specs.Turns.{script_state, settled, lines_left}
 
--- the last reply of the arbiter in the next line
+-- the arbiter's last reply to the next line, if there was one
 abbrev pub arb_reply_left : Configuration → ℕ → List Line → List EventReply → Option ArbReply
 arb_reply_left config board [] replies = None
 arb_reply_left config board (line ∷ lines) replies = line_arb_reply config board line replies
 
+-- a next step that is not the end of a line
 abbrev pub NotEnded : NextStep LineReply → Type 0
 NotEnded (Returns answer) = ⊥
 NotEnded next = Unit {0}
 
--- the next line has not ended, if it has a reply
+-- the next line has no reply so far, or has not ended
 abbrev pub IsOpen : Configuration → ℕ → List Line → List EventReply → Type 0
 IsOpen config board [] replies = Unit {0}
 IsOpen config board (line ∷ lines) replies = (replies ≡ []) ⊎ NotEnded (line_next config board line replies)
 
+-- the state of a processor's slot on the bus agrees with the replies to its next line; the next line is open, and no
+-- line that has ended was denied the bus
 pub record ScriptStands (config : Configuration) (bus : Arbitration) (board : ℕ) (c : ScriptState) : Type 0 where
   pub stands : StandsAsReplied bus (slot_at config board) (arb_reply_left config board (lines_left config board c) c.replies)
   pub opens : IsOpen config board (lines_left config board c) c.replies
   pub granted : All IsGranted c.ended
 
 -- before its first reply, the next line has no reply of the arbiter
-pub reported_begins : (config : Configuration) (board : ℕ) (lines : List Line) → arb_reply_left config board lines [] ≡ None
-reported_begins config board [] = refl
-reported_begins config board (line ∷ lines) = line_begins config board line
+pub arb_reply_begins : (config : Configuration) (board : ℕ) (lines : List Line) → arb_reply_left config board lines [] ≡ None
+arb_reply_begins config board [] = refl
+arb_reply_begins config board (line ∷ lines) = line_begins config board line
 
-opens_begins : (config : Configuration) (board : ℕ) (lines : List Line) → IsOpen config board lines []
+-- before its first reply, the next line has not ended
+pub opens_begins : (config : Configuration) (board : ℕ) (lines : List Line) → IsOpen config board lines []
 opens_begins config board [] = tt
 opens_begins config board (line ∷ lines) = inl refl
 
--- between lines the slot is at rest
+-- between lines, a slot that neither holds the bus nor waits agrees with the replies
 pub rests_standing : (config : Configuration) (bus : Arbitration) (board : ℕ) (ended : List LineReply)
-    → StandsAsReplied bus (slot_at config board) None → All IsGranted ended → ScriptStands config bus board (script_state ended [])
+    → StandsAsReplied bus (slot_at config board) None → All IsGranted ended
+    → ScriptStands config bus board (script_state ended [])
 rests_standing config bus board ended stands granted =
     let left = drop (length ended) (lines_at config board) in
     record {
-      stands = subst (StandsAsReplied bus (slot_at config board)) (sym (reported_begins config board left)) stands;
+      stands = subst (StandsAsReplied bus (slot_at config board)) (sym (arb_reply_begins config board left)) stands;
       opens = opens_begins config board left;
       granted = granted;
     }
 
--- a line that has ended had no replies left
+-- an open line whose next step is its end has no reply so far: it made no call
 pub ended_begins : (config : Configuration) (board : ℕ) (line : Line) (lines : List Line) (replies : List EventReply) (answer : LineReply)
     → IsOpen config board (line ∷ lines) replies → line_next config board line replies ≡ Returns answer → replies ≡ []
 ended_begins config board line lines replies answer (inl none) ends = none
 ended_begins config board line lines replies answer (inr goes) ends = absurd (subst NotEnded ends goes)
 
--- a line goes on
+-- a line that has not ended after a reply still agrees with the replies
 goes_on : (config : Configuration) (bus : Arbitration) (board : ℕ) (ended : List LineReply) (replies : List EventReply) (line : Line)
     (rest : List Line) (reply : EventReply) (next : NextStep LineReply) → drop (length ended) (lines_at config board) ≡ line ∷ rest
     → StandsAsReplied bus (slot_at config board) (line_arb_reply config board line (reply ∷ replies)) → All IsGranted ended
@@ -74,7 +79,7 @@ goes_on config bus board ended replies line rest reply next left stands granted 
   granted = granted;
 }
 
--- a line goes on by a good reply, or ends
+-- a processor whose call got a fitting reply that is no denial agrees with the replies, whether its line ends or not
 pub settled_stands : (config : Configuration) (bus : Arbitration) (board : ℕ) (ended : List LineReply) (replies : List EventReply) (line : Line)
     (rest : List Line) (call : Call) (reply : EventReply) (next : NextStep LineReply) → drop (length ended) (lines_at config board) ≡ line ∷ rest
     → line_next config board line replies ≡ Invokes call → IsGood call reply

@@ -1,4 +1,4 @@
--- The configuration in a file is lawful, so its mailboxes are queues in the report of its run.
+-- The configuration in a file is lawful, so its mailboxes are queues in the report whose text is written.
 use Rattle.std.proofs.Common.{ℕ, ◌+◌, ◌<◌, List, length}
 use Rattle.vme_object.specs.declared.history.Entry.{Entry}
 use Rattle.vme_memory.specs.declared.command.BoardCmd.{BoardCmd}
@@ -10,9 +10,10 @@ use Rattle.vme_engines.specs.RunTexts.{IsRunText}
 use Rattle.vme_engines.proofs.lemmas.Lawful.{read_lawful}
 use Rattle.vme_run_laws.specs.Declared.{IsDeclaredIn}
 use Rattle.vme_run_laws.proofs.Queues.{IsQueue}
-use Rattle.vme_run_laws.proofs.Declared.{declared_queue, there}
+use Rattle.vme_run_laws.proofs.Declared.{declared_queue, has_history}
 
 module _ (input text : List ℕ) (status : Status) (reported : IsRunText input text status) where
+  -- the configuration in the file is lawful
   pub reported_lawful : IsLawful reported.config
   reported_lawful = read_lawful input reported.config reported.configures
 
@@ -21,6 +22,7 @@ module _ (input text : List ℕ) (status : Status) (reported : IsRunText input t
       → IsDeclaredIn reported.config reported.report reported.order box m h → IsQueue reported.config reported.report box m h
   reported_queue box m h at = declared_queue reported.config reported.report reported.order box m h reported_lawful at
 
-  pub reported_there : (k : ℕ) → k < length reported.config.mailboxes
+  -- each mailbox that the file declares has a history in the report
+  pub reported_history : (k : ℕ) → k < length reported.config.mailboxes
       → (m : BoardMailbox) × (h : List (Entry BoardCmd Reply)) × IsDeclaredIn reported.config reported.report reported.order (k + 1) m h
-  reported_there k less = there reported.config reported.report reported.order k reported_lawful less
+  reported_history k less = has_history reported.config reported.report reported.order k reported_lawful less

@@ -29,10 +29,10 @@ use Rattle.vme_stepper.specs.Turns.{script_state, settled, call_made, turn_by, s
 use Rattle.vme_run_laws.specs.TurnCalls.{call_or, first_call}
 use Rattle.vme_run_laws.proofs.Places.{lawful_slot, lawful_level, left_after, AllOwn}
 use Rattle.vme_run_laws.proofs.Called.{board_called, bus_called, call_granted}
-use Rattle.vme_run_laws.proofs.Standing.{arb_reply_left, IsOpen, ScriptStands, reported_begins, rests_standing, ended_begins, settled_stands}
+use Rattle.vme_run_laws.proofs.Standing.{arb_reply_left, IsOpen, ScriptStands, arb_reply_begins, opens_begins, rests_standing, ended_begins, settled_stands}
 
--- after a turn of a board's processor, the bus is orderly, the state of the processor's slot agrees, and other slots
--- are unchanged
+-- after a turn of a board's processor, the arbiter's state is orderly, the state of the processor's slot agrees with
+-- the replies, and other slots still agree with theirs
 pub record Stays (config : Configuration) (board : ℕ) (before : Arbitration) (after : Machine × ScriptState) : Type 0 where
   pub orderly : IsOrderly after.0.bus.object
   pub own : ScriptStands config after.0.bus.object board after.1
@@ -40,21 +40,21 @@ pub record Stays (config : Configuration) (board : ℕ) (before : Arbitration) (
       → StandsAsReplied after.0.bus.object slot last
 
 module _ (config : Configuration) (lawful : IsLawful config) (board : ℕ) (there : board < length config.boards) where
-  -- a call of the next line on a board
-  data_stay : (machine : Machine) (c : ScriptState) (line : Line) (rest : List Line) (x : ℕ) (command : Option Command)
+  -- a call of the next line on a board keeps the agreement of `Stays`
+  board_call_stays : (machine : Machine) (c : ScriptState) (line : Line) (rest : List Line) (x : ℕ) (command : Option Command)
       → lines_left config board c ≡ line ∷ rest → IsOrderly machine.bus.object → All IsGranted c.ended
       → StandsAsReplied machine.bus.object (slot_at config board) (line_arb_reply config board line c.replies)
       → line_next config board line c.replies ≡ Invokes (OnBoard x command)
       → Stays config board machine.bus.object (call_made config board line machine c (OnBoard x command))
-  data_stay machine c line rest x command left orderly granted stands made =
+  board_call_stays machine c line rest x command left orderly granted stands made =
       let step = machine_step machine board (OnBoard x command) in
       let called = board_called machine board x command in
       let same : step.0.bus.object ≡ machine.bus.object = ap (λ b. b.object) called.bus in
-      let reported_same = line_datum config board line c.replies (OnBoard x command) called.reply made called.good in
+      let same_arb_reply = line_datum config board line c.replies (OnBoard x command) called.reply made called.good in
       let own : ScriptStands config machine.bus.object board
       (settled c.ended (event_replies.Board called.reply ∷ c.replies) (line_next config board line (event_replies.Board called.reply ∷ c.replies))) =
       settled_stands config machine.bus.object board c.ended c.replies line rest (OnBoard x command) (event_replies.Board called.reply) _ left made
-      called.good (subst (StandsAsReplied machine.bus.object (slot_at config board)) (sym reported_same) stands) granted refl in
+      called.good (subst (StandsAsReplied machine.bus.object (slot_at config board)) (sym same_arb_reply) stands) granted refl in
       let settled_by = λ (reply : EventReply). settled c.ended (reply ∷ c.replies) (line_next config board line (reply ∷ c.replies)) in
       record {
         orderly = subst IsOrderly (sym same) orderly;
@@ -63,13 +63,14 @@ module _ (config : Configuration) (lawful : IsLawful config) (board : ℕ) (ther
         others = λ slot last apart was. subst (λ (bus : Arbitration). StandsAsReplied bus slot last) (sym same) was;
       }
 
-  -- a command of the next line to the arbiter
-  turn_stays : (machine : Machine) (c : ScriptState) (line : Line) (rest : List Line) (cmd : ArbCmd) → lines_left config board c ≡ line ∷ rest
+  -- a command of the next line to the arbiter keeps the agreement of `Stays`
+  bus_call_stays : (machine : Machine) (c : ScriptState) (line : Line) (rest : List Line) (cmd : ArbCmd)
+      → lines_left config board c ≡ line ∷ rest
       → IsOrderly machine.bus.object → All IsGranted c.ended
       → StandsAsReplied machine.bus.object (slot_at config board) (line_arb_reply config board line c.replies)
       → line_next config board line c.replies ≡ Invokes (OnBus cmd)
       → Stays config board machine.bus.object (call_made config board line machine c (OnBus cmd))
-  turn_stays machine c line rest cmd left orderly granted stands made =
+  bus_call_stays machine c line rest cmd left orderly granted stands made =
       let bus = machine.bus.object in
       let may = line_turns config board line c.replies cmd (lawful_level config board lawful there) made in
       let called = bus_called bus (slot_at config board) (line_arb_reply config board line c.replies) cmd orderly
@@ -83,30 +84,34 @@ module _ (config : Configuration) (lawful : IsLawful config) (board : ℕ) (ther
         others = λ slot last apart was. other-turn bus slot last cmd (λ same. apart (sym called.own ∙ same)) was;
       }
 
-  call_stays : (machine : Machine) (c : ScriptState) (line : Line) (rest : List Line) (call : Call) → lines_left config board c ≡ line ∷ rest
+  -- each call of the next line keeps the agreement of `Stays`
+  call_stays : (machine : Machine) (c : ScriptState) (line : Line) (rest : List Line) (call : Call)
+      → lines_left config board c ≡ line ∷ rest
       → IsOrderly machine.bus.object → All IsGranted c.ended
       → StandsAsReplied machine.bus.object (slot_at config board) (line_arb_reply config board line c.replies)
-      → line_next config board line c.replies ≡ Invokes call → Stays config board machine.bus.object (call_made config board line machine c call)
+      → line_next config board line c.replies ≡ Invokes call
+      → Stays config board machine.bus.object (call_made config board line machine c call)
   call_stays machine c line rest (OnBoard x command) left orderly granted stands made =
-      data_stay machine c line rest x command left orderly granted stands made
+      board_call_stays machine c line rest x command left orderly granted stands made
   call_stays machine c line rest (OnBus cmd) left orderly granted stands made =
-      turn_stays machine c line rest cmd left orderly granted stands made
+      bus_call_stays machine c line rest cmd left orderly granted stands made
 
-  -- a line that ends without a call was refused, and leaves the slot unchanged
+  -- a line that ends without a call keeps the agreement of its processor's slot
   refused_stands : (bus : Arbitration) (c : ScriptState) (line : Line) (rest : List Line) (answer : LineReply)
-      → lines_left config board c ≡ line ∷ rest → ScriptStands config bus board c → line_next config board line c.replies ≡ Returns answer
+      → lines_left config board c ≡ line ∷ rest → ScriptStands config bus board c
+      → line_next config board line c.replies ≡ Returns answer
       → ScriptStands config bus board (script_state (c.ended ++ answer ∷ []) [])
   refused_stands bus c line rest answer left stands ends =
       let opens : IsOpen config board (line ∷ rest) c.replies = subst (λ (ls : List Line). IsOpen config board ls c.replies) left stands.opens in
       let none = ended_begins config board line rest c.replies answer opens ends in
       let free : StandsAsReplied bus (slot_at config board) None =
       subst (StandsAsReplied bus (slot_at config board))
-      (ap (arb_reply_left config board (lines_left config board c)) none ∙ reported_begins config board (lines_left config board c)) stands.stands in
+      (ap (arb_reply_left config board (lines_left config board c)) none ∙ arb_reply_begins config board (lines_left config board c)) stands.stands in
       rests_standing config bus board (c.ended ++ answer ∷ []) free
       (All-push IsGranted c.ended answer stands.granted
       (line_first config board line answer (ap (line_next config board line) (sym none) ∙ ends)))
 
-  -- a turn with these remaining lines
+  -- a turn keeps the agreement of `Stays`, by the next step of the first remaining line
   by_next : (machine : Machine) (c : ScriptState) (line : Line) (rest : List Line) (next : NextStep LineReply) (after : ScriptState → Machine × ScriptState)
       → lines_left config board c ≡ line ∷ rest → IsOrderly machine.bus.object → ScriptStands config machine.bus.object board c
       → line_next config board line c.replies ≡ next
@@ -122,16 +127,20 @@ module _ (config : Configuration) (lawful : IsLawful config) (board : ℕ) (ther
   by_next machine c line rest NotStarted after left orderly stands is then =
       record { orderly = orderly; own = stands; others = λ slot last apart was. was }
 
-  pub script_state_stays : (lines : List Line) (machine : Machine) (c : ScriptState) → lines_left config board c ≡ lines → IsOrderly machine.bus.object
-      → ScriptStands config machine.bus.object board c → Stays config board machine.bus.object (script_state_turn config board lines machine c)
+  -- a turn of a processor with these remaining lines keeps the agreement of `Stays`
+  pub script_state_stays : (lines : List Line) (machine : Machine) (c : ScriptState) → lines_left config board c ≡ lines
+      → IsOrderly machine.bus.object
+      → ScriptStands config machine.bus.object board c
+      → Stays config board machine.bus.object (script_state_turn config board lines machine c)
   script_state_stays [] machine c left orderly stands = record { orderly = orderly; own = stands; others = λ slot last apart was. was }
   script_state_stays (line ∷ rest) machine c left orderly stands =
       by_next machine c line rest (line_next config board line c.replies) (λ now. script_state_turn config board rest machine now) left orderly stands refl
       (λ now left_now stands_now. script_state_stays rest machine now left_now orderly stands_now)
 
-  -- a property of each line's call holds for the next call
+  -- a property of the first line's call, and of the later lines' first call, holds for the next call
   by_first : (Q : Call → Type 0) (bus : Arbitration) (line : Line) (rest : List Line) (replies : List EventReply) (call : Call) (next : NextStep LineReply)
-      → StandsAsReplied bus (slot_at config board) (line_arb_reply config board line replies) → IsOpen config board (line ∷ rest) replies
+      → StandsAsReplied bus (slot_at config board) (line_arb_reply config board line replies)
+      → IsOpen config board (line ∷ rest) replies
       → line_next config board line replies ≡ next → call_or next (first_call config board rest []) ≡ Some call
       → ((made : Call) → line_next config board line replies ≡ Invokes made → Q made)
       → (first_call config board rest [] ≡ Some call → StandsAsReplied bus (slot_at config board) None → Q call) → Q call
@@ -140,13 +149,10 @@ module _ (config : Configuration) (lawful : IsLawful config) (board : ℕ) (ther
       subst Q same (now made is)
   by_first Q bus line rest replies call (Returns answer) stands opens is first now later =
       let none = ended_begins config board line rest replies answer opens is in
-      later first (subst (StandsAsReplied bus (slot_at config board)) (ap (line_arb_reply config board line) none ∙ reported_begins config board (line ∷ rest)) stands)
+      later first (subst (StandsAsReplied bus (slot_at config board)) (ap (line_arb_reply config board line) none ∙ arb_reply_begins config board (line ∷ rest)) stands)
   by_first Q bus line rest replies call NotStarted stands opens is first now later = absurd cc
 
-  begins_open : (lines : List Line) → IsOpen config board lines []
-  begins_open [] = tt
-  begins_open (one ∷ more) = inl refl
-
+  -- a property of each line's call holds for the next call of these lines
   pub first_is : (Q : Call → Type 0) (bus : Arbitration)
       → ((line : Line) (replies : List EventReply) (made : Call) → IsOwnLine line
       → StandsAsReplied bus (slot_at config board) (line_arb_reply config board line replies) → line_next config board line replies ≡ Invokes made → Q made)
@@ -158,15 +164,17 @@ module _ (config : Configuration) (lawful : IsLawful config) (board : ℕ) (ther
       by_first Q bus line rest replies call (line_next config board line replies) stands opens refl first
       (λ made is. each line replies made own.0 stands is)
       (λ later free. first_is Q bus each rest [] call own.1
-      (subst (StandsAsReplied bus (slot_at config board)) (sym (reported_begins config board rest)) free) (begins_open rest) later)
+      (subst (StandsAsReplied bus (slot_at config board)) (sym (arb_reply_begins config board rest)) free) (opens_begins config board rest) later)
 
   -- a call on a board is one of the local port, or the slot holds the bus
   abbrev pub HoldsFor : Arbitration → Call → Type 0
   HoldsFor bus (OnBoard x command) = IsLocal command ⊎ (bus.holder ≡ Some (slot_at config board))
   HoldsFor bus (OnBus cmd) = Unit {0}
 
+  -- each call of a line is one of the local port, or its slot holds the bus
   pub call_holds : (bus : Arbitration) (line : Line) (replies : List EventReply) (call : Call) → IsOwnLine line
-      → StandsAsReplied bus (slot_at config board) (line_arb_reply config board line replies) → line_next config board line replies ≡ Invokes call
+      → StandsAsReplied bus (slot_at config board) (line_arb_reply config board line replies)
+      → line_next config board line replies ≡ Invokes call
       → HoldsFor bus call
   call_holds bus line replies (OnBus cmd) own stands made = tt
   call_holds bus line replies (OnBoard x command) own stands made =
@@ -176,10 +184,12 @@ module _ (config : Configuration) (lawful : IsLawful config) (board : ℕ) (ther
             (subst (StandsAsReplied bus (slot_at config board)) held stands))
       ]
 
-  -- the reply to the call is not a denial
-  pub replied_granted : (machine : Machine) → IsOrderly machine.bus.object → (line : Line) (replies : List EventReply) (call : Call)
+  -- the reply to a call of a line is no denial
+  pub replied_granted : (machine : Machine) → IsOrderly machine.bus.object
+      → (line : Line) (replies : List EventReply) (call : Call)
       → IsOwnLine line → StandsAsReplied machine.bus.object (slot_at config board) (line_arb_reply config board line replies)
-      → line_next config board line replies ≡ Invokes call → (machine_step machine board call).1 ≢ event_replies.Bus arb_replies.Denied
+      → line_next config board line replies ≡ Invokes call
+      → (machine_step machine board call).1 ≢ event_replies.Bus arb_replies.Denied
   replied_granted machine orderly line replies call own stands made =
       call_granted machine board (slot_at config board) (line_arb_reply config board line replies) call orderly
       (lawful_slot config board lawful there) stands
@@ -190,7 +200,7 @@ abbrev pub machine_called : Machine → Option (ℕ × Call) → Machine
 machine_called machine None = machine
 machine_called machine (Some one) = (machine_step machine one.0 one.1).0
 
--- a turn changes the machine as its call does
+-- a turn changes the machine as its call does, by the next step of the first remaining line
 by_made : (config : Configuration) (board : ℕ) (line : Line) (rest : List Line) (machine : Machine) (c : ScriptState) (next : NextStep LineReply)
     (after : ScriptState → Machine × ScriptState)
     → ((now : ScriptState) → now.replies ≡ [] → (after now).0 ≡ machine_called machine (option_map (λ call. (board, call)) (first_call config board rest [])))
@@ -200,6 +210,7 @@ by_made config board line rest machine c (Invokes call) after then = refl
 by_made config board line rest machine c (Returns answer) after then = then (script_state (c.ended ++ answer ∷ []) []) refl
 by_made config board line rest machine c NotStarted after then = refl
 
+-- a turn of a processor with these remaining lines changes the machine as its call does
 pub script_state_made : (config : Configuration) (board : ℕ) (lines : List Line) (machine : Machine) (c : ScriptState)
     → (script_state_turn config board lines machine c).0
     ≡ machine_called machine (option_map (λ call. (board, call)) (first_call config board lines c.replies))

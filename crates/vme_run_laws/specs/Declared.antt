@@ -14,10 +14,10 @@ use Rattle.vme_mailbox_laws.specs.Places.{on_board}
 use Rattle.vme_threads.specs.declared.report.Report.{Report}
 use Rattle.vme_threads.specs.OneOrder.{IsReportOfOneOrder}
 
--- the mailbox with this number is declared, has these bytes on its board, and `h` is the part of that board in the one
--- order of the report
-pub record IsDeclaredIn (config : Configuration) (report : Report) (is : IsReportOfOneOrder config report) (box : ℕ) (m : BoardMailbox)
-    (h : List (Entry BoardCmd Reply)) : Type 0 where
+-- the mailbox with this number, from 1 on in the order of declaration, is declared and has these bytes on its board, and
+-- `h` is the part of that board in the one order of the report
+pub record IsDeclaredIn (config : Configuration) (report : Report) (is : IsReportOfOneOrder config report) (box : ℕ)
+    (m : BoardMailbox) (h : List (Entry BoardCmd Reply)) : Type 0 where
   pub index : ℕ
   pub number : box ≡ index + 1
   pub mailbox : Mailbox

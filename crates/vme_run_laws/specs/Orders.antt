@@ -16,7 +16,8 @@ use Rattle.vme_run_laws.specs.TurnCalls.{turn_call}
 -- next turn of its processor's slot makes its call, and its reply is that of the machine there
 pub record IsTurnAfter (config : Configuration) (before : List Transition) (m : Transition) : Type 0 where
   pub machine : (state_after config (slots_of config before)).machine ≡ machine_after config before
-  pub call : turn_call config (state_after config (slots_of config before)) (slot_at config m.who) ≡ Some (m.who, call_of m.event)
+  pub call :
+      turn_call config (state_after config (slots_of config before)) (slot_at config m.who) ≡ Some (m.who, call_of m.event)
   pub reply : m.reply ≡ (machine_step (machine_after config before) m.who (call_of m.event)).1
 
 -- a call goes over the bus: it is a command to a board, and not one of the local port

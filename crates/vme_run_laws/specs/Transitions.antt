@@ -34,4 +34,5 @@ pub record AreRun (config : Configuration) (slots : List ℕ) (run : List Transi
       IsCountedReplay arbiter_step (opening_bus config.arbiter) (bus_part run) (length config.boards)
       (state_after config slots).machine.bus
   pub script_states :
-      (b : ℕ) (c : ScriptState) → slice_get (state_after config slots).script_states b ≡ Some c → IsTracePrefix config b (transitions_of b run) c
+      (b : ℕ) (c : ScriptState) → slice_get (state_after config slots).script_states b ≡ Some c
+      → IsTracePrefix config b (transitions_of b run) c

@@ -9,30 +9,33 @@ ghost use Rattle.vme_threads.specs.OneOrder.{IsReportOfOneOrder};
 ghost use Rattle.vme_sequential.specs.Orders.{machine_after};
 ghost use Rattle.vme_run_laws.specs.Orders.{IsTurnAfter, MovesData, Releases};
 
-/// Each transition in the one order of a report is the call of a turn, and its reply is that of the
-/// whole machine after the transitions before it. Among these are all earlier transitions of the
-/// same processor, each with all that came before it.
+/// Each transition in the one order of a report of a lawful configuration is the call of a turn,
+/// and its reply is that of the whole machine after all transitions before it. These include all
+/// earlier transitions of the same processor.
 pub fn each_transition_is_a_turn()
     ensures { (config : Configuration) (report : Report) (is : IsReportOfOneOrder config report)
         (before after : List Transition) (m : Transition) → IsLawful config →
         is.run ≡ before ++ m ∷ after → IsTurnAfter config before m }
 {}
 
-/// At each place in the one order of a report, the arbiter's state is orderly, with at most one
-/// holder. A transition that moves data over the bus is made by the processor of the holder.
+/// At each place in the one order of a report of a lawful configuration, the arbiter's state is
+/// orderly, with at most one holder. A transition that moves data over the bus is made by the
+/// processor of the holder.
 pub fn data_move_for_the_holder()
-    ensures orderly { (config : Configuration) (report : Report) (is : IsReportOfOneOrder config report)
-        (before after : List Transition) → IsLawful config → is.run ≡ before ++ after →
+    ensures orderly { (config : Configuration) (report : Report)
+        (is : IsReportOfOneOrder config report) (before after : List Transition) →
+        IsLawful config → is.run ≡ before ++ after →
         IsOrderly (machine_after config before).bus.object }
-    ensures holder { (config : Configuration) (report : Report) (is : IsReportOfOneOrder config report)
-        (before after : List Transition) (m : Transition) → IsLawful config →
-        is.run ≡ before ++ m ∷ after → MovesData m →
+    ensures holder { (config : Configuration) (report : Report)
+        (is : IsReportOfOneOrder config report) (before after : List Transition) (m : Transition) →
+        IsLawful config → is.run ≡ before ++ m ∷ after → MovesData m →
         (machine_after config before).bus.object.holder ≡ Some (slot_at config m.who) }
 {}
 
-/// Blocks of two masters do not interleave, on any board. In the one order of a report, from a
-/// transition of a processor that moves data over the bus until the processor gives the bus back,
-/// all data that move over the bus are its own. A transfer gives the bus back after its last datum.
+/// Blocks of two masters do not interleave, on any board. In the one order of a report of a lawful
+/// configuration, from a transition of a processor that moves data over the bus until the processor
+/// gives the bus back, all data that move over the bus are its own. A transfer gives the bus back
+/// after its last datum.
 pub fn blocks_do_not_interleave()
     ensures { (config : Configuration) (report : Report) (is : IsReportOfOneOrder config report)
         (before between after : List Transition) (m n : Transition) → IsLawful config →

@@ -24,54 +24,79 @@ ghost use Rattle.vme_run_laws.specs.Declared.{IsDeclaredIn};
 /// and at most as many more words are put as the mailbox has slots. The words of each processor's
 /// own puts and takes, in order, are those that the report's lines show.
 pub fn declared_mailboxes_are_queues()
-    ensures each { (config : Configuration) (report : Report) (is : IsReportOfOneOrder config report) (k : ℕ) →
-        IsLawful config → k < length config.mailboxes →
-        (m : BoardMailbox) × (h : List (Entry BoardCmd Reply)) × IsDeclaredIn config report is (k + 1) m h }
-    ensures proper { (config : Configuration) (report : Report) (is : IsReportOfOneOrder config report) (box : ℕ)
-        (m : BoardMailbox) (h : List (Entry BoardCmd Reply)) → IsLawful config → IsDeclaredIn config report is box m h →
+    ensures each { (config : Configuration) (report : Report)
+        (is : IsReportOfOneOrder config report) (k : ℕ) → IsLawful config →
+        k < length config.mailboxes →
+        (m : BoardMailbox) × (h : List (Entry BoardCmd Reply))
+        × IsDeclaredIn config report is (k + 1) m h }
+    ensures proper { (config : Configuration) (report : Report)
+        (is : IsReportOfOneOrder config report) (box : ℕ) (m : BoardMailbox)
+        (h : List (Entry BoardCmd Reply)) → IsLawful config →
+        IsDeclaredIn config report is box m h →
         IsProper m h }
-    ensures order { (config : Configuration) (report : Report) (is : IsReportOfOneOrder config report) (box : ℕ)
-        (m : BoardMailbox) (h : List (Entry BoardCmd Reply)) → IsLawful config → IsDeclaredIn config report is box m h →
+    ensures order { (config : Configuration) (report : Report)
+        (is : IsReportOfOneOrder config report) (box : ℕ) (m : BoardMailbox)
+        (h : List (Entry BoardCmd Reply)) → IsLawful config →
+        IsDeclaredIn config report is box m h →
         IsPrefix (words_taken m h) (words_put m h) }
-    ensures capacity { (config : Configuration) (report : Report) (is : IsReportOfOneOrder config report) (box : ℕ)
-        (m : BoardMailbox) (h : List (Entry BoardCmd Reply)) → IsLawful config → IsDeclaredIn config report is box m h →
+    ensures capacity { (config : Configuration) (report : Report)
+        (is : IsReportOfOneOrder config report) (box : ℕ) (m : BoardMailbox)
+        (h : List (Entry BoardCmd Reply)) → IsLawful config →
+        IsDeclaredIn config report is box m h →
         length (words_put m h) ≤ length (words_taken m h) + m.slots }
-    ensures put { (config : Configuration) (report : Report) (is : IsReportOfOneOrder config report) (box : ℕ)
-        (m : BoardMailbox) (h : List (Entry BoardCmd Reply)) → IsLawful config → IsDeclaredIn config report is box m h →
-        Each (λ who lines. own_words_put who m h ≡ lines_put box (lines_at config who) (answers_in lines.items))
-        report.lines.items }
-    ensures taken { (config : Configuration) (report : Report) (is : IsReportOfOneOrder config report) (box : ℕ)
-        (m : BoardMailbox) (h : List (Entry BoardCmd Reply)) → IsLawful config → IsDeclaredIn config report is box m h →
-        Each (λ who lines. own_words_taken who m h ≡ lines_taken box (lines_at config who) (answers_in lines.items))
-        report.lines.items }
+    ensures put { (config : Configuration) (report : Report)
+        (is : IsReportOfOneOrder config report) (box : ℕ) (m : BoardMailbox)
+        (h : List (Entry BoardCmd Reply)) → IsLawful config →
+        IsDeclaredIn config report is box m h →
+        Each (λ who lines. own_words_put who m h
+        ≡ lines_put box (lines_at config who) (answers_in lines.items)) report.lines.items }
+    ensures taken { (config : Configuration) (report : Report)
+        (is : IsReportOfOneOrder config report) (box : ℕ) (m : BoardMailbox)
+        (h : List (Entry BoardCmd Reply)) → IsLawful config →
+        IsDeclaredIn config report is box m h →
+        Each (λ who lines. own_words_taken who m h
+        ≡ lines_taken box (lines_at config who) (answers_in lines.items)) report.lines.items }
 {}
 
 /// If `run_engine` returns `Ok`, it has written the text of a report of one order of the
 /// configuration in its input (`IsRunText`). That configuration is lawful. In that order each
-/// declared mailbox is a queue: the part of its board is proper for it, the words taken are a prefix
-/// of the words put, at most as many more words are put as the mailbox has slots, and the words of
-/// each processor's own puts and takes are those that the report's lines show.
+/// declared mailbox is a queue: the part of its board is proper for it, the words taken are a
+/// prefix of the words put, at most as many more words are put as the mailbox has slots, and the
+/// words of each processor's own puts and takes are those that the report's lines show.
 pub fn texts_show_queues()
-    ensures lawful { (input text : List ℕ) (status : Status) → (reported : IsRunText input text status) →
-        IsLawful reported.config }
-    ensures each { (input text : List ℕ) (status : Status) (reported : IsRunText input text status) (k : ℕ) →
-        k < length reported.config.mailboxes →
-        (m : BoardMailbox) × (h : List (Entry BoardCmd Reply)) × IsDeclaredIn reported.config reported.report reported.order (k + 1) m h }
-    ensures proper { (input text : List ℕ) (status : Status) (reported : IsRunText input text status) (box : ℕ)
-        (m : BoardMailbox) (h : List (Entry BoardCmd Reply)) → IsDeclaredIn reported.config reported.report reported.order box m h →
+    ensures lawful { (input text : List ℕ) (status : Status) →
+        (reported : IsRunText input text status) → IsLawful reported.config }
+    ensures each { (input text : List ℕ) (status : Status)
+        (reported : IsRunText input text status) (k : ℕ) → k < length reported.config.mailboxes →
+        (m : BoardMailbox) × (h : List (Entry BoardCmd Reply))
+        × IsDeclaredIn reported.config reported.report reported.order (k + 1) m h }
+    ensures proper { (input text : List ℕ) (status : Status)
+        (reported : IsRunText input text status) (box : ℕ) (m : BoardMailbox)
+        (h : List (Entry BoardCmd Reply)) →
+        IsDeclaredIn reported.config reported.report reported.order box m h →
         IsProper m h }
-    ensures order { (input text : List ℕ) (status : Status) (reported : IsRunText input text status) (box : ℕ)
-        (m : BoardMailbox) (h : List (Entry BoardCmd Reply)) → IsDeclaredIn reported.config reported.report reported.order box m h →
+    ensures order { (input text : List ℕ) (status : Status)
+        (reported : IsRunText input text status) (box : ℕ) (m : BoardMailbox)
+        (h : List (Entry BoardCmd Reply)) →
+        IsDeclaredIn reported.config reported.report reported.order box m h →
         IsPrefix (words_taken m h) (words_put m h) }
-    ensures capacity { (input text : List ℕ) (status : Status) (reported : IsRunText input text status) (box : ℕ)
-        (m : BoardMailbox) (h : List (Entry BoardCmd Reply)) → IsDeclaredIn reported.config reported.report reported.order box m h →
+    ensures capacity { (input text : List ℕ) (status : Status)
+        (reported : IsRunText input text status) (box : ℕ) (m : BoardMailbox)
+        (h : List (Entry BoardCmd Reply)) →
+        IsDeclaredIn reported.config reported.report reported.order box m h →
         length (words_put m h) ≤ length (words_taken m h) + m.slots }
-    ensures put { (input text : List ℕ) (status : Status) (reported : IsRunText input text status) (box : ℕ)
-        (m : BoardMailbox) (h : List (Entry BoardCmd Reply)) → IsDeclaredIn reported.config reported.report reported.order box m h →
-        Each (λ who lines. own_words_put who m h ≡ lines_put box (lines_at reported.config who) (answers_in lines.items))
+    ensures put { (input text : List ℕ) (status : Status)
+        (reported : IsRunText input text status) (box : ℕ) (m : BoardMailbox)
+        (h : List (Entry BoardCmd Reply)) →
+        IsDeclaredIn reported.config reported.report reported.order box m h →
+        Each (λ who lines. own_words_put who m h
+        ≡ lines_put box (lines_at reported.config who) (answers_in lines.items))
         reported.report.lines.items }
-    ensures taken { (input text : List ℕ) (status : Status) (reported : IsRunText input text status) (box : ℕ)
-        (m : BoardMailbox) (h : List (Entry BoardCmd Reply)) → IsDeclaredIn reported.config reported.report reported.order box m h →
-        Each (λ who lines. own_words_taken who m h ≡ lines_taken box (lines_at reported.config who) (answers_in lines.items))
+    ensures taken { (input text : List ℕ) (status : Status)
+        (reported : IsRunText input text status) (box : ℕ) (m : BoardMailbox)
+        (h : List (Entry BoardCmd Reply)) →
+        IsDeclaredIn reported.config reported.report reported.order box m h →
+        Each (λ who lines. own_words_taken who m h
+        ≡ lines_taken box (lines_at reported.config who) (answers_in lines.items))
         reported.report.lines.items }
 {}

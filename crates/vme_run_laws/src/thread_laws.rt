@@ -16,7 +16,7 @@ ghost use Rattle.vme_threads.specs.OneOrder.{IsReportOfOneOrder};
 ghost use Rattle.vme_run_laws.specs.Finished.{AreFinished};
 ghost use Rattle.vme_run_laws.specs.Granted.{AreGranted};
 
-/// No line of a report of one order is unfinished.
+/// No line of a report of one order is unfinished, whatever the configuration.
 pub fn each_line_comes_to_its_end()
     ensures { (config : Configuration) (report : Report) → IsReportOfOneOrder config report →
         Each (λ who lines. AreFinished lines.items) report.lines.items }
@@ -24,7 +24,8 @@ pub fn each_line_comes_to_its_end()
 
 /// No line of a report of one order of a lawful configuration is denied the bus.
 pub fn no_line_is_denied()
-    ensures { (config : Configuration) (report : Report) → IsLawful config → IsReportOfOneOrder config report →
+    ensures { (config : Configuration) (report : Report) → IsLawful config →
+        IsReportOfOneOrder config report →
         Each (λ who lines. AreGranted lines.items) report.lines.items }
 {}
 

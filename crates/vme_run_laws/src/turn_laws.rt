@@ -24,9 +24,9 @@ pub fn a_turn_makes_its_call_alone()
 {}
 
 /// After any turns of any slots of a lawful configuration, the arbiter's state is orderly, with at
-/// most one holder. If the next turn of a slot makes a call on a board, the call is one of the
-/// processor's local port or the slot holds the bus. The reply to the next call is not a denial,
-/// and no line was denied the bus.
+/// most one holder. If the next turn of a slot makes a call on a board, the call is a command of a
+/// local port or the slot holds the bus. The reply to the next call is not a denial, and no line
+/// that has ended was denied the bus.
 pub fn commands_are_the_holders()
     ensures orderly { (config : Configuration) (slots : List ℕ) → IsLawful config →
         IsOrderly (state_after config slots).machine.bus.object }
@@ -36,7 +36,8 @@ pub fn commands_are_the_holders()
         IsLocal command ⊎ ((state_after config slots).machine.bus.object.holder ≡ Some slot) }
     ensures granted { (config : Configuration) (slots : List ℕ) (slot board : ℕ) (call : Call) →
         IsLawful config → turn_call config (state_after config slots) slot ≡ Some (board, call) →
-        (machine_step (state_after config slots).machine board call).1 ≢ replies.Bus arb_replies.Denied }
+        (machine_step (state_after config slots).machine board call).1
+        ≢ replies.Bus arb_replies.Denied }
     ensures answers { (config : Configuration) (slots : List ℕ) (board : ℕ) (c : ScriptState) →
         IsLawful config → slice_get (state_after config slots).script_states board ≡ Some c →
         All IsGranted c.ended }

@@ -1,4 +1,4 @@
--- The definitions that the contracts cite.
+-- The definitions that the contracts of the re-exported items cite, from the crates of these items.
 -- What a line of a script does next, by the replies to it so far.
 pub use Rattle.vme_line_task.specs.Scripts
 pub use Rattle.vme_line_task.specs.ReadBuffers

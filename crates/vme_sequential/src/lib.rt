@@ -1,5 +1,6 @@
-//! Laws of one order: if the calls that threads make on all boards and their arbiter have one order,
-//! then their report is that of some turns on one thread. A law is a function without a body.
+//! Laws of one order: if the calls that threads make on all boards and their arbiter have one
+//! order, then their report is that of some turns on one thread. A law is a function with an empty
+//! body: a call of it makes its clauses known.
 #![tactic(auto)]
 
 mod laws;

@@ -1,4 +1,4 @@
--- The entries of the boards, one by one.
+-- The report's entries for the boards, one by one.
 use Rattle.std.proofs.Common.{◌≡◌, ℕ, ◌<◌, ◌≤◌, List, [], ◌∷◌, ◌++◌, length, slice_index_or, set, vec_len, vec_capacity, All, refl, ap, sym, subst, ◌∙◌, arith}
 use Rattle.std.specs.Global.{Vec}
 use Rattle.std.proofs.lemmas.List.{append-nil, append_assoc, get_or_default, get_or-set_other, length-set, length-append}
@@ -12,13 +12,14 @@ use Rattle.vme_threads.specs.RunBuffers.{AreForCounts}
 use Rattle.vme_threads.specs.Gatherings.{IsBoardHome, IsEntryOfHome}
 use Rattle.vme_threads.proofs.Places.{nil_of}
 
--- these are the entries of these boards
+-- the report's entries for boards, by the boards after the array was settled
 abbrev pub AreEntries : List (Vec ℕ) → List ℕ → List (Home BusObject) → List BoardReport → Type 0
 AreEntries counts slots homes ends =
     AllAt (λ x home end. (d : ℕ) → IsEntryOfHome counts x (slice_index_or slots x d) home end) homes ends
 
--- the first boards have their entries, and the buffers of the others are unchanged
-pub record HaveEntries (counts : List (Vec ℕ)) (slots : List ℕ) (all left : List (Home BusObject)) (old now : List (Vec ℕ)) (ends : List BoardReport) :
+-- the first boards have their entries in the report, and the buffers for the other boards are unchanged
+pub record HaveEntries (counts : List (Vec ℕ)) (slots : List ℕ) (all left : List (Home BusObject)) (old now : List (Vec ℕ))
+    (ends : List BoardReport) :
     Type 0 where
   pub taken : List (Home BusObject)
   pub split : all ≡ taken ++ left
@@ -26,9 +27,10 @@ pub record HaveEntries (counts : List (Vec ℕ)) (slots : List ℕ) (all left : 
   pub entries : AreEntries counts slots taken ends
   pub later : (x : ℕ) (c d : Vec ℕ) → length taken ≤ x → x < length old → slice_index_or now x c ≡ slice_index_or old x d
 
--- no board has its entry
+-- at first, no board has its entry
 pub entries_begin :
-    (counts : List (Vec ℕ)) (slots : List ℕ) (all left : List (Home BusObject)) (old : List (Vec ℕ)) (ends : List BoardReport) → left ≡ all → length ends ≡ 0
+    (counts : List (Vec ℕ)) (slots : List ℕ) (all left : List (Home BusObject)) (old : List (Vec ℕ)) (ends : List BoardReport)
+    → left ≡ all → length ends ≡ 0
     → HaveEntries counts slots all left old old ends
 entries_begin counts slots all left old ends whole none = record {
   taken = [];
@@ -38,7 +40,7 @@ entries_begin counts slots all left old ends whole none = record {
   later = λ x c d x≥ x<. get_or_default old x c d x<;
 }
 
--- the next board follows those that have their entries
+-- the next board is at the index after the boards that have their entries
 home_here :
     (all taken : List (Home BusObject)) (home : Home BusObject) (left : List (Home BusObject)) → all ≡ taken ++ home ∷ left
     → (slice_index_or all (length taken) home ≡ home) × (length taken < length all)
@@ -47,8 +49,10 @@ home_here all taken home left split =
     (ap (λ hs. slice_index_or hs (length taken) home) split ∙ get_or-append_seam taken home left home, omega arith)
 
 module _
-    (counts : List (Vec ℕ)) (slots : List ℕ) (all left rest : List (Home BusObject)) (old now : List (Vec ℕ)) (ends : List BoardReport) (home : Home BusObject)
+    (counts : List (Vec ℕ)) (slots : List ℕ) (all left rest : List (Home BusObject)) (old now : List (Vec ℕ))
+    (ends : List BoardReport) (home : Home BusObject)
     (have : HaveEntries counts slots all left old now ends) (step : left ≡ home ∷ rest) where
+  -- all boards are those that have their entries, the next board and the rest
   split : all ≡ have.taken ++ home ∷ rest
   split = have.split ∙ ap (λ hs. have.taken ++ hs) step
 
@@ -62,12 +66,14 @@ module _
       let here = home_here all have.taken home rest split in
       subst IsBoardHome here.0 (boards (length have.taken) home here.1)
 
-  -- the next buffer is unchanged: it is empty, and has capacity for the counts
-  pub next_buffer : (k n : ℕ) (buffer : Vec ℕ) → AreForCounts k old → length all ≤ length old → n ≡ length ends → buffer ≡ slice_index_or now n buffer → (vec_len buffer ≡ 0) × (k ≤ vec_capacity buffer)
+  -- the buffer for the next board is unchanged: it is empty and has capacity for the counts
+  pub next_buffer : (k n : ℕ) (buffer : Vec ℕ) → AreForCounts k old → length all ≤ length old → n ≡ length ends
+      → buffer ≡ slice_index_or now n buffer → (vec_len buffer ≡ 0) × (k ≤ vec_capacity buffer)
   next_buffer k n buffer buffers within at is =
       let here = home_here all have.taken home rest split in
       let below : n < length old = omega (arith, at, have.entries.count, here.1, within) in
-      let same : buffer ≡ slice_index_or old n buffer = is ∙ have.later n buffer buffer (omega (arith, at, have.entries.count)) below in
+      let same : buffer ≡ slice_index_or old n buffer =
+      is ∙ have.later n buffer buffer (omega (arith, at, have.entries.count)) below in
       subst (λ (b : Vec ℕ). (vec_len b ≡ 0) × (k ≤ vec_capacity b)) (sym same) (buffers n buffer below)
 
   -- one more board has its entry
@@ -76,16 +82,21 @@ module _
       → ((d : ℕ) → slot ≡ slice_index_or slots n d) → IsEntryOfHome counts n slot home end → new ≡ ends ++ end ∷ []
       → HaveEntries counts slots all rest old (set now n buffer) new
   entries_more n slot end buffer new at slot_is entry is =
-      let P = λ (x : ℕ) (home : Home BusObject) (end : BoardReport). (d : ℕ) → IsEntryOfHome counts x (slice_index_or slots x d) home end in
+      let P =
+      λ (x : ℕ) (home : Home BusObject) (end : BoardReport). (d : ℕ)
+      → IsEntryOfHome counts x (slice_index_or slots x d) home end in
       let place : n ≡ length have.taken = at ∙ have.entries.count in
       let here : P (length have.taken) home end =
-      λ d. subst (λ x. IsEntryOfHome counts x (slice_index_or slots x d) home end) place (subst (λ s. IsEntryOfHome counts n s home end) (slot_is d) entry)
+      λ d. subst (λ x. IsEntryOfHome counts x (slice_index_or slots x d) home end) place
+      (subst (λ s. IsEntryOfHome counts n s home end) (slot_is d) entry)
       in
       record {
         taken = have.taken ++ home ∷ [];
         split = split ∙ sym (append_assoc have.taken (home ∷ []) rest);
         count = length-set now n buffer ∙ have.count;
-        entries = subst (AreEntries counts slots (have.taken ++ home ∷ [])) (sym is) (AllAt-push P have.taken ends home end have.entries here);
+        entries =
+            subst (AreEntries counts slots (have.taken ++ home ∷ [])) (sym is)
+            (AllAt-push P have.taken ends home end have.entries here);
         later = λ x c d x≥ x<.
             let more = length-append have.taken (home ∷ []) in
             get_or-set_other now n x buffer c (omega (arith, more, x≥, place)) ∙ have.later x c d (omega (arith, more, x≥)) x<;

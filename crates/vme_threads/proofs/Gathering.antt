@@ -22,12 +22,12 @@ use Rattle.vme_threads.specs.Gatherings.{IsGathered}
 use Rattle.vme_threads.proofs.lemmas.Parts.{part_of, board_whose, bus_whose}
 use Rattle.vme_threads.proofs.Settlements.{run_of_array}
 
--- an element of a list that has an index within
-some_at : {X : Type 0} (xs : List X) (i : ℕ) → i < length xs → X
-some_at [] i less = absurd (omega arith)
-some_at (x ∷ xs) i less = x
+-- an element of a list that has a valid index
+some_element : {X : Type 0} (xs : List X) (i : ℕ) → i < length xs → X
+some_element [] i less = absurd (omega arith)
+some_element (x ∷ xs) i less = x
 
--- an object is the memory of one board only
+-- an object is the memory of at most one board
 one_board : (object : BusObject) (a b : Board) → object ≡ objects.Board a → object ≡ objects.Board b → a ≡ b
 one_board object a b first then = let same : objects.Board a ≡ objects.Board b = sym first ∙ then in cc same
 
@@ -43,8 +43,9 @@ one_order_of config passes homes report g = record {
     count = g.trace.count ∙ count;
     each = λ who own lines less.
         let here : who < length passes = subst (λ n. who < n) (sym count) less in
-        let p = some_at passes who here in
-        subst (λ ms. IsTrace config who (lines_at config who) ms (answers_in (slice_index_or report.lines.items who lines).items)) (sym (transitions_are who p here)) (g.trace.each who p lines here);
+        let p = some_element passes who here in
+        subst (λ ms. IsTrace config who (lines_at config who) ms (answers_in (slice_index_or report.lines.items who lines).items))
+        (sym (transitions_are who p here)) (g.trace.each who p lines here);
   };
   numbers = g.numbers;
   boards = record { count = g.boards.count; each = λ x own end less. ended x own end less };
@@ -58,9 +59,10 @@ one_order_of config passes homes report g = record {
           process_count = g.bus_process_count ∙ count;
           makes = λ who d less.
               let here : who < length passes = subst (λ n. who < n) (sym count) less in
-              let p = some_at passes who here in
+              let p = some_element passes who here in
               g.bus_makes who d p here ∙ ap (λ ms. length (bus_part ms)) (sym (transitions_are who p here))
-              ∙ ap length (sym (part_of (λ m. bus_entry m.who m.event m.reply) (λ m e found. bus_whose m.who m.event m.reply e found) who run));
+              ∙ ap length (sym (part_of (λ m. bus_entry m.who m.event m.reply)
+              (λ m e found. bus_whose m.who m.event m.reply e found) who run));
         },
   );
 }
@@ -78,14 +80,17 @@ one_order_of config passes homes report g = record {
     count = g.settled.settles.all
 
     -- the transitions of a processor in the run are those of its pass
-    transitions_are : (who : ℕ) (p : BusPass) → who < length passes → transitions_of who run ≡ run_of (slice_index_or passes who p).mine
+    transitions_are : (who : ℕ) (p : BusPass) → who < length passes
+        → transitions_of who run ≡ run_of (slice_index_or passes who p).mine
     transitions_are who p less = ap (λ w. transitions_of w run) (sym (g.whose who p less)) ∙ array.made who p less
 
-    -- the entry of a board
-    ended : (x : ℕ) (own : BoardConfig) (end : BoardReport) → x < n → IsEntryOfBoard config run x (slice_index_or config.boards x own) (slice_index_or report.boards.items x end)
+    -- the report's entry for a board
+    ended : (x : ℕ) (own : BoardConfig) (end : BoardReport) → x < n
+        → IsEntryOfBoard config run x (slice_index_or config.boards x own) (slice_index_or report.boards.items x end)
     ended x own end less =
         let here = g.boards.each x own end less in
-        let end_is = array.boards x (slice_index_or config.boards x own) here.home (slice_get-get_or config.boards x own less) here.there in
+        let end_is =
+        array.boards x (slice_index_or config.boards x own) here.home (slice_get-get_or config.boards x own less) here.there in
         record {
           slot = here.slot;
           leads = record {
@@ -95,8 +100,9 @@ one_order_of config passes homes report g = record {
             process_count = here.process_count ∙ count;
             makes = λ who d below.
                 let within : who < length passes = subst (λ n. who < n) (sym count) below in
-                let p = some_at passes who within in
+                let p = some_element passes who within in
                 here.makes who d p within ∙ ap (λ ms. length (board_part x ms)) (sym (transitions_are who p within))
-                ∙ ap length (sym (part_of (λ m. board_entry x m.who m.event m.reply) (λ m e found. board_whose x m.who m.event m.reply e found) who run));
+                ∙ ap length (sym (part_of (λ m. board_entry x m.who m.event m.reply)
+                (λ m e found. board_whose x m.who m.event m.reply e found) who run));
           };
         }

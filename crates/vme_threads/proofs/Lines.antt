@@ -1,4 +1,4 @@
--- A line of a script, event by event.
+-- A line of a script as a line task, event by event.
 use Rattle.std.proofs.Common.{◌≡◌, ◌≢◌, ℕ, ◌<◌, List, [], ◌∷◌, ◌++◌, length, Some, None, refl, ap, sym, ◌∙◌}
 use Rattle.std.specs.List.{slice_get}
 use Rattle.vme_core.specs.declared.event.EventReply.{EventReply}
@@ -21,11 +21,11 @@ use Rattle.vme_line_task.proofs.lemmas.Traces.{goes-snoc}
 use Rattle.vme_threads.specs.declared.pass_set.PassSet.{PassSet}
 use Rattle.vme_threads.specs.PassSets.{AddsTransitions, AddsCall}
 use Rattle.vme_threads.specs.Rans.{AddsLine}
-use Rattle.vme_threads.proofs.Places.{line_there}
+use Rattle.vme_threads.proofs.Places.{element_at}
 use Rattle.vme_threads.proofs.PassSets.{made_none, made_more}
 
--- the line at a place of the script is at work: a run of its events was made, and this is its task
-pub record IsAtWork (config : Configuration) (place : ℕ) (before now : PassSet) (task : LineTask) : Type 0 where
+-- the line at a place of the script is in progress: a run of its events was made, and `task` is the line's task after them
+pub record IsLineInProgress (config : Configuration) (place : ℕ) (before now : PassSet) (task : LineTask) : Type 0 where
   pub line : Line
   pub there : slice_get (lines_at config before.who) place ≡ Some line
   pub run : List Transition
@@ -36,13 +36,14 @@ pub record IsAtWork (config : Configuration) (place : ℕ) (before now : PassSet
   pub begun : line_to_do task ≢ NotStarted
   pub below : IsLineBelow (length config.boards) task
 
--- the state before the first event
-pub at_start :
+-- a line is in progress when its task has started, before its first event
+pub line_start :
     (config : Configuration) (place : ℕ) (d : PassSet) (fresh task : LineTask) → place < length (lines_at config d.who)
     → ((line : Line) → slice_get (lines_at config d.who) place ≡ Some line → fresh ≡ line_started config d.who line)
-    → task ≡ line_advance fresh None → line_to_do task ≢ NotStarted → IsLineBelow (length config.boards) task → IsAtWork config place d d task
-at_start config place d fresh task place< started advanced begun below =
-    let found = line_there (lines_at config d.who) place place< in
+    → task ≡ line_advance fresh None → line_to_do task ≢ NotStarted → IsLineBelow (length config.boards) task
+    → IsLineInProgress config place d d task
+line_start config place d fresh task place< started advanced begun below =
+    let found = element_at (lines_at config d.who) place place< in
     record {
       line = found.0;
       there = found.1;
@@ -55,17 +56,19 @@ at_start config place d fresh task place< started advanced begun below =
       below = below;
     }
 
--- the next event is that of the table
-next_is : (config : Configuration) (place : ℕ) (d e : PassSet) (task : LineTask) (at : IsAtWork config place d e task)
+-- what the task of a line in progress does next is what the line's table states
+line_next_is :
+    (config : Configuration) (place : ℕ) (d e : PassSet) (task : LineTask) (at : IsLineInProgress config place d e task)
     → line_to_do task ≡ line_next config d.who at.line at.replies
-next_is config place d e task at = ap line_to_do at.is ∙ by_the_replies config d.who at.line at.replies
+line_next_is config place d e task at = ap line_to_do at.is ∙ by_the_replies config d.who at.line at.replies
 
--- the state after one more event
-pub at_more :
+-- a line is still in progress after one more event
+pub line_more :
     (config : Configuration) (place : ℕ) (d e f : PassSet) (call : Call) (reply : EventReply) (task new : LineTask)
-    → IsAtWork config place d e task → Some call ≡ call_in (line_to_do task) → AddsCall call reply e f
-    → new ≡ line_advance task (Some reply) → line_to_do new ≢ NotStarted → IsLineBelow (length config.boards) new → IsAtWork config place d f new
-at_more config place d e f call reply task new at asks next advanced begun below =
+    → IsLineInProgress config place d e task → Some call ≡ call_in (line_to_do task) → AddsCall call reply e f
+    → new ≡ line_advance task (Some reply) → line_to_do new ≢ NotStarted → IsLineBelow (length config.boards) new
+    → IsLineInProgress config place d f new
+line_more config place d e f call reply task new at asks next advanced begun below =
     let event = next.event in
     record {
       line = at.line;
@@ -75,17 +78,18 @@ at_more config place d e f call reply task new at asks next advanced begun below
       replies = reply ∷ at.replies;
       goes =
           goes-snoc config d.who at.line [] at.run at.replies (move e.who event reply) at.goes
-          (sym (next_is config place d e task at) ∙ in_makes (line_to_do task) (call_of event) (ap Some next.calls ∙ asks));
+          (sym (line_next_is config place d e task at) ∙ in_makes (line_to_do task) (call_of event) (ap Some next.calls ∙ asks));
       is = advanced ∙ ap (λ (t : LineTask). line_advance t (Some reply)) at.is;
       begun = begun;
       below = below;
     }
 
--- the reply of the line
-pub at_end :
-    (config : Configuration) (place : ℕ) (d e : PassSet) (task : LineTask) (answer : LineReply) → IsAtWork config place d e task
+-- a line in progress whose task has ended has its reply
+pub line_end :
+    (config : Configuration) (place : ℕ) (d e : PassSet) (task : LineTask) (answer : LineReply)
+    → IsLineInProgress config place d e task
     → Some answer ≡ result_in (line_to_do task) → AddsLine config place answer d e
-at_end config place d e task answer at is = record {
+line_end config place d e task answer at is = record {
   line = at.line;
   there = at.there;
   is = record {
@@ -94,11 +98,12 @@ at_end config place d e task answer at is = record {
     trace = record {
       replies = at.replies;
       goes = at.goes;
-      ends = sym (next_is config place d e task at) ∙ sym (ends_so (line_to_do task) answer is);
+      ends = sym (line_next_is config place d e task at) ∙ sym (ends_so (line_to_do task) answer is);
     };
   };
 }
 
--- what the table does next makes the call that it contains
-pub call_there : (n : ℕ) (task : LineTask) (call : Call) → IsLineBelow n task → Some call ≡ call_in (line_to_do task) → IsCallBelow n call
+-- the next call of a line task whose boards exist goes to the arbiter or to one of these boards
+pub call_there : (n : ℕ) (task : LineTask) (call : Call) → IsLineBelow n task → Some call ≡ call_in (line_to_do task)
+    → IsCallBelow n call
 call_there n task call below is = calls_below n task call below (in_makes (line_to_do task) call is)

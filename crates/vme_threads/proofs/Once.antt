@@ -1,4 +1,4 @@
--- Lines that are attempted once follow their job.
+-- Lines that are attempted once: commands to the local port and requests over the bus, event by event.
 use Rattle.std.proofs.Common.{◌≡◌, ◌≢◌, ℕ, ◌<◌, false, List, [], ◌∷◌, ◌++◌, length, map, Some, None, Result, Ok, Err, refl, ap, sym, subst, ◌∙◌}
 use Rattle.std.specs.Prelude.{slice_get, IfOk}
 use Rattle.vme_memory.specs.declared.command.BoardCmd.{BoardCmd}
@@ -39,29 +39,31 @@ use Rattle.vme_threads.specs.Rans.{IsAnsweredBy, AddsLine}
 use Rattle.vme_threads.proofs.PassSets.{made_none, made_more}
 use Rattle.vme_threads.proofs.Runs.{script_is}
 
--- the table ends a transfer or a command after one attempt
+-- the outcome of a transfer or of a local command never asks for another attempt
 attempted_once : (next : NextStep Outcome) → next_wants_retry (moves_next next) ≡ false
 attempted_once NotStarted = refl
 attempted_once (Invokes call) = refl
 attempted_once (Returns outcome) = refl
 
--- the first attempt has all replies to the line
+-- all replies to a line that is attempted once are replies to its one attempt
 all_given : (job : Job) (tries : ℕ) (given : Inputs) → (attempts_of (Transferring job) tries given).given ≡ given
 all_given job tries [] = refl
 all_given job tries (last ∷ before) =
     rw (attempted_once (next_of job (last ∷ (attempts_of (Transferring job) tries before).given)))
     (ap (λ (g : Inputs). last ∷ g) (all_given job tries before))
 
--- the line does next what its job does
+-- a line that is attempted once does next what its job does
 pub once_next : (config : Configuration) (board : ℕ) (line : Line) (job : Job) (replies : List EventReply)
-    → line_attempt config board line ≡ Ok (Transferring job) → line_next config board line replies ≡ moves_next (next_of job (given_of replies))
+    → line_attempt config board line ≡ Ok (Transferring job)
+    → line_next config board line replies ≡ moves_next (next_of job (given_of replies))
 unfolding next_given
 once_next config board line job replies is =
     rw is (ap (λ (g : Inputs). moves_next (next_of job g)) (all_given job config.tries (given_of replies)))
 
 -- a command to the local port gets its reply by one call
 pub local_answered :
-    (cmd : BoardCmd) (reply : Reply) (outcome : Outcome) (d e : PassSet) → AddsTransitions (move d.who (events.Board d.who cmd) (event_replies.Board reply) ∷ []) d e
+    (cmd : BoardCmd) (reply : Reply) (outcome : Outcome) (d e : PassSet)
+    → AddsTransitions (move d.who (events.Board d.who cmd) (event_replies.Board reply) ∷ []) d e
     → ((board : ℕ) → next_of (local_job board cmd) (Some (event_replies.Board reply) ∷ None ∷ []) ≡ Returns outcome)
     → (config : Configuration) → IsAnsweredBy config (lines.Local cmd) (Transfer outcome) d e
 local_answered cmd reply outcome d e made ends = λ config. record {
@@ -76,15 +78,16 @@ local_answered cmd reply outcome d e made ends = λ config. record {
   };
 }
 
--- the line at a place of a script
+-- a line of the script that was found is a line of the configuration
 pub line_found :
     (config : Configuration) (who place : ℕ) (script : List ScriptLine) (line : Line) → slice_get config.scripts who ≡ Some script
-    → slice_get (map (λ (one : ScriptLine). one.line) script) place ≡ Some line → slice_get (lines_at config who) place ≡ Some line
+    → slice_get (map (λ (one : ScriptLine). one.line) script) place ≡ Some line
+    → slice_get (lines_at config who) place ≡ Some line
 line_found config who place script line there at =
     subst (λ (all : List ScriptLine). slice_get (map (λ (one : ScriptLine). one.line) all) place ≡ Some line)
     (sym (script_is config who who script refl there)) at
 
--- the reply to a line is the reply at its place
+-- a processor that gets the reply to a line gets the reply at the place of that line
 pub answered_there :
     (config : Configuration) (place : ℕ) (line : Line) (d e : PassSet) (result : Result LineReply Spent)
     → slice_get (lines_at config d.who) place ≡ Some line → IfOk result (λ answer. IsAnsweredBy config line answer d e)
@@ -92,24 +95,26 @@ pub answered_there :
 answered_there config place line d e (Ok answer) there is = record { line = line; there = there; is = is }
 answered_there config place line d e (Err spent) there is = tt
 
--- a call of the task is the call of its line
+-- the next call of a job's task is the next call of its line
 called : (next : NextStep Outcome) (call : Call) → Some call ≡ call_in next → moves_next next ≡ Invokes call
 called NotStarted call is = absurd cc
 called (Invokes other) call is = cc
 called (Returns outcome) call is = absurd cc
 
--- the end of the task is the end of its line
-ended : (next : NextStep Outcome) (outcome : Outcome) → Some outcome ≡ result_in next → moves_next next ≡ Returns (Transfer outcome)
+-- the outcome of a job's task is the reply to its line
+ended : (next : NextStep Outcome) (outcome : Outcome) → Some outcome ≡ result_in next
+    → moves_next next ≡ Returns (Transfer outcome)
 ended NotStarted outcome is = absurd cc
 ended (Invokes call) outcome is = absurd cc
 ended (Returns other) outcome is = cc
 
--- a refused request ends without a call
+-- a bus task is refused only for the fault of its request
 refused_by : (map : List Entry) (slot level : ℕ) (t : Result LawfulRequest CycleFault) (fault : CycleFault)
     → Err fault ≡ bus_task map slot level t → t ≡ Err fault
 refused_by map slot level (Ok t) fault is = absurd cc
 refused_by map slot level (Err other) fault is = cc
 
+-- a refused request gets its reply without a call
 pub refused_answered :
     (config : Configuration) (map : List Entry) (slot level : ℕ) (request : Request) (fault : CycleFault) (d : PassSet)
     → Err fault ≡ bus_task map slot level (transfer_of request) → IsAnsweredBy config (lines.Bus request) (Refused fault) d d
@@ -120,8 +125,9 @@ refused_answered config map slot level request fault d is = record {
   trace = record { replies = []; goes = refl; ends = rw (refused_by map slot level (transfer_of request) fault is) refl };
 }
 
--- the transfer of a line is at work: a run of its events was made, and this is its task
-pub record IsMoving (config : Configuration) (request : Request) (before now : PassSet) (task : TaskView) : Type 0 where
+-- a request over the bus is in progress: a run of its events was made, and `task` is its task after them
+pub record IsRequestInProgress (config : Configuration) (request : Request) (before now : PassSet) (task : TaskView) :
+    Type 0 where
   pub job : Job
   pub attempted : line_attempt config before.who (lines.Bus request) ≡ Ok (Transferring job)
   pub run : List Transition
@@ -131,24 +137,25 @@ pub record IsMoving (config : Configuration) (request : Request) (before now : P
   pub is : task ≡ task_given job (given_of replies)
   pub begun : to_do task ≢ NotStarted
 
--- the job of a lawful request
+-- a bus task that was started: its request is lawful, and the task is the fresh one of the request's job
 record IsStarted (map : List Entry) (slot level : ℕ) (t : Result LawfulRequest CycleFault) (task : TaskView) : Type 0 where
   one : LawfulRequest
   lawful : t ≡ Ok one
   fresh : task ≡ fresh_task (bus_job map slot level one)
 
+-- a bus task starts only for a lawful request
 started_by : (map : List Entry) (slot level : ℕ) (t : Result LawfulRequest CycleFault) (task : TaskView)
     → Ok task ≡ bus_task map slot level t → IsStarted map slot level t task
 started_by map slot level (Ok t) task is = record { one = t; lawful = refl; fresh = cc }
 started_by map slot level (Err fault) task is = absurd cc
 
--- the state before the first event
-pub moving_start :
+-- a request is in progress when its task has started, before its first event
+pub request_start :
     (config : Configuration) (map : List Entry) (slot level : ℕ) (request : Request) (d : PassSet) (fresh task : TaskView)
     → map ≡ entries_of config.boards → slot_at config d.who ≡ slot → level_at config d.who ≡ level
     → Ok fresh ≡ bus_task map slot level (transfer_of request) → task ≡ advance fresh None → to_do task ≢ NotStarted
-    → IsMoving config request d d task
-moving_start config map slot level request d fresh task maps slots levels is advanced begun =
+    → IsRequestInProgress config request d d task
+request_start config map slot level request d fresh task maps slots levels is advanced begun =
     let started = started_by map slot level (transfer_of request) fresh is in
     record {
       job = bus_job map slot level started.one;
@@ -166,27 +173,32 @@ moving_start config map slot level request d fresh task maps slots levels is adv
       begun = begun;
     }
 
--- the next event is that of the table
-moving_next : (config : Configuration) (request : Request) (d e : PassSet) (task : TaskView) (at : IsMoving config request d e task)
+-- what the task of a request in progress does next is what the line's table states
+request_next :
+    (config : Configuration) (request : Request) (d e : PassSet) (task : TaskView)
+    (at : IsRequestInProgress config request d e task)
     → moves_next (to_do task) ≡ line_next config d.who (lines.Bus request) at.replies
-moving_next config request d e task at =
+request_next config request d e task at =
     ap (λ (t : TaskView). moves_next (to_do t)) at.is ∙ ap moves_next (by_the_table at.job (given_of at.replies))
     ∙ sym (once_next config d.who (lines.Bus request) at.job at.replies at.attempted)
 
--- the boards that the transfer calls exist
-pub moving_below :
-    (config : Configuration) (request : Request) (d e : PassSet) (task : TaskView) (n : ℕ) (call : Call) → IsMoving config request d e task
+-- the next call of a request in progress goes to the arbiter or to a board of the configuration
+pub request_below :
+    (config : Configuration) (request : Request) (d e : PassSet) (task : TaskView) (n : ℕ) (call : Call)
+    → IsRequestInProgress config request d e task
     → d.who < length config.boards → length config.boards ≡ n → Some call ≡ call_in (to_do task) → IsCallBelow n call
-moving_below config request d e task n call at there same asks =
+request_below config request d e task n call at there same asks =
     subst (λ (m : ℕ). IsCallBelow m call) same
-    (next_below config d.who (lines.Bus request) (given_of at.replies) call there (sym (moving_next config request d e task at) ∙ called (to_do task) call asks))
+    (next_below config d.who (lines.Bus request) (given_of at.replies) call there
+    (sym (request_next config request d e task at) ∙ called (to_do task) call asks))
 
--- the state after one more event
-pub moving_more :
+-- a request is still in progress after one more event
+pub request_more :
     (config : Configuration) (request : Request) (d e f : PassSet) (call : Call) (reply : EventReply) (task new : TaskView)
-    → IsMoving config request d e task → Some call ≡ call_in (to_do task) → AddsCall call reply e f → new ≡ advance task (Some reply)
-    → to_do new ≢ NotStarted → IsMoving config request d f new
-moving_more config request d e f call reply task new at asks next advanced begun =
+    → IsRequestInProgress config request d e task → Some call ≡ call_in (to_do task) → AddsCall call reply e f
+    → new ≡ advance task (Some reply)
+    → to_do new ≢ NotStarted → IsRequestInProgress config request d f new
+request_more config request d e f call reply task new at asks next advanced begun =
     let one = move e.who next.event reply in
     record {
       job = at.job;
@@ -196,21 +208,22 @@ moving_more config request d e f call reply task new at asks next advanced begun
       replies = reply ∷ at.replies;
       goes =
           goes-snoc config d.who (lines.Bus request) [] at.run at.replies one at.goes
-          (sym (moving_next config request d e task at) ∙ called (to_do task) (call_of next.event) (ap Some next.calls ∙ asks));
+          (sym (request_next config request d e task at) ∙ called (to_do task) (call_of next.event) (ap Some next.calls ∙ asks));
       is = advanced ∙ ap (λ (t : TaskView). advance t (Some reply)) at.is;
       begun = begun;
     }
 
--- the reply of the line
-pub moving_end :
-    (config : Configuration) (request : Request) (d e : PassSet) (task : TaskView) (outcome : Outcome) → IsMoving config request d e task
+-- a request in progress whose task has ended has its reply
+pub request_end :
+    (config : Configuration) (request : Request) (d e : PassSet) (task : TaskView) (outcome : Outcome)
+    → IsRequestInProgress config request d e task
     → Some outcome ≡ result_in (to_do task) → IsAnsweredBy config (lines.Bus request) (Transfer outcome) d e
-moving_end config request d e task outcome at is = record {
+request_end config request d e task outcome at is = record {
   run = at.run;
   made = at.made;
   trace = record {
     replies = at.replies;
     goes = at.goes;
-    ends = sym (moving_next config request d e task at) ∙ ended (to_do task) outcome is;
+    ends = sym (request_next config request d e task at) ∙ ended (to_do task) outcome is;
   };
 }

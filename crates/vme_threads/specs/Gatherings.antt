@@ -20,20 +20,21 @@ use Rattle.vme_threads.specs.declared.report.Report.{Report}
 use Rattle.vme_threads.specs.Rans.{numbers_in, answers_in}
 use Rattle.vme_threads.specs.Settlements.{BusPass, IsSettled}
 
--- the object is the memory of a board
+-- the object of a home is the memory of a board
 abbrev pub IsBoardHome : Home BusObject → Type 0
 IsBoardHome home = (memory : Board) × (home.object ≡ objects.Board memory)
 
--- the entry of board x: its slot, its memory and its steps, and of each worker the count of its calls
+-- the report's entry for board x: its slot, its memory, its steps and, by `counts`, the number of calls by each worker
 pub record IsEntryOfHome (counts : List (Vec ℕ)) (x slot : ℕ) (home : Home BusObject) (end : BoardReport) : Type 0 where
   pub slot_is : end.slot ≡ slot
   pub memory : home.object ≡ objects.Board end.memory
   pub steps : end.steps ≡ home.count
   pub made : end.made.items ≡ map (λ own. slice_index_or own.items x 0) counts
 
--- the entry of board x has the memory and the steps of object x, and of each processor as many steps as its pass made
--- there
-pub record IsGatheredBoard (passes : List BusPass) (homes : List (Home BusObject)) (x : ℕ) (own : BoardConfig) (end : BoardReport) : Type 0 where
+-- the report's entry for board x: the board's slot, the memory and the steps of object x, and of each processor as many
+-- steps as its pass made there
+pub record IsGatheredBoard (passes : List BusPass) (homes : List (Home BusObject)) (x : ℕ) (own : BoardConfig)
+    (end : BoardReport) : Type 0 where
   pub slot : end.slot ≡ own.slot
   pub home : Home BusObject
   pub there : get_elem? homes x ≡ some home
@@ -44,9 +45,10 @@ pub record IsGatheredBoard (passes : List BusPass) (homes : List (Home BusObject
       (who d : ℕ) (p : BusPass) → who < length passes
       → slice_index_or end.made.items who d ≡ length (board_part x (run_of (slice_index_or passes who p).mine))
 
--- a report is gathered from a settled port array: pass i is that of processor i, whose calls are the trace of its
--- script, and the entries of boards and the arbiter have their counts
-pub record IsGathered (config : Configuration) (passes : List BusPass) (homes : List (Home BusObject)) (report : Report) : Type 0 where
+-- a report is gathered from a settled port array: pass i is that of processor i, its calls are the trace of that
+-- processor's script, and the entries for the boards and the arbiter have the steps of each object and of each pass there
+pub record IsGathered (config : Configuration) (passes : List BusPass) (homes : List (Home BusObject)) (report : Report) :
+    Type 0 where
   pub settled : IsSettled config passes homes
   pub whose : Each (λ i p. p.who ≡ i) passes
   pub trace :

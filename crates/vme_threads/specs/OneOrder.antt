@@ -16,7 +16,7 @@ use Rattle.vme_threads.specs.declared.report.BoardReport.{BoardReport}
 use Rattle.vme_threads.specs.declared.report.Report.{Report}
 use Rattle.vme_threads.specs.Rans.{numbers_in, answers_in}
 
--- a legal history of k callers leads to an object: it has `steps` entries, and of each caller as many as `made` states
+-- a legal history of k callers leads to an object: it has `steps` entries, and as many of each caller as `made` states
 pub record LeadsTo {S C R : Type 0} (step : S → C → S × R) (start : S) (k : ℕ) (h : List (Entry C R)) (object : S) (steps : ℕ)
     (made : List ℕ) : Type 0 where
   pub legal : IsLegal step start h
@@ -25,8 +25,9 @@ pub record LeadsTo {S C R : Type 0} (step : S → C → S × R) (start : S) (k :
   pub process_count : length made ≡ k
   pub makes : (who d : ℕ) → who < k → slice_index_or made who d ≡ length (own who h)
 
--- the entry of board x: its part of the run leads from zero memory to its memory and its counts
-pub record IsEntryOfBoard (config : Configuration) (run : List Transition) (x : ℕ) (own : BoardConfig) (end : BoardReport) : Type 0 where
+-- the report's entry for board x: the board's part of the run leads from zero memory to its memory and its counts
+pub record IsEntryOfBoard (config : Configuration) (run : List Transition) (x : ℕ) (own : BoardConfig) (end : BoardReport) :
+    Type 0 where
   pub slot : end.slot ≡ own.slot
   pub leads :
       LeadsTo board_step (opening_memory own) (length config.boards) (board_part x run) end.memory end.steps
@@ -41,7 +42,9 @@ pub record IsReportOfOneOrder (config : Configuration) (report : Report) : Type 
   pub fitting : All (λ m. IsReplyTo m.event m.reply) run
   pub within : All (λ m. IsEventBelow (length config.boards) m.event) run
   pub trace :
-      AllAt (λ who (own : BoardConfig) lines. IsTrace config who (lines_at config who) (transitions_of who run) (answers_in lines.items))
+      AllAt
+      (λ who (own : BoardConfig) lines. IsTrace config who (lines_at config who) (transitions_of who run)
+      (answers_in lines.items))
       config.boards report.lines.items
   pub numbers :
       Each (λ who lines. numbers_in lines.items ≡ map (λ one. one.number) (script_at config who)) report.lines.items

@@ -1,4 +1,4 @@
--- Defines what a processor does with its pass.
+-- Defines the state of a processor's pass, and the calls that the processor makes with it.
 use Rattle.std.specs.Prelude.{ℕ, ◌≡◌, ◌<◌, ◌+◌, List, [], ◌∷◌, length, slice_index_or, All}
 use mathlib.Core.Option.{some}
 use lib.ListN.{get_elem?}
@@ -27,7 +27,7 @@ pub record MatchesPorts (ports : Ports) (d : PassSet) : Type 0 where
   pub made_count : length d.made.items ≡ d.boards + 1
   pub counted : (x n : ℕ) → x < d.boards + 1 → slice_index_or d.made.items x n ≡ length (part x d.pass.mine)
 
--- the counts of all objects grew by these entries
+-- the count of each object grew by the number of these entries that are of the object
 pub record CountsMore (entries : List BusEntry) (before after : List ℕ) : Type 0 where
   pub count : length after ≡ length before
   pub each : (x n : ℕ) → x < length before → slice_index_or after x n ≡ slice_index_or before x n + length (part x entries)
@@ -44,7 +44,7 @@ pub record AddsTransitions (run : List Transition) (before after : PassSet) : Ty
   pub pass : Makes entries before.pass after.pass
   pub counts : CountsMore entries before.made.items after.made.items
 
--- a processor made one event of a call, and got this reply
+-- a processor made one event that is this call, and got this reply
 pub record AddsCall (call : Call) (reply : EventReply) (before after : PassSet) : Type 0 where
   pub event : Event
   pub calls : call_of event ≡ call

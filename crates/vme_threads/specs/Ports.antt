@@ -17,9 +17,10 @@ use Rattle.vme_threads.specs.declared.ports.Ports.{Ports}
 use Rattle.vme_threads.specs.RunBuffers.{AreEmptyBuffers}
 use Rattle.vme_threads.specs.Settlements.{opening_objects}
 
--- worker i before its script: it has the unused i-th pass of the array, no call counted at any object, and buffers for
--- what its lines read and for its replies
-pub record IsNewWorker (config : Configuration) (array : PortArray BusObject BusCommand EventReply) (i : ℕ) (w : Worker) : Type 0 where
+-- worker i before its script: it has the unused pass with number i of the array, counts that are 0 for each object, and
+-- buffers for what its lines read and for its replies
+pub record IsNewWorker (config : Configuration) (array : PortArray BusObject BusCommand EventReply) (i : ℕ) (w : Worker) :
+    Type 0 where
   pub who : w.pass_set.who ≡ i
   pub boards : w.pass_set.boards ≡ length config.boards
   pub pass : IsUnused (array_id array) i w.pass_set.pass
@@ -28,8 +29,9 @@ pub record IsNewWorker (config : Configuration) (array : PortArray BusObject Bus
   pub lines : vec_len w.lines ≡ 0
   pub lines_capacity : length (script_at config i) ≤ vec_capacity w.lines
 
--- there is one such worker for each board, in order
-pub record AreNewWorkers (config : Configuration) (array : PortArray BusObject BusCommand EventReply) (workers : List Worker) : Type 0 where
+-- the workers before their scripts: one for each board, in order
+pub record AreNewWorkers (config : Configuration) (array : PortArray BusObject BusCommand EventReply) (workers : List Worker) :
+    Type 0 where
   pub count : length workers ≡ length config.boards
   pub each : Each (IsNewWorker config array) workers
 
@@ -47,6 +49,6 @@ pub record IsBuilt (config : Configuration) (ports : Ports) : Type 0 where
 abbrev pub IsWorkerOf : Configuration → Ports → ℕ → Worker → Type 0
 IsWorkerOf config ports i worker = IsNewWorker config ports.array i worker
 
--- the workers of these ports, one for each board, in order
+-- the workers of these ports before their scripts, one for each board, in order
 abbrev pub AreWorkers : Configuration → Ports → List Worker → Type 0
 AreWorkers config ports workers = AreNewWorkers config ports.array workers

@@ -14,23 +14,23 @@ use Rattle.vme_threads.specs.declared.worker.Ran.{Ran}
 use Rattle.vme_threads.specs.declared.ports.Ports.{Ports}
 use Rattle.vme_threads.specs.PassSets.{MatchesPorts, AddsTransitions}
 
--- a line got its reply by a run of transitions, which is the trace of that line
+-- a processor made a run of transitions that is the trace of a line and gives its reply
 pub record IsAnsweredBy (config : Configuration) (line : Line) (answer : LineReply) (before after : PassSet) : Type 0 where
   pub run : List Transition
   pub made : AddsTransitions run before after
   pub trace : LineTrace config before.who line run answer
 
--- the line at a place of the script got its reply
+-- a processor made a run that gives the reply to the line at a place of its script
 pub record AddsLine (config : Configuration) (place : ℕ) (answer : LineReply) (before after : PassSet) : Type 0 where
   pub line : Line
   pub there : slice_get (lines_at config before.who) place ≡ Some line
   pub is : IsAnsweredBy config line answer before after
 
--- the numbers of the lines
+-- the line numbers in a list of numbered replies
 abbrev pub numbers_in : List (ℕ × LineReply) → List ℕ
 numbers_in lines = map (λ line. line.0) lines
 
--- the replies to the lines
+-- the replies in a list of numbered replies
 abbrev pub answers_in : List (ℕ × LineReply) → List LineReply
 answers_in lines = map (λ line. line.1) lines
 

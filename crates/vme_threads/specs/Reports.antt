@@ -1,4 +1,4 @@
--- Defines what the report of a run of processors on threads guarantees.
+-- Defines reports by one history for each object, and when a report can be gathered.
 use Rattle.std.specs.Prelude.{ℕ, ◌≡◌, ◌<◌, List, length, map, All}
 use Rattle.vme_object.specs.declared.history.Entry.{Entry}
 use Rattle.vme_object.specs.History.{replay, IsLegal, own}
@@ -18,8 +18,8 @@ use Rattle.vme_threads.specs.Ports.{IsBuilt}
 use Rattle.vme_threads.specs.Rans.{HasRun, numbers_in, answers_in}
 
 module _ {S C R : Type 0} (step : S → C → S × R) (start : S) where
-  -- one legal history leads to the object: it has `steps` entries, and of each caller exactly its part, with as many
-  -- entries as the caller made
+  -- one legal history leads to the object: it has `steps` entries, and exactly the entries in `parts` of each caller,
+  -- as many as `made` states
   pub record HasHistory (parts : List (List (Entry C R))) (object : S) (steps : ℕ) (made : List ℕ) : Type 0 where
     pub history : List (Entry C R)
     pub legal : IsLegal step start history
@@ -29,14 +29,14 @@ module _ {S C R : Type 0} (step : S → C → S × R) (start : S) where
     pub owns : Each (λ who part. own who history ≡ part) parts
     pub makes : AllAt (λ who part n. n ≡ length part) parts made
 
--- the entry of board x: its own parts of these runs share one legal history from zero memory, whose replay is its
--- memory
+-- the report's entry for board x: the parts of the board in these runs share one legal history from zero memory, whose
+-- replay is the board's memory
 pub record IsEndOf (runs : List (List Transition)) (x : ℕ) (own : BoardConfig) (end : BoardReport) : Type 0 where
   pub slot : end.slot ≡ own.slot
   pub history : HasHistory board_step (opening_memory own) (map (board_part x) runs) end.memory end.steps end.made.items
 
--- a report: each processor's run is the trace of its script and gives its replies; each board, and the arbiter of a
--- free bus, has one legal history that the runs share
+-- a report with one history for each object: each processor's run is the trace of its script and gives its replies, and
+-- each board, and the arbiter of a free bus, has one legal history that the runs share
 pub record IsReportOf (config : Configuration) (report : Report) : Type 0 where
   pub runs : List (List Transition)
   pub workers : length runs ≡ length config.boards
@@ -52,11 +52,11 @@ pub record IsReportOf (config : Configuration) (report : Report) : Type 0 where
       × HasHistory arbiter_step (opening_bus config.arbiter) (map bus_part runs) object report.arbiter_steps
       report.arbiter_made.items
 
--- these are the finished workers, in order
+-- finished workers in order: worker i has run the script of processor i
 abbrev pub HaveRun : Configuration → Ports → List Ran → Type 0
 HaveRun config ports rans = Each (HasRun config ports) rans
 
--- these are the finished workers of all boards, of ports that were built from this configuration
+-- the ports were built from this configuration, and the workers are their finished workers, one for each board, in order
 pub record CanGather (config : Configuration) (ports : Ports) (rans : List Ran) : Type 0 where
   pub built : IsBuilt config ports
   pub count : length rans ≡ length config.boards

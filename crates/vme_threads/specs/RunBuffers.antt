@@ -3,7 +3,7 @@ use Rattle.std.specs.Prelude.{ℕ, ◌≡◌, ◌≤◌, List, vec_len, vec_capa
 use Rattle.std.specs.Global.{Vec}
 use Rattle.vme_threads.specs.declared.run_buffers.ReportBuffers.{ReportBuffers}
 
--- buffers for counts are empty and have capacity for k counts each
+-- each buffer for counts is empty and has capacity for k counts
 abbrev pub AreForCounts : ℕ → List (Vec ℕ) → Type 0
 AreForCounts k buffers = All (λ b. (vec_len b ≡ 0) × (k ≤ vec_capacity b)) buffers
 

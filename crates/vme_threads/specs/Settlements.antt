@@ -29,15 +29,16 @@ abbrev pub opening_objects : Configuration → List BusObject
 opening_objects config =
     map (λ own. objects.Board (opening_memory own)) config.boards ++ objects.Arbiter (opening_bus config.arbiter) ∷ []
 
--- a port array of these objects was settled with one pass for each processor, and each call of a pass had the kind of
--- its object
+-- a port array of the opening objects was settled with one pass for each processor, and each command and reply of a pass
+-- had its object's kind
 pub record IsSettled (config : Configuration) (passes : List BusPass) (homes : List (Home BusObject)) : Type 0 where
   pub settles : Settles bus_object_step (opening_objects config) (length config.boards) passes homes
   pub kinds : All (λ p. All (MatchesKind (length config.boards)) p.mine) passes
 
--- a settled port array went through a run of known processors and boards: each board, and the arbiter, is the replay of
--- its legal part of the run and has counted it, and the transitions of each processor are those that its pass made
-pub record IsRunOfArray (config : Configuration) (passes : List BusPass) (homes : List (Home BusObject)) (run : List Transition) : Type 0 where
+-- the run of a settled port array, by known processors on known boards: each board, and the arbiter, is the replay of its
+-- legal part of the run and has that part's length as its count; the transitions of each processor are those of its pass
+pub record IsRunOfArray (config : Configuration) (passes : List BusPass) (homes : List (Home BusObject)) (run : List Transition) :
+    Type 0 where
   pub known : All (λ m. m.who < length config.boards) run
   pub fitting : All (λ m. IsReplyTo m.event m.reply) run
   pub within : All (λ m. IsEventBelow (length config.boards) m.event) run

@@ -1,4 +1,4 @@
-//! The end of a run: the passes of all workers come together, and the array of ports is settled.
+//! The end of a run: the array of ports is settled with the passes of all workers.
 ghost use Rattle.std.specs.Prelude.{ℕ, ◌≡◌, ◌<◌, ◌≤◌, length, map, slice_index_or, vec_len, vec_capacity, All};
 ghost use Rattle.vme_object.specs.Each.{AllAt};
 ghost use Rattle.vme_script.specs.Configurations.{Configuration};
@@ -19,7 +19,7 @@ use vme_port::Home;
 use vme_port_array::Pass;
 use vme_shared::LineReply;
 
-/// Takes the finished workers apart: their passes, their counts and their lines, each in order.
+/// Appends the pass, the counts and the lines of each finished worker, in order.
 fn collect_passes(
     rans: Vec<Ran>,
     passes: &mut Vec<Pass<BusObject>>,
@@ -54,7 +54,8 @@ fn collect_passes(
     }
 }
 
-/// Appends how often each worker called the object at an index, by the counts of all workers.
+/// Appends how often each worker called the object at `index`. `counts` has the counts of each
+/// worker, in order.
 fn collect_counts(counts: &Vec<Vec<u64>>, index: usize, made: &mut Vec<u64>)
     requires within { All (λ own. index < vec_len own) counts.now.items }
     requires none { vec_len made.old ≡ 0 }
@@ -66,7 +67,8 @@ fn collect_counts(counts: &Vec<Vec<u64>>, index: usize, made: &mut Vec<u64>)
     }
 }
 
-/// Returns the entry of a board, by the board as the array left it.
+/// Returns the report's entry for the board at index `board`. `home` is that board after the array
+/// was settled, `counts` has the counts of each worker, and `made` is empty.
 fn report_board(
     board: usize,
     slot: u16,
@@ -93,7 +95,8 @@ fn report_board(
     }
 }
 
-/// Appends the entries of all boards, by the boards as the array left them.
+/// Appends the report's entries for all boards. `homes` are the boards after the array was settled,
+/// `counts` has the counts of each worker, and `made` has an empty buffer for each board.
 fn report_boards(
     alloc: Global,
     slots: &Vec<u16>,
@@ -109,7 +112,8 @@ fn report_boards(
     requires made { AreForCounts (vec_len counts.now) made.old.items }
     requires none { vec_len ends.old ≡ 0 }
     requires capacity { vec_len homes ≤ vec_capacity ends.old }
-    ensures { AllAt (λ x home end. (d : ℕ) → IsEntryOfHome counts.now.items x (slice_index_or slots.now.items x d) home end)
+    ensures { AllAt (λ x home end. (d : ℕ) →
+        IsEntryOfHome counts.now.items x (slice_index_or slots.now.items x d) home end)
         homes.items ends.new.items }
 {
     for home in homes {
@@ -120,16 +124,19 @@ fn report_boards(
 }
 
 /// Ends a run: settles the array of ports with the passes of all workers, and returns the report.
-/// `rans` are the finished workers of these ports, in order. It allocates nothing.
+/// `rans` are the finished workers of these ports, one for each board, in order. It allocates
+/// nothing.
 pub fn gather(ports: Ports, rans: Vec<Ran>) -> Report
     requires { (config : Configuration) × CanGather config ports rans.items }
-    ensures gathered { (config : Configuration) → CanGather config ports rans.items → IsGatheredFrom config rans.items result }
-    ensures one_order { (config : Configuration) → CanGather config ports rans.items → IsReportOfOneOrder config result }
+    ensures gathered { (config : Configuration) → CanGather config ports rans.items →
+        IsGatheredFrom config rans.items result }
+    ensures one_order { (config : Configuration) → CanGather config ports rans.items →
+        IsReportOfOneOrder config result }
 {
     let Ports {
         array,
         slots,
-        waiters: _waits,
+        waiters: _waiters,
         report_buffers,
         buffers,
         stop: _stop,

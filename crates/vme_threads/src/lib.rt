@@ -1,6 +1,6 @@
-//! The processors of a backplane (ANSI/IEEE Std 1014-1987, chapters 2 and 3) as threads: one array of
-//! ports with all boards and the arbiter of their bus, and a worker for each processor, which calls
-//! all of them through one pass.
+//! The processors of a backplane (ANSI/IEEE Std 1014-1987, chapters 2 and 3) as threads: one array
+//! of ports with all boards and the arbiter of their bus, and a worker for each processor, which
+//! calls all of them through one pass.
 #![tactic(auto)]
 
 mod gate;

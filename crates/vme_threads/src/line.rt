@@ -1,5 +1,6 @@
-//! Lines of a script. Each line runs in the simplest way: a command to the local port is one call,
-//! a transfer is one task, and a line that may be attempted again is a line's task.
+//! Lines of a script. A command to the local port of the processor's own board is one call, and a
+//! request over the bus is one `Task`. Any other line may need several attempts: it is a
+//! `LineTask`.
 ghost use Rattle.std.specs.Prelude.{◌≡◌, ◌≢◌, ◌<◌, ◌≤◌, ◌∷◌, [], ℕ, false, length, slice_get, Some, None, IfOk};
 ghost use Rattle.vme_core.specs.Calls.{Call};
 ghost use Rattle.vme_core.specs.declared.event.EventReply.TheVariants as replies;
@@ -54,7 +55,8 @@ impl PassSet {
         requires board { self.old.who < length config.now.boards }
         requires line { line < length (lines_at config.now self.old.who) }
         requires none { buffer.items ≡ [] }
-        requires capacity { (one : AnyLine) → slice_get (lines_at config.now self.old.who) line ≡ Some one →
+        requires capacity { (one : AnyLine) →
+            slice_get (lines_at config.now self.old.who) line ≡ Some one →
             line_read_len one ≤ buffer.capacity }
         ensures { IfOk result (λ answer. AddsLine config.now line answer self.old self.new) }
     {
@@ -79,7 +81,8 @@ impl PassSet {
         requires there { self.old.who < self.old.boards }
         requires local { IsOwnLine (lines.Local cmd.now) }
         ensures { (config : Configuration) →
-            IfOk result (λ answer. IsAnsweredBy config (lines.Local cmd.now) answer self.old self.new) }
+            IfOk result (λ answer.
+            IsAnsweredBy config (lines.Local cmd.now) answer self.old self.new) }
     {
         if ports.stop.load(Ordering::SeqCst) {
             return Err(Spent);
@@ -91,7 +94,8 @@ impl PassSet {
         Ok(LineReply::Transfer(local_outcome(cmd, reply)))
     }
 
-    /// Runs a request over the bus, as one task.
+    /// Runs a request over the bus, as one task. `buffer` receives what it reads. While another
+    /// processor has the bus, it waits between two requests to the arbiter.
     ///
     /// # Errors
     /// `Spent` if an object has made 2^64 - 1 steps, or if the workers of these ports have to stop.
@@ -108,7 +112,8 @@ impl PassSet {
         requires board { self.old.who < length config.now.boards }
         requires none { buffer.items ≡ [] }
         requires capacity { request_read_len (transfer_of request.now) ≤ buffer.capacity }
-        ensures { IfOk result (λ answer. IsAnsweredBy config.now (lines.Bus request.now) answer self.old self.new) }
+        ensures { IfOk result (λ answer.
+            IsAnsweredBy config.now (lines.Bus request.now) answer self.old self.new) }
     {
         let (slot, level) = (config.slot(self.who), config.level(self.who));
         let mut task = match Task::start(config.map(), slot, level, request, buffer) {
@@ -130,7 +135,7 @@ impl PassSet {
     }
 }
 
-/// Whether a command is a bus cycle.
+/// Returns whether a command is a bus cycle, and so not a command to a local port.
 fn is_cycle(cmd: &BoardCmd) -> bool
     ensures own { result ≡ false → IsOwnLine (lines.Local cmd.now) }
     ensures other { IsOwnLine (lines.Local cmd.now) → result ≡ false }
@@ -142,7 +147,8 @@ fn is_cycle(cmd: &BoardCmd) -> bool
 fn local_outcome(cmd: &BoardCmd, reply: Reply) -> Outcome
     requires { IsOwnLine (lines.Local cmd.now) }
     ensures { (board : ℕ) →
-        next_of (local_job board cmd.now) (Some (replies.Board reply) ∷ None ∷ []) ≡ Returns result }
+        next_of (local_job board cmd.now) (Some (replies.Board reply) ∷ None ∷ [])
+        ≡ Returns result }
 {
     match (cmd, reply) {
         (_, Reply::Berr) => Outcome::Berr {

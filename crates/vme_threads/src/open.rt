@@ -11,6 +11,9 @@ use vme_port_array::{ArrayFault, Pass, PortArray};
 use vme_script::Config;
 
 /// Returns the boards with zero memory, in order, and the arbiter of a free bus after them.
+///
+/// # Errors
+/// `AllocError` if an allocation fails.
 fn objects(alloc: Global, config: &Config) -> Result<Vec<BusObject>, AllocError>
     ensures { IfOk result (λ r. r.items ≡ opening_objects config.now) }
 {
@@ -27,6 +30,9 @@ fn objects(alloc: Global, config: &Config) -> Result<Vec<BusObject>, AllocError>
 }
 
 /// Opens an array of all boards and their arbiter, with a pass for each processor.
+///
+/// # Errors
+/// `AllocError` if an allocation fails.
 pub(crate) fn open_array(
     alloc: Global,
     config: &Config,
@@ -46,6 +52,9 @@ pub(crate) fn open_array(
 }
 
 /// Returns the slot of each board, in order.
+///
+/// # Errors
+/// `AllocError` if an allocation fails.
 pub(crate) fn slots(alloc: Global, config: &Config) -> Result<Vec<u16>, AllocError>
     ensures { IfOk result (λ r. r.items ≡ map (λ own. own.slot) config.now.boards) }
 {

@@ -27,9 +27,10 @@ use vme_port_array::Pass;
 use vme_script::Config;
 use vme_shared::LineReply;
 
-/// The pass of one processor: it reaches each board by the board's index, and the arbiter by the
-/// index after all boards. `made` has the number of calls that the processor made of each object. It
-/// also holds how long the processor has waited for the bus.
+/// The pass of one processor. It reaches each board by the board's index, and the arbiter by the
+/// index `boards`, after all boards. `who` is the index of the processor's own board. `made` has
+/// the number of calls that the processor made of each object, and `wait_state` states how long it
+/// has waited for the bus.
 #[derive(Drop)]
 pub struct PassSet {
     pub(crate) who: usize,
@@ -88,7 +89,8 @@ impl PassSet {
         requires fits { MatchesPorts ports.now self.old }
         requires there { board < self.old.boards }
         ensures made { IfOk result (λ reply.
-            AddsTransitions (move self.old.who (events.Board board (A.command cmd.now)) reply ∷ []) self.old self.new) }
+            AddsTransitions (move self.old.who (events.Board board (A.command cmd.now)) reply ∷ [])
+            self.old self.new) }
         ensures kind { IfOk result IsBoardReply }
     {
         replies_have_their_kind();
@@ -100,7 +102,7 @@ impl PassSet {
         Ok(reply)
     }
 
-    /// Makes the event that `event_ref` stands for, by one call of the object that it names. It
+    /// Makes the event of `event_ref`, by one call of the arbiter or of the board that it names. It
     /// passes commands by reference, and the datum of a transfer as its cycle, without a copy of
     /// its data lanes.
     ///
@@ -115,7 +117,8 @@ impl PassSet {
     ) -> Result<EventReply, Spent>
         requires fits { MatchesPorts ports.now self.old }
         requires there { IsCallBelow self.old.boards (call_asked event_ref.now) }
-        ensures { IfOk result (λ reply. AddsCall (call_asked event_ref.now) reply self.old self.new) }
+        ensures { IfOk result (λ reply.
+            AddsCall (call_asked event_ref.now) reply self.old self.new) }
     {
         match event_ref {
             EventRef::Bus(cmd) => self.call_bus(rt, ports, cmd),
@@ -127,7 +130,8 @@ impl PassSet {
     }
 
     /// Runs one line of the script attempt by attempt, until it has its reply. `line` is the index
-    /// among the lines that are neither blank nor comments. It pauses before each further attempt.
+    /// among the lines that are neither blank nor comments; `buffer` receives what the line reads
+    /// over the bus. It pauses before each further attempt.
     ///
     /// # Errors
     /// `Spent` if an object has made 2^64 - 1 steps, or if the workers of these ports have to stop.
@@ -144,7 +148,8 @@ impl PassSet {
         requires board { self.old.who < length config.now.boards }
         requires line { line < length (lines_at config.now self.old.who) }
         requires none { buffer.items ≡ [] }
-        requires capacity { (one : Line) → slice_get (lines_at config.now self.old.who) line ≡ Some one →
+        requires capacity { (one : Line) →
+            slice_get (lines_at config.now self.old.who) line ≡ Some one →
             line_read_len one ≤ buffer.capacity }
         ensures { IfOk result (λ answer. AddsLine config.now line answer self.old self.new) }
     {

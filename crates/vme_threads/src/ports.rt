@@ -14,7 +14,9 @@ use vme_port_array::PortArray;
 use vme_script::{Config, OutOfMemory};
 
 /// The boards of one backplane and the arbiter of their bus, which threads share as the objects of
-/// one array of ports. They include all buffers that the end of the run needs.
+/// one array of ports. The value also has the slots of the boards and all buffers that the end of
+/// the run needs. `stop` is set if the workers have to stop before their next event: because an
+/// object has made as many steps as can be counted, or because a thread can't be started.
 #[derive(Drop)]
 pub struct Ports {
     pub(crate) array: PortArray<BusObject>,
@@ -27,9 +29,10 @@ pub struct Ports {
 }
 
 impl Ports {
-    /// Opens one array of ports with each configured board, with zero memory, and with the arbiter
-    /// of a free bus, and a pass of it for each processor. Returns the ports and the workers that
-    /// have these passes. It allocates everything that the workers and the end of their run need.
+    /// Opens one array of ports, whose objects are the configured boards with zero memory and the
+    /// arbiter of a free bus, with a pass for each processor. Returns the ports and the workers
+    /// that have these passes. It allocates everything that the workers and the end of their run
+    /// need.
     ///
     /// # Errors
     /// `OutOfMemory` if an allocation fails.
@@ -43,6 +46,10 @@ impl Ports {
         }
     }
 
+    /// Builds the ports and their workers.
+    ///
+    /// # Errors
+    /// `AllocError` if an allocation fails.
     fn open(alloc: Global, config: &Config) -> Result<(Ports, Vec<Worker>), AllocError>
         ensures built { IfOk result (λ r. IsBuilt config.now r.0) }
         ensures workers { IfOk result (λ r. AreWorkers config.now r.0 r.1.items) }

@@ -8,10 +8,10 @@ use vme_port::Home;
 use vme_port_array::Pass;
 use vme_shared::LineReply;
 
-/// The greatest number of boards: a backplane has 21 slots.
+/// The greatest number of boards on a backplane: it has 21 slots (ANSI/IEEE Std 1014-1987).
 const MOST_BOARDS: usize = 21;
 
-/// Buffers for all passes of an array and for its objects.
+/// Empty buffers for all passes of an array and for its objects.
 #[derive(Drop)]
 pub struct PassBuffers {
     pub(crate) passes: Vec<Pass<BusObject>>,
@@ -23,6 +23,10 @@ pub struct PassBuffers {
 }
 
 impl PassBuffers {
+    /// Allocates the buffers for `MOST_BOARDS` passes, the same number of boards, and the arbiter.
+    ///
+    /// # Errors
+    /// `AllocError` if an allocation fails.
     pub(crate) fn new(alloc: Global) -> Result<PassBuffers, AllocError> {
         Ok(PassBuffers {
             passes: Vec::with_capacity(alloc, MOST_BOARDS)?,

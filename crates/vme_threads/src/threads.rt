@@ -21,7 +21,7 @@ use std::thread::{Promise, PromisedHandle, Scope, Threads};
 use vme_report::RunFault;
 use vme_script::Config;
 
-/// The promise of a thread: the run of one worker.
+/// The promise of a thread: its result is the end of one worker's run.
 #[derive(Clone, Copy)]
 pub struct WorkerPromise<'a> {
     /// The configuration.
@@ -36,7 +36,7 @@ impl<'a> Promise<Result<Ran, RunFault>> for WorkerPromise<'a> {
     ghost kept_by = { λ p r. IsEndOfRun p.config.now p.ports.now p.who r };
 }
 
-/// A thread that runs one worker.
+/// The handle of a thread that runs one worker.
 type Child<'a> = PromisedHandle<Result<Ran, RunFault>, WorkerPromise<'a>>;
 
 /// Runs all scripts of a configuration, each processor on a thread of its own, and calls the gate
@@ -45,7 +45,7 @@ type Child<'a> = PromisedHandle<Result<Ran, RunFault>, WorkerPromise<'a>>;
 ///
 /// # Errors
 /// `Memory` if an allocation fails, `Thread` if a thread can't be started, and `Spent` if an object
-/// has made 2^64 - 1 steps. All started threads have ended by then.
+/// has made 2^64 - 1 steps. All started threads have ended when it returns.
 pub fn run_threads<R: Threads + Wait + Sync, G: Gate + Sync>(
     rt: &R,
     alloc: Global,
@@ -62,7 +62,11 @@ pub fn run_threads<R: Threads + Wait + Sync, G: Gate + Sync>(
     Ok(gather(ports, rans))
 }
 
-/// Runs each worker on a thread of its own.
+/// Runs each worker on a thread of its own, and returns the finished workers in order.
+///
+/// # Errors
+/// `Memory` if an allocation fails, `Thread` if a thread can't be started, and `Spent` if a worker
+/// returns it. All started threads have ended when it returns.
 fn run_all<R: Threads + Wait + Sync, G: Gate + Sync>(
     rt: &R,
     alloc: Global,
@@ -84,7 +88,8 @@ fn run_all<R: Threads + Wait + Sync, G: Gate + Sync>(
             requires built { IsBuilt config.now ports.now }
             requires workers { AreWorkers config.now ports.now workers.items }
             ensures count { IfOk result (λ rans. vec_len rans ≡ vec_len workers) }
-            ensures runs { IfOk result (λ rans. HaveRun config.entry.now ports.entry.now rans.items) }
+            ensures runs { IfOk result (λ rans.
+                HaveRun config.entry.now ports.entry.now rans.items) }
             ensures fault { IfErr result (λ fault. fault ≢ Write) }
         {
             let count = workers.len();
@@ -97,7 +102,10 @@ fn run_all<R: Threads + Wait + Sync, G: Gate + Sync>(
     )
 }
 
-/// Starts a thread for each worker. If one can't be started, the running threads are asked to stop.
+/// Starts a thread for each worker, in order.
+///
+/// # Errors
+/// `Thread` if a thread can't be started. The running workers then stop before their next event.
 fn start_all<'s, E, R: Threads + Wait + Sync, G: Gate + Sync>(
     scope: &'s Scope<'s, E>,
     rt: &'s R,
@@ -112,7 +120,8 @@ fn start_all<'s, E, R: Threads + Wait + Sync, G: Gate + Sync>(
     requires none { vec_len children.old ≡ 0 }
     requires capacity { vec_len workers ≤ vec_capacity children.old }
     ensures count { IfOk result (λ _. vec_len children.new ≡ vec_len workers) }
-    ensures promised { Each (λ k c. IsPromiseOf config.entry.now ports.entry.now k c.promise) children.new.items }
+    ensures promised { Each (λ k c. IsPromiseOf config.entry.now ports.entry.now k c.promise)
+        children.new.items }
     ensures fault { IfErr result (λ fault. fault ≢ Write) }
 {
     for worker in workers {
@@ -131,7 +140,10 @@ fn start_all<'s, E, R: Threads + Wait + Sync, G: Gate + Sync>(
     Ok(())
 }
 
-/// Joins each thread and collects its finished worker.
+/// Joins each thread, in order, and appends its finished worker.
+///
+/// # Errors
+/// `Spent` if a worker returned it. The threads after that worker's are not joined.
 fn join_all<'s, R: Threads>(
     rt: &R,
     config: &'s Config,

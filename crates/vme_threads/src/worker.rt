@@ -36,8 +36,12 @@ impl Worker {
     ghost use Rattle.vme_threads.specs.Ports.{IsBuilt, IsWorkerOf};
     ghost use Rattle.vme_threads.specs.Rans.{IsEndOfRun};
 
-    /// Returns a worker with a pass, which has its number. It allocates the counts of `boards` boards
-    /// and the arbiter, and the buffers for what each line of the script reads and for the replies.
+    /// Returns the worker of a pass, with the number of the pass. It allocates the counts of
+    /// `boards` boards and the arbiter, and the buffers for what each line of the script reads and
+    /// for the replies.
+    ///
+    /// # Errors
+    /// `AllocError` if an allocation fails.
     pub(crate) fn new(
         alloc: Global,
         boards: usize,
@@ -48,7 +52,8 @@ impl Worker {
         ensures who { IfOk result (λ w. w.pass_set.who ≡ pass.who) }
         ensures boards { IfOk result (λ w. w.pass_set.boards ≡ boards) }
         ensures pass { IfOk result (λ w. w.pass_set.pass ≡ pass) }
-        ensures made { IfOk result (λ w. w.pass_set.made.items ≡ replicate {A = ℕ} (boards + 1) 0) }
+        ensures made { IfOk result (λ w.
+            w.pass_set.made.items ≡ replicate {A = ℕ} (boards + 1) 0) }
         ensures lines { IfOk result (λ w. vec_len w.lines ≡ 0) }
         ensures lines_capacity { IfOk result (λ w. length script.now ≤ vec_capacity w.lines) }
         ensures buffers { IfOk result (λ w. w.buffers ≡ buffers_of script.now) }
@@ -74,9 +79,8 @@ impl Worker {
     /// before and after each line. It may wait for the bus and for ports.
     ///
     /// # Errors
-    /// `Spent` if an object has made 2^64 - 1 steps, or if another worker of these ports had to
-    /// stop. All workers of these ports then stop before their next event, and the pass is
-    /// dropped.
+    /// `Spent` if an object has made 2^64 - 1 steps, or if the workers of these ports have to stop.
+    /// All workers of these ports then stop before their next event, and the pass is dropped.
     pub fn run<R: Wait, G: Gate>(
         self,
         rt: &R,

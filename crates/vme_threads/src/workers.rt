@@ -11,7 +11,10 @@ use vme_bus_objects::BusObject;
 use vme_port_array::{Pass, PortArray};
 use vme_script::Config;
 
-/// Returns a worker for each pass of the array. It allocates the buffers of all workers.
+/// Returns a worker for each pass of the array, in order. It allocates the buffers of all workers.
+///
+/// # Errors
+/// `AllocError` if an allocation fails.
 pub(crate) fn new_workers(
     alloc: Global,
     config: &Config,

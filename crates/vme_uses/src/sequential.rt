@@ -2,19 +2,19 @@
 ghost use Rattle.std.specs.Prelude.{◌≡◌, ℕ, List};
 ghost use Rattle.vme_script.specs.Lawful.{IsLawful};
 ghost use Rattle.vme_stepper.specs.Turns.{state_after};
-ghost use Rattle.vme_stepper.specs.Reports.{texts_of_system};
-ghost use Rattle.vme_threads.specs.ReportTexts.{texts_of_report};
 ghost use Rattle.vme_threads.specs.OneOrder.{IsReportOfOneOrder};
+ghost use Rattle.vme_sequential.specs.Orders.{IsReportOfState};
 
 use vme_runner::Report;
 use vme_script::Config;
 use vme_sequential::a_run_of_threads_is_a_run_of_turns;
 
-/// Returns the arbiter's steps in a report of one order. Some turns have the same report.
+/// Returns the arbiter's steps in a report of one order: those that it makes in some turns.
 pub fn arbiter_steps(config: &Config, report: &Report) -> u64
     requires lawful { IsLawful config.now }
     requires order { IsReportOfOneOrder config.now report.now }
-    ensures { (slots : List ℕ) × (texts_of_report report.now ≡ texts_of_system config.now (state_after config.now slots)) }
+    ensures report { (slots : List ℕ) × IsReportOfState config.now report.now (state_after config.now slots) }
+    ensures steps { (slots : List ℕ) × (result ≡ (state_after config.now slots).machine.bus.steps) }
 {
     a_run_of_threads_is_a_run_of_turns();
     report.arbiter_steps

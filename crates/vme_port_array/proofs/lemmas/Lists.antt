@@ -24,7 +24,7 @@ get_at [] i a d there = absurd (some-ne-none a (sym there))
 get_at (x ∷ xs) zero a d there = some-injective x a there
 get_at (x ∷ xs) (suc i) a d there = get_at xs i a d there
 
--- a slot that was just filled holds its element
+-- in a list of full slots, each slot holds its element
 pub at_home_first : {A : Type 0} (l : List A) (i : ℕ) (a : A) → get_elem? l i ≡ some a → get_elem? (map some l) i ≡ some (some a)
 at_home_first [] i a there = absurd (some-ne-none a (sym there))
 at_home_first (x ∷ xs) zero a there = ap (λ a. some a) there
@@ -36,9 +36,10 @@ no_more [] none = refl
 no_more (x ∷ l) none = absurd (omega arith)
 
 module _ {A : Type 0} where
-  -- the elements taken so far, and one more, are those of the first slots
+  -- the elements taken so far, followed by the next one, are those of the first slots
   pub taken_more : (homes slots : List A) (p : ℕ) (x : A) → length homes ≡ p → get_elem? slots p ≡ some x
-      → ((k : ℕ) → k < p → get_elem? homes k ≡ get_elem? slots k) → (k : ℕ) → k < p + 1 → get_elem? (homes ++ x ∷ []) k ≡ get_elem? slots k
+      → ((k : ℕ) → k < p → get_elem? homes k ≡ get_elem? slots k) → (k : ℕ) → k < p + 1
+      → get_elem? (homes ++ x ∷ []) k ≡ get_elem? slots k
   taken_more homes slots p x long there was k less = elim (cases_eq k p) [
     | inl same ↦ at_last homes x k (long ∙ sym same) ∙ sym there ∙ ap (get_elem? slots) (sym same)
     | inr other ↦
@@ -46,7 +47,7 @@ module _ {A : Type 0} where
         at_longer homes (x ∷ []) k found.0 found.1 ∙ sym found.1 ∙ was k (omega arith)
   ]
 
--- one more slot is empty
+-- when the next slot is emptied, all slots up to it are empty
 pub emptied_more : (fs : List Bool) (p : ℕ) → p < length fs → ((k : ℕ) → k < p → slice_index_or fs k false ≡ false)
     → (k : ℕ) → k < p + 1 → slice_index_or (set fs p false) k false ≡ false
 emptied_more fs p less was k below = elim (cases_eq k p) [
@@ -54,7 +55,7 @@ emptied_more fs p less was k below = elim (cases_eq k p) [
   | inr other ↦ get_or-set_other fs p k false false other ∙ was k (omega arith)
 ]
 
--- the later slots stay filled
+-- when a slot is emptied, the later ones stay filled
 pub filled_still : (fs : List Bool) (p n : ℕ) → ((k : ℕ) → p ≤ k → k < n → slice_index_or fs k false ≡ true)
     → (k : ℕ) → p + 1 ≤ k → k < n → slice_index_or (set fs p false) k false ≡ true
 filled_still fs p n was k least below = get_or-set_other fs p k false false (λ same. omega arith) ∙ was k (omega arith) below

@@ -23,8 +23,10 @@ module _ {S C R : Type 0} (step : S → C → S × R) (starts : List S) where
   makes_one es p q added = makes_added es p q added.port added.who added.others added.apart added.seen added.whose added.mine added.made
 
   -- the reply of an entry of a history with legal parts is that of its object's step
-  reply_in : (h before after : List (Entry (Indexed C) R)) (e : Entry (Indexed C) R) → AreLegal step starts h → h ≡ before ++ e ∷ after
-      → (start : S) → get_elem? starts e.cmd.index ≡ some start → e.reply ≡ (step (replay step start (part e.cmd.index before)) e.cmd.cmd).1
+  reply_in : (h before after : List (Entry (Indexed C) R)) (e : Entry (Indexed C) R) → AreLegal step starts h
+      → h ≡ before ++ e ∷ after
+      → (start : S) → get_elem? starts e.cmd.index ≡ some start
+      → e.reply ≡ (step (replay step start (part e.cmd.index before)) e.cmd.cmd).1
   reply_in h before after e legal place start there =
       let i : ℕ = e.cmd.index in
       let split : part i h ≡ part i before ++ entry e.who e.cmd.cmd e.reply ∷ part i after =

@@ -14,7 +14,8 @@ module _ {C R : Type 0} where
   part-append i a b = filter_map-append (part_entry i) a b
 
   -- the part of an object in a history that begins with an entry of the object
-  pub part_first : (e : Entry (Indexed C) R) (h : List (Entry (Indexed C) R)) → part e.cmd.index (e ∷ h) ≡ entry e.who e.cmd.cmd e.reply ∷ part e.cmd.index h
+  pub part_first : (e : Entry (Indexed C) R) (h : List (Entry (Indexed C) R))
+      → part e.cmd.index (e ∷ h) ≡ entry e.who e.cmd.cmd e.reply ∷ part e.cmd.index h
   part_first e h = rw (eq-eqb e.cmd.index e.cmd.index refl) refl
 
   -- entries of one object add nothing to the part of another
@@ -27,14 +28,15 @@ module _ {C R : Type 0} where
       rw (ne_eqb e.cmd.index j differs) rest
 
   -- entries of one object leave the part of another unchanged
-  pub part_else : (i j : ℕ) (h es : List (Entry (Indexed C) R)) → All (λ e. e.cmd.index ≡ i) es → j ≢ i → part j (h ++ es) ≡ part j h
+  pub part_else : (i j : ℕ) (h es : List (Entry (Indexed C) R)) → All (λ e. e.cmd.index ≡ i) es → j ≢ i
+      → part j (h ++ es) ≡ part j h
   part_else i j h es all other = part-append j h es ∙ ap (λ l. part j h ++ l) (part_none i j es all other) ∙ append-nil (part j h)
 
--- a seat that holds an object holds that object
+-- a seat that holds the object at index i is found to hold it
 pub out_here : (i : ℕ) → is_out i (Some i) ≡ true
 out_here i = eq-eqb i i refl
 
--- a seat that holds an object holds no other
+-- a seat that holds the object at index i is found to hold no other
 pub out_else : (i j : ℕ) → j ≢ i → is_out j (Some i) ≡ false
 out_else i j other = ne_eqb i j (λ same. other (sym same))
 
@@ -43,9 +45,11 @@ pub words_apart : (i j : ℕ) → j ≢ i → word_of j ≢ word_of i
 words_apart i j other = λ same. other (omega arith)
 
 -- a word that is written is read back
-pub word_same : (words : List ℕ) (n i new : ℕ) → length words ≡ n * 8 → i < n → slice_index (set words (word_of i) new) (word_of i) ≡ new
+pub word_same : (words : List ℕ) (n i new : ℕ) → length words ≡ n * 8 → i < n
+    → slice_index (set words (word_of i) new) (word_of i) ≡ new
 word_same words n i new long less = get_or-set_same words (word_of i) new 0 (omega arith)
 
 -- a write of one word leaves the others unchanged
-pub word_else : (words : List ℕ) (i j new : ℕ) → j ≢ i → slice_index (set words (word_of i) new) (word_of j) ≡ slice_index words (word_of j)
+pub word_else : (words : List ℕ) (i j new : ℕ) → j ≢ i
+    → slice_index (set words (word_of i) new) (word_of j) ≡ slice_index words (word_of j)
 word_else words i j new other = get_or-set_other words (word_of i) (word_of j) new 0 (words_apart i j other)

@@ -30,7 +30,7 @@ transitions_whose who (m ∷ run) = elim (cases_eq m.who who) [
   | inr other ↦ rw (ne_eqb m.who who other) (transitions_whose who run)
 ]
 
--- a fact of all transitions of a run is one of those of a processor
+-- a fact of all transitions of a run is one of all transitions of a processor
 pub transitions_all : (P : Transition → Type 0) (who : ℕ) (run : List Transition) → All P run → All P (transitions_of who run)
 transitions_all P who [] all = All-nil P
 transitions_all P who (m ∷ run) all = elim (cases_eq m.who who) [
@@ -42,19 +42,25 @@ module _ {C R : Type 0} (f : Transition → Option (Entry C R)) (whose : (m : Tr
   -- the callers of a history are among the processors of the run
   pub known_of : (n : ℕ) (run : List Transition) → All (λ m. m.who < n) run → All (λ e. e.who < n) (filter_map f run)
   known_of n [] all = All-nil (λ (e : Entry C R). e.who < n)
-  known_of n (m ∷ run) all = by_found (f m) refl (All-head (λ (m : Transition). m.who < n) m run all) (known_of n run (All-tail (λ (m : Transition). m.who < n) m run all))
+  known_of n (m ∷ run) all =
+      by_found (f m) refl (All-head (λ (m : Transition). m.who < n) m run all)
+      (known_of n run (All-tail (λ (m : Transition). m.who < n) m run all))
     where
-      by_found : (found : Option (Entry C R)) → f m ≡ found → m.who < n → All (λ e. e.who < n) (filter_map f run) → All (λ e. e.who < n) (filter_map f (m ∷ run))
+      by_found : (found : Option (Entry C R)) → f m ≡ found → m.who < n → All (λ e. e.who < n) (filter_map f run)
+          → All (λ e. e.who < n) (filter_map f (m ∷ run))
       by_found None is less then = rw is then
-      by_found (Some e) is less then = rw is (All-cons (λ (e : Entry C R). e.who < n) e (filter_map f run) (subst (λ w. w < n) (sym (whose m e is)) less) then)
+      by_found (Some e) is less then =
+          rw is (All-cons (λ (e : Entry C R). e.who < n) e (filter_map f run) (subst (λ w. w < n) (sym (whose m e is)) less) then)
 
   -- a history that leads to an object is shared by the runs of k processors
-  shared_by : {S : Type 0} (step : S → C → S × R) (start : S) (k : ℕ) (run : List Transition) (object : S) (steps : ℕ) (made : List ℕ) → All (λ m. m.who < k) run
+  shared_by : {S : Type 0} (step : S → C → S × R) (start : S) (k : ℕ) (run : List Transition) (object : S) (steps : ℕ) (made : List ℕ)
+      → All (λ m. m.who < k) run
       → LeadsTo step start k (filter_map f run) object steps made
       → HasHistory step start (map (filter_map f) (values (λ who. transitions_of who run) 0 k)) object steps made
   shared_by step start k run object steps made known leads =
       let parts : List (List (Entry C R)) = values (λ who. filter_map f (transitions_of who run)) 0 k in
-      let same : map (filter_map f) (values (λ who. transitions_of who run) 0 k) ≡ parts = values_map (filter_map f) (λ who. transitions_of who run) 0 k in
+      let same : map (filter_map f) (values (λ who. transitions_of who run) 0 k) ≡ parts =
+      values_map (filter_map f) (λ who. transitions_of who run) 0 k in
       rw same (record {
         history = filter_map f run;
         legal = leads.legal;
@@ -75,7 +81,9 @@ is_report config report is =
       workers = values_count (λ who. transitions_of who is.run) 0 k;
       whose = each_value (λ who run. All (λ (m : Transition). m.who ≡ who) run) (λ who. transitions_of who is.run) k (λ who less. transitions_whose who is.run);
       fitting = all_values (λ run. All (λ (m : Transition). IsReplyTo m.event m.reply) run) (λ who. transitions_of who is.run) 0 k (λ who. transitions_all (λ (m : Transition). IsReplyTo m.event m.reply) who is.run is.fitting);
-      trace = value_pairs (λ who run (lines : Vec (ℕ × LineReply)). IsTrace config who (lines_at config who) run (answers_in lines.items)) (λ who. transitions_of who is.run) report.lines.items k is.trace.count
+      trace =
+          value_pairs (λ who run (lines : Vec (ℕ × LineReply)). IsTrace config who (lines_at config who) run (answers_in lines.items))
+          (λ who. transitions_of who is.run) report.lines.items k is.trace.count
           (λ who d less. is.trace.each who (any_board who less) d less);
       numbers = is.numbers;
       boards = record {
@@ -89,13 +97,16 @@ is_report config report is =
       };
       bus = (
         is.bus.0,
-        shared_by (λ m. bus_entry m.who m.event m.reply) (λ m e found. bus_whose m.who m.event m.reply e found) arbiter_step (opening_bus config.arbiter) k is.run _ _ _ is.known is.bus.1,
+        shared_by (λ m. bus_entry m.who m.event m.reply) (λ m e found. bus_whose m.who m.event m.reply e found) arbiter_step
+            (opening_bus config.arbiter) k is.run _ _ _ is.known is.bus.1,
       );
     }
   where
+    -- a board of a list that is not empty
     some_board : (boards : List BoardConfig) (who : ℕ) → who < length boards → BoardConfig
     some_board [] who less = absurd (omega arith)
     some_board (b ∷ boards) who less = b
 
+    -- a board of the configuration, if there is a processor
     any_board : (who : ℕ) → who < length config.boards → BoardConfig
     any_board who less = some_board config.boards who less

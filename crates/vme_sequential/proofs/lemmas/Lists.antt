@@ -1,4 +1,4 @@
--- Lists by their elements: writes, images, lists that read the same, and the values of a function.
+-- Lists by their elements: writes, images, lists with equal elements, and the values of a function.
 use Rattle.std.proofs.Common.{◌≡◌, ◌≢◌, ℕ, zero, suc, ◌+◌, ◌<◌, List, [], ◌∷◌, length, map, slice_index_or, Some, All, refl, ap, sym, subst, ◌∙◌, arith, inl, inr}
 use Rattle.std.specs.Prelude.{slice_get, slice_set, option_map}
 use Rattle.std.proofs.lemmas.List.{length-set, get_or-set_same, get_or-set_other}
@@ -16,7 +16,8 @@ element_at xs i less = elim (slice_get_cases xs i).1 [
 -- an element that was written is read at its index
 pub set_here : {X : Type 0} (xs : List X) (i : ℕ) (new : X) → i < length xs → slice_get (slice_set xs i new) i ≡ Some new
 set_here xs i new less =
-    slice_get-get_or (slice_set xs i new) i new (subst (λ n. i < n) (sym (length-set xs i new)) less) ∙ ap Some (get_or-set_same xs i new new less)
+    slice_get-get_or (slice_set xs i new) i new (subst (λ n. i < n) (sym (length-set xs i new)) less)
+    ∙ ap Some (get_or-set_same xs i new new less)
 
 -- a write leaves the other elements unchanged
 pub set_elsewhere : {X : Type 0} (xs : List X) (i j : ℕ) (new : X) → i ≢ j → slice_get (slice_set xs i new) j ≡ slice_get xs j
@@ -28,11 +29,13 @@ set_elsewhere xs i j new apart = elim (slice_get_cases xs j).1 [
 ]
 
 -- an element of a list has its image at the same index
-pub map_at : {X Y : Type 0} (f : X → Y) (xs : List X) (i : ℕ) (x : X) → slice_get xs i ≡ Some x → slice_get (map f xs) i ≡ Some (f x)
+pub map_at : {X Y : Type 0} (f : X → Y) (xs : List X) (i : ℕ) (x : X) → slice_get xs i ≡ Some x
+    → slice_get (map f xs) i ≡ Some (f x)
 map_at f xs i x found = slice_get-map f xs i ∙ ap (option_map f) found
 
 -- lists of one length with the same elements are equal
-pub same_elements : {X : Type 0} (xs ys : List X) → length xs ≡ length ys → ((i : ℕ) → i < length ys → slice_get xs i ≡ slice_get ys i) → xs ≡ ys
+pub same_elements : {X : Type 0} (xs ys : List X) → length xs ≡ length ys
+    → ((i : ℕ) → i < length ys → slice_get xs i ≡ slice_get ys i) → xs ≡ ys
 same_elements [] [] count each = refl
 same_elements [] (y ∷ ys) count each = absurd (omega arith)
 same_elements (x ∷ xs) [] count each = absurd (omega arith)
@@ -75,13 +78,13 @@ pub values_map : {A B : Type 0} (g : A → B) (f : ℕ → A) (i n : ℕ) → ma
 values_map g f i zero = refl
 values_map g f i (suc n) = ap (λ l. g (f i) ∷ l) (values_map g f (suc i) n)
 
--- a fact of each value and its index
+-- a fact of each index and its value is one of each element and its index
 pub each_value : {A : Type 0} (P : ℕ → A → Type 0) (f : ℕ → A) (n : ℕ) → ((k : ℕ) → k < n → P k (f k)) → Each P (values f 0 n)
 each_value P f n each k d less =
     let below : k < n = subst (λ m. k < m) (values_count f 0 n) less in
     subst (P k) (sym (values_first f n k d below)) (each k below)
 
--- a fact of all values
+-- a fact of all values of a function is one of n of them
 pub all_values : {A : Type 0} (P : A → Type 0) (f : ℕ → A) (i n : ℕ) → ((k : ℕ) → P (f k)) → All P (values f i n)
 all_values P f i zero each = All-nil P
 all_values P f i (suc n) each = All-cons P (f i) (values f (suc i) n) (each i) (all_values P f (suc i) n each)

@@ -26,7 +26,8 @@ use Rattle.vme_sequential.proofs.lemmas.Lists.{set_here, set_elsewhere}
 
 -- the part of each object in a run is legal from the object's state
 pub record Legal (machine : Machine) (run : List Transition) : Type 0 where
-  pub boards : (x : ℕ) (b : CountedState Board) → slice_get machine.boards x ≡ Some b → IsLegal board_step b.object (board_part x run)
+  pub boards : (x : ℕ) (b : CountedState Board) → slice_get machine.boards x ≡ Some b
+      → IsLegal board_step b.object (board_part x run)
   pub bus : IsLegal arbiter_step machine.bus.object (bus_part run)
 
 -- a transition at a board is the first of that board's part
@@ -44,7 +45,7 @@ pub record StepLegal (machine : Machine) (who : ℕ) (event : Event) (reply : Ev
   pub reply_is : reply ≡ after.1
   pub legal : Legal after.0 run
 
--- the first transition of a run whose parts are legal
+-- the first transition of a run whose parts are legal has the machine's reply, and the others are legal after it
 step_legal : (who : ℕ) (event : Event) (reply : EventReply) (run : List Transition) (machine : Machine) → IsReplyTo event reply
     → IsEventBelow (length machine.boards) event → Legal machine (move who event reply ∷ run)
     → StepLegal machine who event reply run (machine_step machine who (call_of event))
@@ -60,7 +61,8 @@ step_legal who (events.Board x cmd) (replies.Board reply) run machine fit there 
         legal = record {
           boards = λ y one found. elim (cases_eq x y) [
             | inl same ↦
-                let here : new ≡ one = same_Some new one (sym (set_here machine.boards x new at.1) ∙ ap (slice_get (slice_set machine.boards x new)) same ∙ found) in
+                let here : new ≡ one =
+                same_Some new one (sym (set_here machine.boards x new at.1) ∙ ap (slice_get (slice_set machine.boards x new)) same ∙ found) in
                 subst (λ (y : ℕ). IsLegal board_step one.object (board_part y run)) same
                 (subst (λ (one : CountedState Board). IsLegal board_step one.object (board_part x run)) here first.1)
             | inr other ↦
@@ -90,17 +92,23 @@ pub record IsPerformed (machine : Machine) (run : List Transition) : Type 0 wher
   pub did : IsRun run machine (performed machine run)
 
 -- a run whose parts are legal is performed
-pub is_performed : (run : List Transition) (machine : Machine) (n : ℕ) → length machine.boards ≡ n → All (λ m. IsReplyTo m.event m.reply) run
+pub is_performed : (run : List Transition) (machine : Machine) (n : ℕ) → length machine.boards ≡ n
+    → All (λ m. IsReplyTo m.event m.reply) run
     → All (λ m. IsEventBelow n m.event) run → Legal machine run → IsPerformed machine run
 is_performed [] machine n count fitting within legal = record { performs = refl; did = did_nil machine }
 is_performed (m ∷ run) machine n count fitting within legal =
     let next = machine_step machine m.who (call_of m.event) in
     let below : IsEventBelow (length machine.boards) m.event =
     subst (λ n. IsEventBelow n m.event) (sym count) (All-head (λ (m : Transition). IsEventBelow n m.event) m run within) in
-    let one = step_legal m.who m.event m.reply run machine (All-head (λ (m : Transition). IsReplyTo m.event m.reply) m run fitting) below legal in
+    let one =
+    step_legal m.who m.event m.reply run machine
+    (All-head (λ (m : Transition). IsReplyTo m.event m.reply) m run fitting) below legal in
     let first : IsRun (m ∷ []) machine next.0 =
-    subst (λ (r : EventReply). IsRun (move m.who m.event r ∷ []) machine next.0) (sym one.reply_is) (did_call machine m.who m.event (event_there machine m.event below)) in
-    let then = is_performed run next.0 n (first.boards.count ∙ count) (All-tail (λ (m : Transition). IsReplyTo m.event m.reply) m run fitting)
+    subst (λ (r : EventReply). IsRun (move m.who m.event r ∷ []) machine next.0) (sym one.reply_is)
+    (did_call machine m.who m.event (event_there machine m.event below)) in
+    let then =
+    is_performed run next.0 n (first.boards.count ∙ count)
+    (All-tail (λ (m : Transition). IsReplyTo m.event m.reply) m run fitting)
     (All-tail (λ (m : Transition). IsEventBelow n m.event) m run within) one.legal in
     record {
       performs = (one.reply_is, then.performs);

@@ -1,4 +1,5 @@
--- If transitions lead a processor to the replies of its lines, its next turn makes the first of them, and the others lead it on.
+-- If transitions lead a processor to the replies of its lines, its next turn makes the first of them, and the others lead
+-- it to the same replies.
 use Rattle.std.proofs.Common.{◌≡◌, ℕ, List, [], ◌∷◌, ◌++◌, length, drop, refl, ap, sym, subst, ◌∙◌, append_assoc}
 use Rattle.std.proofs.lemmas.List.{append-nil, drop-drop, length_push}
 use Rattle.vme_core.specs.declared.event.EventReply.{EventReply}
@@ -15,7 +16,8 @@ use Rattle.vme_stepper.specs.Turns.{script_state, settled, turn_by, script_state
 
 -- the lines left after the reply to the first of them
 left_after : (config : Configuration) (board : ℕ) (ended : List LineReply) (answer : LineReply) (line : Line) (lines : List Line)
-    → drop (length ended) (lines_at config board) ≡ line ∷ lines → drop (length (ended ++ answer ∷ [])) (lines_at config board) ≡ lines
+    → drop (length ended) (lines_at config board) ≡ line ∷ lines
+    → drop (length (ended ++ answer ∷ [])) (lines_at config board) ≡ lines
 left_after config board ended answer line lines left =
     ap (λ n. drop n (lines_at config board)) (length_push ended answer) ∙ sym (drop-drop 1 (length ended) (lines_at config board))
     ∙ ap (λ ls. drop 1 ls) left
@@ -64,28 +66,34 @@ pub record CanEnd (config : Configuration) (board : ℕ) (c : ScriptState) (move
   pub split : answers ≡ c.ended ++ more
   pub leads : Leads config board (lines_left config board c) c.replies moves more
 
--- a turn made the transition m, and the others lead the processor on
+-- a turn made the transition m, and the other transitions lead the processor to the replies of its lines
 pub record Turned (config : Configuration) (board : ℕ) (machine : Machine) (m : Transition) (rest : List Transition) (answers : List LineReply)
     (after : Machine × ScriptState) : Type 0 where
   pub machine_is : after.0 ≡ (machine_step machine board (call_of m.event)).0
   pub can : CanEnd config board after.1 rest answers
 
 module _ (config : Configuration) (board : ℕ) where
-  -- the replies, with one more of them recorded
-  split_more : (answers ended more : List LineReply) (answer : LineReply) (rest : List LineReply) → answers ≡ ended ++ more → more ≡ answer ∷ rest
+  -- the replies to all lines, after one more of them is recorded
+  split_more : (answers ended more : List LineReply) (answer : LineReply) (rest : List LineReply) → answers ≡ ended ++ more
+      → more ≡ answer ∷ rest
       → answers ≡ (ended ++ answer ∷ []) ++ rest
-  split_more answers ended more answer rest split are = split ∙ ap (λ l. ended ++ l) are ∙ sym (append_assoc ended (answer ∷ []) rest)
+  split_more answers ended more answer rest split are =
+      split ∙ ap (λ l. ended ++ l) are ∙ sym (append_assoc ended (answer ∷ []) rest)
 
   -- after a transition the line has its reply, or continues by its other transitions
   after_move : (lines : List Line) (line : Line) (c : ScriptState) (m : Transition) (rest : List Transition) (answers more : List LineReply)
       → lines_left config board c ≡ line ∷ lines → answers ≡ c.ended ++ more
-      → (later others : List Transition) (answer : LineReply) (after : List LineReply) (last : List EventReply) → rest ≡ later ++ others → more ≡ answer ∷ after
-      → Continues config board line (m.reply ∷ c.replies) later last → line_next config board line last ≡ Returns answer → IsTrace config board lines others after
+      → (later others : List Transition) (answer : LineReply) (after : List LineReply) (last : List EventReply)
+      → rest ≡ later ++ others → more ≡ answer ∷ after
+      → Continues config board line (m.reply ∷ c.replies) later last → line_next config board line last ≡ Returns answer
+      → IsTrace config board lines others after
       → CanEnd config board (settled c.ended (m.reply ∷ c.replies) (line_next config board line (m.reply ∷ c.replies))) rest answers
   after_move lines line c m rest answers more left split [] others answer after last is are goes ends then =
-      let next : line_next config board line (m.reply ∷ c.replies) ≡ Returns answer = ap (line_next config board line) goes ∙ ends in
+      let next : line_next config board line (m.reply ∷ c.replies) ≡ Returns answer =
+      ap (line_next config board line) goes ∙ ends in
       let now : ScriptState = script_state (c.ended ++ answer ∷ []) [] in
-      subst (λ (next : NextStep LineReply). CanEnd config board (settled c.ended (m.reply ∷ c.replies) next) rest answers) (sym next)
+      subst (λ (next : NextStep LineReply). CanEnd config board (settled c.ended (m.reply ∷ c.replies) next) rest answers)
+      (sym next)
       (record {
         more = after;
         split = split_more answers c.ended more answer after split are;
@@ -93,7 +101,8 @@ module _ (config : Configuration) (board : ℕ) where
             (leads_first config board lines rest after (subst (λ (ms : List Transition). IsTrace config board lines ms after) (sym is) then));
       })
   after_move lines line c m rest answers more left split (g ∷ later) others answer after last is are goes ends then =
-      subst (λ (next : NextStep LineReply). CanEnd config board (settled c.ended (m.reply ∷ c.replies) next) rest answers) (sym goes.0)
+      subst (λ (next : NextStep LineReply). CanEnd config board (settled c.ended (m.reply ∷ c.replies) next) rest answers)
+      (sym goes.0)
       (record {
         more = more;
         split = split;
@@ -111,10 +120,11 @@ module _ (config : Configuration) (board : ℕ) where
         });
       })
 
-  -- the turn of a processor that has a transition left
+  -- the turn of a processor that has transitions left makes the first of them
   pub turned : (lines : List Line) (machine : Machine) (c : ScriptState) (m : Transition) (rest : List Transition) (answers more : List LineReply)
       → lines_left config board c ≡ lines → m.reply ≡ (machine_step machine board (call_of m.event)).1 → answers ≡ c.ended ++ more
-      → Leads config board lines c.replies (m ∷ rest) more → Turned config board machine m rest answers (script_state_turn config board lines machine c)
+      → Leads config board lines c.replies (m ∷ rest) more
+      → Turned config board machine m rest answers (script_state_turn config board lines machine c)
   turned [] machine c m rest answers more left reply split leads = absurd (cc leads.1)
   turned (line ∷ lines) machine c m rest answers more left reply split leads =
       by_first (λ now later left split leads. turned lines machine now m rest answers later left reply split leads) leads.first leads.moves_are leads.goes
@@ -124,28 +134,36 @@ module _ (config : Configuration) (board : ℕ) where
           → (first : List Transition) → m ∷ rest ≡ first ++ leads.rest → Continues config board line c.replies first leads.last
           → Turned config board machine m rest answers (turn_by config board line machine c (line_next config board line c.replies) (script_state_turn config board lines machine))
       by_first again [] is goes =
-          let next : line_next config board line c.replies ≡ Returns leads.answer = ap (line_next config board line) goes ∙ leads.ends in
+          let next : line_next config board line c.replies ≡ Returns leads.answer =
+          ap (line_next config board line) goes ∙ leads.ends in
           let now : ScriptState = script_state (c.ended ++ leads.answer ∷ []) [] in
-          subst (λ (next : NextStep LineReply). Turned config board machine m rest answers (turn_by config board line machine c next (script_state_turn config board lines machine))) (sym next)
+          subst (λ (next : NextStep LineReply). Turned config board machine m rest answers (turn_by config board line machine c next (script_state_turn config board lines machine)))
+          (sym next)
           (again now leads.more (left_after config board c.ended leads.answer line lines left)
           (split_more answers c.ended more leads.answer leads.more split leads.answers_are)
           (leads_first config board lines (m ∷ rest) leads.more (subst (λ (ms : List Transition). IsTrace config board lines ms leads.more) (sym is) leads.then)))
       by_first again (f ∷ later) is goes =
           let same : f ≡ m = cc is in
           let others : rest ≡ later ++ leads.rest = cc is in
-          let next : line_next config board line c.replies ≡ Invokes (call_of m.event) = goes.0 ∙ ap (λ (f : Transition). Invokes (call_of f.event)) same in
-          let on : Continues config board line (m.reply ∷ c.replies) later leads.last = subst (λ (f : Transition). Continues config board line (f.reply ∷ c.replies) later leads.last) same goes.1 in
+          let next : line_next config board line c.replies ≡ Invokes (call_of m.event) =
+          goes.0 ∙ ap (λ (f : Transition). Invokes (call_of f.event)) same in
+          let on : Continues config board line (m.reply ∷ c.replies) later leads.last =
+          subst (λ (f : Transition). Continues config board line (f.reply ∷ c.replies) later leads.last) same goes.1 in
           let step = machine_step machine board (call_of m.event) in
-          let can = after_move lines line c m rest answers more left split later leads.rest leads.answer leads.more leads.last others leads.answers_are on leads.ends leads.then in
-          subst (λ (next : NextStep LineReply). Turned config board machine m rest answers (turn_by config board line machine c next (script_state_turn config board lines machine))) (sym next)
+          let can =
+          after_move lines line c m rest answers more left split later leads.rest leads.answer leads.more leads.last others leads.answers_are on leads.ends leads.then in
+          subst (λ (next : NextStep LineReply). Turned config board machine m rest answers (turn_by config board line machine c next (script_state_turn config board lines machine)))
+          (sym next)
           (record {
             machine_is = refl;
             can = subst (λ (r : EventReply). CanEnd config board (settled c.ended (r ∷ c.replies) (line_next config board line (r ∷ c.replies))) rest answers) reply can;
           })
 
   -- the turn of a processor that has no transition left records the replies of all its lines
-  pub finished : (lines : List Line) (machine : Machine) (c : ScriptState) (answers more : List LineReply) → lines_left config board c ≡ lines
-      → answers ≡ c.ended ++ more → Leads config board lines c.replies [] more → script_state_turn config board lines machine c ≡ (machine, script_state answers [])
+  pub finished : (lines : List Line) (machine : Machine) (c : ScriptState) (answers more : List LineReply)
+      → lines_left config board c ≡ lines
+      → answers ≡ c.ended ++ more → Leads config board lines c.replies [] more
+      → script_state_turn config board lines machine c ≡ (machine, script_state answers [])
   finished [] machine c answers more left split leads =
       let all : c.ended ≡ answers = sym (split ∙ ap (λ l. c.ended ++ l) leads.2 ∙ append-nil c.ended) in
       λ i. (machine, script_state (all i) (leads.0 i))
@@ -157,9 +175,11 @@ module _ (config : Configuration) (board : ℕ) where
           → (first : List Transition) → [] ≡ first ++ leads.rest → Continues config board line c.replies first leads.last
           → turn_by config board line machine c (line_next config board line c.replies) (script_state_turn config board lines machine) ≡ (machine, script_state answers [])
       by_first again [] is goes =
-          let next : line_next config board line c.replies ≡ Returns leads.answer = ap (line_next config board line) goes ∙ leads.ends in
+          let next : line_next config board line c.replies ≡ Returns leads.answer =
+          ap (line_next config board line) goes ∙ leads.ends in
           let now : ScriptState = script_state (c.ended ++ leads.answer ∷ []) [] in
-          subst (λ (next : NextStep LineReply). turn_by config board line machine c next (script_state_turn config board lines machine) ≡ (machine, script_state answers [])) (sym next)
+          subst (λ (next : NextStep LineReply). turn_by config board line machine c next (script_state_turn config board lines machine) ≡ (machine, script_state answers []))
+          (sym next)
           (again now leads.more (left_after config board c.ended leads.answer line lines left)
           (split_more answers c.ended more leads.answer leads.more split leads.answers_are)
           (leads_first config board lines [] leads.more (subst (λ (ms : List Transition). IsTrace config board lines ms leads.more) (sym is) leads.then)))

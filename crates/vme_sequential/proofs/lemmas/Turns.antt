@@ -22,25 +22,31 @@ use Rattle.vme_sequential.specs.Orders.{Performs, slots_of, IsOneOrder, ended_st
 use Rattle.vme_sequential.proofs.lemmas.Lists.{set_here, set_elsewhere, map_at, same_elements}
 use Rattle.vme_sequential.proofs.lemmas.ScriptTurns.{CanEnd, Turned, leads_first, turned, finished}
 
--- the transitions of the processor that makes the first
-pub transitions_own : (m : Transition) (moves : List Transition) → transitions_of m.who (m ∷ moves) ≡ m ∷ transitions_of m.who moves
+-- the transitions of the processor that makes the first one begin with it
+pub transitions_own : (m : Transition) (moves : List Transition)
+    → transitions_of m.who (m ∷ moves) ≡ m ∷ transitions_of m.who moves
 transitions_own m moves = rw (eq-eqb m.who m.who refl) refl
 
--- the transitions of a processor that does not make the first
-pub transitions_other : (b : ℕ) (m : Transition) (moves : List Transition) → m.who ≢ b → transitions_of b (m ∷ moves) ≡ transitions_of b moves
+-- the transitions of a processor that does not make the first one are among the others
+pub transitions_other : (b : ℕ) (m : Transition) (moves : List Transition) → m.who ≢ b
+    → transitions_of b (m ∷ moves) ≡ transitions_of b moves
 transitions_other b m moves other = rw (ne_eqb m.who b other) refl
 
 -- the board in the slot of a board is that board
-pub own_board : (config : Configuration) (lawful : IsLawful config) (b : ℕ) → b < length config.boards → board_in_slot config (slot_at config b) ≡ Some b
+pub own_board : (config : Configuration) (lawful : IsLawful config) (b : ℕ) → b < length config.boards
+    → board_in_slot config (slot_at config b) ≡ Some b
 own_board config lawful b within = elim (slice_get_cases config.boards b).1 [
   | inl at ↦
       let slot_is : slot_at config b ≡ at.0.slot =
-      get_or_from_slice_get (map (λ (one : BoardConfig). one.slot) config.boards) b at.0.slot 0 (map_at (λ (one : BoardConfig). one.slot) config.boards b at.0 at.2) in
+      get_or_from_slice_get (map (λ (one : BoardConfig). one.slot) config.boards) b at.0.slot 0
+      (map_at (λ (one : BoardConfig). one.slot) config.boards b at.0 at.2) in
       let first : position_or_len (λ (board : BoardConfig). board.slot == slot_at config b) config.boards ≡ b =
       position_or_len_is (λ (board : BoardConfig). board.slot == slot_at config b) config.boards b at.0 (omega (arith, within))
       (λ k less. ne_eqb _ _ (λ same.
       let there : k < length config.boards = omega (arith, less, within) in
-      let apart : k ≡ b = lawful.apart k b (slice_index_or config.boards k at.0) at.0 (slice_get-get_or config.boards k at.0 there) at.2 (same ∙ slot_is) in
+      let apart : k ≡ b =
+      lawful.apart k b (slice_index_or config.boards k at.0) at.0 (slice_get-get_or config.boards k at.0 there) at.2
+      (same ∙ slot_is) in
       omega (arith, less, apart)))
       (λ _. eq-eqb _ _ (ap (λ (one : BoardConfig). one.slot) at.3 ∙ sym slot_is)) in
       let some : nat_lt b (length config.boards) ≡ true = lt-ltb b (length config.boards) within in
@@ -48,13 +54,14 @@ own_board config lawful b within = elim (slice_get_cases config.boards b).1 [
   | inr past ↦ absurd (omega (arith, past.0, within))
 ]
 
--- its own transitions lead each processor to the replies of its lines
+-- each processor's own transitions lead it to the replies of its lines
 pub record Ready (config : Configuration) (answers : List (List LineReply)) (system : SystemState) (moves : List Transition) : Type 0 where
   pub count : length system.script_states ≡ length config.boards
-  pub each : (b : ℕ) (c : ScriptState) (own : List LineReply) → slice_get system.script_states b ≡ Some c → slice_get answers b ≡ Some own
+  pub each : (b : ℕ) (c : ScriptState) (own : List LineReply) → slice_get system.script_states b ≡ Some c
+      → slice_get answers b ≡ Some own
       → CanEnd config b c (transitions_of b moves) own
 
--- a turn makes the transition m, and the others lead all processors on
+-- a turn makes the transition m, and the other transitions lead all processors to the replies of their lines
 pub record OneTurn (config : Configuration) (answers : List (List LineReply)) (system : SystemState) (m : Transition) (moves : List Transition)
     : Type 0 where
   pub machine_is : (turn config system (slot_at config m.who)).machine ≡ (machine_step system.machine m.who (call_of m.event)).0
@@ -62,14 +69,18 @@ pub record OneTurn (config : Configuration) (answers : List (List LineReply)) (s
 
 module _ (config : Configuration) (lawful : IsLawful config) (answers : List (List LineReply)) where
   -- a turn of a board's slot is a turn of its processor
-  turn_is : (system : SystemState) (b : ℕ) (c : ScriptState) → b < length config.boards → slice_get system.script_states b ≡ Some c
+  turn_is : (system : SystemState) (b : ℕ) (c : ScriptState) → b < length config.boards
+      → slice_get system.script_states b ≡ Some c
       → turn config system (slot_at config b) ≡ turn_in config system b (Some c)
   unfolding turn
-  turn_is system b c there found = ap (turn_at config system) (own_board config lawful b there) ∙ ap (turn_in config system b) found
+  turn_is system b c there found =
+      ap (turn_at config system) (own_board config lawful b there) ∙ ap (turn_in config system b) found
 
   -- one transition is one turn
-  pub one_turn : (system : SystemState) (m : Transition) (moves : List Transition) → length answers ≡ length config.boards → m.who < length config.boards
-      → m.reply ≡ (machine_step system.machine m.who (call_of m.event)).1 → Ready config answers system (m ∷ moves) → OneTurn config answers system m moves
+  pub one_turn : (system : SystemState) (m : Transition) (moves : List Transition) → length answers ≡ length config.boards
+      → m.who < length config.boards
+      → m.reply ≡ (machine_step system.machine m.who (call_of m.event)).1 → Ready config answers system (m ∷ moves)
+      → OneTurn config answers system m moves
   one_turn system m moves all there reply ready = record {
     machine_is = ap (λ (w : SystemState). w.machine) now ∙ did.machine_is;
     ready = subst (λ (w : SystemState). Ready config answers w moves) (sym now) (record { count = length-set system.script_states b next.1 ∙ ready.count; each = each });
@@ -103,16 +114,21 @@ module _ (config : Configuration) (lawful : IsLawful config) (answers : List (Li
       now = turn_is system b c there found
 
       can : CanEnd config b c (m ∷ transitions_of b moves) mine
-      can = subst (λ (ms : List Transition). CanEnd config b c ms mine) (transitions_own m moves) (ready.each b c mine found owned)
+      can =
+          subst (λ (ms : List Transition). CanEnd config b c ms mine) (transitions_own m moves) (ready.each b c mine found owned)
 
       did : Turned config b system.machine m (transitions_of b moves) mine next
-      did = turned config b (lines_left config b c) system.machine c m (transitions_of b moves) mine can.more refl reply can.split can.leads
+      did =
+          turned config b (lines_left config b c) system.machine c m
+          (transitions_of b moves) mine can.more refl reply can.split can.leads
 
-      each : (p : ℕ) (one : ScriptState) (own : List LineReply) → slice_get (slice_set system.script_states b next.1) p ≡ Some one → slice_get answers p ≡ Some own
+      each : (p : ℕ) (one : ScriptState) (own : List LineReply) → slice_get (slice_set system.script_states b next.1) p ≡ Some one
+          → slice_get answers p ≡ Some own
           → CanEnd config p one (transitions_of p moves) own
       each p one own at its = elim (cases_eq p b) [
         | inl same ↦
-            let here : next.1 ≡ one = same_Some next.1 one (sym (set_here system.script_states b next.1 within) ∙ ap (slice_get (slice_set system.script_states b next.1)) (sym same) ∙ at) in
+            let here : next.1 ≡ one =
+            same_Some next.1 one (sym (set_here system.script_states b next.1 within) ∙ ap (slice_get (slice_set system.script_states b next.1)) (sym same) ∙ at) in
             let ours : mine ≡ own = same_Some mine own (sym owned ∙ ap (slice_get answers) (sym same) ∙ its) in
             subst (λ p. CanEnd config p one (transitions_of p moves) own) (sym same)
             (subst (λ (one : ScriptState). CanEnd config b one (transitions_of b moves) own) here (subst (λ (own : List LineReply). CanEnd config b next.1 (transitions_of b moves) own) ours did.can))
@@ -121,20 +137,23 @@ module _ (config : Configuration) (lawful : IsLawful config) (answers : List (Li
             (ready.each p one own (sym (set_elsewhere system.script_states b p next.1 (λ same. other (sym same))) ∙ at) its)
       ]
 
-  -- turns make all transitions
+  -- turns make all transitions, and each processor can then end
   record AllTurns (system : SystemState) (moves : List Transition) (machine : Machine) : Type 0 where
     machine_is : (take_turns config system (slots_of config moves)).machine ≡ machine
     ready : Ready config answers (take_turns config system (slots_of config moves)) []
 
   -- a run of transitions is as many turns
   all_turns : (moves : List Transition) (system : SystemState) (machine : Machine) → length answers ≡ length config.boards
-      → All (λ m. m.who < length config.boards) moves → Performs system.machine moves machine → Ready config answers system moves → AllTurns system moves machine
-  all_turns [] system machine all known plays ready = record { machine_is = plays; ready = ready }
-  all_turns (m ∷ moves) system machine all known plays ready =
+      → All (λ m. m.who < length config.boards) moves → Performs system.machine moves machine → Ready config answers system moves
+      → AllTurns system moves machine
+  all_turns [] system machine all known performs ready = record { machine_is = performs; ready = ready }
+  all_turns (m ∷ moves) system machine all known performs ready =
       let there : m.who < length config.boards = All-head (λ (m : Transition). m.who < length config.boards) m moves known in
-      let one = one_turn system m moves all there plays.0 ready in
-      let then = all_turns moves (turn config system (slot_at config m.who)) machine all (All-tail (λ (m : Transition). m.who < length config.boards) m moves known)
-      (subst (λ (w : Machine). Performs w moves machine) (sym one.machine_is) plays.1) one.ready in
+      let one = one_turn system m moves all there performs.0 ready in
+      let then =
+      all_turns moves (turn config system (slot_at config m.who)) machine all
+      (All-tail (λ (m : Transition). m.who < length config.boards) m moves known)
+      (subst (λ (w : Machine). Performs w moves machine) (sym one.machine_is) performs.1) one.ready in
       record { machine_is = then.machine_is; ready = then.ready }
 
   -- one last turn of each of n slots, from that of board i on
@@ -145,18 +164,22 @@ module _ (config : Configuration) (lawful : IsLawful config) (answers : List (Li
   -- the processors before i have recorded the replies of all lines, and the others have no transition left
   record Ending (i : ℕ) (system : SystemState) : Type 0 where
     count : length system.script_states ≡ length config.boards
-    done : (b : ℕ) (own : List LineReply) → b < i → slice_get answers b ≡ Some own → slice_get system.script_states b ≡ Some (script_state own [])
-    left : (b : ℕ) (c : ScriptState) (own : List LineReply) → i ≤ b → slice_get system.script_states b ≡ Some c → slice_get answers b ≡ Some own
+    done : (b : ℕ) (own : List LineReply) → b < i → slice_get answers b ≡ Some own
+        → slice_get system.script_states b ≡ Some (script_state own [])
+    left : (b : ℕ) (c : ScriptState) (own : List LineReply) → i ≤ b → slice_get system.script_states b ≡ Some c
+        → slice_get answers b ≡ Some own
         → CanEnd config b c [] own
 
   -- all processors have recorded the replies of all lines
   record Ended (system : SystemState) (after : SystemState) : Type 0 where
     machine_is : after.machine ≡ system.machine
     count : length after.script_states ≡ length config.boards
-    done : (b : ℕ) (own : List LineReply) → slice_get answers b ≡ Some own → slice_get after.script_states b ≡ Some (script_state own [])
+    done : (b : ℕ) (own : List LineReply) → slice_get answers b ≡ Some own
+        → slice_get after.script_states b ≡ Some (script_state own [])
 
   -- the last turns record the replies of all lines
-  last_turns : (n i : ℕ) (system : SystemState) → i + n ≡ length config.boards → length answers ≡ length config.boards → Ending i system
+  last_turns : (n i : ℕ) (system : SystemState) → i + n ≡ length config.boards → length answers ≡ length config.boards
+      → Ending i system
       → Ended system (take_turns config system (last_round i n))
   last_turns zero i system sum all ending = record {
     machine_is = refl;
@@ -196,7 +219,9 @@ module _ (config : Configuration) (lawful : IsLawful config) (answers : List (Li
       new = record { machine = system.machine; script_states = slice_set system.script_states i (script_state mine []) }
 
       now : turn config system (slot_at config i) ≡ new
-      now = turn_is system i c there found ∙ ap (λ (next : Machine × ScriptState). record { machine = next.0; script_states = slice_set system.script_states i next.1 }) next
+      now =
+          turn_is system i c there found
+          ∙ ap (λ (next : Machine × ScriptState). record { machine = next.0; script_states = slice_set system.script_states i next.1 }) next
 
       ending' : Ending (suc i) new
       ending' = record {
@@ -204,7 +229,8 @@ module _ (config : Configuration) (lawful : IsLawful config) (answers : List (Li
         done = λ b own less at. elim (cases_eq b i) [
           | inl same ↦
               let ours : mine ≡ own = same_Some mine own (sym owned ∙ ap (slice_get answers) (sym same) ∙ at) in
-              ap (slice_get new.script_states) same ∙ set_here system.script_states i (script_state mine []) within ∙ ap (λ own. Some (script_state own [])) ours
+              ap (slice_get new.script_states) same ∙ set_here system.script_states i (script_state mine []) within
+              ∙ ap (λ own. Some (script_state own [])) ours
           | inr other ↦ set_elsewhere system.script_states i b (script_state mine []) (λ same. other (sym same)) ∙ ending.done b own (omega arith) at
         ];
         left = λ b one own least at its.
@@ -220,17 +246,19 @@ module _ (config : Configuration) (lawful : IsLawful config) (answers : List (Li
           record { machine_is = ended.machine_is; count = ended.count; done = ended.done }
 
 -- consecutive turns are one run of turns
-turns_append : (config : Configuration) (system : SystemState) (a b : List ℕ) → take_turns config system (a ++ b) ≡ take_turns config (take_turns config system a) b
+turns_append : (config : Configuration) (system : SystemState) (a b : List ℕ)
+    → take_turns config system (a ++ b) ≡ take_turns config (take_turns config system a) b
 turns_append config system [] b = refl
 turns_append config system (slot ∷ a) b = turns_append config (turn config system slot) a b
 
 -- each script state before the first turn is empty
-state_begun : (scripts : List (List ScriptLine)) (b : ℕ) (c : ScriptState) → slice_get (map (λ script. script_state [] []) scripts) b ≡ Some c → script_state [] [] ≡ c
+state_begun : (scripts : List (List ScriptLine)) (b : ℕ) (c : ScriptState)
+    → slice_get (map (λ script. script_state [] []) scripts) b ≡ Some c → script_state [] [] ≡ c
 state_begun [] b c found = absurd (cc found)
 state_begun (script ∷ scripts) zero c found = same_Some (script_state [] []) c found
 state_begun (script ∷ scripts) (suc b) c found = state_begun scripts b c found
 
--- before the first turn the transitions of each processor lead it to the replies of its lines
+-- before the first turn, the transitions of each processor lead it to the replies of its lines
 pub begun : (config : Configuration) (moves : List Transition) (answers : List (List LineReply)) (machine : Machine) (lawful : IsLawful config)
     → IsOneOrder config moves answers machine → Ready config answers (initial_state config) moves
 begun config moves answers machine lawful order = record {
@@ -241,12 +269,14 @@ begun config moves answers machine lawful order = record {
 }
 
 -- one order of the transitions of all processors is the order of some turns
-pub one_order : (config : Configuration) (moves : List Transition) (answers : List (List LineReply)) (machine : Machine) → IsLawful config
+pub one_order : (config : Configuration) (moves : List Transition) (answers : List (List LineReply)) (machine : Machine)
+    → IsLawful config
     → IsOneOrder config moves answers machine → (slots : List ℕ) × (state_after config slots ≡ ended_state machine answers)
 unfolding state_after
 one_order config moves answers machine lawful order =
     let ready = begun config moves answers machine lawful order in
-    let made = all_turns config lawful answers moves (initial_state config) machine order.count order.known order.performed ready in
+    let made =
+    all_turns config lawful answers moves (initial_state config) machine order.count order.known order.performed ready in
     let before : List ℕ = slots_of config moves in
     let system : SystemState = take_turns config (initial_state config) before in
     let round : List ℕ = last_round config lawful answers 0 (length config.boards) in
@@ -259,9 +289,11 @@ one_order config moves answers machine lawful order =
     let after : SystemState = take_turns config system round in
     let machine_is : after.machine ≡ machine = last.machine_is ∙ made.machine_is in
     let states_are : after.script_states ≡ map (λ own. script_state own []) answers =
-    same_elements after.script_states (map (λ own. script_state own []) answers) (last.count ∙ sym order.count ∙ sym (length-map answers (λ own. script_state own [])))
+    same_elements after.script_states (map (λ own. script_state own []) answers)
+    (last.count ∙ sym order.count ∙ sym (length-map answers (λ own. script_state own [])))
     (λ i less.
     let own = slice_index_or answers i [] in
-    let at : slice_get answers i ≡ Some own = slice_get-get_or answers i [] (subst (λ n. i < n) (length-map answers (λ own. script_state own [])) less) in
+    let at : slice_get answers i ≡ Some own =
+    slice_get-get_or answers i [] (subst (λ n. i < n) (length-map answers (λ own. script_state own [])) less) in
     last.done i own at ∙ sym (map_at (λ own. script_state own []) answers i own at)) in
     (before ++ round, turns_append config (initial_state config) before round ∙ λ k. record { machine = machine_is k; script_states = states_are k })

@@ -3,8 +3,8 @@ use Rattle.vme_cycle.specs.Requests.{datum_len, count_of}
 use Rattle.vme_engines.specs.Answers.{after_text, data_answer, transfer_answer}
 use Rattle.vme_engines.proofs.answer.answer_data.Given as goal
 
--- the text so far, with the output of the data that are left, is the whole output; and there is capacity for what they
--- read
+-- the text so far, with the output of the data that are left, is the whole output; the buffer has capacity for the bytes
+-- that they read
 abbrev pub invariant-loop-i : goal.invariant-loop-i
 invariant-loop-i l = record {
   answer : after_text l.text.items (data_answer (count_of l.fn.plan.request - l.i) l.bus l.fn.plan l.i l.replied.items)

@@ -1,4 +1,4 @@
--- One line more is answered, or a prefix of its answer is written.
+-- One more line is processed, or a prefix of its output is written.
 use Rattle.std.proofs.Common.{◌≡◌, [], ◌∷◌, refl, arith, rules}
 use Rattle.std.specs.Str.Lines.{lines}
 use Rattle.vme_io.specs.Prefixes.{AppendsPrefix}
@@ -16,7 +16,8 @@ returns-in_err-gather_answer-clause-prefix g c =
     let first : lines c.loop-line.line-iterator.rest.now ≡ line ∷ lines after = search rules in
     let split = text_first board (answer board line).board line c.loop-line.line-iterator.rest.now after first refl in
     let prefix : AppendsPrefix (g.W.Sink.contents c.args.writer.now) (g.W.Sink.contents c.gather_answer.new.writer) (cycles_text c.args.input.now)
-    = so_far_fails _ _ _ _ (answer board line).text _ (text_of (answer board line).board (lines after)) _ c.loop-line.invariant.text split
+    = so_far_fails _ _ _ _ (answer board line).text _
+    (text_of (answer board line).board (lines after)) _ c.loop-line.invariant.text split
     c.in_err-gather_answer.ensures.gathers in
     search rules
 
@@ -31,7 +32,8 @@ loop-line-preserved g c =
     record {
       text = so_far_more _ _ _ _ _ (answer board line).text _ (text_of next (lines after)) _ c.loop-line.invariant.text split
           c.in_ok-gather_answer.ensures.gathers;
-      status = status_more board _ c.loop-line.status _ c.in_ok-gather_answer.field-0 _ line c.loop-line.line-iterator.rest.now after
+      status =
+          status_more board _ c.loop-line.status _ c.in_ok-gather_answer.field-0 _ line c.loop-line.line-iterator.rest.now after
           c.loop-line.invariant.status first c.worse-status.ensures c.in_ok-gather_answer.ensures.status c.in_ok-gather_answer.ensures.board;
       capacity = omega (arith, c.gather_answer.ensures.capacity, c.loop-line.invariant.capacity);
       mark = c.in_ok-gather_answer.ensures.write;

@@ -6,8 +6,8 @@ use Rattle.vme_engines.specs.Cycles.{text_of, status_after, cycles_text, cycles_
 use Rattle.vme_shared.specs.Statuses.{worse_of}
 use Rattle.vme_engines.proofs.cycles.answer_all.Given as goal
 
--- what was written and gathered, with the output of the lines that are left, is the whole text; the status is composed
--- alike
+-- what was written and gathered, with the output of the lines that are left, is the whole text; the status so far, with
+-- that of the lines that are left, is the whole status
 abbrev pub invariant-loop-line : goal.invariant-loop-line
 invariant-loop-line g l = record {
   text : SoFar (g.W.Sink.contents l.fn.writer) (g.W.Sink.contents l.writer) l.text.items (text_of l.bus (lines l.line-iterator.rest.now)) (cycles_text l.fn.input);

@@ -1,11 +1,11 @@
-use Rattle.vme_run_laws.proofs.Declared.{there, declared_queue}
+use Rattle.vme_run_laws.proofs.Declared.{has_history, declared_queue}
 use Rattle.vme_run_laws.proofs.queue_laws.declared_mailboxes_are_queues.Goals as goal
 
 pub returns-clause-each : goal.returns-clause-each
-returns-clause-each c = λ config report is k lawful less. there config report is k lawful less
+returns-clause-each c = λ config report is k lawful less. has_history config report is k lawful less
 
 pub returns-clause-proper : goal.returns-clause-proper
-returns-clause-proper c = λ config report is box m h lawful at. (declared_queue config report is box m h lawful at).goes
+returns-clause-proper c = λ config report is box m h lawful at. (declared_queue config report is box m h lawful at).is_proper
 
 pub returns-clause-order : goal.returns-clause-order
 returns-clause-order c = λ config report is box m h lawful at. (declared_queue config report is box m h lawful at).order

@@ -1,14 +1,14 @@
-use Rattle.vme_run_laws.proofs.Texts.{reported_lawful, reported_there, reported_queue}
+use Rattle.vme_run_laws.proofs.Texts.{reported_lawful, reported_history, reported_queue}
 use Rattle.vme_run_laws.proofs.queue_laws.texts_show_queues.Goals as goal
 
 pub returns-clause-lawful : goal.returns-clause-lawful
 returns-clause-lawful c = λ input text status reported. reported_lawful input text status reported
 
 pub returns-clause-each : goal.returns-clause-each
-returns-clause-each c = λ input text status reported k less. reported_there input text status reported k less
+returns-clause-each c = λ input text status reported k less. reported_history input text status reported k less
 
 pub returns-clause-proper : goal.returns-clause-proper
-returns-clause-proper c = λ input text status reported box m h at. (reported_queue input text status reported box m h at).goes
+returns-clause-proper c = λ input text status reported box m h at. (reported_queue input text status reported box m h at).is_proper
 
 pub returns-clause-order : goal.returns-clause-order
 returns-clause-order c = λ input text status reported box m h at. (reported_queue input text status reported box m h at).order

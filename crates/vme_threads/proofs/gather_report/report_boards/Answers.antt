@@ -21,20 +21,24 @@ report_board-requires-clause-within c =
     let fewer = fewer_entries _ _ _ _ _ _ _ _ c.in-Some.home c.loop-home.invariant.have c.in-Some.ensures.steps.0 in
     λ k own k<. omega (arith, fewer, c.requires.within k own k<, c.len-board.ensures, c.loop-home.ends.ok.0, c.args.homes.ok.0)
 
--- the buffer of the board is unchanged
+-- the buffer for the board is unchanged, so it is empty
 pub report_board-requires-clause-none : goal.report_board-requires-clause-none
 report_board-requires-clause-none c =
-    let within : length c.args.homes.items ≤ length c.args.made.now.items = omega (arith, c.requires.made_count, c.args.homes.ok.0, c.args.made.now.ok.0) in
+    let within : length c.args.homes.items ≤ length c.args.made.now.items =
+    omega (arith, c.requires.made_count, c.args.homes.ok.0, c.args.made.now.ok.0) in
     subst (λ (b : Vec ℕ). vec_len b ≡ 0) (sym c.replace-made.ensures.value)
-    (next_buffer _ _ _ _ _ _ _ _ c.in-Some.home c.loop-home.invariant.have c.in-Some.ensures.steps.0 (vec_len c.args.counts.now) c.len-board.result
+    (next_buffer _ _ _ _ _ _ _ _ c.in-Some.home c.loop-home.invariant.have c.in-Some.ensures.steps.0
+    (vec_len c.args.counts.now) c.len-board.result
     c.index_mut.result.now c.requires.made within (c.len-board.ensures ∙ c.loop-home.ends.ok.0) c.index_mut.ensures.value).0
 
 pub report_board-requires-clause-capacity : goal.report_board-requires-clause-capacity
 report_board-requires-clause-capacity c =
-    let all : length c.args.homes.items ≤ length c.args.made.now.items = omega (arith, c.requires.made_count, c.args.homes.ok.0, c.args.made.now.ok.0) in
+    let all : length c.args.homes.items ≤ length c.args.made.now.items =
+    omega (arith, c.requires.made_count, c.args.homes.ok.0, c.args.made.now.ok.0) in
     let have = c.loop-home.invariant.have in
     subst (λ (b : Vec ℕ). vec_len c.args.counts.now ≤ vec_capacity b) (sym c.replace-made.ensures.value)
-    (next_buffer _ _ _ _ _ _ _ _ c.in-Some.home have c.in-Some.ensures.steps.0 (vec_len c.args.counts.now) c.len-board.result c.index_mut.result.now
+    (next_buffer _ _ _ _ _ _ _ _ c.in-Some.home have c.in-Some.ensures.steps.0
+    (vec_len c.args.counts.now) c.len-board.result c.index_mut.result.now
     c.requires.made all (c.len-board.ensures ∙ c.loop-home.ends.ok.0) c.index_mut.ensures.value).1
 
 -- one more board has its entry
@@ -45,11 +49,14 @@ loop-home-preserved c =
     let n = c.len-board.result in
     let at : n ≡ length c.loop-home.ends.items = c.len-board.ensures ∙ c.loop-home.ends.ok.0 in
     let fewer = fewer_entries _ _ _ _ _ _ _ _ c.in-Some.home have step in
-    let below : n < length c.args.slots.now.items = omega (arith, at, fewer, c.requires.slots, c.args.slots.now.ok.0, c.args.homes.ok.0) in
+    let below : n < length c.args.slots.now.items =
+    omega (arith, at, fewer, c.requires.slots, c.args.slots.now.ok.0, c.args.homes.ok.0) in
     record {
       have =
-          entries_more _ _ _ _ _ _ _ _ c.in-Some.home have step n c.index.result.now c.report_board.result c.replace-made.new.dest _ at
-          (λ d. c.index.ensures ∙ get_or_default c.args.slots.now.items n c.index.result.now d below) c.report_board.ensures c.push_reserved.ensures.items;
+          entries_more _ _ _ _ _ _ _ _ c.in-Some.home have step n c.index.result.now c.report_board.result c.replace-made.new.dest
+          _ at
+          (λ d. c.index.ensures ∙ get_or_default c.args.slots.now.items n c.index.result.now d below) c.report_board.ensures
+          c.push_reserved.ensures.items;
       capacity = search rules;
     }
 

@@ -5,7 +5,7 @@ use Rattle.vme_threads.specs.Ports.{IsWorkerOf}
 use Rattle.vme_threads.specs.Threads.{IsPromiseOf}
 use Rattle.vme_threads.proofs.threads.start_all.Given as goal
 
--- each worker so far has its thread
+-- each worker so far has its thread, whose promise is to run that worker
 abbrev pub invariant-loop-worker : goal.invariant-loop-worker
 invariant-loop-worker g l = record {
   count : vec_len l.children + into_iter_len l.worker-iterator ≡ vec_len l.fn.workers;

@@ -25,7 +25,9 @@ loop-pass-preserved c =
     let step = c.in-Some.ensures.steps.0 in
     let unused = first_of_each P n _ c.in-Some.pass _ step was.rest in
     let is : n ≡ length workers = c.loop-pass.workers.ok.0 in
-    let script = get_or_from_slice_get config.scripts n c.script-script.result.now [] (subst (λ i. slice_get config.scripts i ≡ Some c.script-script.result.now) c.len.ensures c.script-script.ensures) in
+    let script =
+    get_or_from_slice_get config.scripts n c.script-script.result.now []
+    (subst (λ i. slice_get config.scripts i ≡ Some c.script-script.result.now) c.len.ensures c.script-script.ensures) in
     let first : IsNewWorker config array n worker = record {
       who = made.who ∙ unused.who;
       boards = made.boards ∙ c.boards-count.ensures.value;
@@ -41,5 +43,6 @@ loop-pass-preserved c =
       rest = rest_of_each P n _ _ c.in-Some.pass _ step c.push_reserved.ensures.len was.rest;
       new_worker =
           subst (Each (IsNewWorker config array)) (sym c.push_reserved.ensures.items)
-          (Each-push (IsNewWorker config array) workers worker was.new_worker (subst (λ i. IsNewWorker config array i worker) is first));
+          (Each-push (IsNewWorker config array) workers worker was.new_worker
+          (subst (λ i. IsNewWorker config array i worker) is first));
     }

@@ -7,16 +7,17 @@ use Rattle.vme_threads.proofs.PassSets.{made_by_bus}
 use Rattle.vme_threads.proofs.pass_set.PassSet.call_bus.Goals as goal
 use Rattle.vme_threads.proofs.pass_set.PassSet.call_bus.Goals.{in-Bus-Waiting, in-Bus-Granted, in-Bus-Freed, in-Bus-Denied, in-Board}
 
--- the count can rise
+-- the count of calls of the arbiter can rise by one
 pub overflow_add-index_mut : goal.overflow_add-index_mut
 overflow_add-index_mut g c =
     let fits = c.requires in
     let added = c.in_ok-reply.ensures.adds in
     let was = c.index_mut.ensures.value ∙ fits.counted c.args.self.now.boards c.index_mut.result.now (omega arith) in
-    let less : c.index_mut.result.now + 1 < 2 ^ 64 = count_fits _ _ _ _ _ _ _ _ was added.mine added.sound c.in_ok-reply.ensures.counted in
+    let less : c.index_mut.result.now + 1 < 2 ^ 64 =
+    count_fits _ _ _ _ _ _ _ _ was added.mine added.sound c.in_ok-reply.ensures.counted in
     omega (arith, less)
 
--- the pass made the arbiter's entry and counted it, however the processor waits then
+-- the pass made the arbiter's entry and counted it, whatever the reply and the wait after it
 pub returns : goal.returns
 returns g c =
     let d = c.args.self.now in
@@ -28,9 +29,19 @@ returns g c =
     let kind = c.replies_have_their_kind.ensures.arbiter _ _ _ _ _ _ _ bus.0 bus.1 added in
     let is = AddsTransitions (move d.who (events.Bus c.args.cmd.now) reply ∷ []) d in
     elim c.match-reply.branch [
-      | in-Bus-Waiting w ↦ subst is (sym w.self-is) (made_by_bus ports d _ was c.args.cmd.now reply c.requires c.index_mut.ensures.value added kind refl refl refl)
-      | in-Bus-Granted w ↦ subst is (sym w.self-is) (made_by_bus ports d _ was c.args.cmd.now reply c.requires c.index_mut.ensures.value added kind refl refl refl)
-      | in-Bus-Freed w ↦ subst is (sym w.self-is) (made_by_bus ports d _ was c.args.cmd.now reply c.requires c.index_mut.ensures.value added kind refl refl refl)
-      | in-Bus-Denied w ↦ subst is (sym w.self-is) (made_by_bus ports d _ was c.args.cmd.now reply c.requires c.index_mut.ensures.value added kind refl refl refl)
-      | in-Board w ↦ subst is (sym w.self-is) (made_by_bus ports d _ was c.args.cmd.now reply c.requires c.index_mut.ensures.value added kind refl refl refl)
+      | in-Bus-Waiting w ↦
+          subst is (sym w.self-is)
+          (made_by_bus ports d _ was c.args.cmd.now reply c.requires c.index_mut.ensures.value added kind refl refl refl)
+      | in-Bus-Granted w ↦
+          subst is (sym w.self-is)
+          (made_by_bus ports d _ was c.args.cmd.now reply c.requires c.index_mut.ensures.value added kind refl refl refl)
+      | in-Bus-Freed w ↦
+          subst is (sym w.self-is)
+          (made_by_bus ports d _ was c.args.cmd.now reply c.requires c.index_mut.ensures.value added kind refl refl refl)
+      | in-Bus-Denied w ↦
+          subst is (sym w.self-is)
+          (made_by_bus ports d _ was c.args.cmd.now reply c.requires c.index_mut.ensures.value added kind refl refl refl)
+      | in-Board w ↦
+          subst is (sym w.self-is)
+          (made_by_bus ports d _ was c.args.cmd.now reply c.requires c.index_mut.ensures.value added kind refl refl refl)
     ]

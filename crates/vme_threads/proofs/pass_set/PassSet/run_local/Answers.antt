@@ -12,5 +12,6 @@ returns g c =
     let e = c.call_board.new.self in
     let cmd = c.args.cmd.now in
     local_answered cmd c.in-Board.reply c.local_outcome.result d e
-    (subst (λ (r : EventReply). AddsTransitions (move d.who (events.Board d.who cmd) r ∷ []) d e) c.in-Board.is c.in_ok-reply.ensures.made)
+    (subst (λ (r : EventReply). AddsTransitions
+    (move d.who (events.Board d.who cmd) r ∷ []) d e) c.in-Board.is c.in_ok-reply.ensures.made)
     c.local_outcome.ensures

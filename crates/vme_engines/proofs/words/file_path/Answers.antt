@@ -1,7 +1,7 @@
 use Rattle.std.proofs.Common.{rules, ◌∙◌, sym, ap, codes, inr, option_map}
 use Rattle.clap.specs.Words.{found_of}
 use Rattle.clap.proofs.WalkLemmas.{first_value-rows}
-use Rattle.vme_engines.proofs.words.path_in.Goals as goal
+use Rattle.vme_engines.proofs.words.file_path.Goals as goal
 
 pub returns-in_ok-from_str-in-Some-clause-path : goal.returns-in_ok-from_str-in-Some-clause-path
 returns-in_ok-from_str-in-Some-clause-path c =
