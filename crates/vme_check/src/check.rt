@@ -1,14 +1,16 @@
 //! The engine of `bendrika check`: from the bytes of a configuration file to its findings.
 ghost use Rattle.std.specs.Prelude.{◌≡◌, false, IsTrue, IfOk, IfErr, IfSome};
 ghost use Rattle.vme_report.specs.Ends.{IsReportFault, is_write_end};
+ghost use Rattle.vme_findings.specs.Verdicts.{first_refusal};
+ghost use Rattle.vme_check.specs.Answers.{IsAnswer};
 ghost use Rattle.vme_engines.specs.Faults.{IsCyclesFault, ReadsWithin, is_read_failure, is_write_failure};
 
 use crate::form::{Counts, Form};
 use crate::located::Input;
 use crate::print::print_findings;
-use std::alloc::{AllocError, Global};
+use std::alloc::Global;
 use vme_engines::{FILE_LIMIT, ProgramFault, read_input};
-use vme_findings::Finding;
+use vme_findings::{Finding, findings_of};
 use vme_io::{Sink, Source};
 use vme_positions::Outline;
 use vme_report::RunFault;
@@ -41,6 +43,8 @@ pub fn check_engine<R: Source, W: Sink>(
 ) -> Result<CheckEnd, ProgramFault>
     requires reader_unmarked { R.is_marked reader.old ≡ false }
     requires writer_unmarked { W.is_marked writer.old ≡ false }
+    ensures answer { IfSome (R.remaining reader.old) (λ input.
+        IfOk result (λ end. IsAnswer input end.refusal)) }
     ensures quiet { IsTrue form.now.quiet → writer.new ≡ writer.old }
     ensures read { R.is_marked reader.new ≡ is_read_failure result }
     ensures limit { ReadsWithin FILE_LIMIT (R.remaining reader.old) (R.remaining reader.new) result }
@@ -53,6 +57,7 @@ pub fn check_engine<R: Source, W: Sink>(
 }
 
 /// Finds the faults and warnings of a text, and prints them.
+#[tactic(auto, using(crate::proofs::Refusals::answered))]
 fn check_text<W: Sink>(
     alloc: Global,
     name: &str,
@@ -61,26 +66,22 @@ fn check_text<W: Sink>(
     writer: &mut W,
 ) -> Result<CheckEnd, RunFault>
     requires unmarked { W.is_marked writer.old ≡ false }
+    ensures answer { IfOk result (λ end. IsAnswer text.now end.refusal) }
     ensures quiet { IsTrue form.now.quiet → writer.new ≡ writer.old }
     ensures write { W.is_marked writer.new ≡ is_write_end result }
     ensures faults { IfErr result IsReportFault }
 {
-    let findings = stub(alloc)?;
+    let findings = findings_of(alloc, text)?;
     let refusal = refusal_of(findings.as_slice());
     let outline = Outline::of(alloc, text)?;
-    let input = Input {
-        text,
-        outline: Some(&outline),
-    };
+    let input = Input::of_file(text, &outline);
     let counts = print_findings(alloc, name, input, findings.as_slice(), refusal, form, writer)?;
     Ok(CheckEnd { counts, refusal })
 }
 
-fn stub(alloc: Global) -> Result<Vec<Finding>, AllocError> {
-    Ok(Vec::new(alloc))
-}
-
 /// The refusal of a file whose findings these are.
-fn refusal_of(findings: &[Finding]) -> Option<ConfigFault> {
+fn refusal_of(findings: &[Finding]) -> Option<ConfigFault>
+    ensures { result ≡ first_refusal findings.now }
+{
     findings.first()?.cause.refusal()
 }

@@ -8,7 +8,7 @@ use crate::located::Input;
 use crate::print::print_findings;
 use std::alloc::Global;
 use vme_engines::{INPUT_LIMIT, ProgramFault, read_input};
-use vme_findings::request_findings_of;
+use crate::requests::findings_of_lines;
 use vme_io::{Sink, Source};
 use vme_report::RunFault;
 
@@ -55,10 +55,7 @@ fn check_lines<W: Sink>(
     ensures write { W.is_marked writer.new ≡ is_write_end result }
     ensures faults { IfErr result IsReportFault }
 {
-    let findings = request_findings_of(alloc, text)?;
-    let input = Input {
-        text,
-        outline: None,
-    };
+    let findings = findings_of_lines(alloc, text)?;
+    let input = Input::of_lines(text);
     print_findings(alloc, name, input, findings.as_slice(), None, form, writer)
 }

@@ -2,11 +2,10 @@
 use crate::context::Context;
 use crate::located::{Input, Located};
 use crate::text::{script_line, severity_name};
-use crate::texts::{write_help, write_message, write_note};
+use crate::texts::{note_offset, write_help, write_message, write_note};
 use std::alloc::{AllocError, Global};
 use std::fmt::Write;
 use vme_explain::write_escaped;
-use vme_findings::Cause;
 use vme_positions::{Cursor, Position};
 
 /// Appends a finding as one line. An absent part has no key.
@@ -45,7 +44,7 @@ pub(crate) fn write_json(
     if !text.is_empty() {
         write_field("help", text.as_str(), to)?;
     }
-    write_notes(alloc, input, cause, to)?;
+    write_notes(alloc, input, one, to)?;
     to.push_str(",\"located\":")?;
     to.push_str(if one.is_located() { "true}\n" } else { "false}\n" })
 }
@@ -73,16 +72,16 @@ fn write_place(
 fn write_notes(
     alloc: Global,
     input: &Input<'_>,
-    cause: Cause,
+    one: &Located,
     to: &mut String,
 ) -> Result<(), AllocError> {
-    let Some(place) = cause.other_place() else {
+    let Some(offset) = note_offset(input, one) else {
         return Ok(());
     };
-    let Position { line, column } = Position::of(input.text, input.span(place).from);
+    let Position { line, column } = Position::of(input.text, offset);
     write!(to, ",\"notes\":[{{\"line\":{line},\"column\":{column}")?;
     let mut note = String::new(alloc);
-    write_note(cause, &mut note)?;
+    write_note(one.finding.cause, &mut note)?;
     write_field("message", note.as_str(), to)?;
     to.push_str("}]")
 }

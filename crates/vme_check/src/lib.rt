@@ -15,6 +15,7 @@ mod json;
 mod located;
 mod print;
 mod report;
+mod requests;
 #[cfg(test)]
 mod tests;
 mod text;

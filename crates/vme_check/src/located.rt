@@ -32,6 +32,22 @@ pub(crate) struct Input<'a> {
 }
 
 impl<'a> Input<'a> {
+    /// A configuration file with its outline.
+    pub(crate) fn of_file(text: &'a [u8], outline: &'a Outline) -> Input<'a> {
+        Input {
+            text,
+            outline: Some(outline),
+        }
+    }
+
+    /// Request lines.
+    pub(crate) fn of_lines(text: &'a [u8]) -> Input<'a> {
+        Input {
+            text,
+            outline: None,
+        }
+    }
+
     /// The bytes of a place. Without an outline only places of bytes are known.
     pub(crate) fn span(&self, place: Place) -> Span {
         match (self.outline, place) {

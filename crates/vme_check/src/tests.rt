@@ -41,10 +41,7 @@ fn of_board(key: Key, cause: BoardCause) -> Finding {
 /// What is printed of the findings.
 fn printed(alloc: Global, form: &Form) -> Result<String, Fail> {
     let outline = Outline::of(alloc, TEXT)?;
-    let input = Input {
-        text: TEXT,
-        outline: Some(&outline),
-    };
+    let input = Input::of_file(TEXT, &outline);
     let mut sink = RoomSink::new(alloc, 64, 4096)?;
     let refusal = Some(ConfigFault::BadSize);
     print_findings(

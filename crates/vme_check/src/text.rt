@@ -3,7 +3,7 @@
 use crate::context::Context;
 use crate::excerpt::write_excerpt;
 use crate::located::{Input, Located};
-use crate::texts::{write_help, write_message, write_note};
+use crate::texts::{note_offset, write_help, write_message, write_note};
 use std::alloc::{AllocError, Global};
 use std::fmt::Write;
 use vme_findings::{Cause, Place};
@@ -34,7 +34,7 @@ pub(crate) fn write_text(
     write_excerpt(alloc, input.text, one.span, line, to)?;
     write_script_line(one, to)?;
     write_help_line(cause, &context, to)?;
-    write_note_line(name, input, cause, to)
+    write_note_line(name, input, one, to)
 }
 
 /// The word for how grave a finding is.
@@ -84,15 +84,14 @@ fn write_help_line(
 fn write_note_line(
     name: &str,
     input: &Input<'_>,
-    cause: Cause,
+    one: &Located,
     to: &mut String,
 ) -> Result<(), AllocError> {
-    let Some(place) = cause.other_place() else {
+    let Some(offset) = note_offset(input, one) else {
         return Ok(());
     };
-    let span = input.span(place);
-    let Position { line, column } = Position::of(input.text, span.from);
+    let Position { line, column } = Position::of(input.text, offset);
     write!(to, "{name}:{line}:{column}: note: ")?;
-    write_note(cause, to)?;
+    write_note(one.finding.cause, to)?;
     to.push('\n')
 }

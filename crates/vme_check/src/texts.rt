@@ -15,6 +15,7 @@ mod schedule;
 mod warning;
 
 use crate::context::Context;
+use crate::located::{Input, Located};
 use std::alloc::AllocError;
 use vme_findings::{Cause, Place};
 
@@ -71,6 +72,15 @@ pub(crate) fn write_help(
     }
 }
 
+/// The offset of the other place of a finding, to which its note belongs.
+pub(crate) fn note_offset(input: &Input<'_>, one: &Located) -> Option<usize> {
+    if let Cause::Document(cause) = one.finding.cause {
+        return document::note_offset(cause, input.text, one.span);
+    }
+    let place = one.finding.cause.other_place()?;
+    Some(input.span(place).from)
+}
+
 /// Appends the text of the note at the other place of a finding.
 ///
 /// # Errors
@@ -78,6 +88,7 @@ pub(crate) fn write_help(
 /// An allocation failed.
 pub(crate) fn write_note(cause: Cause, to: &mut String) -> Result<(), AllocError> {
     match cause {
+        Cause::Document(_) => to.push_str("the string begins here"),
         Cause::Board(cause) => board::write_note(cause, to),
         Cause::Mailbox(cause) => mailbox::write_note(cause, to),
         _ => Ok(()),

@@ -15,7 +15,7 @@ pub struct Text {
     pub sections: &'static str,
     /// What to do. Empty: nothing.
     pub help: &'static str,
-    /// An input that `vme` answers with the code. Empty for the faults of the program.
+    /// An input that `vme` answers with the code. A fault of the program and a warning have none.
     pub example: Option<Example>,
 }
 

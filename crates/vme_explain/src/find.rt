@@ -1,6 +1,6 @@
 //! The texts that a line asks for.
 use crate::entry::Text;
-use crate::tables::{FAULTS, FILES, LINES, REPLIES, REQUESTS};
+use crate::tables::{FAULTS, FILES, LINES, REPLIES, REQUESTS, WARNINGS};
 use std::alloc::{AllocError, Global};
 
 /// What a line asks for.
@@ -12,14 +12,15 @@ pub enum Asked {
     Unknown(String),
 }
 
-/// Returns the five tables: the texts of requests, lines, files, faults and replies.
-pub fn all() -> [&'static [Text]; 5] {
+/// Returns the six tables: the texts of requests, lines, files, faults, replies and warnings.
+pub fn all() -> [&'static [Text]; 6] {
     [
         REQUESTS.as_slice(),
         LINES.as_slice(),
         FILES.as_slice(),
         FAULTS.as_slice(),
         REPLIES.as_slice(),
+        WARNINGS.as_slice(),
     ]
 }
 

@@ -2,9 +2,11 @@
 use crate::context::Context;
 use crate::texts::names::{keys_of, near_key, table_name};
 use crate::texts::quote::push_quoted;
+use memchr::memmem;
 use std::alloc::AllocError;
 use std::fmt::Write;
 use vme_findings::{DocumentCause, Key, Place, TableName, ValueKind};
+use vme_positions::Span;
 
 /// The values that a whole number of a file takes.
 const WHOLE: &str = "0 to 4294967295";
@@ -24,8 +26,8 @@ pub(crate) fn write_message(
 ) -> Result<(), AllocError> {
     match cause {
         DocumentCause::NotToml { error } => {
-            let message = error.message();
-            write!(to, "not TOML: {message}")
+            to.push_str("not TOML: ")?;
+            write_toml_message(error.message(), context.word, to)
         }
         DocumentCause::UnknownKey => {
             to.push_str("unknown key ")?;
@@ -108,6 +110,37 @@ pub(crate) fn write_help(
         DocumentCause::OutOfRange { .. }
         | DocumentCause::NotTable { .. }
         | DocumentCause::TooManyBoards { .. } => Ok(()),
+    }
+}
+
+/// Appends the message of an error of TOML. That about values lists all kinds of them, so the word
+/// is named in its place.
+fn write_toml_message(message: &str, word: &[u8], to: &mut String) -> Result<(), AllocError> {
+    if !message.starts_with("invalid value") {
+        return to.push_str(message);
+    }
+    if word.is_empty() {
+        return to.push_str("a value is missing here");
+    }
+    push_quoted(word, to)?;
+    to.push_str(" is not a value")
+}
+
+/// The offset of the quotes that open a string which does not end: the last three quotes of a text,
+/// if the text ends within a string.
+pub(crate) fn note_offset(cause: DocumentCause, text: &[u8], span: Span) -> Option<usize> {
+    let DocumentCause::NotToml { error } = cause else {
+        return None;
+    };
+    if span.from < text.len() || !error.message().starts_with("invalid string") {
+        return None;
+    }
+    let basic = memmem::rfind(text, b"\"\"\"");
+    let literal = memmem::rfind(text, b"'''");
+    match (basic, literal) {
+        (Some(basic), Some(literal)) => Some(basic.max(literal)),
+        (basic, None) => basic,
+        (None, literal) => literal,
     }
 }
 
@@ -235,7 +268,7 @@ fn push_subject(place: Place, to: &mut String) -> Result<(), AllocError> {
         }
         Place::PairTurns { index } => {
             let number = index.saturating_add(1);
-            write!(to, "the turns of element {number} of `schedule`")
+            write!(to, "the number of turns of element {number} of `schedule`")
         }
         _ => to.push_str("the value"),
     }
