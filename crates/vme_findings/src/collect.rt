@@ -68,6 +68,7 @@ fn collect_file(alloc: Global, table: &Table, found: &mut Vec<Finding>) -> Resul
 }
 
 /// The boards of a file, at most 21 of them.
+#[derive(Drop)]
 struct Boards<'a> {
     known: Vec<KnownBoard<'a>>,
     /// Whether these are all boards, and at least one.
@@ -152,6 +153,7 @@ fn find_count(
 }
 
 /// The mailboxes of a file, at most 16 of them.
+#[derive(Drop)]
 struct Mailboxes {
     known: Vec<KnownMailbox>,
     /// The number of tables, if it is known.
@@ -241,11 +243,11 @@ fn lawful_mailboxes(
 }
 
 /// Finds the faults of the scripts of all boards.
-fn collect_scripts(
+fn collect_scripts<'a>(
     alloc: Global,
-    boards: &[KnownBoard<'_>],
-    map: Option<&AddressMap>,
-    mailboxes: &Mailboxes,
+    boards: &'a [KnownBoard<'a>],
+    map: Option<&'a AddressMap>,
+    mailboxes: &'a Mailboxes,
     found: &mut Vec<Finding>,
 ) -> Result<(), AllocError> {
     let lawful = lawful_mailboxes(alloc, mailboxes)?;

@@ -1,6 +1,6 @@
 //! The cause of a refusal of the grammar: which word of the line is at fault, and why.
 ghost use Rattle.std.specs.Prelude.{◌≡◌, Some};
-ghost use Rattle.vme_grammar.specs.declared.fault.LineFault.TheVariants as line;
+ghost use Rattle.vme_grammar.specs.declared.fault.LineFault.TheVariants as faults;
 ghost use Rattle.vme_findings.specs.Causes.{line_fault};
 
 use crate::cause::{BoardName, DataLength, LineCause, LineForm};
@@ -55,7 +55,7 @@ pub(crate) fn cause_of(line: &[u8], fault: LineFault) -> Located
 
 /// S1, at the bytes past the limit.
 fn too_long(line: &[u8]) -> Located
-    ensures { line_fault result.cause ≡ Some line.LineTooLong }
+    ensures { line_fault result.cause ≡ Some faults.LineTooLong }
 {
     let bytes = line.len();
     Located {
@@ -69,7 +69,7 @@ fn too_long(line: &[u8]) -> Located
 
 /// S2: a comment that does not begin in the first column, a command, or a function.
 fn unknown_word(line: &[u8]) -> Located
-    ensures { line_fault result.cause ≡ Some line.UnknownWord }
+    ensures { line_fault result.cause ≡ Some faults.UnknownWord }
 {
     match form_of(line) {
         Some(LineForm::LocalModify) => at_word(line, 3, LineCause::UnknownFunction),
@@ -80,7 +80,7 @@ fn unknown_word(line: &[u8]) -> Located
 
 /// S2 of the first word.
 fn unknown_command(line: &[u8]) -> Located
-    ensures { line_fault result.cause ≡ Some line.UnknownWord }
+    ensures { line_fault result.cause ≡ Some faults.UnknownWord }
 {
     if word_of(line, 0).first() == Some(&b'#') {
         let from = span_of(line, 0).from;
@@ -105,7 +105,7 @@ fn known_form(line: &[u8]) -> LineForm {
 
 /// S3, at the first word too many or at the end of the line.
 fn wrong_count(line: &[u8]) -> Located
-    ensures { line_fault result.cause ≡ Some line.WordCount }
+    ensures { line_fault result.cause ≡ Some faults.WordCount }
 {
     let form = known_form(line);
     let wanted = operand_count(form);
@@ -133,7 +133,7 @@ fn is_local(form: LineForm) -> bool {
 
 /// S5: the address, or the offset of a local line.
 fn bad_address(line: &[u8]) -> Located
-    ensures { line_fault result.cause ≡ Some line.BadAddress }
+    ensures { line_fault result.cause ≡ Some faults.BadAddress }
 {
     if is_local(known_form(line)) {
         return at_word(line, 1, LineCause::BadOffset);
@@ -143,7 +143,7 @@ fn bad_address(line: &[u8]) -> Located
 
 /// S6: the number of bytes, of data, or of a mailbox.
 fn bad_number(line: &[u8]) -> Located
-    ensures { line_fault result.cause ≡ Some line.BadNumber }
+    ensures { line_fault result.cause ≡ Some faults.BadNumber }
 {
     let form = known_form(line);
     if is_local(form) {
@@ -191,7 +191,7 @@ fn operand_of_two(line: &[u8], first: usize, number: usize) -> usize {
 
 /// S7, at the word of the bytes.
 fn bad_bytes(line: &[u8]) -> Located
-    ensures { line_fault result.cause ≡ Some line.BadBytes }
+    ensures { line_fault result.cause ≡ Some faults.BadBytes }
 {
     let form = known_form(line);
     let (word, wanted) = bytes_of(line, form);

@@ -1,5 +1,5 @@
 //! Findings: what is wrong, and where.
-ghost use Rattle.std.specs.Prelude.{◌≡◌, ◌∷◌, ◌++◌, [], IfOk};
+ghost use Rattle.std.specs.Prelude.{◌≡◌, ◌∷◌, ◌++◌, [], if◌then◌else◌, is_ok};
 
 use crate::cause::Cause;
 use std::alloc::AllocError;
@@ -16,7 +16,8 @@ pub struct Finding {
 
 /// Appends a finding.
 pub(crate) fn find(found: &mut Vec<Finding>, cause: Cause, place: Place) -> Result<(), AllocError>
-    ensures { IfOk result (λ _. found.new.items ≡ found.old.items ++ record { cause = cause; place = place } ∷ []) }
+    ensures { found.new.items ≡ (if is_ok result
+        then found.old.items ++ record { cause = cause; place = place } ∷ [] else found.old.items) }
 {
     found.push(Finding { cause, place })?;
     Ok(())

@@ -16,6 +16,7 @@ mod form;
 mod laws;
 mod mailboxes;
 mod ranges;
+mod request_line;
 mod schedule;
 mod script;
 mod section;
@@ -30,4 +31,5 @@ pub use cause::{
 pub use finding::Finding;
 pub use findings::findings_of;
 pub use laws::{no_file_is_both, the_first_is_reported};
+pub use request_line::{RequestRefusal, request_finding};
 pub use vme_positions::{Key, Place, TableName};

@@ -1,9 +1,9 @@
 //! The faults of the lines of a script.
-ghost use Rattle.std.specs.Prelude.{◌≡◌, Some, IfOk, map, take, option_and_then};
+ghost use Rattle.std.specs.Prelude.{◌≡◌, Some, IfOk, map, take, option_map};
 ghost use Rattle.std.specs.Str.Lines.{lines};
 ghost use Rattle.vme_script.specs.Contexts.{line_within};
-ghost use Rattle.vme_findings.specs.Causes.{line_fault, script_refusal};
-ghost use Rattle.vme_findings.specs.Lines.{fault_of, line_refusals};
+ghost use Rattle.vme_findings.specs.Causes.{line_fault};
+ghost use Rattle.vme_findings.specs.Lines.{fault_of, refusal_for, line_refusals};
 
 use crate::cause::{BoardName, LineCause};
 use crate::fields::{Located, cause_of};
@@ -51,7 +51,7 @@ pub(crate) fn faulty_lines(
     context: &ScriptContext<'_>,
     around: &Surroundings<'_>,
 ) -> Result<Vec<FaultyLine>, AllocError>
-    ensures { IfOk result (λ faults. map (λ f. script_refusal f.number (line_fault f.cause)) faults.items
+    ensures { IfOk result (λ faults. map refusal_for faults.items
         ≡ line_refusals context.now 1 (take 1000 (lines text.now))) }
 {
     let mut faults = Vec::new(alloc);
@@ -81,8 +81,8 @@ pub(crate) fn fault_within(
     context: &ScriptContext<'_>,
     around: &Surroundings<'_>,
 ) -> Option<Located>
-    ensures { option_and_then (λ found. line_fault found.cause) result
-        ≡ fault_of (line_within context.now text.now) }
+    ensures { option_map (λ found. line_fault found.cause) result
+        ≡ option_map Some (fault_of (line_within context.now text.now)) }
 {
     match parse_line(text) {
         Ok(Some(line)) => match context.refusal(&line) {

@@ -3,55 +3,21 @@ ghost use Rattle.std.specs.Prelude.{◌≡◌, true, IfOk};
 ghost use Rattle.std.specs.List.{list_all};
 ghost use Rattle.vme_findings.specs.Verdicts.{is_warning};
 
-use crate::cause::{Cause, FileWarning, LineWarning};
-use crate::finding::{Finding, find};
+mod lines;
+mod list;
+mod requests;
+mod turns;
+
+use crate::cause::FileWarning;
+use crate::finding::Finding;
+use list::Warnings;
+use requests::Backplane;
 use std::alloc::{AllocError, Global};
-use vme_positions::Place;
+use toml::Table;
+use turns::{Demand, find_turns};
+use vme_config_toml::{FileTable, file_values, table_of};
+use vme_positions::{Place, TableName};
 use vme_script::Config;
-
-/// Findings that are warnings.
-#[derive(Drop)]
-pub(crate) struct Warnings {
-    found: Vec<Finding>,
-    ghost all: { list_all is_warning found.items ≡ true },
-}
-
-impl Warnings {
-    /// No warnings.
-    pub(crate) fn new(alloc: Global) -> Warnings {
-        Warnings {
-            found: Vec::new(alloc),
-        }
-    }
-
-    /// Appends a warning of the file.
-    pub(crate) fn file(&mut self, warning: FileWarning, place: Place) -> Result<(), AllocError> {
-        find(&mut self.found, Cause::File(warning), place)
-    }
-
-    /// Appends a warning of a line of the script of the board in `slot`.
-    pub(crate) fn line(
-        &mut self,
-        slot: u16,
-        line: u16,
-        warning: LineWarning,
-        place: Place,
-    ) -> Result<(), AllocError> {
-        let cause = Cause::Line {
-            slot,
-            line,
-            warning,
-        };
-        find(&mut self.found, cause, place)
-    }
-
-    /// The findings.
-    fn into_findings(self) -> Vec<Finding>
-        ensures { list_all is_warning result.items ≡ true }
-    {
-        self.found
-    }
-}
 
 /// The warnings of the configuration of a file.
 pub(crate) fn warnings_of(
@@ -61,7 +27,59 @@ pub(crate) fn warnings_of(
 ) -> Result<Vec<Finding>, AllocError>
     ensures { IfOk result (λ found. list_all is_warning found.items ≡ true) }
 {
-    let warnings = Warnings::new(alloc);
-    let _ = (text, config);
+    let mut warnings = Warnings::new(alloc);
+    match table_of(alloc, text) {
+        Ok(table) => find_in(alloc, &table, config, &mut warnings)?,
+        Err(_) => return Err(AllocError),
+    }
     Ok(warnings.into_findings())
+}
+
+/// Finds the warnings of a document.
+fn find_in(
+    alloc: Global,
+    table: &Table,
+    config: &Config,
+    warnings: &mut Warnings,
+) -> Result<(), AllocError> {
+    match file_values(alloc, table) {
+        Ok(file) => find_all(alloc, &file, config, warnings),
+        Err(_) => Err(AllocError),
+    }
+}
+
+/// Finds the warnings of all scripts, and those of the file.
+fn find_all<'a>(
+    alloc: Global,
+    file: &'a FileTable<'_>,
+    config: &'a Config,
+    warnings: &mut Warnings,
+) -> Result<(), AllocError> {
+    let mut demands: Vec<Demand> = Vec::new(alloc);
+    let mut named: u32 = 0;
+    let backplane = Backplane {
+        map: config.map(),
+        boards: &file.boards,
+    };
+    for (board, table) in file.boards.iter().enumerate() {
+        let demand = lines::find_lines(board, table, &backplane, warnings)?;
+        named |= demand.mailboxes;
+        demands.push(demand)?;
+    }
+    find_turns(&demands, config, warnings)?;
+    find_idle(config.mailboxes().len(), named, warnings)
+}
+
+/// Finds the mailboxes that no line names. Bit i of `named` is set where a line names mailbox i.
+fn find_idle(count: usize, named: u32, warnings: &mut Warnings) -> Result<(), AllocError> {
+    for index in 0..count {
+        if index < 31 && named & (2 << index) == 0 {
+            let place = Place::Table {
+                table: TableName::Mailbox,
+                index,
+            };
+            warnings.file(FileWarning::IdleMailbox, place)?;
+        }
+    }
+    Ok(())
 }

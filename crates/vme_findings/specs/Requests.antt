@@ -1,0 +1,22 @@
+-- The refusal that `vme cycles` gives for a request line.
+use Rattle.std.specs.Prelude.{List, ℕ, option_map, Option, Some, None, Result, Ok, Err}
+use Rattle.vme_cycle.specs.declared.request.Request.{Request}
+use Rattle.vme_cycle.specs.Lawful.{first_refusal}
+use Rattle.vme_grammar.specs.declared.fault.LineFault.{LineFault}
+use Rattle.vme_findings.specs.declared.cause.Cause.{Cause}
+use Rattle.vme_findings.specs.declared.cause.Cause.TheVariants as causes
+use Rattle.vme_findings.specs.declared.request_line.RequestRefusal.{RequestRefusal}
+use Rattle.vme_findings.specs.declared.request_line.RequestRefusal.TheVariants.{Line, Cycle}
+use Rattle.vme_findings.specs.Causes.{line_fault, cycle_fault}
+
+-- the refusal of a request line by its cause; a warning has none
+abbrev pub refusal_by : Cause → Option RequestRefusal
+refusal_by (causes.RequestLine cause) = option_map Line (line_fault cause)
+refusal_by (causes.RequestCycle cause) = Some (Cycle (cycle_fault cause))
+refusal_by _ = None
+
+-- the refusal of a line by what was read of it: that of the line, or the first one of its request
+abbrev pub request_refusal : Result (Option Request) LineFault → Option RequestRefusal
+request_refusal (Ok None) = None
+request_refusal (Ok (Some request)) = option_map Cycle (first_refusal request)
+request_refusal (Err fault) = Some (Line fault)

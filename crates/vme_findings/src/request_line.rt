@@ -1,0 +1,144 @@
+//! The finding of a request line: its refusal by `vme cycles`, or a warning.
+ghost use Rattle.std.specs.Prelude.{◌≡◌, Some, Ok, slice_get};
+ghost use Rattle.std.specs.Option.{option_and_then};
+ghost use Rattle.vme_cycle.specs.Lawful.{first_refusal};
+ghost use Rattle.vme_lexer.specs.Words.{words_of};
+ghost use Rattle.vme_engines.specs.Lines.{is_request_word, is_other_word, request_of};
+ghost use Rattle.vme_findings.specs.Causes.{line_fault};
+ghost use Rattle.vme_findings.specs.Requests.{refusal_by, request_refusal};
+
+use crate::cause::{Cause, LineCause};
+use crate::cycle::{cycle_cause, faulty_word, parts_of};
+use crate::fields::{Located, cause_of};
+use crate::finding::Finding;
+use crate::form::form_of;
+use crate::words::{Span, span_of};
+use vme_am::Space;
+use vme_cycle::{CycleFault, Plan, Request};
+use vme_grammar::{LINE_LIMIT, Line, LineFault, parse_line};
+use vme_lexer::first_word;
+use vme_positions::Place;
+
+/// The number of bytes of the board of `vme cycles`.
+const BOARD_SIZE: u32 = 4096;
+
+/// Why `vme cycles` refuses a line.
+#[derive(Clone, Copy, Debug, PartialEq, Eq)]
+pub enum RequestRefusal {
+    /// S1 to S7: the line is not a request.
+    Line(LineFault),
+    /// K1 to K9: no cycles carry out the request.
+    Cycle(CycleFault),
+}
+
+/// Returns the finding of a line of `vme cycles`, if there is one: its refusal, or the warning that
+/// its address does not select the board. The place is `Word` of board 0, with this number of the
+/// line.
+pub fn request_finding(line: &[u8], number: usize) -> Option<Finding>
+    ensures { option_and_then (λ finding. refusal_by finding.cause) result ≡ request_refusal (request_of line.now) }
+{
+    match read_request(line) {
+        Ok(Some(request)) => cycle_finding(line, number, &request),
+        Ok(None) => None,
+        Err(fault) => {
+            let located = request_cause(line, fault);
+            Some(finding_at(number, located.span, Cause::RequestLine(located.cause)))
+        }
+    }
+}
+
+/// A finding at the bytes of a line.
+fn finding_at(number: usize, span: Span, cause: Cause) -> Finding
+    ensures { result.cause ≡ cause }
+{
+    Finding {
+        cause,
+        place: Place::Word {
+            board: 0,
+            line: number,
+            from: span.from,
+            to: span.to,
+        },
+    }
+}
+
+/// The request of a line. A first word that only scripts know is unknown, whatever follows it.
+#[tactic(auto, unfolding(vme_engines::specs::Lines::request_of))]
+fn read_request(line: &[u8]) -> Result<Option<Request>, LineFault>
+    ensures { result ≡ request_of line.now }
+{
+    if LINE_LIMIT < line.len() {
+        return Err(LineFault::LineTooLong);
+    }
+    if begins_otherwise(line) {
+        return Err(LineFault::UnknownWord);
+    }
+    match parse_line(line)? {
+        None => Ok(None),
+        Some(Line::Bus(request)) => Ok(Some(request)),
+        Some(_) => Err(LineFault::UnknownWord),
+    }
+}
+
+/// Whether a line's first word is not that of a request.
+fn begins_otherwise(line: &[u8]) -> bool
+    ensures { result ≡ is_other_word (slice_get (words_of line.now) 0) }
+{
+    match first_word(line) {
+        Some(word) => !is_request_word(word),
+        None => false,
+    }
+}
+
+fn is_request_word(word: &[u8]) -> bool
+    ensures { result ≡ is_request_word word.now }
+{
+    matches!(word, b"r" | b"w" | b"br" | b"bw" | b"bf" | b"m")
+}
+
+/// The cause of a request line's refusal. A command of scripts is named as one.
+fn request_cause(line: &[u8], fault: LineFault) -> Located
+    ensures { line_fault result.cause ≡ Some fault }
+{
+    match fault {
+        LineFault::UnknownWord if begins_otherwise(line) => unknown_command(line),
+        _ => cause_of(line, fault),
+    }
+}
+
+/// The cause of an unknown first word.
+fn unknown_command(line: &[u8]) -> Located
+    ensures { line_fault result.cause ≡ Some LineFault.UnknownWord }
+{
+    match form_of(line) {
+        Some(form) => Located {
+            cause: LineCause::ScriptCommand { form },
+            span: span_of(line, 0),
+        },
+        None => cause_of(line, LineFault::UnknownWord),
+    }
+}
+
+/// The finding of a request: its refusal, or that its address does not select the board.
+fn cycle_finding(line: &[u8], number: usize, request: &Request) -> Option<Finding>
+    ensures { option_and_then (λ finding. refusal_by finding.cause) result
+        ≡ request_refusal (Ok (Some request.now)) }
+{
+    match Plan::of(request) {
+        Ok(plan) => {
+            let word = if plan.am().space() != Space::A32 {
+                1
+            } else if plan.addr() >= BOARD_SIZE {
+                2
+            } else {
+                return None;
+            };
+            Some(finding_at(number, span_of(line, word), Cause::RequestBoard))
+        }
+        Err(fault) => {
+            let cause = cycle_cause(&parts_of(request), fault);
+            let span = span_of(line, faulty_word(cause));
+            Some(finding_at(number, span, Cause::RequestCycle(cause)))
+        }
+    }
+}

@@ -1,0 +1,127 @@
+//! Warnings of the lines of a script.
+use crate::cause::LineWarning;
+use crate::warnings::list::Warnings;
+use crate::warnings::requests::{Backplane, Outcome, outcome_of, slot_number};
+use crate::warnings::turns::Demand;
+use crate::words::span_of;
+use std::alloc::AllocError;
+use vme_config_toml::BoardTable;
+use vme_cycle::{Modify, Request};
+use vme_grammar::{Line, parse_line};
+use vme_lanes::Datum;
+use vme_lexer::Lines;
+use vme_memory::BoardCmd;
+use vme_positions::Place;
+
+/// The least number of turns of a lock, an unlock, a put, a take or a wait that is met.
+const SHARED_TURNS: u64 = 3;
+
+/// Finds the warnings of a script's lines. Returns what the script asks for.
+pub(crate) fn find_lines(
+    board: usize,
+    table: &BoardTable<'_>,
+    backplane: &Backplane<'_, '_>,
+    warnings: &mut Warnings,
+) -> Result<Demand, AllocError> {
+    let slot = slot_number(table.slot);
+    let mut demand = Demand {
+        lines: 0,
+        least: 0,
+        mailboxes: 0,
+        slot,
+    };
+    let mut number: u16 = 0;
+    for line in Lines::new(table.script.as_bytes()) {
+        number = number.saturating_add(1);
+        if let Ok(Some(asked)) = parse_line(line) {
+            demand.lines = demand.lines.saturating_add(1);
+            demand.mailboxes |= box_bit(&asked);
+            let outcome = line_outcome(&asked, table, backplane);
+            demand.least = demand.least.saturating_add(outcome.least);
+            if let Some((warning, word)) = outcome.warning {
+                let span = span_of(line, word);
+                let place = Place::Word {
+                    board,
+                    line: usize::from(number),
+                    from: span.from,
+                    to: span.to,
+                };
+                warnings.line(slot, number, warning, place)?;
+            }
+        }
+    }
+    Ok(demand)
+}
+
+/// The bit of the mailbox that a line names.
+fn box_bit(line: &Line) -> u32 {
+    match line {
+        Line::Put { mailbox, .. } | Line::Take { mailbox } if *mailbox < 32 => 1 << *mailbox,
+        _ => 0,
+    }
+}
+
+/// What always becomes of a line.
+fn line_outcome(line: &Line, board: &BoardTable<'_>, backplane: &Backplane<'_, '_>) -> Outcome {
+    match line {
+        Line::Bus(request) => outcome_of(request, backplane),
+        Line::Local(command) => local_outcome(command, board),
+        Line::Await { am, addr, bytes } => {
+            let n = bytes.as_slice().len() as u8;
+            shared(
+                &Request::Read {
+                    am: *am,
+                    addr: *addr,
+                    n,
+                },
+                backplane,
+            )
+        }
+        Line::Lock { am, addr } => shared(
+            &Request::Modify {
+                am: *am,
+                addr: *addr,
+                n: 1,
+                f: Modify::Set,
+            },
+            backplane,
+        ),
+        Line::Unlock { am, addr } => shared(
+            &Request::Write {
+                am: *am,
+                addr: *addr,
+                bytes: Datum::try_from(&[0][..]).unwrap(),
+            },
+            backplane,
+        ),
+        Line::Put { .. } | Line::Take { .. } => Outcome::of_turns(SHARED_TURNS),
+    }
+}
+
+/// What always becomes of a line that makes this request, perhaps several times.
+fn shared(request: &Request, backplane: &Backplane<'_, '_>) -> Outcome {
+    let outcome = outcome_of(request, backplane);
+    match outcome.warning {
+        Some(_) => outcome,
+        None => Outcome::of_turns(SHARED_TURNS),
+    }
+}
+
+/// What always becomes of a command to the local port.
+fn local_outcome(command: &BoardCmd, board: &BoardTable<'_>) -> Outcome {
+    let (offset, len) = match command {
+        BoardCmd::LocalRead { offset, n } | BoardCmd::LocalModify { offset, n, .. } => {
+            (*offset, u64::from(*n))
+        }
+        BoardCmd::LocalWrite { offset, bytes } => (*offset, bytes.as_slice().len() as u64),
+        BoardCmd::Cycle { .. } => (0, 0),
+    };
+    let size = board.range.size;
+    let warning = if u64::from(offset) + len > u64::from(size) {
+        let slot = slot_number(board.slot);
+        Some((LineWarning::PastEnd { slot, size }, 1))
+    } else {
+        None
+    };
+    Outcome { least: 1, warning }
+}

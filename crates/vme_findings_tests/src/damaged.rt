@@ -1,0 +1,77 @@
+//! A file with each of its bytes replaced, and files with a failed allocation.
+use crate::support::codes_of;
+use std::alloc::Global;
+use std::process::Abort;
+use vme_findings::{Cause, findings_of};
+
+/// A file with all tables, and a line of each kind.
+static FILE: &str = "schedule = [[2, 2], [1, 1]]
+tries = 5
+arbiter = \"priority\"
+[[mailbox]]
+am = 9
+addr = 0
+slots = 1
+[[board]]
+slot = 1
+base = 0
+size = 64
+script = \"lw 00000020 aabbccdd\\nput 1 00000001\"
+[[board]]
+slot = 2
+base = 0x1000
+size = 16
+space = \"a32\"
+width = 16
+script = \"br 0b 00000000 4 2\\nm 09 00000024 4 add 00000001\"
+";
+
+/// Bytes to put in the place of another one.
+static OTHERS: &[u8] = b"0z\" \n[]=#,";
+
+/// Checks that the refusal of a file is one of the collected findings.
+fn check(rt: &impl Abort, alloc: Global, file: &[u8]) {
+    let findings = findings_of(alloc, file).expect(rt, "no memory");
+    for finding in &findings {
+        assert!(rt; !matches!(finding.cause, Cause::Refused(_)));
+    }
+}
+
+#[test]
+fn finds_the_refusal_of_each_damaged_file(rt: HostRuntime) {
+    for at in 0..FILE.len() {
+        let mut bytes = Vec::from_slice(rt.alloc(), FILE.as_bytes()).expect(&rt, "no memory");
+        for other in OTHERS {
+            if let Some(byte) = bytes.get_mut(at) {
+                *byte = *other;
+            }
+            check(&rt, rt.alloc(), &bytes);
+        }
+    }
+}
+
+/// Files with errors of all kinds, and with warnings.
+static FILES: [&str; 4] = [
+    "am = 09",
+    "schedule = [[1, 1], 5, [9, 1]]\n[[board]]\nslot = 1\nbase = 2\nsize = 18\nlevle = 2\nscript = \"x\"\n",
+    "schedule = [[1, 1], [9, 1]]\n[[mailbox]]\nam = 9\naddr = 0\nslots = 1\n[[board]]\nslot = 1\nbase = 0\nsize = 64\nscript = \"lr 00000000 4\\nput 2 01\"\n",
+    "rounds = 2\n[[mailbox]]\nam = 9\naddr = 0\nslots = 1\n[[board]]\nslot = 1\nbase = 0\nsize = 64\nscript = \"r 39 00000000 4\\nr 10 00000000 1\"\n",
+];
+
+/// The codes of the findings of these files.
+static CODES: [&str; 4] = [
+    " C6",
+    " C7 C7 C5 C3 S2",
+    " C12 S9 S7",
+    " nobody-answers K2 few-turns idle-mailbox",
+];
+
+/// Gives all codes, or lacks memory.
+#[test]
+fn finds_all_or_lacks_memory(rt: HostRuntime) {
+    for (file, wanted) in FILES.iter().zip(CODES.iter()) {
+        if let Ok(text) = codes_of(rt.alloc(), file.as_bytes()) {
+            assert_eq!(rt; text.as_str(), *wanted);
+        }
+    }
+}
