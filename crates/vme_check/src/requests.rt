@@ -1,6 +1,8 @@
 //! The findings of request lines.
-ghost use Rattle.std.specs.Prelude.{◌≡◌, IfOk};
+ghost use Rattle.std.specs.Prelude.{◌≡◌, ◌++◌, IfOk, OnOk, option_to_list};
 ghost use Rattle.std.specs.Str.Lines.{lines};
+ghost use Rattle.vme_engines.specs.Lines.{request_of};
+ghost use Rattle.vme_findings.specs.Requests.{request_refusal};
 ghost use Rattle.vme_check.specs.Requests.{refusals_by, refusals_of};
 
 use memchr::memchr;
@@ -19,12 +21,22 @@ pub(crate) fn findings_of_lines(alloc: Global, text: &[u8]) -> Result<Vec<Findin
     let mut findings = Vec::new(alloc);
     let mut start = 0usize;
     for line in Lines::new(text) {
-        if let Some(finding) = request_finding(line, 1) {
-            findings.push(at(start, finding))?;
-        }
+        push_line(start, line, &mut findings)?;
         start = line_after(text, start);
     }
     Ok(findings)
+}
+
+/// Appends the finding of a line that begins at `start`, if there is one.
+#[tactic(auto, using(crate::proofs::Requests::one_more))]
+fn push_line(start: usize, line: &[u8], findings: &mut Vec<Finding>) -> Result<(), AllocError>
+    ensures { OnOk result (refusals_by findings.new.items
+        ≡ refusals_by findings.old.items ++ option_to_list (request_refusal (request_of line.now))) }
+{
+    if let Some(finding) = request_finding(line, 1) {
+        findings.push(at(start, finding))?;
+    }
+    Ok(())
 }
 
 /// The finding of a line that begins at `start`, with its place in the text.

@@ -25,14 +25,14 @@ pub fn all() -> [&'static [Text]; 6] {
 }
 
 /// Returns the texts that a line asks for. The line has codes in any case, or is a reply, a refusal
-/// or a fault as `vme` printed it.
+/// or a fault as `vme` printed it, or the first line of a finding as `bendrika check` printed it.
 ///
 /// # Errors
 ///
 /// An allocation failed.
 pub fn texts_in(alloc: Global, line: &str) -> Result<Asked, AllocError> {
     let mut texts = Vec::new(alloc);
-    if let Some(text) = fault_in(line) {
+    if let Some(text) = fault_in(line).or(finding_in(line)) {
         texts.push(text)?;
         return Ok(Asked::Texts(texts));
     }
@@ -101,6 +101,12 @@ fn fault_in(line: &str) -> Option<Text> {
         }
     }
     None
+}
+
+/// The text of the code in brackets at the end of a line, as `bendrika check` prints a finding.
+fn finding_in(line: &str) -> Option<Text> {
+    let (_, code) = line.strip_suffix("]")?.rsplit_once("[")?;
+    text_of(code)
 }
 
 /// Whether a word of a printed line has no text of its own: a number, or a word that names one.

@@ -95,12 +95,12 @@ pub(crate) fn write_line_message(warning: LineWarning, to: &mut String) -> Resul
             "the bytes end past slot {slot}, which has {size} bytes: always berr 0"
         ),
         LineWarning::BoardLacks { slot, lack, data } => {
-            write!(to, "slot {slot} has no ")?;
+            write!(to, "slot {slot} has ")?;
             match lack {
-                Lack::Unaligned => to.push_str("unaligned transfers (`uat`)")?,
-                Lack::Blocks => to.push_str("block transfers (`blt`)")?,
-                Lack::Modifies => to.push_str("read-modify-writes (`rmw`)")?,
-                Lack::DataLines(lines) => write!(to, "{lines} data lines (`width`)")?,
+                Lack::Unaligned => to.push_str("no unaligned transfers (`uat`)")?,
+                Lack::Blocks => to.push_str("no block transfers (`blt`)")?,
+                Lack::Modifies => to.push_str("no read-modify-writes (`rmw`)")?,
+                Lack::DataLines(lines) => write!(to, "fewer than {lines} data lines (`width`)")?,
             }
             write!(to, ": always berr {data}")
         }
