@@ -1,5 +1,6 @@
 //! Lines and columns.
-ghost use Rattle.std.specs.Prelude.{◌<◌, ◌≤◌, length};
+ghost use Rattle.std.specs.Prelude.{◌≡◌, ◌+◌, ◌<◌, ◌≤◌, length, min};
+ghost use Rattle.vme_positions.specs.Lines.{line_feeds_before};
 
 /// A position in a text: a line and a column, both counted from 1. A column counts characters; a
 /// byte that belongs to no character of UTF-8 counts as one.
@@ -10,26 +11,11 @@ pub struct Position {
 }
 
 impl Position {
-    const START: Position = Position { line: 1, column: 1 };
-
     /// Returns the position of an offset in a text. It walks the text up to there.
-    pub fn of(text: &[u8], offset: usize) -> Position {
+    pub fn of(text: &[u8], offset: usize) -> Position
+        ensures { result.line ≡ line_feeds_before offset text.now + 1 }
+    {
         Cursor::new(text).move_to(offset)
-    }
-
-    /// The position after a character at this one.
-    fn after(self, first_byte: u8) -> Position {
-        if first_byte == b'\n' {
-            Position {
-                line: self.line.saturating_add(1),
-                column: 1,
-            }
-        } else {
-            Position {
-                line: self.line,
-                column: self.column.saturating_add(1),
-            }
-        }
     }
 }
 
@@ -37,51 +23,92 @@ impl Position {
 /// offsets in rising order cost one walk. A step back begins the walk again.
 #[derive(Clone, Copy)]
 pub struct Cursor<'a> {
-    text: &'a [u8],
-    offset: usize,
-    position: Position,
+    /// The whole text.
+    pub text: &'a [u8],
+    /// The offset that the cursor moved to.
+    pub offset: usize,
+    /// The number of line ends before the offset.
+    line_ends: usize,
+    /// How many characters of the line begin before the offset.
+    begun: usize,
+    /// The end of the last character that begins before the offset.
+    character_end: usize,
     line: &'a [u8],
+    ghost inside: { offset ≤ length text.now },
+    ghost counted: { line_ends ≡ line_feeds_before offset text.now },
 }
 
 impl<'a> Cursor<'a> {
     /// Returns a cursor at the start of a text.
-    pub fn new(text: &'a [u8]) -> Cursor<'a> {
+    pub fn new(text: &'a [u8]) -> Cursor<'a>
+        ensures text { result.text.now ≡ text.now }
+        ensures start { result.offset ≡ 0 }
+    {
         Cursor {
             text,
             offset: 0,
-            position: Position::START,
+            line_ends: 0,
+            begun: 0,
+            character_end: 0,
             line: first_line(text),
         }
     }
 
-    /// Moves to the character in which `offset` lies, or to the end of the text. Returns the
-    /// position there.
-    pub fn move_to(&mut self, offset: usize) -> Position {
+    /// Moves to an offset of the text, or to the end of the text. Returns the position of the
+    /// character in which the offset lies.
+    pub fn move_to(&mut self, offset: usize) -> Position
+        ensures line { result.line ≡ line_feeds_before offset self.old.text.now + 1 }
+        ensures text { self.new.text.now ≡ self.old.text.now }
+        ensures offset { self.new.offset ≡ min offset (length self.old.text.now) }
+    {
         if offset < self.offset {
             *self = Cursor::new(self.text);
         }
         let text = self.text;
         let end = offset.min(text.len());
-        let mut at = self.offset;
-        let mut position = self.position;
+        let mut line_ends = self.line_ends;
+        let mut begun = self.begun;
+        let mut character_end = self.character_end;
         let mut line_from = None;
-        'characters: while at < end {
-            let next = at + character_len(&text[at..]);
-            if next > end {
-                break;
-            }
-            position = position.after(text[at]);
-            at = next;
-            if position.column == 1 {
-                line_from = Some(at);
+        'bytes: for at in self.offset..end {
+            if text[at] == b'\n' {
+                line_ends += 1;
+                begun = 0;
+                character_end = at + 1;
+                line_from = Some(at + 1);
+            } else if character_end <= at {
+                begun = begun.saturating_add(1);
+                character_end = at + character_len(&text[at..]);
             }
         }
-        if let Some(from) = line_from {
-            self.line = first_line(text.get(from..).unwrap_or(&[]));
+        let line = match line_from {
+            Some(from) => first_line(text.get(from..).unwrap_or(&[])),
+            None => self.line,
+        };
+        *self = Cursor {
+            text,
+            offset: end,
+            line_ends,
+            begun,
+            character_end,
+            line,
+        };
+        self.position()
+    }
+
+    /// The position of the character in which the offset lies.
+    fn position(&self) -> Position
+        ensures { result.line ≡ self.now.line_ends + 1 }
+    {
+        let before = if self.offset < self.character_end {
+            self.begun.saturating_sub(1)
+        } else {
+            self.begun
+        };
+        Position {
+            line: self.line_ends + 1,
+            column: before.saturating_add(1),
         }
-        self.offset = at;
-        self.position = position;
-        position
     }
 
     /// Returns the line of the position, without its line end.

@@ -1,5 +1,5 @@
 //! The outline of a document.
-ghost use Rattle.std.specs.Prelude.{◌≤◌, length};
+ghost use Rattle.std.specs.Prelude.{◌≡◌, ℕ, ◌≤◌, length};
 
 use crate::parts::{KnownKey, Parts, UnknownKey};
 use crate::place::{Key, Place, TableName};
@@ -71,13 +71,21 @@ impl Outline {
         }
     }
 
-    /// Returns where a place of the document stands in `text`, the text of the outline. A place that
-    /// was not found is the start of the text.
+    /// Returns where a place of the document stands in `text`, the text of the outline. A place
+    /// that was not found is the start of the text.
     pub fn range(&self, text: &[u8], place: &Place) -> Span
         ensures order { result.from ≤ result.to }
         ensures within { result.to ≤ length text.now }
+        ensures file { place.now ≡ Place.File → result.to ≡ 0 }
+        ensures bytes { (from to : ℕ) → place.now ≡ Place.Bytes from to →
+            from ≤ to → to ≤ length text.now → (result.from ≡ from) × (result.to ≡ to) }
     {
-        self.span(text, place).unwrap_or(Span::START).within(text)
+        let span = match *place {
+            Place::File => Span::START,
+            Place::Bytes { from, to } => Span { from, to },
+            _ => self.find(text, place).unwrap_or(Span::START),
+        };
+        span.within(text)
     }
 
     /// Returns the name of the `nth` unknown key of a table, where its keys are sorted by their
@@ -86,10 +94,10 @@ impl Outline {
         Some(self.unknown(table, index, nth)?.name.as_str())
     }
 
-    fn span(&self, text: &[u8], place: &Place) -> Option<Span> {
+    /// Where a part of the document stands, if it was found.
+    fn find(&self, text: &[u8], place: &Place) -> Option<Span> {
         match *place {
-            Place::File => None,
-            Place::Bytes { from, to } => Some(Span { from, to }),
+            Place::File | Place::Bytes { .. } => None,
             Place::Table { table, index } => Some(self.parts(table, index)?.header),
             Place::Key { table, index, key } => Some(self.key(table, index, key)?.name_at),
             Place::Value { table, index, key } => Some(self.key(table, index, key)?.value_at),

@@ -131,8 +131,18 @@ pub(crate) fn line_starts(
         if piece.is_line_end {
             starts.push(from.saturating_add(at))?;
         }
+        at += plain_len(&bytes[at..]);
     }
     Ok(starts)
+}
+
+/// The number of bytes before the next line feed or `\`.
+fn plain_len(rest: &[u8]) -> usize
+    ensures { result ≤ length rest.now }
+{
+    rest.iter()
+        .take_while(|byte| **byte != b'\n' && **byte != b'\\')
+        .count()
 }
 
 /// Where bytes of a line stand in `text`. The line is one of a script, a string at `value`, and it

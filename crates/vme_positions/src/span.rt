@@ -1,5 +1,5 @@
 //! A part of a text, as a range of its bytes.
-ghost use Rattle.std.specs.Prelude.{◌≡◌, ◌≤◌, length};
+ghost use Rattle.std.specs.Prelude.{◌≡◌, ◌↔◌, ◌<◌, ◌≤◌, length, slice_range, IsTrue};
 
 /// The bytes of a text from `from` to before `to`, counted from 0.
 #[derive(Clone, Copy, PartialEq, Eq, PartialOrd, Ord, Debug)]
@@ -30,7 +30,9 @@ impl Span {
     }
 
     /// Whether a byte of a text belongs to the span.
-    pub fn contains(self, offset: usize) -> bool {
+    pub fn contains(self, offset: usize) -> bool
+        ensures { IsTrue result ↔ ((self.from ≤ offset) × (offset < self.to)) }
+    {
         self.from <= offset && offset < self.to
     }
 
@@ -38,6 +40,7 @@ impl Span {
     pub(crate) fn within(self, text: &[u8]) -> Span
         ensures order { result.from ≤ result.to }
         ensures within { result.to ≤ length text.now }
+        ensures unchanged { self.from ≤ self.to → self.to ≤ length text.now → result ≡ self }
     {
         let to = self.to.min(text.len());
         Span {
@@ -46,8 +49,11 @@ impl Span {
         }
     }
 
-    /// The bytes of the span in `text`.
-    pub fn bytes(self, text: &[u8]) -> &[u8] {
+    /// The bytes of the span in `text`. What lies past the end of the text is left out.
+    pub fn bytes(self, text: &[u8]) -> &[u8]
+        ensures { self.from ≤ self.to → self.to ≤ length text.now →
+            result.now ≡ slice_range text.now self.from self.to }
+    {
         let Span { from, to } = self.within(text);
         &text[from..to]
     }
