@@ -1,5 +1,5 @@
 -- The refusal that the cause of a finding stands for.
-use Rattle.std.specs.Prelude.{ℕ, zero, Option, Some, None, unwrap_or}
+use Rattle.std.specs.Prelude.{ℕ, Option, Some, None, unwrap_or}
 use Rattle.vme_grammar.specs.declared.fault.LineFault.{LineFault}
 use Rattle.vme_grammar.specs.declared.fault.LineFault.TheVariants as line
 use Rattle.vme_am.specs.declared.code.AmFault.TheVariants as am

@@ -1,5 +1,5 @@
 -- The refusal that `vme cycles` gives for a request line.
-use Rattle.std.specs.Prelude.{List, ℕ, option_map, Option, Some, None, Result, Ok, Err}
+use Rattle.std.specs.Prelude.{option_map, Option, Some, None, Result, Ok, Err}
 use Rattle.vme_cycle.specs.declared.request.Request.{Request}
 use Rattle.vme_cycle.specs.Lawful.{first_refusal}
 use Rattle.vme_grammar.specs.declared.fault.LineFault.{LineFault}

@@ -103,7 +103,7 @@ fn known_form(line: &[u8]) -> LineForm {
     }
 }
 
-/// S3, at the first word too many or at the end of the line.
+/// S3, from the first word too many on, or at the end of the line.
 fn wrong_count(line: &[u8]) -> Located
     ensures { line_fault result.cause ≡ Some faults.WordCount }
 {
@@ -114,7 +114,13 @@ fn wrong_count(line: &[u8]) -> Located
         wanted,
         found: word_count(line).saturating_sub(1),
     };
-    at_word(line, wanted.saturating_add(1), cause)
+    Located {
+        cause,
+        span: Span {
+            from: span_of(line, wanted.saturating_add(1)).from,
+            to: line.len(),
+        },
+    }
 }
 
 /// Whether a line of this form is one of the local port.

@@ -148,7 +148,7 @@ pub(crate) fn fault_alone(text: &[u8], around: &Surroundings<'_>) -> Option<Loca
 fn touching(text: &[u8], line: &Line, around: &Surroundings<'_>) -> Located
     ensures { line_fault result.cause ≡ Some LineFault.MailboxBytes }
 {
-    let bytes = match line_bytes(line, around) {
+    let bytes = match bytes_around(line, around) {
         Some(bytes) => bytes,
         None => BoardRange {
             board: around.board,
@@ -181,12 +181,16 @@ fn touching(text: &[u8], line: &Line, around: &Surroundings<'_>) -> Located
     }
 }
 
-/// The bytes of a board that a line accesses.
-fn line_bytes(line: &Line, around: &Surroundings<'_>) -> Option<BoardRange> {
-    let map = around.map?;
+/// The bytes that a line accesses, if the address map is known.
+fn bytes_around(line: &Line, around: &Surroundings<'_>) -> Option<BoardRange> {
+    line_bytes(line, around.map?, around.board)
+}
+
+/// The bytes that a line of the script of a board accesses. A put and a take access none.
+pub(crate) fn line_bytes(line: &Line, map: &AddressMap, board: usize) -> Option<BoardRange> {
     match line {
         Line::Bus(request) => request_bytes(map, request),
-        Line::Local(command) => local_bytes(around.board, command),
+        Line::Local(command) => local_bytes(board, command),
         Line::Await { am, addr, bytes } => {
             BoardRange::at(map, *am, *addr, bytes.as_slice().len() as u32)
         }

@@ -6,12 +6,14 @@ ghost use Rattle.vme_findings.specs.Verdicts.{is_warning};
 mod lines;
 mod list;
 mod requests;
+mod shared;
 mod turns;
 
 use crate::cause::FileWarning;
 use crate::finding::Finding;
 use list::Warnings;
 use requests::Backplane;
+use shared::{Uses, find_shared};
 use std::alloc::{AllocError, Global};
 use toml::Table;
 use turns::{Demand, find_turns};
@@ -57,15 +59,20 @@ fn find_all<'a>(
 ) -> Result<(), AllocError> {
     let mut demands: Vec<Demand> = Vec::new(alloc);
     let mut named: u32 = 0;
+    let mut uses = Uses {
+        accesses: Vec::new(alloc),
+        watches: Vec::new(alloc),
+    };
     let backplane = Backplane {
         map: config.map(),
         boards: &file.boards,
     };
     for (board, table) in file.boards.iter().enumerate() {
-        let demand = lines::find_lines(board, table, &backplane, warnings)?;
+        let demand = lines::find_lines(board, table, &backplane, &mut uses, warnings)?;
         named |= demand.mailboxes;
         demands.push(demand)?;
     }
+    find_shared(&uses, warnings)?;
     find_turns(&demands, config, warnings)?;
     find_idle(config.mailboxes().len(), named, warnings)
 }

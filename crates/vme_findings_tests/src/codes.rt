@@ -3,18 +3,33 @@ use crate::support::check_codes;
 
 /// Files with one fault each.
 static ALONE: [(&str, &str); 42] = [
-    ("rounds = 1\n[[board]]\nslot = 1\nbase = 0\nsize = 16\n", " no-lines"),
+    (
+        "rounds = 1\n[[board]]\nslot = 1\nbase = 0\nsize = 16\n",
+        " no-lines",
+    ),
     ("am = 09", " C6"),
-    ("rounds = 1\nround = 2\n[[board]]\nslot = 1\nbase = 0\nsize = 16\n", " C7"),
+    (
+        "rounds = 1\nround = 2\n[[board]]\nslot = 1\nbase = 0\nsize = 16\n",
+        " C7",
+    ),
     ("[[board]]\nslot = 1\nsize = 16\n", " C7"),
     ("[[board]]\nslot = \"1\"\nbase = 0\nsize = 16\n", " C7"),
     ("[[board]]\nslot = 1\nbase = -4\nsize = 16\n", " C7"),
     ("[[board]]\nslot = 1\nbase = 0\nsize = 16\nuat = 1\n", " C7"),
-    ("[[board]]\nslot = 1\nbase = 0\nsize = 16\nspace = 24\n", " C7"),
+    (
+        "[[board]]\nslot = 1\nbase = 0\nsize = 16\nspace = 24\n",
+        " C7",
+    ),
     ("[board]\nslot = 1\nbase = 0\nsize = 16\n", " C7"),
     ("board = [1, 2]\n", " C7"),
-    ("schedule = [[1, 2, 3]]\n[[board]]\nslot = 1\nbase = 0\nsize = 16\n", " C7"),
-    ("schedule = [[1, -3]]\n[[board]]\nslot = 1\nbase = 0\nsize = 16\n", " C7"),
+    (
+        "schedule = [[1, 2, 3]]\n[[board]]\nslot = 1\nbase = 0\nsize = 16\n",
+        " C7",
+    ),
+    (
+        "schedule = [[1, -3]]\n[[board]]\nslot = 1\nbase = 0\nsize = 16\n",
+        " C7",
+    ),
     ("rounds = 20\n", " C11"),
     ("board = []\n", " C11"),
     ("[[board]]\nslot = 22\nbase = 0\nsize = 16\n", " C8"),
@@ -23,11 +38,26 @@ static ALONE: [(&str, &str); 42] = [
         "[[board]]\nslot = 2\nbase = 0\nsize = 16\n[[board]]\nslot = 1\nbase = 16\nsize = 16\n",
         " C8",
     ),
-    ("[[board]]\nslot = 1\nbase = 0\nsize = 16\nlevel = 4\n", " C9"),
-    ("[[board]]\nslot = 1\nbase = 0\nsize = 16\nspace = \"A24\"\n", " C10"),
-    ("[[board]]\nslot = 1\nbase = 0\nsize = 16\nwidth = 24\n", " C10"),
-    ("[[board]]\nslot = 1\nbase = 0\nsize = 16\nwidth = 16\nuat = true\n", " C10"),
-    ("arbiter = \"rotate\"\n[[board]]\nslot = 1\nbase = 0\nsize = 16\n", " C10"),
+    (
+        "[[board]]\nslot = 1\nbase = 0\nsize = 16\nlevel = 4\n",
+        " C9",
+    ),
+    (
+        "[[board]]\nslot = 1\nbase = 0\nsize = 16\nspace = \"A24\"\n",
+        " C10",
+    ),
+    (
+        "[[board]]\nslot = 1\nbase = 0\nsize = 16\nwidth = 24\n",
+        " C10",
+    ),
+    (
+        "[[board]]\nslot = 1\nbase = 0\nsize = 16\nwidth = 16\nuat = true\n",
+        " C10",
+    ),
+    (
+        "arbiter = \"rotate\"\n[[board]]\nslot = 1\nbase = 0\nsize = 16\n",
+        " C10",
+    ),
     ("[[board]]\nslot = 1\nbase = 0\nsize = 18\n", " C5"),
     ("[[board]]\nslot = 1\nbase = 0\nsize = 0\n", " C5"),
     ("[[board]]\nslot = 1\nbase = 2\nsize = 16\n", " C3"),
@@ -36,10 +66,22 @@ static ALONE: [(&str, &str); 42] = [
         "[[board]]\nslot = 1\nbase = 0\nsize = 4096\n[[board]]\nslot = 2\nbase = 0xffc\nsize = 16\n",
         " C1",
     ),
-    ("tries = 0\n[[board]]\nslot = 1\nbase = 0\nsize = 16\n", " C12"),
-    ("rounds = 1000001\n[[board]]\nslot = 1\nbase = 0\nsize = 16\n", " C12"),
-    ("schedule = [[3, 1]]\n[[board]]\nslot = 1\nbase = 0\nsize = 16\n", " C12"),
-    ("schedule = [[1, 999999], [1, 2]]\n[[board]]\nslot = 1\nbase = 0\nsize = 16\n", " C12"),
+    (
+        "tries = 0\n[[board]]\nslot = 1\nbase = 0\nsize = 16\n",
+        " C12",
+    ),
+    (
+        "rounds = 1000001\n[[board]]\nslot = 1\nbase = 0\nsize = 16\n",
+        " C12",
+    ),
+    (
+        "schedule = [[3, 1]]\n[[board]]\nslot = 1\nbase = 0\nsize = 16\n",
+        " C12",
+    ),
+    (
+        "schedule = [[1, 999999], [1, 2]]\n[[board]]\nslot = 1\nbase = 0\nsize = 16\n",
+        " C12",
+    ),
     (
         "[[mailbox]]\nam = 11\naddr = 0\nslots = 1\n[[board]]\nslot = 1\nbase = 0\nsize = 64\n",
         " C13",
@@ -119,7 +161,7 @@ static SEVERAL: [(&str, &str); 7] = [
 ];
 
 /// Configurations with warnings.
-static WARNED: [(&str, &str); 5] = [
+static WARNED: [(&str, &str); 6] = [
     (
         "rounds = 20\n[[board]]\nslot = 1\nbase = 0\nsize = 16\nscript = \"lr 00000000 4\"\n",
         "",
@@ -133,12 +175,16 @@ static WARNED: [(&str, &str); 5] = [
         " few-turns no-turns idle-turns",
     ),
     (
-        "rounds = 99\n[[mailbox]]\nam = 9\naddr = 0x40\nslots = 1\n[[board]]\nslot = 1\nbase = 0\nsize = 96\nscript = \"\"\"\nr 09 00000010 8\nr 39 00000010 4\nr 09 00000070 1\nm 09 00000002 4 add 00000001\nbr 0b 0000003c 4 2\nlr 0000005e 4\n\"\"\"\n",
+        "rounds = 99\n[[mailbox]]\nam = 9\naddr = 0x20\nslots = 1\n[[board]]\nslot = 1\nbase = 0\nsize = 96\nscript = \"\"\"\nr 09 00000010 8\nr 39 00000010 4\nr 09 00000070 1\nm 09 00000002 4 add 00000001\nbr 0b 0000005c 4 2\nlr 0000005e 4\n\"\"\"\n",
         " K8 nobody-answers nobody-answers K3 past-end past-end idle-mailbox",
     ),
     (
         "rounds = 99\n[[board]]\nslot = 1\nbase = 0\nsize = 16\nwidth = 16\nblt = false\nrmw = false\nscript = \"\"\"\nr 09 00000000 4\nr 10 00000000 1\nbr 0b 00000000 2 2\nlock 09 00000000\nr 09 0000000e 2\n\"\"\"\n[[board]]\nslot = 2\nbase = 16\nsize = 16\nsupervisory = true\nuat = false\nscript = \"\"\"\nr 09 00000010 4\nr 0d 00000010 3\nunlock 0d 00000010\n\"\"\"\n",
         " board-lacks K2 board-lacks board-lacks nobody-answers board-lacks",
+    ),
+    (
+        "rounds = 99\n[[board]]\nslot = 1\nbase = 0\nsize = 64\nscript = \"\"\"\nlock 09 00000000\nlock 09 00000004\nunlock 09 00000004\nm 09 00000004 1 set\nawait 09 00000008 0001\nawait 09 00000010 00\nawait 09 00000009 ff\n\"\"\"\n[[board]]\nslot = 2\nbase = 64\nsize = 16\nscript = \"\"\"\nw 09 00000000 00\nbf 0b 0000000a 2 3 0102\n\"\"\"\n",
+        " lock-kept lock-written never-met never-met",
     ),
 ];
 

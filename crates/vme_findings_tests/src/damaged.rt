@@ -55,7 +55,7 @@ static FILES: [&str; 4] = [
     "am = 09",
     "schedule = [[1, 1], 5, [9, 1]]\n[[board]]\nslot = 1\nbase = 2\nsize = 18\nlevle = 2\nscript = \"x\"\n",
     "schedule = [[1, 1], [9, 1]]\n[[mailbox]]\nam = 9\naddr = 0\nslots = 1\n[[board]]\nslot = 1\nbase = 0\nsize = 64\nscript = \"lr 00000000 4\\nput 2 01\"\n",
-    "rounds = 2\n[[mailbox]]\nam = 9\naddr = 0\nslots = 1\n[[board]]\nslot = 1\nbase = 0\nsize = 64\nscript = \"r 39 00000000 4\\nr 10 00000000 1\"\n",
+    "rounds = 1\n[[mailbox]]\nam = 9\naddr = 0\nslots = 1\n[[board]]\nslot = 1\nbase = 0\nsize = 64\nscript = \"r 39 00000000 4\\nr 10 00000000 1\"\n",
 ];
 
 /// The codes of the findings of these files.

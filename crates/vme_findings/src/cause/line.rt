@@ -65,7 +65,7 @@ pub enum LineCause {
     /// S2: no function has this name.
     UnknownFunction,
     /// S3: a line of this form has `wanted` words after the first one, and this line has `found`.
-    /// The place is the first word too many, or the end of the line.
+    /// The place is what begins with the first word too many, or the end of the line.
     WordCount {
         form: LineForm,
         wanted: usize,

@@ -1,7 +1,9 @@
 //! Warnings of the lines of a script.
 use crate::cause::LineWarning;
+use crate::script::line_bytes;
 use crate::warnings::list::Warnings;
 use crate::warnings::requests::{Backplane, Outcome, outcome_of, slot_number};
+use crate::warnings::shared::{Access, Uses, Watch, awaited_of, change_of};
 use crate::warnings::turns::Demand;
 use crate::words::span_of;
 use std::alloc::AllocError;
@@ -21,6 +23,7 @@ pub(crate) fn find_lines(
     board: usize,
     table: &BoardTable<'_>,
     backplane: &Backplane<'_, '_>,
+    uses: &mut Uses,
     warnings: &mut Warnings,
 ) -> Result<Demand, AllocError> {
     let slot = slot_number(table.slot);
@@ -31,26 +34,89 @@ pub(crate) fn find_lines(
         slot,
     };
     let mut number: u16 = 0;
-    for line in Lines::new(table.script.as_bytes()) {
+    for text in Lines::new(table.script.as_bytes()) {
         number = number.saturating_add(1);
-        if let Ok(Some(asked)) = parse_line(line) {
+        if let Ok(Some(line)) = parse_line(text) {
+            let outcome = line_outcome(&line, table, backplane);
             demand.lines = demand.lines.saturating_add(1);
-            demand.mailboxes |= box_bit(&asked);
-            let outcome = line_outcome(&asked, table, backplane);
+            demand.mailboxes |= box_bit(&line);
             demand.least = demand.least.saturating_add(outcome.least);
-            if let Some((warning, word)) = outcome.warning {
-                let span = span_of(line, word);
-                let place = Place::Word {
-                    board,
-                    line: usize::from(number),
-                    from: span.from,
-                    to: span.to,
-                };
-                warnings.line(slot, number, warning, place)?;
-            }
+            let asked = Asked {
+                board,
+                slot,
+                number,
+                text,
+            };
+            keep_uses(&asked, &line, outcome.warning.is_none(), backplane, uses)?;
+            find_outcome(&asked, outcome, warnings)?;
         }
     }
     Ok(demand)
+}
+
+/// A line of a script that requests something.
+#[derive(Clone, Copy)]
+struct Asked<'a> {
+    /// The board of the script.
+    board: usize,
+    slot: u16,
+    number: u16,
+    text: &'a [u8],
+}
+
+/// Finds the warning of a line's outcome.
+fn find_outcome(
+    asked: &Asked<'_>,
+    outcome: Outcome,
+    warnings: &mut Warnings,
+) -> Result<(), AllocError> {
+    match outcome.warning {
+        Some((warning, word)) => {
+            let span = span_of(asked.text, word);
+            let place = Place::Word {
+                board: asked.board,
+                line: usize::from(asked.number),
+                from: span.from,
+                to: span.to,
+            };
+            warnings.line(asked.slot, asked.number, warning, place)
+        }
+        None => Ok(()),
+    }
+}
+
+/// Keeps what a line does to shared bytes.
+fn keep_uses(
+    asked: &Asked<'_>,
+    line: &Line,
+    is_certain: bool,
+    backplane: &Backplane<'_, '_>,
+    uses: &mut Uses,
+) -> Result<(), AllocError> {
+    let Some(range) = line_bytes(line, backplane.map, asked.board) else {
+        return Ok(());
+    };
+    if let Some(change) = change_of(line) {
+        uses.accesses.push(Access {
+            range,
+            change,
+            slot: asked.slot,
+            line: asked.number,
+            is_certain,
+        })?;
+    }
+    if let (Some(awaited), true) = (awaited_of(line), is_certain) {
+        let word = if awaited == 0 { 2 } else { 3 };
+        uses.watches.push(Watch {
+            range,
+            awaited,
+            board: asked.board,
+            slot: asked.slot,
+            line: asked.number,
+            span: span_of(asked.text, word),
+        })?;
+    }
+    Ok(())
 }
 
 /// The bit of the mailbox that a line names.

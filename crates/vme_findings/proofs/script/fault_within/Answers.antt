@@ -1,4 +1,4 @@
-use Rattle.std.proofs.Common.{◌≡◌, None, Some, Ok, Err, rules, refl}
+use Rattle.std.proofs.Common.{◌≡◌, None, Some, rules, refl}
 use Rattle.vme_script.specs.Contexts.{line_within}
 use Rattle.vme_findings.specs.Lines.{fault_of}
 use Rattle.vme_findings.proofs.Heads.{fault_refused, fault_asked}

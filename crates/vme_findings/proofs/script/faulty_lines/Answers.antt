@@ -1,4 +1,4 @@
-use Rattle.std.proofs.Common.{rules, arith, refl, ◌≡◌, ◌+◌, ◌<◌, ◌∷◌, ◌++◌, [], map, take}
+use Rattle.std.proofs.Common.{rules, arith, refl, ◌≡◌, ◌+◌, ◌<◌, ◌∷◌, map, take}
 use Rattle.std.specs.Str.Lines.{lines}
 use Rattle.vme_findings.specs.Lines.{refusal_for, line_refusals}
 use Rattle.vme_findings.proofs.Scripts.{line_found, line_passed}
