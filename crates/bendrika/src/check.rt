@@ -20,6 +20,8 @@ const STANDARD_INPUT_NAME: &str = "<stdin>";
 #[derive(Drop)]
 struct Found {
     counts: Counts,
+    /// Whether some input is refused.
+    has_errors: bool,
     /// Whether some input could not be read.
     is_incomplete: bool,
 }
@@ -36,6 +38,7 @@ pub(crate) fn checked(rt: &HostRuntime, words: &ArgMatches<'_>) -> Result<Status
     let form = form_of(words, words.get_flag("no-warnings"));
     let mut found = Found {
         counts: Counts::NONE,
+        has_errors: false,
         is_incomplete: false,
     };
     if let Some(paths) = words.get_strs("FILE") {
@@ -51,6 +54,7 @@ pub(crate) fn requests_checked(rt: &HostRuntime, words: &ArgMatches<'_>) -> Resu
     let form = form_of(words, false);
     let mut found = Found {
         counts: Counts::NONE,
+        has_errors: false,
         is_incomplete: false,
     };
     let path = words.get_str("FILE").unwrap_or(STANDARD_INPUT);
@@ -77,11 +81,10 @@ fn check_one(
     found: &mut Found,
 ) -> Result<(), Fault> {
     if path == STANDARD_INPUT {
-        let reader = InputReader::new(rt.reader());
-        return check_input(rt, engine, STANDARD_INPUT_NAME, form, reader, found);
+        return check_input(rt, engine, STANDARD_INPUT_NAME, form, rt.reader(), found);
     }
     match File::open(rt, path) {
-        Ok(file) => check_input(rt, engine, path, form, InputReader::new(file), found),
+        Ok(file) => check_input(rt, engine, path, form, file, found),
         Err(error) if error.kind() == io::ErrorKind::OutOfMemory => Err(Fault::Memory),
         Err(error) => {
             found.is_incomplete = true;
@@ -96,21 +99,23 @@ fn check_input<T: io::Read + Drop>(
     engine: Engine,
     name: &str,
     form: &Form,
-    reader: InputReader<T>,
+    input: T,
     found: &mut Found,
 ) -> Result<(), Fault> {
-    let mut reader = reader;
+    let mut reader = InputReader::new(input);
     let mut writer = Io::new(io::writer(rt));
     let end = match engine {
         Engine::Files => check_engine(rt.alloc(), name, form, &mut reader, &mut writer)
-            .map(|end: CheckEnd| end.counts),
+            .map(|end: CheckEnd| (end.counts, end.refusal.is_some())),
         Engine::Requests => {
             request_check_engine(rt.alloc(), name, form, &mut reader, &mut writer)
+                .map(|counts: Counts| (counts, 0 < counts.errors))
         }
     };
     match end {
-        Ok(counts) => {
+        Ok((counts, has_errors)) => {
             found.counts = found.counts.and(counts);
+            found.has_errors |= has_errors;
             Ok(())
         }
         Err(ProgramFault::Memory) => Err(Fault::Memory),
@@ -145,7 +150,7 @@ fn ended(rt: &HostRuntime, form: &Form, found: &Found) -> Result<Status, Fault> 
     }
     Ok(if found.is_incomplete {
         Status::Fault
-    } else if 0 < found.counts.errors {
+    } else if found.has_errors {
         Status::Errors
     } else {
         Status::Done

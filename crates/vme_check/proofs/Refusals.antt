@@ -1,5 +1,6 @@
 -- The first finding of a file has the refusal of the file.
-use Rattle.std.proofs.Common.{◌≡◌, ℕ, Bool, true, false, ◌&&◌, List, [], ◌∷◌, Option, Some, None, is_none, Result, Ok, Err, refl, subst, sym}
+use Rattle.std.proofs.Common.{◌≡◌, ℕ, Bool, true, false, ◌&&◌, refl, subst, sym}
+use Rattle.std.proofs.Common.{List, [], ◌∷◌, Option, Some, None, is_none, Result, Ok, Err}
 use Rattle.std.specs.List.{list_all}
 use Rattle.vme_script.specs.declared.fault.ConfigFault.{ConfigFault}
 use Rattle.vme_script.specs.Configurations.{Configuration}
@@ -25,7 +26,8 @@ of_warnings : (input : List ℕ) (config : Configuration) → Configures input c
     → list_all is_warning findings ≡ true → IsAnswer input (first_refusal findings)
 of_warnings input config configures [] all = (config, configures)
 of_warnings input config configures (finding ∷ more) all =
-    without_refusal input config configures (refusal_of finding.cause) (first_true (is_warning finding) (list_all is_warning more) all)
+    without_refusal input config configures (refusal_of finding.cause)
+    (first_true (is_warning finding) (list_all is_warning more) all)
 
 -- the first finding has the refusal of the verdict, if it is one
 of_verdict : (input : List ℕ) (findings : List Finding) (verdict : Result Configuration ConfigFault) → IsVerdict input verdict
@@ -35,4 +37,4 @@ of_verdict input findings (Err fault) refused agree = subst (IsAnswer input) (sy
 
 -- the refusal of the first finding is what `vme` answers
 pub answered : (input : List ℕ) (findings : List Finding) → AreFindingsOf input findings → IsAnswer input (first_refusal findings)
-answered input findings found = of_verdict input findings found.0 found.1.0 found.1.1
+answered input findings found = of_verdict input findings found.0 found.1 found.2

@@ -28,7 +28,7 @@ pub(crate) fn findings_of_lines(alloc: Global, text: &[u8]) -> Result<Vec<Findin
 }
 
 /// Appends the finding of a line that begins at `start`, if there is one.
-#[tactic(auto, using(crate::proofs::Requests::one_more))]
+#[tactic(auto, using(crate::proofs::RequestRefusals::one_more))]
 fn push_line(start: usize, line: &[u8], findings: &mut Vec<Finding>) -> Result<(), AllocError>
     ensures { OnOk result (refusals_by findings.new.items
         ≡ refusals_by findings.old.items ++ option_to_list (request_refusal (request_of line.now))) }

@@ -3,7 +3,7 @@ use Rattle.std.specs.Str.Lines.{lines}
 use Rattle.vme_engines.specs.Lines.{request_of}
 use Rattle.vme_findings.specs.Requests.{request_refusal}
 use Rattle.vme_check.specs.Requests.{refusals_by, refusals_of}
-use Rattle.vme_check.proofs.Requests.{line_more}
+use Rattle.vme_check.proofs.RequestRefusals.{line_more}
 use Rattle.vme_check.proofs.requests.findings_of_lines.Goals as goal
 
 pub loop-line-preserved : goal.loop-line-preserved

@@ -15,6 +15,6 @@ one_more (first ∷ found) finding =
     ∙ sym (append_assoc (option_to_list (refusal_by first.cause)) (refusals_by found) (option_to_list (refusal_by finding.cause)))
 
 -- the refusals found so far, with those of a line and of the lines after it, are those of all
-pub line_more : (found next of_line more whole : List RequestRefusal) → next ≡ found ++ of_line → found ++ (of_line ++ more) ≡ whole
-    → next ++ more ≡ whole
+pub line_more : (found next of_line more whole : List RequestRefusal) → next ≡ found ++ of_line
+    → found ++ (of_line ++ more) ≡ whole → next ++ more ≡ whole
 line_more found next of_line more whole is so_far = ap (λ r. r ++ more) is ∙ append_assoc found of_line more ∙ so_far
