@@ -39,7 +39,7 @@ pub(crate) fn write_plain(text: &Text, to: &mut String) -> Result<(), AllocError
 pub(crate) fn write_title(text: &Text, to: &mut String) -> Result<(), AllocError> {
     let code = text.code;
     let title = text.title;
-    write!(to, "{code:<13}{title}\n")
+    write!(to, "{code:<15}{title}\n")
 }
 
 /// Appends an example: its input and the line of the answer.

@@ -42,11 +42,11 @@ pub(crate) fn write_message(
         FileWarning::NoLines => to.push_str("no script has a line that requests anything"),
         FileWarning::IdleMailbox => to.push_str("no line uses this mailbox"),
         FileWarning::Decimal { value } => {
-            to.push_str(match context.place {
+            let key = match context.place {
                 Place::Key { key, .. } | Place::Value { key, .. } => key.name(),
                 _ => "address",
-            })?;
-            write!(to, " is decimal {value}, hexadecimal {value:x}")
+            };
+            write!(to, "`{key}` is decimal {value}, hexadecimal {value:x}")
         }
     }
 }
