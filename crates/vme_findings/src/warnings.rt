@@ -16,9 +16,9 @@ use requests::Backplane;
 use shared::{Uses, find_shared};
 use std::alloc::{AllocError, Global};
 use toml::Table;
-use turns::{Demand, find_turns};
+use turns::{Demand, FIRST_BOARD, find_turns};
 use vme_config_toml::{FileTable, file_values, table_of};
-use vme_positions::{Place, TableName};
+use vme_positions::{Key, Place, TableName};
 use vme_script::Config;
 
 /// The warnings of the configuration of a file.
@@ -45,16 +45,31 @@ fn find_in(
     warnings: &mut Warnings,
 ) -> Result<(), AllocError> {
     match file_values(alloc, table) {
-        Ok(file) => find_all(alloc, &file, config, warnings),
+        Ok(file) => find_all(alloc, &file, config, turns_place(table), warnings),
         Err(_) => Err(AllocError),
     }
 }
 
-/// Finds the warnings of all scripts, and those of the file.
+/// The place of the file's turns: the rounds, the schedule, or the header of the first board.
+fn turns_place(table: &Table) -> Place {
+    for key in [Key::Rounds, Key::Schedule] {
+        if table.get(key.name()).is_some() {
+            return Place::Value {
+                table: TableName::File,
+                index: 0,
+                key,
+            };
+        }
+    }
+    FIRST_BOARD
+}
+
+/// Finds the warnings of all scripts, and those of the file. `turns` is the place of its turns.
 fn find_all<'a>(
     alloc: Global,
     file: &'a FileTable<'_>,
     config: &'a Config,
+    turns: Place,
     warnings: &mut Warnings,
 ) -> Result<(), AllocError> {
     let mut demands: Vec<Demand> = Vec::new(alloc);
@@ -73,7 +88,7 @@ fn find_all<'a>(
         demands.push(demand)?;
     }
     find_shared(&uses, warnings)?;
-    find_turns(&demands, config, warnings)?;
+    find_turns(&demands, config, turns, warnings)?;
     find_idle(config.mailboxes().len(), named, warnings)
 }
 

@@ -39,15 +39,17 @@ fn slot_of(board: usize) -> Place {
 }
 
 /// The header of the first board.
-const FIRST_BOARD: Place = Place::Table {
+pub(crate) const FIRST_BOARD: Place = Place::Table {
     table: TableName::Board,
     index: 0,
 };
 
-/// Finds the warnings of turns. `demands` are those of the boards.
+/// Finds the warnings of turns. `demands` are those of the boards, and `place` is that of the
+/// file's turns.
 pub(crate) fn find_turns(
     demands: &[Demand],
     config: &Config,
+    place: Place,
     warnings: &mut Warnings,
 ) -> Result<(), AllocError> {
     let mut lines: u64 = 0;
@@ -59,7 +61,7 @@ pub(crate) fn find_turns(
     if lines == 0 {
         warnings.file(FileWarning::NoLines, FIRST_BOARD)?;
     } else if turns == 0 {
-        warnings.file(FileWarning::NoTurns, FIRST_BOARD)?;
+        warnings.file(FileWarning::NoTurns, place)?;
         return Ok(());
     }
     for (board, demand) in demands.iter().enumerate() {
