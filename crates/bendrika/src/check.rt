@@ -105,11 +105,13 @@ fn check_input<T: io::Read + Drop>(
     let mut reader = InputReader::new(input);
     let mut writer = Io::new(io::writer(rt));
     let end = match engine {
-        Engine::Files => check_engine(rt.alloc(), name, form, &mut reader, &mut writer)
-            .map(|end: CheckEnd| (end.counts, end.refusal.is_some())),
+        Engine::Files => check_engine(rt.alloc(), name, form, &mut reader, &mut writer).map(
+            |end: CheckEnd| (end.counts, end.refusal.is_some()),
+        ),
         Engine::Requests => {
-            request_check_engine(rt.alloc(), name, form, &mut reader, &mut writer)
-                .map(|counts: Counts| (counts, 0 < counts.errors))
+            request_check_engine(rt.alloc(), name, form, &mut reader, &mut writer).map(
+                |counts: Counts| (counts, 0 < counts.errors),
+            )
         }
     };
     match end {
@@ -132,11 +134,7 @@ fn check_input<T: io::Read + Drop>(
 
 /// Reports why an input cannot be checked, as one line on standard error. A failure of that write
 /// is ignored.
-fn report(
-    rt: &HostRuntime,
-    name: &str,
-    why: &impl std::fmt::Display,
-) -> Result<(), Fault> {
+fn report(rt: &HostRuntime, name: &str, why: &impl std::fmt::Display) -> Result<(), Fault> {
     let name = shown_name(rt.alloc(), name)?;
     let _ = eprintln!(rt; "bendrika: {name}: {why}");
     Ok(())

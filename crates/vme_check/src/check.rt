@@ -75,7 +75,15 @@ fn check_text<W: Sink>(
     let refusal = refusal_of(findings.as_slice());
     let outline = Outline::of(alloc, text)?;
     let input = Input::of_file(text, &outline);
-    let counts = print_findings(alloc, name, input, findings.as_slice(), refusal, form, writer)?;
+    let counts = print_findings(
+        alloc,
+        name,
+        input,
+        findings.as_slice(),
+        refusal,
+        form,
+        writer,
+    )?;
     Ok(CheckEnd { counts, refusal })
 }
 

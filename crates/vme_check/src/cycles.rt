@@ -6,9 +6,9 @@ ghost use Rattle.vme_engines.specs.Faults.{IsCyclesFault, ReadsWithin, is_read_f
 use crate::form::{Counts, Form};
 use crate::located::Input;
 use crate::print::print_findings;
+use crate::requests::findings_of_lines;
 use std::alloc::Global;
 use vme_engines::{INPUT_LIMIT, ProgramFault, read_input};
-use crate::requests::findings_of_lines;
 use vme_io::{Sink, Source};
 use vme_report::RunFault;
 

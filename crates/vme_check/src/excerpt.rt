@@ -48,7 +48,12 @@ pub(crate) fn write_excerpt(
     let is_cut_after = shown.is_cut_after || window.end < shown.chars.len();
     write!(to, "{number:>5} | ")?;
     push_cut(is_cut_before, to)?;
-    for c in shown.chars.as_slice().get(window.start..window.end).unwrap_or(&[]) {
+    for c in shown
+        .chars
+        .as_slice()
+        .get(window.start..window.end)
+        .unwrap_or(&[])
+    {
         to.push(*c)?;
     }
     push_cut(is_cut_after, to)?;

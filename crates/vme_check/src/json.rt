@@ -46,16 +46,16 @@ pub(crate) fn write_json(
     }
     write_notes(alloc, input, one, to)?;
     to.push_str(",\"located\":")?;
-    to.push_str(if one.is_located() { "true}\n" } else { "false}\n" })
+    to.push_str(if one.is_located() {
+        "true}\n"
+    } else {
+        "false}\n"
+    })
 }
 
 /// Appends the keys of a place: its first line and column, those of the character after its last,
 /// and both as offsets.
-fn write_place(
-    cursor: &mut Cursor<'_>,
-    one: &Located,
-    to: &mut String,
-) -> Result<(), AllocError> {
+fn write_place(cursor: &mut Cursor<'_>, one: &Located, to: &mut String) -> Result<(), AllocError> {
     let Position { line, column } = cursor.move_to(one.span.from);
     let mut end = *cursor;
     let last = end.move_to(one.span.to);

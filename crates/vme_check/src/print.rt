@@ -80,11 +80,7 @@ fn cut(located: &mut Vec<Located>, limit: usize) -> Result<usize, AllocError> {
     if limit == 0 || removed == 0 {
         return Ok(0);
     }
-    let first = located
-        .iter()
-        .skip(limit)
-        .find(|one| one.is_first)
-        .copied();
+    let first = located.iter().skip(limit).find(|one| one.is_first).copied();
     located.truncate(limit);
     if let Some(first) = first {
         located.truncate(limit - 1);

@@ -60,7 +60,9 @@ fn printed(alloc: Global, form: &Form) -> Result<String, Fail> {
 #[test]
 fn findings_stand_in_the_order_of_their_places(rt: HostRuntime) -> Result<(), Fail> {
     let text = printed(rt.alloc(), &FORM)?;
-    assert_eq!(rt; text.as_str(), "\
+    assert_eq!(rt;
+        text.as_str(),
+        "\
 a\\x01.toml:2:8: error: slot 22; a backplane has slots 1 to 21 [C8]
     2 | slot = 22
       |        ^^
@@ -72,20 +74,24 @@ a\\x01.toml:4:8: error: size 18 is not a multiple of 4 [C5]
       |        ^^
       = help: the next multiple is 20
 a\\x01.toml: vme answers C5
-");
+"
+    );
     Ok(())
 }
 
 #[test]
 fn the_refusal_is_within_the_limit(rt: HostRuntime) -> Result<(), Fail> {
     let text = printed(rt.alloc(), &Form { limit: 1, ..FORM })?;
-    assert_eq!(rt; text.as_str(), "\
+    assert_eq!(rt;
+        text.as_str(),
+        "\
 a\\x01.toml:4:8: error: size 18 is not a multiple of 4 [C5]
     4 | size = 18
       |        ^^
       = help: the next multiple is 20
 a\\x01.toml: 2 more findings
 a\\x01.toml: vme answers C5
-");
+"
+    );
     Ok(())
 }

@@ -66,11 +66,7 @@ fn write_script_line(one: &Located, to: &mut String) -> Result<(), AllocError> {
     }
 }
 
-fn write_help_line(
-    cause: Cause,
-    context: &Context<'_>,
-    to: &mut String,
-) -> Result<(), AllocError> {
+fn write_help_line(cause: Cause, context: &Context<'_>, to: &mut String) -> Result<(), AllocError> {
     let mut help = String::new(context.alloc);
     write_help(cause, context, &mut help)?;
     if help.is_empty() {

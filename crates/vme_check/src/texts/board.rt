@@ -45,7 +45,10 @@ pub(crate) fn write_message(
         BoardCause::OutsideSpace { space, last } => {
             let end = space.addresses().saturating_sub(1);
             let space = space_name(space);
-            write!(to, "the board ends at {last:x}; space {space} ends at {end:x}")
+            write!(
+                to,
+                "the board ends at {last:x}; space {space} ends at {end:x}"
+            )
         }
         BoardCause::Overlap {
             board,

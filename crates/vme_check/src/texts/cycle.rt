@@ -12,7 +12,10 @@ use vme_findings::CycleCause;
 pub(crate) fn write_message(cause: CycleCause, to: &mut String) -> Result<(), AllocError> {
     match cause {
         CycleCause::NoCode { am } => {
-            write!(to, "code {am:02x} is above 3f: an address modifier has six bits")
+            write!(
+                to,
+                "code {am:02x} is above 3f: an address modifier has six bits"
+            )
         }
         CycleCause::UserCode { am } => write!(
             to,

@@ -90,7 +90,8 @@ pub(crate) fn write_help(
         DocumentCause::WrongKind { found, wanted } => {
             let table = match context.place {
                 Place::Value {
-                    key: Key::Mailbox, ..
+                    key: Key::Mailbox,
+                    ..
                 } => "mailbox",
                 _ => "board",
             };
@@ -215,11 +216,7 @@ fn is_key(table: TableName, word: &[u8]) -> bool {
 }
 
 /// Appends which unknown key of the table may be the missing one, if one is near.
-fn write_missing_help(
-    key: Key,
-    context: &Context<'_>,
-    to: &mut String,
-) -> Result<(), AllocError> {
+fn write_missing_help(key: Key, context: &Context<'_>, to: &mut String) -> Result<(), AllocError> {
     let Place::Table { table, index } = context.place else {
         return Ok(());
     };

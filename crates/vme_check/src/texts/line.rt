@@ -35,7 +35,12 @@ pub(crate) fn write_message(
             to,
         ),
         LineCause::UnknownFunction => {
-            push_about("", word, " is not a function; set, xchg, add and cas are", to)
+            push_about(
+                "",
+                word,
+                " is not a function; set, xchg, add and cas are",
+                to,
+            )
         }
         LineCause::WordCount {
             form,
@@ -72,9 +77,7 @@ pub(crate) fn write_message(
             to,
         ),
         LineCause::NoMailbox { number, declared } => push_no_mailbox(number, declared, to),
-        LineCause::NoHexDigits => {
-            push_about("bytes ", word, " are not hexadecimal digits", to)
-        }
+        LineCause::NoHexDigits => { push_about("bytes ", word, " are not hexadecimal digits", to) }
         LineCause::OddDigits { digits } => {
             push_about("bytes ", word, " have ", to)?;
             write!(to, "{digits} digits, an odd number; a byte has two")
@@ -85,7 +88,10 @@ pub(crate) fn write_message(
             wanted,
         } => push_wrong_length(form, found, wanted, word, to),
         LineCause::TooManyLines { lines } => {
-            write!(to, "the script has {lines} lines; a script has at most 1000")
+            write!(
+                to,
+                "the script has {lines} lines; a script has at most 1000"
+            )
         }
         LineCause::TouchesMailbox {
             board,
@@ -164,12 +170,7 @@ fn write_command_help(context: &Context<'_>, to: &mut String) -> Result<(), Allo
 }
 
 /// Appends a word in backquotes between two texts.
-fn push_about(
-    before: &str,
-    word: &[u8],
-    after: &str,
-    to: &mut String,
-) -> Result<(), AllocError> {
+fn push_about(before: &str, word: &[u8], after: &str, to: &mut String) -> Result<(), AllocError> {
     to.push_str(before)?;
     push_quoted(word, to)?;
     to.push_str(after)

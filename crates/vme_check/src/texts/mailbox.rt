@@ -24,7 +24,10 @@ pub(crate) fn write_message(
         }
         MailboxCause::CodeRange { am } => {
             let kind = kind_of(am);
-            write!(to, ": code {am:02x} is {kind}; it takes 09, 0d, 29, 2d, 39 or 3d")
+            write!(
+                to,
+                ": code {am:02x} is {kind}; it takes 09, 0d, 29, 2d, 39 or 3d"
+            )
         }
         MailboxCause::AddressNotAligned { addr } => {
             write!(to, ": address 0x{addr:x} is not a multiple of 4")
@@ -81,7 +84,10 @@ pub(crate) fn write_help(cause: MailboxCause, to: &mut String) -> Result<(), All
         } => {
             let space = space_name(space);
             let there = space_name(there);
-            write!(to, "code {am:02x} selects {space}; the board there is in {there}")
+            write!(
+                to,
+                "code {am:02x} selects {space}; the board there is in {there}"
+            )
         }
         MailboxCause::SupervisoryBoard { instead, .. } => write!(to, "write am = 0x{instead:02x}"),
         _ => Ok(()),
@@ -97,7 +103,10 @@ pub(crate) fn write_note(cause: MailboxCause, to: &mut String) -> Result<(), All
     match cause {
         MailboxCause::Shared { other, low, high } => {
             let other = other.saturating_add(1);
-            write!(to, "mailbox {other} has {low:08x} to {high:08x} of its board")
+            write!(
+                to,
+                "mailbox {other} has {low:08x} to {high:08x} of its board"
+            )
         }
         _ => Ok(()),
     }

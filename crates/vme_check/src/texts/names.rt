@@ -7,9 +7,7 @@ use vme_am::Space;
 use vme_findings::{BoardName, TableName};
 
 /// The names of the keys of a file.
-static FILE_KEYS: [&str; 6] = [
-    "rounds", "schedule", "arbiter", "tries", "board", "mailbox",
-];
+static FILE_KEYS: [&str; 6] = ["rounds", "schedule", "arbiter", "tries", "board", "mailbox"];
 
 /// The names of the keys of a board.
 static BOARD_KEYS: [&str; 11] = [
@@ -107,10 +105,7 @@ pub(crate) fn near_key(
 /// # Errors
 ///
 /// An allocation failed.
-pub(crate) fn near_command(
-    alloc: Global,
-    word: &[u8],
-) -> Result<Option<&'static str>, AllocError> {
+pub(crate) fn near_command(alloc: Global, word: &[u8]) -> Result<Option<&'static str>, AllocError> {
     for (capital, command) in [
         (&b"R"[..], "r"),
         (&b"W"[..], "w"),

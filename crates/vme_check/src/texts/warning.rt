@@ -108,7 +108,10 @@ pub(crate) fn write_line_message(warning: LineWarning, to: &mut String) -> Resul
             to.push_str("no line writes these bytes, which begin as zero: always timeout")
         }
         LineWarning::LockWritten { slot, line } => {
-            write!(to, "the lock byte is also written by slot {slot} line {line}")
+            write!(
+                to,
+                "the lock byte is also written by slot {slot} line {line}"
+            )
         }
         LineWarning::LockKept => to.push_str("no line unlocks this byte"),
     }
