@@ -63,14 +63,14 @@ fn explain<'a>(alloc: Global) -> Result<Command<'a>, AllocError> {
         .value_name("CODE|REPLY")
         .num_args(0..)
         .action(ArgAction::Append)
-        .help("A code as K3 or timeout, or a line that vme printed; none lists all codes");
+        .help("A code as K3, timeout or no-turns, or a line that was printed; none lists all codes");
     let all = Arg::new(alloc, "all")
         .long("all")
         .action(ArgAction::SetTrue)
         .conflicts_with("WORD")?
         .help("Print all texts as a table in Markdown");
     Command::new(alloc, "explain")
-        .about("Explain a code or a reply: cause, rule, an example, what to do")
+        .about("Explain a code, a reply or a warning: cause, rule, an example, what to do")
         .after_help("Status: 0 explained, 2 unknown or wrong words, 3 a fault")
         .arg(words)?
         .arg(all)?
@@ -91,7 +91,7 @@ fn quiet<'a>(alloc: Global) -> Arg<'a> {
         .short('q')
         .long("quiet")
         .action(ArgAction::SetTrue)
-        .help("Print nothing but faults; the status is the answer")
+        .help("Print no finding; the status says whether there is an error")
 }
 
 /// The option `--limit`.
