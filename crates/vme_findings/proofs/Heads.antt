@@ -13,15 +13,18 @@ use Rattle.vme_findings.specs.Lines.{fault_of, refusal_at, line_refusals, IsFirs
 
 -- the refusal of a line comes before those of the lines after it
 one_first :
-    (number : ℕ) (read : Result (Option Line) LineFault) (others : Result (List ScriptLine) ScriptRefusal) (refusals : List ScriptRefusal)
-    → IsFirstOf others refusals → IsFirstOf (line_before number (asked_at number read) others) (refusal_at number (fault_of read) ++ refusals)
+    (number : ℕ) (read : Result (Option Line) LineFault) (others : Result (List ScriptLine) ScriptRefusal)
+    (refusals : List ScriptRefusal)
+    → IsFirstOf others refusals
+    → IsFirstOf (line_before number (asked_at number read) others) (refusal_at number (fault_of read) ++ refusals)
 one_first number (Err fault) others refusals first = (refusals, refl)
 one_first number (Ok line) (Ok script) refusals first = first
 one_first number (Ok line) (Err refusal) refusals first = first
 
 -- the refusal of lines is the first of all
 pub lines_first :
-    (rules : ScriptContext) (number : ℕ) (text : List (List ℕ)) → IsFirstOf (lines_from rules number text) (line_refusals rules number text)
+    (rules : ScriptContext) (number : ℕ) (text : List (List ℕ))
+    → IsFirstOf (lines_from rules number text) (line_refusals rules number text)
 lines_first rules number [] = refl
 lines_first rules number (line ∷ more) =
     one_first number (line_within rules line) (lines_from rules (number + 1) more) (line_refusals rules (number + 1) more)
@@ -29,7 +32,8 @@ lines_first rules number (line ∷ more) =
 
 -- a line that is refused by itself has that refusal in each context
 pub fault_refused :
-    (rules : ScriptContext) (text : List ℕ) (fault : LineFault) → line_of text ≡ Err fault → fault_of (line_within rules text) ≡ Some fault
+    (rules : ScriptContext) (text : List ℕ) (fault : LineFault) → line_of text ≡ Err fault
+    → fault_of (line_within rules text) ≡ Some fault
 fault_refused rules text fault read = rw (refused rules text fault read) refl
 
 -- a line that requests nothing has no refusal

@@ -1,5 +1,6 @@
 -- The refusals of a script's lines, found one by one.
-use Rattle.std.proofs.Common.{◌≡◌, ℕ, ◌+◌, ◌-◌, ◌<◌, List, [], ◌∷◌, ◌++◌, Option, Some, None, take, map, refl, arith, append_assoc}
+use Rattle.std.proofs.Common.{◌≡◌, ℕ, ◌+◌, ◌-◌, ◌<◌, List, [], ◌∷◌, ◌++◌, append_assoc, take, map}
+use Rattle.std.proofs.Common.{Option, Some, None, refl, arith}
 use Rattle.std.specs.Prelude.{option_map}
 use Rattle.std.proofs.lemmas.List.{map-append}
 use Rattle.vme_grammar.specs.declared.fault.LineFault.{LineFault}
@@ -16,7 +17,8 @@ take_first left line rest some = grind arith
 
 -- a cause that was found is that of a refusal
 found_there :
-    (number : ℕ) (cause fault : Option LineFault) → Some cause ≡ option_map Some fault → script_refusal number cause ∷ [] ≡ refusal_at number fault
+    (number : ℕ) (cause fault : Option LineFault) → Some cause ≡ option_map Some fault
+    → script_refusal number cause ∷ [] ≡ refusal_at number fault
 found_there number (Some x) (Some y) is = grind arith
 found_there number None (Some y) is = grind arith
 found_there number cause None is = grind arith
@@ -25,22 +27,27 @@ found_there number cause None is = grind arith
 line_next :
     (rules : ScriptContext) (number left : ℕ) (line : List ℕ) (rest text : List (List ℕ)) (before all : List ScriptRefusal)
     → text ≡ line ∷ rest → 0 < left → before ++ line_refusals rules number (take left text) ≡ all
-    → (before ++ refusal_at number (fault_of (line_within rules line))) ++ line_refusals rules (number + 1) (take (left - 1) rest) ≡ all
+    → (before ++ refusal_at number (fault_of (line_within rules line)))
+    ++ line_refusals rules (number + 1) (take (left - 1) rest) ≡ all
 line_next rules number left line rest text before all is some sofar =
     let whole = rw (is, take_first left line rest some) at sofar in
-    rw (append_assoc before (refusal_at number (fault_of (line_within rules line))) (line_refusals rules (number + 1) (take (left - 1) rest))) whole
+    let own = refusal_at number (fault_of (line_within rules line)) in
+    rw (append_assoc before own (line_refusals rules (number + 1) (take (left - 1) rest))) whole
 
 -- a faulty line is found
 pub line_found :
-    (rules : ScriptContext) (number left : ℕ) (line : List ℕ) (rest text : List (List ℕ)) (found after : List FaultyLine) (faulty : FaultyLine)
+    (rules : ScriptContext) (number left : ℕ) (line : List ℕ) (rest text : List (List ℕ)) (found after : List FaultyLine)
+    (faulty : FaultyLine)
     (all : List ScriptRefusal)
-    → after ≡ found ++ faulty ∷ [] → faulty.number ≡ number → Some (line_fault faulty.cause) ≡ option_map Some (fault_of (line_within rules line))
+    → after ≡ found ++ faulty ∷ [] → faulty.number ≡ number
+    → Some (line_fault faulty.cause) ≡ option_map Some (fault_of (line_within rules line))
     → text ≡ line ∷ rest → 0 < left → map refusal_for found ++ line_refusals rules number (take left text) ≡ all
     → map refusal_for after ++ line_refusals rules (number + 1) (take (left - 1) rest) ≡ all
 line_found rules number left line rest text found after faulty all pushed numbered cause is some sofar =
     let there : refusal_for faulty ∷ [] ≡ refusal_at number (fault_of (line_within rules line)) =
     rw numbered (found_there number (line_fault faulty.cause) (fault_of (line_within rules line)) cause) in
-    rw (pushed, map-append refusal_for found (faulty ∷ []), there) (line_next rules number left line rest text (map refusal_for found) all is some sofar)
+    rw (pushed, map-append refusal_for found (faulty ∷ []), there)
+    (line_next rules number left line rest text (map refusal_for found) all is some sofar)
 
 -- no fault
 no_fault : (fault : Option LineFault) → None ≡ option_map Some fault → fault ≡ None
@@ -50,7 +57,8 @@ no_fault (Some x) is = grind arith
 -- a line without a fault is passed over
 pub line_passed :
     (rules : ScriptContext) (number left : ℕ) (line : List ℕ) (rest text : List (List ℕ)) (before all : List ScriptRefusal)
-    → None ≡ option_map Some (fault_of (line_within rules line)) → text ≡ line ∷ rest → 0 < left → before ++ line_refusals rules number (take left text) ≡ all
+    → None ≡ option_map Some (fault_of (line_within rules line)) → text ≡ line ∷ rest → 0 < left
+    → before ++ line_refusals rules number (take left text) ≡ all
     → before ++ line_refusals rules (number + 1) (take (left - 1) rest) ≡ all
 line_passed rules number left line rest text before all none is some sofar =
     let whole = rw (is, take_first left line rest some) at sofar in

@@ -12,4 +12,5 @@ pub still_warnings :
     (before after : List Finding) (finding : Finding) (ok : Bool) → after ≡ (if ok then before ++ finding ∷ [] else before)
     → list_all is_warning before ≡ true → refusal_of finding.cause ≡ None → list_all is_warning after ≡ true
 still_warnings before after finding false is all warning = rw is all
-still_warnings before after finding true is all warning = rw (is, list_all-append is_warning before (finding ∷ []), all, warning) refl
+still_warnings before after finding true is all warning =
+    rw (is, list_all-append is_warning before (finding ∷ []), all, warning) refl

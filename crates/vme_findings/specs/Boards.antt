@@ -1,5 +1,6 @@
 -- All refusals of a board by itself.
-use Rattle.std.specs.Prelude.{ℕ, ◌+◌, ◌%◌, nat_lt, nat_le, false, Bool, not, ◌==◌, ◌&&◌, ◌||◌, List, [], ◌∷◌, Option, Some, None, is_none, Result, Ok, Err}
+use Rattle.std.specs.Prelude.{ℕ, ◌+◌, ◌%◌, nat_lt, nat_le, Bool, false, not, ◌==◌, ◌&&◌, ◌||◌}
+use Rattle.std.specs.Prelude.{List, [], ◌∷◌, Option, Some, None, is_none, Result, Ok, Err}
 use Rattle.std.specs.Option.{option_map_or}
 use Rattle.vme_am.specs.declared.code.Space.{Space}
 use Rattle.vme_am.specs.Spaces.{addresses_of}
@@ -25,7 +26,8 @@ board_refusals before board =
     ∷ where_true (board.class.uat && (board.class.width == 8 || board.class.width == 16)) BadWord
     ∷ where_true (not (is_board_size board.range.size)) BadSize
     ∷ where_true (not (board.range.base % 4 == 0)) Misaligned
-    ∷ where_true (option_map_or (ends_outside board.range.base board.range.size) (space_named board.range.space) false) OutsideSpace
+    ∷ where_true (option_map_or (ends_outside board.range.base board.range.size) (space_named board.range.space) false)
+    OutsideSpace
     ∷ []
 
 -- the refusal of a result, if it is one

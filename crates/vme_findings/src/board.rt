@@ -119,7 +119,8 @@ pub(crate) fn base_fault(base: u32) -> Option<BoardCause>
 
 /// The fault of a range, if its size and its base have none.
 pub(crate) fn end_fault(space: Space, base: u32, size: u32) -> Option<BoardCause>
-    ensures { option_map board_refusal result ≡ where_true (ends_outside base size space) OutsideSpace }
+    ensures { option_map board_refusal result ≡
+        where_true (ends_outside base size space) OutsideSpace }
 {
     let end = u64::from(base) + u64::from(size);
     if ByteMemory::is_size(size) && base % 4 == 0 && end > space.addresses() {

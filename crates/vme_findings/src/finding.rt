@@ -16,8 +16,8 @@ pub struct Finding {
 
 /// Appends a finding.
 pub(crate) fn find(found: &mut Vec<Finding>, cause: Cause, place: Place) -> Result<(), AllocError>
-    ensures { found.new.items ≡ (if is_ok result
-        then found.old.items ++ record { cause = cause; place = place } ∷ [] else found.old.items) }
+    ensures { found.new.items ≡ (if is_ok result then
+        found.old.items ++ record { cause = cause; place = place } ∷ [] else found.old.items) }
 {
     found.push(Finding { cause, place })?;
     Ok(())

@@ -74,7 +74,8 @@ fn push_others(
     first: Finding,
     findings: &mut Vec<Finding>,
 ) -> Result<(), AllocError>
-    ensures { IfOk result (λ _. (more : List Finding) × (findings.new.items ≡ findings.old.items ++ more)) }
+    ensures { IfOk result (λ _. (more : List Finding) ×
+        (findings.new.items ≡ findings.old.items ++ more)) }
 {
     for finding in found {
         if *finding != first {

@@ -35,7 +35,8 @@ pub enum RequestRefusal {
 /// its address does not select the board. The place is `Word` of board 0, with this number of the
 /// line.
 pub fn request_finding(line: &[u8], number: usize) -> Option<Finding>
-    ensures { option_and_then (λ finding. refusal_by finding.cause) result ≡ request_refusal (request_of line.now) }
+    ensures { option_and_then (λ finding. refusal_by finding.cause) result
+        ≡ request_refusal (request_of line.now) }
 {
     match read_request(line) {
         Ok(Some(request)) => cycle_finding(line, number, &request),

@@ -3,6 +3,7 @@ ghost use Rattle.std.specs.Prelude.{◌≡◌, true, IfOk};
 ghost use Rattle.std.specs.List.{list_all};
 ghost use Rattle.vme_findings.specs.Verdicts.{is_warning};
 
+mod decimal;
 mod lines;
 mod list;
 mod requests;
@@ -31,7 +32,7 @@ pub(crate) fn warnings_of(
 {
     let mut warnings = Warnings::new(alloc);
     match table_of(alloc, text) {
-        Ok(table) => find_in(alloc, &table, config, &mut warnings)?,
+        Ok(table) => find_in(alloc, text, &table, config, &mut warnings)?,
         Err(_) => return Err(AllocError),
     }
     Ok(warnings.into_findings())
@@ -40,12 +41,16 @@ pub(crate) fn warnings_of(
 /// Finds the warnings of a document.
 fn find_in(
     alloc: Global,
+    text: &[u8],
     table: &Table,
     config: &Config,
     warnings: &mut Warnings,
 ) -> Result<(), AllocError> {
     match file_values(alloc, table) {
-        Ok(file) => find_all(alloc, &file, config, turns_place(table), warnings),
+        Ok(file) => {
+            find_all(alloc, &file, config, turns_place(table), warnings)?;
+            decimal::find_decimals(alloc, text, &file, warnings)
+        }
         Err(_) => Err(AllocError),
     }
 }

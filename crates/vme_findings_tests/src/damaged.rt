@@ -1,5 +1,5 @@
-//! A file with each of its bytes replaced, and files with a failed allocation.
-use crate::support::codes_of;
+//! Files with each of their bytes replaced, and files with a failed allocation.
+use crate::support::{codes_of, has_error};
 use std::alloc::Global;
 use std::process::Abort;
 use vme_findings::{Cause, findings_of};
@@ -23,6 +23,31 @@ base = 0x1000
 size = 16
 space = \"a32\"
 width = 16
+script = \"br 0b 00000030 4 2\\nm 09 00000024 4 add 00000001\"
+";
+
+/// A file with a fault in each table.
+static REFUSED: &str = "schedule = [[2, 2], 7]
+tries = 0
+[[mailbox]]
+am = 9
+addr = 0
+slots = 4
+[[mailbox]]
+am = 0x39
+addr = 8
+slots = 1
+[[board]]
+slot = 2
+base = 0
+size = 64
+script = \"lw 00000020 aabbccd\\nput 3 00000001\"
+[[board]]
+slot = 1
+base = 0x20
+size = 18
+width = 16
+uat = true
 script = \"br 0b 00000000 4 2\\nm 09 00000024 4 add 00000001\"
 ";
 
@@ -37,25 +62,66 @@ fn check(rt: &impl Abort, alloc: Global, file: &[u8]) {
     }
 }
 
-#[test]
-fn finds_the_refusal_of_each_damaged_file(rt: HostRuntime) {
-    for at in 0..FILE.len() {
-        let mut bytes = Vec::from_slice(rt.alloc(), FILE.as_bytes()).expect(&rt, "no memory");
+/// Checks a file with each of its bytes replaced by each of the others.
+fn check_damaged(rt: &impl Abort, alloc: Global, file: &str) {
+    for at in 0..file.len() {
+        let mut bytes = Vec::from_slice(alloc, file.as_bytes()).expect(rt, "no memory");
         for other in OTHERS {
             if let Some(byte) = bytes.get_mut(at) {
                 *byte = *other;
             }
-            check(&rt, rt.alloc(), &bytes);
+            check(rt, alloc, &bytes);
         }
+    }
+}
+
+#[test]
+fn finds_the_refusal_of_each_damaged_file(rt: HostRuntime) {
+    check_damaged(&rt, rt.alloc(), FILE);
+    check_damaged(&rt, rt.alloc(), REFUSED);
+}
+
+#[test]
+fn has_an_error_where_it_is_refused(rt: HostRuntime) {
+    for (file, wanted) in [(FILE, false), (REFUSED, true)] {
+        let refused = has_error(rt.alloc(), file.as_bytes()).expect(&rt, "no memory");
+        assert_eq!(rt; refused, wanted);
     }
 }
 
 /// Files with errors of all kinds, and with warnings.
 static FILES: [&str; 4] = [
     "am = 09",
-    "schedule = [[1, 1], 5, [9, 1]]\n[[board]]\nslot = 1\nbase = 2\nsize = 18\nlevle = 2\nscript = \"x\"\n",
-    "schedule = [[1, 1], [9, 1]]\n[[mailbox]]\nam = 9\naddr = 0\nslots = 1\n[[board]]\nslot = 1\nbase = 0\nsize = 64\nscript = \"lr 00000000 4\\nput 2 01\"\n",
-    "rounds = 1\n[[mailbox]]\nam = 9\naddr = 0\nslots = 1\n[[board]]\nslot = 1\nbase = 0\nsize = 64\nscript = \"r 39 00000000 4\\nr 10 00000000 1\"\n",
+    "schedule = [[1, 1], 5, [9, 1]]
+[[board]]
+slot = 1
+base = 2
+size = 18
+levle = 2
+script = \"x\"
+",
+    "schedule = [[1, 1], [9, 1]]
+[[mailbox]]
+am = 9
+addr = 0
+slots = 1
+[[board]]
+slot = 1
+base = 0
+size = 64
+script = \"lr 00000000 4\\nput 2 01\"
+",
+    "rounds = 1
+[[mailbox]]
+am = 9
+addr = 0
+slots = 1
+[[board]]
+slot = 1
+base = 0
+size = 64
+script = \"r 39 00000000 4\\nr 10 00000000 1\"
+",
 ];
 
 /// The codes of the findings of these files.

@@ -14,3 +14,5 @@ mod places;
 mod requests;
 #[cfg(test)]
 mod support;
+#[cfg(test)]
+mod warned;

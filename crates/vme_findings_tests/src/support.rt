@@ -1,7 +1,7 @@
 //! What the tests share: the codes of a file's findings as one text.
 use std::alloc::{AllocError, Global};
 use std::process::Abort;
-use vme_findings::{Cause, findings_of};
+use vme_findings::{Cause, Severity, findings_of};
 
 /// Returns the codes of a file's findings, each after a space. A refusal that no finding has is
 /// `bare`.
@@ -23,5 +23,14 @@ pub fn check_codes(rt: &impl Abort, alloc: Global, files: &[(&str, &str)]) {
     for (file, wanted) in files {
         let text = codes_of(alloc, file.as_bytes()).expect(rt, "no memory");
         assert_eq!(rt; text.as_str(), *wanted, "{file}");
+    }
+}
+
+/// Returns whether a file has an error.
+pub fn has_error(alloc: Global, text: &[u8]) -> Result<bool, AllocError> {
+    let findings = findings_of(alloc, text)?;
+    match findings.first() {
+        Some(finding) => Ok(finding.cause.severity() == Severity::Error),
+        None => Ok(false),
     }
 }

@@ -106,8 +106,8 @@ pub enum LineCause {
     TooManyLines {
         lines: usize,
     },
-    /// S9: the line accesses the bytes from `low` to `high` of the board, and the mailbox with index
-    /// `mailbox` has those from `mailbox_low` to `mailbox_high`.
+    /// S9: the line accesses the bytes from `low` to `high` of the board, and the mailbox with the
+    /// index `mailbox` has those from `mailbox_low` to `mailbox_high`.
     TouchesMailbox {
         board: BoardName,
         low: u32,
