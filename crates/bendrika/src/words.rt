@@ -63,7 +63,9 @@ fn explain<'a>(alloc: Global) -> Result<Command<'a>, AllocError> {
         .value_name("CODE|REPLY")
         .num_args(0..)
         .action(ArgAction::Append)
-        .help("A code as K3, timeout or no-turns, or a line that was printed; none lists all codes");
+        .help(
+            "A code as K3, timeout or no-turns, or a line that was printed; none lists all codes",
+        );
     let all = Arg::new(alloc, "all")
         .long("all")
         .action(ArgAction::SetTrue)
