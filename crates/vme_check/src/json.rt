@@ -1,7 +1,7 @@
 //! A finding as a JSON object.
 use crate::context::Context;
 use crate::located::{Input, Located};
-use crate::text::{script_line, severity_name};
+use crate::plain::{script_line, severity_name};
 use crate::texts::{note_offset, write_help, write_message, write_note};
 use std::alloc::{AllocError, Global};
 use std::fmt::Write;

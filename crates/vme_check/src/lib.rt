@@ -13,12 +13,12 @@ mod excerpt;
 mod form;
 mod json;
 mod located;
+mod plain;
 mod print;
 mod report;
 mod requests;
 #[cfg(test)]
 mod tests;
-mod text;
 mod texts;
 
 pub use check::{CheckEnd, check_engine};

@@ -18,7 +18,7 @@ impl Located {
         self.finding.cause.severity() == Severity::Error
     }
 
-    /// Whether the cause was found and not only the refusal.
+    /// Whether the finding has a cause and a place of its own, and not the refusal alone.
     pub(crate) fn is_located(&self) -> bool {
         !matches!(self.finding.cause, Cause::Refused(_))
     }

@@ -2,7 +2,7 @@
 use crate::form::{Counts, Form};
 use crate::json::write_json;
 use crate::located::{Input, Located};
-use crate::text::write_text;
+use crate::plain::write_plain;
 use std::alloc::{AllocError, Global};
 use std::fmt::Write;
 use vme_explain::write_escaped;
@@ -61,7 +61,7 @@ impl<'a> Report<'a> {
             )?;
         } else {
             let name = self.shown_name.as_str();
-            write_text(
+            write_plain(
                 self.alloc,
                 name,
                 &self.input,

@@ -14,7 +14,7 @@ use vme_positions::{Cursor, Position};
 /// # Errors
 ///
 /// An allocation failed.
-pub(crate) fn write_text(
+pub(crate) fn write_plain(
     alloc: Global,
     name: &str,
     input: &Input<'_>,
