@@ -3,7 +3,7 @@ use crate::cause::{Cause, DocumentCause, LineCause, MailboxCause};
 use crate::finding::{Finding, find};
 use crate::mailboxes::{self, KnownMailbox};
 use crate::ranges::{find_overlaps, map_of};
-use crate::schedule::{judge_numbers, judge_pairs, read_pairs};
+use crate::schedule::{check_numbers, check_pairs, read_pairs};
 use crate::script::{FaultyLine, MOST_LINES, Surroundings, fault_alone, faulty_lines};
 use crate::section::{Section, find_tables};
 use crate::tables::{self, KnownBoard};
@@ -52,7 +52,7 @@ fn collect_file(alloc: Global, table: &Table, found: &mut Vec<Finding>) -> Resul
         index: 0,
     };
     file.find_unknown(found)?;
-    judge_numbers(&file, found)?;
+    check_numbers(&file, found)?;
     let pairs = read_pairs(alloc, &file, found)?;
     let boards = read_boards(alloc, &file, found)?;
     find_overlaps(&boards.known, found)?;
@@ -61,7 +61,7 @@ fn collect_file(alloc: Global, table: &Table, found: &mut Vec<Finding>) -> Resul
         false => None,
     };
     if let (Some(pairs), true) = (pairs, boards.are_all) {
-        judge_pairs(alloc, &pairs, &boards.known, found)?;
+        check_pairs(alloc, &pairs, &boards.known, found)?;
     }
     let mailboxes = read_mailboxes(alloc, &file, &boards.known, map.as_ref(), found)?;
     collect_scripts(alloc, &boards.known, map.as_ref(), &mailboxes, found)
@@ -102,7 +102,7 @@ fn read_boards<'a>(
     })
 }
 
-/// Reads one board after `earlier` ones. One past the greatest number is judged by its keys alone.
+/// Reads one board after `earlier` ones. Of one past the greatest number only the keys are checked.
 fn read_board<'a>(
     item: &'a Value,
     index: usize,
@@ -119,7 +119,7 @@ fn read_board<'a>(
     };
     let keys = tables::read_keys(&section, found)?;
     if index < MOST_BOARDS {
-        tables::judge(&section, &keys, earlier, found)
+        tables::check(&section, &keys, earlier, found)
     } else {
         Ok(KnownBoard::unknown())
     }
@@ -198,8 +198,8 @@ fn read_mailboxes(
     })
 }
 
-/// Reads one mailbox after `earlier` ones. One past the greatest number is judged by its keys
-/// alone.
+/// Reads one mailbox after `earlier` ones. Of one past the greatest number only the keys are
+/// checked.
 fn read_mailbox(
     item: &Value,
     index: usize,
@@ -217,7 +217,7 @@ fn read_mailbox(
     };
     let keys = mailboxes::read_keys(&section, found)?;
     if index < MOST_MAILBOXES {
-        mailboxes::judge(&section, keys, boards, map, earlier, found)
+        mailboxes::check(&section, keys, boards, map, earlier, found)
     } else {
         Ok(KnownMailbox::unknown())
     }

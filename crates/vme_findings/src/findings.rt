@@ -12,7 +12,7 @@ use std::alloc::{AllocError, Global};
 use vme_positions::Place;
 use vme_script::{Config, ConfigFault};
 
-/// Returns all faults of a file that can be told apart, or the warnings of a configuration.
+/// Returns all faults of a file that can be distinguished, or the warnings of a configuration.
 ///
 /// A file that `vme` refuses has errors only, and the first of them is that refusal. A test is made
 /// only where all values that it needs are known and not refused themselves, so a fault that only

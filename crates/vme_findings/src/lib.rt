@@ -1,4 +1,4 @@
-//! All faults of a configuration file that can be told apart, its refusal first, and warnings of
+//! All faults of a configuration file that can be distinguished, its refusal first, and warnings of
 //! lawful files.
 //!
 //! A finding is a cause and its place in the document. The crate writes no texts and counts no

@@ -64,7 +64,7 @@ fn may_have(am: u32, addr: u32, slots: u32) -> bool {
 const LAWFUL: (u32, u32, u32) = (0x09, 0, 1);
 
 /// Finds the faults of each number by itself. Returns the mailbox if there is none.
-fn judge_numbers(
+fn check_numbers(
     section: &Section<'_>,
     keys: MailboxKeys,
     found: &mut Vec<Finding>,
@@ -102,7 +102,7 @@ fn judge_numbers(
 
 /// Finds the faults of a mailbox. `boards` are all boards, and `map` their address map, if it is
 /// known; `earlier` are the mailboxes before it.
-pub(crate) fn judge(
+pub(crate) fn check(
     section: &Section<'_>,
     keys: MailboxKeys,
     boards: &[KnownBoard<'_>],
@@ -110,7 +110,7 @@ pub(crate) fn judge(
     earlier: &[KnownMailbox],
     found: &mut Vec<Finding>,
 ) -> Result<KnownMailbox, AllocError> {
-    let mailbox = judge_numbers(section, keys, found)?;
+    let mailbox = check_numbers(section, keys, found)?;
     let (Some(numbers), Some(map)) = (mailbox, map) else {
         return Ok(KnownMailbox {
             mailbox,
@@ -125,11 +125,11 @@ pub(crate) fn judge(
     let Some(board) = boards.get(range.board) else {
         return Ok(KnownMailbox::unknown());
     };
-    judge_place(section, (numbers, range), *board, earlier, found)
+    check_place(section, (numbers, range), *board, earlier, found)
 }
 
 /// Finds the faults of a mailbox that begins on a board.
-fn judge_place(
+fn check_place(
     section: &Section<'_>,
     (mailbox, range): (Mailbox, BoardRange),
     board: KnownBoard<'_>,

@@ -11,7 +11,7 @@ use vme_positions::{Key, Place};
 const MOST_TURNS: u32 = 1_000_000;
 
 /// Finds the faults of the tries and the rounds, and of the arbiter's name.
-pub(crate) fn judge_numbers(
+pub(crate) fn check_numbers(
     section: &Section<'_>,
     found: &mut Vec<Finding>,
 ) -> Result<(), AllocError> {
@@ -130,7 +130,7 @@ fn slots_of(boards: &[KnownBoard<'_>]) -> Option<u32> {
 
 /// Finds the faults of pairs: slots without a board, if all slots of boards are known, and too many
 /// turns.
-pub(crate) fn judge_pairs(
+pub(crate) fn check_pairs(
     alloc: Global,
     pairs: &[(u32, u32)],
     boards: &[KnownBoard<'_>],

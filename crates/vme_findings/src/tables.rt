@@ -97,18 +97,18 @@ pub(crate) fn read_keys<'a>(
 }
 
 /// Finds the faults of a board's values. `earlier` are the boards before it.
-pub(crate) fn judge<'a>(
+pub(crate) fn check<'a>(
     section: &Section<'a>,
     keys: &BoardKeys<'a>,
     earlier: &[KnownBoard<'a>],
     found: &mut Vec<Finding>,
 ) -> Result<KnownBoard<'a>, AllocError> {
-    let (in_range, slot) = judge_slot(section, keys.slot, earlier, found)?;
+    let (in_range, slot) = check_slot(section, keys.slot, earlier, found)?;
     if let Some(level) = keys.level {
         find_fault(section, Key::Level, level_fault(level), found)?;
     }
-    let space = judge_space(section, keys.space, found)?;
-    let width = judge_width(section, keys.width, keys.uat, found)?;
+    let space = check_space(section, keys.space, found)?;
+    let width = check_width(section, keys.width, keys.uat, found)?;
     let size = match keys.size {
         Some(size) => lawful(section, Key::Size, size, size_fault(size), found)?,
         None => None,
@@ -117,7 +117,7 @@ pub(crate) fn judge<'a>(
         Some(base) => lawful(section, Key::Base, base, base_fault(base), found)?,
         None => None,
     };
-    let entry = judge_range(section, (space, base, size, keys.supervisory), found)?;
+    let entry = check_range(section, (space, base, size, keys.supervisory), found)?;
     Ok(KnownBoard {
         in_range,
         slot,
@@ -178,7 +178,7 @@ fn with_slot(boards: &[KnownBoard<'_>], slot: u32) -> Option<usize> {
 }
 
 /// Finds the fault of a slot. Returns the slot if it is in range, and the slot if it is lawful.
-fn judge_slot(
+fn check_slot(
     section: &Section<'_>,
     slot: Option<u32>,
     earlier: &[KnownBoard<'_>],
@@ -200,7 +200,7 @@ fn judge_slot(
 }
 
 /// The space of a board, if its word names one. Another word is found.
-fn judge_space(
+fn check_space(
     section: &Section<'_>,
     word: Option<&str>,
     found: &mut Vec<Finding>,
@@ -217,7 +217,7 @@ fn judge_space(
 
 /// The number of data lines, if a slave has them. Finds the fault of the number and that of
 /// unaligned transfers.
-fn judge_width(
+fn check_width(
     section: &Section<'_>,
     width: Option<u32>,
     uat: Option<bool>,
@@ -233,7 +233,7 @@ fn judge_width(
 }
 
 /// The range of a board, if its values are known and it ends within its space.
-fn judge_range(
+fn check_range(
     section: &Section<'_>,
     values: (Option<Space>, Option<u32>, Option<u32>, Option<bool>),
     found: &mut Vec<Finding>,
