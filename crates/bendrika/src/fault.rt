@@ -1,8 +1,8 @@
-//! Why the program ends early.
+//! Why the program ends early, and what it prints.
 use std::alloc::AllocError;
 use std::io;
 use thiserror::Error;
-use vme_io::Failed;
+use vme_io::{Failed, Io, write_all};
 
 /// Why the program ended early. Its `Display` text is what it reports.
 #[derive(Clone, Copy, Debug, PartialEq, Eq, Error)]
@@ -33,4 +33,11 @@ pub(crate) fn fault_of(error: &io::Error) -> Fault {
         io::ErrorKind::OutOfMemory => Fault::Memory,
         _ => Fault::Write,
     }
+}
+
+/// Prints a text on standard output.
+pub(crate) fn printed(rt: &HostRuntime, text: &str) -> Result<(), Fault> {
+    let mut writer = Io::new(io::writer(rt));
+    write_all(&mut writer, text.as_bytes())?;
+    Ok(())
 }

@@ -1,19 +1,60 @@
 //! The words of the command line.
-use clap::{Arg, ArgAction, Command};
+use clap::{Arg, ArgAction, Command, value_parser};
 use std::alloc::{AllocError, Global};
 
 /// The version that `--version` prints: that of the file VERSION.
 const VERSION: &str = "1.0.0";
+
+/// The greatest number of findings of an input that are printed if the words do not say another.
+const LIMIT: &str = "100";
 
 /// Returns the command line of the program.
 pub(crate) fn program<'a>(alloc: Global) -> Result<Command<'a>, AllocError> {
     Command::new(alloc, "bendrika")
         .bin_name("bendrika")?
         .version(VERSION)
-        .about("Companion of vme: explains what it says")
+        .about("Companion of vme: checks its files and explains what it says")
         .arg_required_else_help(true)
         .subcommand_required(true)
-        .subcommand(explain(alloc)?)
+        .subcommand(check(alloc)?)?
+        .subcommand(explain(alloc)?)?
+        .subcommand(cycles(alloc)?)
+}
+
+/// `bendrika check`.
+fn check<'a>(alloc: Global) -> Result<Command<'a>, AllocError> {
+    let files = Arg::new(alloc, "FILE")
+        .value_name("FILE")
+        .required(true)
+        .num_args(1..)
+        .action(ArgAction::Append)
+        .help("Configuration files; - is standard input");
+    let no_warnings = Arg::new(alloc, "no-warnings")
+        .long("no-warnings")
+        .action(ArgAction::SetTrue)
+        .help("Report errors alone");
+    Command::new(alloc, "check")
+        .about("Report every fault of configuration files, with line and column")
+        .after_help("Status: 0 no error, 1 errors, 2 wrong words, 3 a file or device fault")
+        .arg(files)?
+        .arg(json(alloc))?
+        .arg(quiet(alloc))?
+        .arg(no_warnings)?
+        .arg(limit(alloc))
+}
+
+/// `bendrika cycles`.
+fn cycles<'a>(alloc: Global) -> Result<Command<'a>, AllocError> {
+    let file = Arg::new(alloc, "FILE")
+        .value_name("FILE")
+        .help("A file of request lines; - or none is standard input");
+    Command::new(alloc, "cycles")
+        .about("Report every fault of request lines, and make no cycle")
+        .after_help("Status: 0 no error, 1 errors, 2 wrong words, 3 a file or device fault")
+        .arg(file)?
+        .arg(json(alloc))?
+        .arg(quiet(alloc))?
+        .arg(limit(alloc))
 }
 
 /// `bendrika explain`.
@@ -22,20 +63,46 @@ fn explain<'a>(alloc: Global) -> Result<Command<'a>, AllocError> {
         .value_name("CODE|REPLY")
         .num_args(0..)
         .action(ArgAction::Append)
-        .help("A code as K3 or timeout, or a line that vme printed; none lists all codes");
+        .help(
+            "A code as K3, timeout or no-turns, or a line that was printed; none lists all codes",
+        );
     let all = Arg::new(alloc, "all")
         .long("all")
         .action(ArgAction::SetTrue)
         .conflicts_with("WORD")?
         .help("Print all texts as a table in Markdown");
-    let json = Arg::new(alloc, "json")
-        .long("json")
-        .action(ArgAction::SetTrue)
-        .help("Print one JSON object a line");
     Command::new(alloc, "explain")
-        .about("Explain a code or a reply: cause, rule, an example, what to do")
+        .about("Explain a code, a reply or a warning: cause, rule, an example, what to do")
         .after_help("Status: 0 explained, 2 unknown or wrong words, 3 a fault")
         .arg(words)?
         .arg(all)?
-        .arg(json)
+        .arg(json(alloc))
+}
+
+/// The option `--json`.
+fn json<'a>(alloc: Global) -> Arg<'a> {
+    Arg::new(alloc, "json")
+        .long("json")
+        .action(ArgAction::SetTrue)
+        .help("Print one JSON object a line")
+}
+
+/// The option `--quiet`.
+fn quiet<'a>(alloc: Global) -> Arg<'a> {
+    Arg::new(alloc, "quiet")
+        .short('q')
+        .long("quiet")
+        .action(ArgAction::SetTrue)
+        .help("Print no finding; the status says whether there is an error")
+}
+
+/// The option `--limit`.
+fn limit<'a>(alloc: Global) -> Arg<'a> {
+    Arg::new(alloc, "limit")
+        .long("limit")
+        .value_name("N")
+        .action(ArgAction::Set)
+        .value_parser(value_parser!(usize))
+        .default_value(LIMIT)
+        .help("Print at most N findings of each input; 0 is no limit")
 }

@@ -6,17 +6,17 @@ use crate::markdown::{write_head, write_row};
 use crate::plain::{write_plain, write_title};
 use std::alloc::{AllocError, Global};
 
-/// An answer to a question.
+/// The answer to a line.
 #[derive(Debug, Drop)]
 pub enum Answer {
-    /// The text to be printed.
+    /// The text to print.
     Text(String),
     /// A word that no text is about.
     Unknown(String),
 }
 
-/// Returns the text that answers a line: the texts that it asks for, or all titles if it is empty.
-/// With `json` each text is a line, an object.
+/// Returns the answer to a line: the texts that it asks for, or all titles if it is empty. With
+/// `json` each text is one line, a JSON object.
 ///
 /// # Errors
 ///
@@ -24,7 +24,7 @@ pub enum Answer {
 pub fn explain(alloc: Global, line: &str, json: bool) -> Result<Answer, AllocError> {
     let mut to = String::new(alloc);
     if line.is_empty() {
-        every(if json { Form::Json } else { Form::Title }, &mut to)?;
+        write_tables(if json { Form::Json } else { Form::Title }, &mut to)?;
         return Ok(Answer::Text(to));
     }
     let texts = match texts_in(alloc, line)? {
@@ -44,7 +44,7 @@ pub fn explain(alloc: Global, line: &str, json: bool) -> Result<Answer, AllocErr
     Ok(Answer::Text(to))
 }
 
-/// Returns all texts: a table in Markdown, or with `json` a line for each.
+/// Returns all texts: a table in Markdown, or with `json` one line for each text, a JSON object.
 ///
 /// # Errors
 ///
@@ -52,10 +52,10 @@ pub fn explain(alloc: Global, line: &str, json: bool) -> Result<Answer, AllocErr
 pub fn explain_all(alloc: Global, json: bool) -> Result<String, AllocError> {
     let mut to = String::new(alloc);
     if json {
-        every(Form::Json, &mut to)?;
+        write_tables(Form::Json, &mut to)?;
     } else {
         write_head(&mut to)?;
-        every(Form::Row, &mut to)?;
+        write_tables(Form::Row, &mut to)?;
     }
     Ok(to)
 }
@@ -68,16 +68,16 @@ enum Form {
     Json,
 }
 
-/// Appends all texts.
-fn every(form: Form, to: &mut String) -> Result<(), AllocError> {
+/// Appends the texts of all tables.
+fn write_tables(form: Form, to: &mut String) -> Result<(), AllocError> {
     for table in all() {
-        each(table, form, to)?;
+        write_table(table, form, to)?;
     }
     Ok(())
 }
 
 /// Appends the texts of a table.
-fn each(table: &[Text], form: Form, to: &mut String) -> Result<(), AllocError> {
+fn write_table(table: &[Text], form: Form, to: &mut String) -> Result<(), AllocError> {
     for text in table {
         match form {
             Form::Title => write_title(text, to)?,

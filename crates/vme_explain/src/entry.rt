@@ -1,43 +1,43 @@
-//! What is stored of a code.
+//! The entry of a code: its texts and its example.
 
-/// What a code or a reply means.
+/// The texts of a code or of a reply.
 #[derive(Clone, Copy, Debug)]
 pub struct Text {
     /// The code, as `vme` prints it.
     pub code: &'static str,
-    /// Other codes with this text.
+    /// Other codes with the same entry.
     pub others: &'static [&'static str],
-    /// The meaning in a few words. For a fault of the program this is what it prints.
+    /// The meaning in a few words. For a fault of the program this is what `vme` prints.
     pub title: &'static str,
     /// The cause and the rule.
     pub cause: &'static str,
-    /// The sections of IEEE 1014-1987 that have the rule. Empty: the rule is this project's own.
+    /// The sections of IEEE 1014-1987 that state the rule. Empty: no section states it.
     pub sections: &'static str,
-    /// What to do.
-    pub mend: &'static str,
-    /// An input that gives the code. A fault of the program has none.
+    /// What to do. Empty: nothing.
+    pub help: &'static str,
+    /// An input that `vme` answers with the code. A fault of the program and a warning have none.
     pub example: Option<Example>,
 }
 
-/// An input, and what `vme` answers.
+/// An input, and a line of the answer of `vme`.
 #[derive(Clone, Copy, Debug)]
 pub struct Example {
     /// The part of the input that matters, in one line.
     pub brief: &'static str,
     /// The whole input.
     pub input: Input,
-    /// The line of the answer that has the code.
+    /// The line of the answer that names the code.
     pub shows: &'static str,
 }
 
-/// What a program is run on.
+/// The input of an example.
 #[derive(Clone, Copy, Debug)]
 pub enum Input {
-    /// The brief text of the example, as a line for `vme cycles`.
+    /// The brief text, as a line for `vme cycles`.
     Line,
     /// A file for `vme step`.
     File(&'static str),
-    /// A file for `vme step` with a part that is repeated.
+    /// A file for `vme step`, one part of which is repeated.
     LongFile {
         head: &'static str,
         repeated: &'static str,

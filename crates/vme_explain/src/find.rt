@@ -1,6 +1,6 @@
-//! Which texts a line asks for.
+//! The texts that a line asks for.
 use crate::entry::Text;
-use crate::tables::{FAULTS, FILES, LINES, REPLIES, REQUESTS};
+use crate::tables::{FAULTS, FILES, LINES, REPLIES, REQUESTS, WARNINGS};
 use std::alloc::{AllocError, Global};
 
 /// What a line asks for.
@@ -12,26 +12,27 @@ pub enum Asked {
     Unknown(String),
 }
 
-/// Returns all texts: those of requests, lines, files, faults and replies.
-pub fn all() -> [&'static [Text]; 5] {
+/// Returns the six tables: the texts of requests, lines, files, faults, replies and warnings.
+pub fn all() -> [&'static [Text]; 6] {
     [
         REQUESTS.as_slice(),
         LINES.as_slice(),
         FILES.as_slice(),
         FAULTS.as_slice(),
         REPLIES.as_slice(),
+        WARNINGS.as_slice(),
     ]
 }
 
-/// Returns the texts that a line asks for: codes in any case, or a reply, a refusal or a fault as
-/// `vme` printed it.
+/// Returns the texts that a line asks for. The line has codes in any case, or is a reply, a refusal
+/// or a fault as `vme` printed it, or the first line of a finding as `bendrika check` printed it.
 ///
 /// # Errors
 ///
 /// An allocation failed.
 pub fn texts_in(alloc: Global, line: &str) -> Result<Asked, AllocError> {
     let mut texts = Vec::new(alloc);
-    if let Some(text) = fault_in(line) {
+    if let Some(text) = fault_in(line).or(finding_in(line)) {
         texts.push(text)?;
         return Ok(Asked::Texts(texts));
     }
@@ -53,8 +54,8 @@ pub fn texts_in(alloc: Global, line: &str) -> Result<Asked, AllocError> {
     Ok(Asked::Texts(texts))
 }
 
-/// The text of a code, if there is one.
-fn text_of(code: &str) -> Option<Text> {
+/// Returns the text of a code in any case, if it has one.
+pub fn text_of(code: &str) -> Option<Text> {
     for table in all() {
         if let Some(text) = text_in(table, code) {
             return Some(text);
@@ -63,7 +64,7 @@ fn text_of(code: &str) -> Option<Text> {
     None
 }
 
-/// The text of a code in a table.
+/// The text of a code, if this table has it.
 fn text_in(table: &[Text], code: &str) -> Option<Text> {
     for text in table {
         if is_named(text, code) {
@@ -73,10 +74,12 @@ fn text_in(table: &[Text], code: &str) -> Option<Text> {
     None
 }
 
+/// Whether a text is that of a code.
 fn is_named(text: &Text, code: &str) -> bool {
     text.code.eq_ignore_ascii_case(code) || is_among(text.others, code)
 }
 
+/// Whether a code is among names, in any case.
 fn is_among(names: &[&str], code: &str) -> bool {
     for name in names {
         if name.eq_ignore_ascii_case(code) {
@@ -86,7 +89,7 @@ fn is_among(names: &[&str], code: &str) -> bool {
     false
 }
 
-/// The text of a fault as `vme` printed it.
+/// The text of a fault of the program, if the line is one that `vme` printed.
 fn fault_in(line: &str) -> Option<Text> {
     let printed = line.strip_prefix("vme: ")?;
     if printed.starts_with("usage") {
@@ -100,7 +103,13 @@ fn fault_in(line: &str) -> Option<Text> {
     None
 }
 
-/// Whether a word of a printed line has no text of its own: a place, a number, or a word beside one.
+/// The text of the code in brackets at the end of a line, as `bendrika check` prints a finding.
+fn finding_in(line: &str) -> Option<Text> {
+    let (_, code) = line.strip_suffix("]")?.rsplit_once("[")?;
+    text_of(code)
+}
+
+/// Whether a word of a printed line has no text of its own: a number, or a word that names one.
 fn is_plain_part(word: &str) -> bool {
     word.is_empty()
         || word.starts_with(|c: char| c.is_ascii_digit())
@@ -109,12 +118,13 @@ fn is_plain_part(word: &str) -> bool {
         || word == "line"
 }
 
-/// Whether the words after a code are its data.
+/// Whether bytes may follow a reply.
 fn has_data(text: &Text) -> bool {
     text.code == "done" || text.code == "berr"
 }
 
-/// Adds a text that is not there yet. `refused` gives way to the refusal that it names.
+/// Adds a text that is not in the list yet. A text of `refused` at the end is replaced by that of
+/// the refusal.
 fn add(texts: &mut Vec<Text>, text: Text) -> Result<(), AllocError> {
     if let Some(last) = texts.last()
         && last.code == "refused"

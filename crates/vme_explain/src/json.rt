@@ -1,8 +1,9 @@
 //! A text as a JSON object.
 use crate::entry::{Example, Text};
 use std::alloc::AllocError;
+use std::fmt::Write;
 
-/// Appends a text as one line: a JSON object of strings and a list. An absent part has no key.
+/// Appends a text as one line: a JSON object of strings and one list. An absent part has no key.
 ///
 /// # Errors
 ///
@@ -21,27 +22,27 @@ pub(crate) fn write_json(text: &Text, to: &mut String) -> Result<(), AllocError>
     field("title", text.title, to)?;
     field("cause", text.cause, to)?;
     field("sections", text.sections, to)?;
-    field("mend", text.mend, to)?;
+    field("help", text.help, to)?;
     if let Some(example) = &text.example {
-        shown(example, to)?;
+        write_example(example, to)?;
     }
     to.push_str("}\n")
 }
 
-/// The keys of an example: what is run, on which input, and the line that it answers.
-fn shown(example: &Example, to: &mut String) -> Result<(), AllocError> {
+/// Appends the keys of an example: the command, its input, and the line that it answers.
+fn write_example(example: &Example, to: &mut String) -> Result<(), AllocError> {
     field("form", example.form(), to)?;
     to.push_str(",\"input\":\"")?;
     for (text, times) in example.parts() {
         for _ in 0..times {
-            escaped(text, to)?;
+            write_escaped(text, to)?;
         }
     }
     to.push('"')?;
     field("shows", example.shows, to)
 }
 
-/// A further key, unless its text is empty.
+/// Appends a comma, a key and its text. Appends nothing if the text is empty.
 fn field(key: &str, text: &str, to: &mut String) -> Result<(), AllocError> {
     if text.is_empty() {
         return Ok(());
@@ -52,19 +53,29 @@ fn field(key: &str, text: &str, to: &mut String) -> Result<(), AllocError> {
     quoted(text, to)
 }
 
+/// Appends a JSON string.
 fn quoted(text: &str, to: &mut String) -> Result<(), AllocError> {
     to.push('"')?;
-    escaped(text, to)?;
+    write_escaped(text, to)?;
     to.push('"')
 }
 
-/// The characters of a JSON string. The texts have no control character but line ends.
-fn escaped(text: &str, to: &mut String) -> Result<(), AllocError> {
+/// Appends the characters of a JSON string, without its quotes. Control characters and the two
+/// characters that a string cannot contain are escaped.
+///
+/// # Errors
+///
+/// An allocation failed.
+pub fn write_escaped(text: &str, to: &mut String) -> Result<(), AllocError> {
     for c in text.chars() {
         match c {
             '"' => to.push_str("\\\"")?,
             '\\' => to.push_str("\\\\")?,
             '\n' => to.push_str("\\n")?,
+            '\0'..='\x1f' => {
+                let code = u32::from(c);
+                write!(to, "\\u{code:04x}")?;
+            }
             _ => to.push(c)?,
         }
     }

@@ -1,7 +1,7 @@
-//! The texts of `bendrika explain`: what each code and reply of `vme` means, the rule behind it, an
-//! example, and what to do.
+//! The texts of `bendrika explain`: what each code and reply of `vme` and each warning of `bendrika
+//! check` means, the rule behind it, an example, and what to do.
 //!
-//! Each code has one text in one of five tables. [`explain`] returns the texts that a line asks for,
+//! Each code has one entry in one of six tables. [`explain`] returns the texts that a line asks for,
 //! and [`explain_all`] the table of docs/GUIDE.md.
 #![tactic(auto)]
 
@@ -15,4 +15,5 @@ mod tables;
 
 pub use answer::{Answer, explain, explain_all};
 pub use entry::{Example, Input, Text};
-pub use find::{Asked, all, texts_in};
+pub use find::{Asked, all, text_of, texts_in};
+pub use json::write_escaped;

@@ -3,7 +3,7 @@ use crate::entry::Text;
 use std::alloc::AllocError;
 use std::fmt::Write;
 
-/// Appends the head of the table.
+/// Appends the head of the table and the line under it.
 ///
 /// # Errors
 ///
@@ -32,8 +32,8 @@ pub(crate) fn write_row(text: &Text, to: &mut String) -> Result<(), AllocError> 
         let sections = text.sections;
         write!(to, " IEEE 1014-1987, {sections}.")?;
     }
-    let mend = text.mend;
-    write!(to, " | {mend} |")?;
+    let help = text.help;
+    write!(to, " | {help} |")?;
     if let Some(example) = &text.example {
         let brief = example.brief;
         write!(to, " `{brief}` |\n")

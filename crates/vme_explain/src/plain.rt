@@ -3,7 +3,7 @@ use crate::entry::{Example, Text};
 use std::alloc::AllocError;
 use std::fmt::Write;
 
-/// The most columns of a line.
+/// The greatest number of columns of a line.
 const WIDTH: usize = 100;
 
 /// Appends a text: code and title, the cause, the example, what to do, and the sections.
@@ -18,11 +18,11 @@ pub(crate) fn write_plain(text: &Text, to: &mut String) -> Result<(), AllocError
     wrap(text.cause, to)?;
     if let Some(example) = &text.example {
         to.push('\n')?;
-        shown(example, to)?;
+        write_example(example, to)?;
     }
-    if !text.mend.is_empty() {
+    if !text.help.is_empty() {
         to.push('\n')?;
-        wrap(text.mend, to)?;
+        wrap(text.help, to)?;
     }
     if !text.sections.is_empty() {
         let sections = text.sections;
@@ -39,11 +39,11 @@ pub(crate) fn write_plain(text: &Text, to: &mut String) -> Result<(), AllocError
 pub(crate) fn write_title(text: &Text, to: &mut String) -> Result<(), AllocError> {
     let code = text.code;
     let title = text.title;
-    write!(to, "{code:<11}{title}\n")
+    write!(to, "{code:<15}{title}\n")
 }
 
-/// An example: the input, and the answer.
-fn shown(example: &Example, to: &mut String) -> Result<(), AllocError> {
+/// Appends an example: its input and the line of the answer.
+fn write_example(example: &Example, to: &mut String) -> Result<(), AllocError> {
     for (text, times) in example.parts() {
         indent(text, to)?;
         if 1 < times {
@@ -53,7 +53,7 @@ fn shown(example: &Example, to: &mut String) -> Result<(), AllocError> {
     indent(example.shows, to)
 }
 
-/// Appends lines, each after four spaces if it is not empty.
+/// Appends lines. Each line that is not empty is indented by four spaces.
 fn indent(text: &str, to: &mut String) -> Result<(), AllocError> {
     for line in text.lines() {
         if !line.is_empty() {
@@ -65,7 +65,7 @@ fn indent(text: &str, to: &mut String) -> Result<(), AllocError> {
     Ok(())
 }
 
-/// Appends a paragraph in lines of at most `WIDTH` bytes, but for a word that is longer.
+/// Appends a paragraph in lines of at most `WIDTH` bytes. A longer word has a line of its own.
 fn wrap(text: &str, to: &mut String) -> Result<(), AllocError> {
     let mut column = 0usize;
     for word in text.split(' ') {

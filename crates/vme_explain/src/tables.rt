@@ -5,9 +5,11 @@ mod files;
 mod lines;
 mod replies;
 mod requests;
+mod warnings;
 
 pub(crate) use faults::FAULTS;
 pub(crate) use files::FILES;
 pub(crate) use lines::LINES;
 pub(crate) use replies::REPLIES;
 pub(crate) use requests::REQUESTS;
+pub(crate) use warnings::WARNINGS;

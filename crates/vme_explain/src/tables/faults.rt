@@ -9,7 +9,7 @@ pub(crate) static FAULTS: [Text; 7] = [
         cause: "The input or the file cannot be read: it is absent, it is a folder, this user may \
             not read it, or the device failed.",
         sections: "",
-        mend: "Check the path and its permissions.",
+        help: "Check the path and its permissions.",
         example: None,
     },
     Text {
@@ -19,7 +19,7 @@ pub(crate) static FAULTS: [Text; 7] = [
         cause: "The input of `vme cycles` has more than 1,048,576 bytes, or the configuration file \
             more than 2,097,152.",
         sections: "",
-        mend: "Split the input.",
+        help: "Split the input.",
         example: None,
     },
     Text {
@@ -29,7 +29,7 @@ pub(crate) static FAULTS: [Text; 7] = [
         cause: "The output cannot be written. What was written is a prefix of the text. U4 of the \
             library is F3 of the program.",
         sections: "",
-        mend: "Look for a full disk or a closed pipe.",
+        help: "Look for a full disk or a closed pipe.",
         example: None,
     },
     Text {
@@ -38,7 +38,7 @@ pub(crate) static FAULTS: [Text; 7] = [
         title: "memory",
         cause: "An allocation failed. U2 of the library is F4 of the program.",
         sections: "",
-        mend: "Free memory, or use smaller boards.",
+        help: "Free memory, or use smaller boards.",
         example: None,
     },
     Text {
@@ -48,7 +48,7 @@ pub(crate) static FAULTS: [Text; 7] = [
         cause: "`vme run` could not start a thread, and there is no report. U1 of the library is F5 \
             of the program.",
         sections: "",
-        mend: "Raise the limit of processes (`ulimit -u`).",
+        help: "Raise the limit of processes (`ulimit -u`).",
         example: None,
     },
     Text {
@@ -58,7 +58,7 @@ pub(crate) static FAULTS: [Text; 7] = [
         cause: "In `vme run` a board or the arbiter has made 2^64 - 1 steps. U3 of the library is F6 \
             of the program.",
         sections: "",
-        mend: "Run the file again.",
+        help: "Run the file again.",
         example: None,
     },
     Text {
@@ -67,7 +67,7 @@ pub(crate) static FAULTS: [Text; 7] = [
         title: "wrong words",
         cause: "The words of the command line are none of the three forms. The status is 2.",
         sections: "",
-        mend: "Write `vme cycles`, `vme step FILE` or `vme run FILE`.",
+        help: "Write `vme cycles`, `vme step FILE` or `vme run FILE`.",
         example: None,
     },
 ];

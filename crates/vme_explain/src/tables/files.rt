@@ -5,12 +5,12 @@ pub(crate) static FILES: [Text; 14] = [
     Text {
         code: "C6",
         others: &[],
-        title: "no TOML",
+        title: "not TOML",
         cause: "The file is not a TOML document, and nothing else of it is tested. Common causes: a \
             leading zero (`am = 09`), a word without quotes (`space = a24`), a key given twice, \
             a string that is not closed, bytes that are not UTF-8.",
         sections: "",
-        mend: "Write numbers as 9 or 0x09 and words as \"a24\", and close every string.",
+        help: "Write numbers as 9 or 0x09 and words as \"a24\", and close every string.",
         example: Some(Example {
             brief: "am = 09",
             input: Input::File("[[board]]\nslot = 1\nbase = 0\nsize = 16\n[[mailbox]]\nam = 09\n"),
@@ -25,7 +25,7 @@ pub(crate) static FILES: [Text; 14] = [
             0 to 4294967295. A key above the first [[board]] or [[mailbox]] belongs to the file, \
             a key below it to that table.",
         sections: "",
-        mend: "Compare the file with the tables of keys in docs/GUIDE.md.",
+        help: "Compare the file with the tables of keys in docs/GUIDE.md.",
         example: Some(Example {
             brief: "scripts = \"r 09 00000000 1\"",
             input: Input::File(
@@ -40,7 +40,7 @@ pub(crate) static FILES: [Text; 14] = [
         title: "no board",
         cause: "A file has at least one table [[board]].",
         sections: "",
-        mend: "Add a table [[board]] with slot, base and size.",
+        help: "Add a table [[board]] with slot, base and size.",
         example: Some(Example {
             brief: "rounds = 20",
             input: Input::File("rounds = 20\n"),
@@ -53,7 +53,7 @@ pub(crate) static FILES: [Text; 14] = [
         title: "more than 21 boards",
         cause: "A backplane has 21 slots.",
         sections: "",
-        mend: "Remove boards.",
+        help: "Remove boards.",
         example: Some(Example {
             brief: "22 tables [[board]]",
             input: Input::LongFile {
@@ -72,7 +72,7 @@ pub(crate) static FILES: [Text; 14] = [
         cause: "A slot is 1 to 21, and boards stand in rising order of slots, one in each. C8, C9, \
             C10, C5, C3 and C2 are tested board by board.",
         sections: "",
-        mend: "Sort the tables by slot, and give each board its own.",
+        help: "Sort the tables by slot, and give each board its own.",
         example: Some(Example {
             brief: "slot = 2 before slot = 1",
             input: Input::File(
@@ -88,7 +88,7 @@ pub(crate) static FILES: [Text; 14] = [
         title: "bad level",
         cause: "There are four bus request levels, 0 to 3; 3 is the highest.",
         sections: "",
-        mend: "Write 0 to 3, or leave the key out (3).",
+        help: "Write 0 to 3, or leave the key out (3).",
         example: Some(Example {
             brief: "level = 4",
             input: Input::File("[[board]]\nslot = 1\nbase = 0\nsize = 16\nlevel = 4\n"),
@@ -103,7 +103,7 @@ pub(crate) static FILES: [Text; 14] = [
             requires `width = 32`; `arbiter` is \"priority\" or \"rotating\" and is tested after \
             C1. All words are lower case.",
         sections: "2.3.5 (addressing), 2.3.6 (basic data transfer), 2.3.9 (unaligned transfer)",
-        mend: "Correct the word or the width.",
+        help: "Correct the word or the width.",
         example: Some(Example {
             brief: "space = \"A24\"",
             input: Input::File("[[board]]\nslot = 1\nbase = 0\nsize = 16\nspace = \"A24\"\n"),
@@ -116,7 +116,7 @@ pub(crate) static FILES: [Text; 14] = [
         title: "bad size",
         cause: "A board has 4 to 1,048,576 bytes, a multiple of 4.",
         sections: "",
-        mend: "Round the size up to a multiple of 4.",
+        help: "Round the size up to a multiple of 4.",
         example: Some(Example {
             brief: "size = 18",
             input: Input::File("[[board]]\nslot = 1\nbase = 0\nsize = 18\n"),
@@ -129,7 +129,7 @@ pub(crate) static FILES: [Text; 14] = [
         title: "base not a multiple of 4",
         cause: "A board begins at a multiple of 4, so that its byte locations are those of the bus.",
         sections: "2.2.1 (addressing lines)",
-        mend: "Round the base to a multiple of 4.",
+        help: "Round the base to a multiple of 4.",
         example: Some(Example {
             brief: "base = 2",
             input: Input::File("[[board]]\nslot = 1\nbase = 2\nsize = 16\n"),
@@ -142,7 +142,7 @@ pub(crate) static FILES: [Text; 14] = [
         title: "board past the end of its space",
         cause: "base + size is above 0x10000 in a16, 0x1000000 in a24 or 0x100000000 in a32.",
         sections: "2.3.5 (addressing)",
-        mend: "Lower base or size, or use a larger space.",
+        help: "Lower base or size, or use a larger space.",
         example: Some(Example {
             brief: "space = \"a16\", base = 0xfffc, size = 8",
             input: Input::File("[[board]]\nslot = 1\nspace = \"a16\"\nbase = 0xfffc\nsize = 8\n"),
@@ -155,7 +155,7 @@ pub(crate) static FILES: [Text; 14] = [
         title: "boards overlap",
         cause: "Two boards of one space share an address, so both would reply to it.",
         sections: "2.3.5 (addressing)",
-        mend: "Move one: let its base be at least the other's base plus size.",
+        help: "Move one: let its base be at least the other's base plus size.",
         example: Some(Example {
             brief: "base = 0, size = 16 and base = 8",
             input: Input::File(
@@ -172,7 +172,7 @@ pub(crate) static FILES: [Text; 14] = [
         cause: "`tries` is 1 to 1,000,000 and `rounds` 0 to 1,000,000. Each slot of `schedule` has a \
             board, and all its pairs together have at most 1,000,000 turns.",
         sections: "",
-        mend: "Correct the number, or add the board.",
+        help: "Correct the number, or add the board.",
         example: Some(Example {
             brief: "schedule = [[3, 1]], one board in slot 1",
             input: Input::File("schedule = [[3, 1]]\n[[board]]\nslot = 1\nbase = 0\nsize = 16\n"),
@@ -188,7 +188,7 @@ pub(crate) static FILES: [Text; 14] = [
             one board that `am` selects, with `width` 32 and `rmw`, and no earlier mailbox has \
             any of them.",
         sections: "",
-        mend: "Correct the key, or move the mailbox. `am = 0x0d` reaches supervisory boards too.",
+        help: "Correct the key, or move the mailbox. `am = 0x0d` reaches supervisory boards too.",
         example: Some(Example {
             brief: "am = 0x0b",
             input: Input::File(
@@ -205,7 +205,7 @@ pub(crate) static FILES: [Text; 14] = [
         cause: "A line of a script is refused. The answer has the slot, the line of the script and \
             the S number. The first script with a refused line decides.",
         sections: "",
-        mend: "See the S number.",
+        help: "See the S number.",
         example: Some(Example {
             brief: "r 09 0000 1 in line 2",
             input: Input::File(

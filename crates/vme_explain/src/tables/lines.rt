@@ -9,7 +9,7 @@ pub(crate) static LINES: [Text; 9] = [
         cause: "A line has at most 80 bytes, without its line end. This holds for comments and for \
             lines of spaces too.",
         sections: "",
-        mend: "Split the line. `bw AM ADDR 4 HEX` carries up to 28 bytes; `bf` fills up to 256 data \
+        help: "Split the line. `bw AM ADDR 4 HEX` carries up to 28 bytes; `bf` fills up to 256 data \
             by one line.",
         example: Some(Example {
             brief: "# -------------------------------------------------------------------------------",
@@ -26,7 +26,7 @@ pub(crate) static LINES: [Text; 9] = [
             `xchg`, `add` or `cas`. All are lower case. Spaces separate words; a tab does not. A \
             comment has its # in the first column.",
         sections: "",
-        mend: "Correct the word.",
+        help: "Correct the word.",
         example: Some(Example {
             brief: "R 0d 00000000 1",
             input: Input::Line,
@@ -42,7 +42,7 @@ pub(crate) static LINES: [Text; 9] = [
             OFF N`, `lw OFF HEX`, `lm OFF N FUNC`, `await AM ADDR HEX`, `lock AM ADDR`, `unlock \
             AM ADDR`, `put BOX HEX`, `take BOX`.",
         sections: "",
-        mend: "Add the missing words or remove the others. A comment needs a line of its own.",
+        help: "Add the missing words or remove the others. A comment needs a line of its own.",
         example: Some(Example {
             brief: "r 0d 00000000 1 # flag",
             input: Input::Line,
@@ -55,7 +55,7 @@ pub(crate) static LINES: [Text; 9] = [
         title: "malformed address modifier",
         cause: "AM has two hexadecimal digits, without 0x.",
         sections: "",
-        mend: "Write 09 in place of 9.",
+        help: "Write 09 in place of 9.",
         example: Some(Example {
             brief: "r 9 00000000 1",
             input: Input::Line,
@@ -68,7 +68,7 @@ pub(crate) static LINES: [Text; 9] = [
         title: "malformed address",
         cause: "ADDR and OFF have eight hexadecimal digits in every space, without 0x.",
         sections: "",
-        mend: "Add zeros on the left: 00200000.",
+        help: "Add zeros on the left: 00200000.",
         example: Some(Example {
             brief: "r 39 200000 4",
             input: Input::Line,
@@ -83,7 +83,7 @@ pub(crate) static LINES: [Text; 9] = [
             decimal digits. BOX has one or two, and is the number, from 1, of a mailbox that the \
             file declares.",
         sections: "",
-        mend: "Correct the number, or declare the mailbox.",
+        help: "Correct the number, or declare the mailbox.",
         example: Some(Example {
             brief: "r 0d 00000000 9",
             input: Input::Line,
@@ -97,7 +97,7 @@ pub(crate) static LINES: [Text; 9] = [
         cause: "HEX is pairs of hexadecimal digits: 1 to 8 bytes in `w` and `await`; 1, 2 or 4 in \
             `lw`; 4 in `put`; N in `bf` and in functions; 1 or more in `bw`.",
         sections: "",
-        mend: "Write 05 in place of 5, and as many bytes as the line takes.",
+        help: "Write 05 in place of 5, and as many bytes as the line takes.",
         example: Some(Example {
             brief: "w 0d 00000000 5",
             input: Input::Line,
@@ -111,7 +111,7 @@ pub(crate) static LINES: [Text; 9] = [
         cause: "A script has at most 1,000 lines. Comments and empty lines count. This is tested \
             before any line of the script.",
         sections: "",
-        mend: "Remove lines, or move some to another board.",
+        help: "Remove lines, or move some to another board.",
         example: Some(Example {
             brief: "1,001 lines",
             input: Input::LongFile {
@@ -130,7 +130,7 @@ pub(crate) static LINES: [Text; 9] = [
         cause: "A line other than `put` and `take` names a byte of a declared mailbox, on the bus or \
             on the local port. The proof that no word of a mailbox is lost relies on this rule.",
         sections: "",
-        mend: "Use `put` and `take`, or other bytes.",
+        help: "Use `put` and `take`, or other bytes.",
         example: Some(Example {
             brief: "lr 00000004 4, with a mailbox at 0",
             input: Input::File(

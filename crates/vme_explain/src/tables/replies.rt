@@ -5,11 +5,11 @@ pub(crate) static REPLIES: [Text; 10] = [
     Text {
         code: "done",
         others: &["read", "old", "met", "taken", "put", "took"],
-        title: "a good reply",
-        cause: "The line ended as it should: `read`, `old` and `took` have bytes, `done` follows a \
+        title: "success",
+        cause: "The line succeeded: `read`, `old` and `took` have bytes, `done` follows a \
             write, `met` an `await`, `taken` a `lock`, `put` a `put`.",
         sections: "",
-        mend: "",
+        help: "",
         example: Some(Example {
             brief: "w 0d 00000000 05",
             input: Input::Line,
@@ -24,7 +24,7 @@ pub(crate) static REPLIES: [Text; 10] = [
             request the bus, one for each datum and one to end, and one for each look at a bus \
             that another board holds. A local line takes one.",
         sections: "",
-        mend: "Add `rounds = 100` above the first [[board]], or turns to `schedule`.",
+        help: "Add `rounds = 100` above the first [[board]], or turns to `schedule`.",
         example: Some(Example {
             brief: "no `schedule` and no `rounds`",
             input: Input::File(
@@ -39,7 +39,7 @@ pub(crate) static REPLIES: [Text; 10] = [
         title: "await gave up",
         cause: "The bytes were read `tries` times and never had the value.",
         sections: "",
-        mend: "Raise `tries`, or look for the line that should write them.",
+        help: "Raise `tries`, or look for the line that should write them.",
         example: Some(Example {
             brief: "await 09 00000000 01, tries = 2",
             input: Input::File(
@@ -54,9 +54,9 @@ pub(crate) static REPLIES: [Text; 10] = [
         others: &[],
         title: "lock held",
         cause: "Bit 7 of the lock byte was set in each of `tries` read-modify-writes. `lock`, `put` \
-            and `take` end so.",
+            and `take` can have this reply.",
         sections: "",
-        mend: "Raise `tries`. Check that each `lock` has its `unlock`.",
+        help: "Raise `tries`. Check that each `lock` has its `unlock`.",
         example: Some(Example {
             brief: "lock 09 00000000 twice, tries = 1",
             input: Input::File(
@@ -73,7 +73,7 @@ pub(crate) static REPLIES: [Text; 10] = [
         cause: "`put` found as many words in the mailbox as it has slots, in each of `tries` \
             attempts.",
         sections: "",
-        mend: "Raise `tries` or `slots`. Check that another processor takes.",
+        help: "Raise `tries` or `slots`. Check that another processor takes.",
         example: Some(Example {
             brief: "two puts, slots = 1, tries = 1",
             input: Input::File(
@@ -90,7 +90,7 @@ pub(crate) static REPLIES: [Text; 10] = [
         title: "mailbox empty",
         cause: "`take` found no word in the mailbox, in each of `tries` attempts.",
         sections: "",
-        mend: "Raise `tries`. Check that another processor puts.",
+        help: "Raise `tries`. Check that another processor puts.",
         example: Some(Example {
             brief: "take 1 alone, tries = 1",
             input: Input::File(
@@ -107,7 +107,7 @@ pub(crate) static REPLIES: [Text; 10] = [
         cause: "2^32 - 1 words were put into this mailbox, and it takes no more. The fault `vme: \
             spent` is F6.",
         sections: "",
-        mend: "Declare another mailbox.",
+        help: "Declare another mailbox.",
         example: None,
     },
     Text {
@@ -119,7 +119,7 @@ pub(crate) static REPLIES: [Text; 10] = [
             before it follow. The refused datum changes nothing. On the local port: the bytes \
             lie past the end of the board.",
         sections: "2.3.3 (bus timer)",
-        mend: "Compare code, address and size with the board's `space`, `base`, `size`, `width`, \
+        help: "Compare code, address and size with the board's `space`, `base`, `size`, `width`, \
             `uat`, `blt`, `rmw` and `supervisory`.",
         example: Some(Example {
             brief: "r 39 00000000 1",
@@ -131,10 +131,10 @@ pub(crate) static REPLIES: [Text; 10] = [
         code: "denied",
         others: &[],
         title: "protocol broken",
-        cause: "A reply of the arbiter did not fit the call. It is proved that neither `vme step` \
-            nor `vme run` answers a line so.",
+        cause: "The arbiter's reply did not fit the call. It is proved that no line of `vme step` \
+            or `vme run` has this reply.",
         sections: "",
-        mend: "Report it.",
+        help: "Report it.",
         example: None,
     },
     Text {
@@ -144,7 +144,7 @@ pub(crate) static REPLIES: [Text; 10] = [
         cause: "The master sends no such cycle, or reads no such line. The reply names the K or S \
             number.",
         sections: "",
-        mend: "See that number.",
+        help: "See that number.",
         example: Some(Example {
             brief: "r 40 00000000 1",
             input: Input::Line,

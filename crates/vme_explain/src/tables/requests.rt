@@ -8,7 +8,7 @@ pub(crate) static REQUESTS: [Text; 9] = [
         title: "no address modifier",
         cause: "There are six address modifier lines, AM0 to AM5, so 3f is the highest code.",
         sections: "2.2.2 (address modifier lines)",
-        mend: "Use a code of the table of address modifiers.",
+        help: "Use a code of the table of address modifiers.",
         example: Some(Example {
             brief: "r 40 00000000 1",
             input: Input::Line,
@@ -21,7 +21,7 @@ pub(crate) static REQUESTS: [Text; 9] = [
         title: "user-defined code",
         cause: "The codes 10 to 1f are left to the user. This master sends none of them.",
         sections: "2.2.2 (address modifier lines)",
-        mend: "Use a code of the table of address modifiers.",
+        help: "Use a code of the table of address modifiers.",
         example: Some(Example {
             brief: "r 10 00000000 1",
             input: Input::Line,
@@ -35,7 +35,7 @@ pub(crate) static REQUESTS: [Text; 9] = [
         cause: "The standard reserves this address modifier. It is none of the 14 codes of its \
             table, none of the four codes of eight-byte blocks, and not one of 10 to 1f.",
         sections: "2.2.2 (address modifier lines)",
-        mend: "For data use 09 or 0d (A32), 39 or 3d (A24), 29 or 2d (A16).",
+        help: "For data use 09 or 0d (A32), 39 or 3d (A24), 29 or 2d (A16).",
         example: Some(Example {
             brief: "r 2f 00000000 1",
             input: Input::Line,
@@ -49,7 +49,7 @@ pub(crate) static REQUESTS: [Text; 9] = [
         cause: "`br`, `bw` and `bf` take a block code: 0b, 0f, 3b or 3f, and for data of eight bytes \
             08, 0c, 38 or 3c. Every other request takes a code that is no block code.",
         sections: "2.2.2 (address modifier lines)",
-        mend: "For a block write 0b in place of 09, 0f in place of 0d, 3b in place of 39, 3f in \
+        help: "For a block write 0b in place of 09, 0f in place of 0d, 3b in place of 39, 3f in \
             place of 3d; for any other request the reverse.",
         example: Some(Example {
             brief: "br 0d 00000000 4 1",
@@ -64,7 +64,7 @@ pub(crate) static REQUESTS: [Text; 9] = [
         cause: "A program code can be read and written. A read-modify-write takes a data code or a \
             short code.",
         sections: "",
-        mend: "Write 09 in place of 0a, 0d in place of 0e, 39 in place of 3a, 3d in place of 3e.",
+        help: "Write 09 in place of 0a, 0d in place of 0e, 39 in place of 3a, 3d in place of 3e.",
         example: Some(Example {
             brief: "m 0a 00000000 1 set",
             input: Input::Line,
@@ -79,7 +79,7 @@ pub(crate) static REQUESTS: [Text; 9] = [
             read-modify-write has 1, 2 or 4 bytes, and with a code of eight-byte data 8. A block \
             has 1 to 256 data, and the bytes of `bw` are a multiple of one datum.",
         sections: "2.2.1 (addressing lines), 2.3.7 (block transfer), 2.3.8 (read-modify-write)",
-        mend: "Split the access into several, or use a block.",
+        help: "Split the access into several, or use a block.",
         example: Some(Example {
             brief: "w 0d 00000000 010203040506",
             input: Input::Line,
@@ -93,7 +93,7 @@ pub(crate) static REQUESTS: [Text; 9] = [
         cause: "The first or the last byte lies past the end of the space that the code selects: \
             ffff in A16, ffffff in A24, ffffffff in A32.",
         sections: "2.3.5 (addressing)",
-        mend: "Use a lower address, or a code of a larger space.",
+        help: "Use a lower address, or a code of a larger space.",
         example: Some(Example {
             brief: "r 39 01000000 1",
             input: Input::Line,
@@ -108,7 +108,7 @@ pub(crate) static REQUESTS: [Text; 9] = [
             one byte; two bytes from offset 0, 1 or 2; three from 0 or 1; four from 0. A block \
             and a read-modify-write begin at a multiple of their datum.",
         sections: "2.2.1 (addressing lines)",
-        mend: "Split the access at the multiple of 4, here into `w 0d 00000003 a1` and `w 0d \
+        help: "Split the access at the multiple of 4, here into `w 0d 00000003 a1` and `w 0d \
             00000004 a2`. Other masters can then use the bus between the two.",
         example: Some(Example {
             brief: "w 0d 00000003 a1a2",
@@ -123,7 +123,7 @@ pub(crate) static REQUESTS: [Text; 9] = [
         cause: "A block crosses no multiple of 256, and no multiple of 2,048 if its data have eight \
             bytes: the slave increments the address only within that unit.",
         sections: "2.3.7 (block transfer)",
-        mend: "End the block at the boundary, and begin a second one there.",
+        help: "End the block at the boundary, and begin a second one there.",
         example: Some(Example {
             brief: "br 0b 000000fc 4 2",
             input: Input::Line,

@@ -1,0 +1,26 @@
+//! The exit statuses.
+
+/// How a run of the program ended.
+#[derive(Clone, Copy, Debug, PartialEq, Eq)]
+pub(crate) enum Status {
+    /// The command did what it was asked to, and found no error.
+    Done,
+    /// An input has an error.
+    Errors,
+    /// The words of the command line are wrong.
+    WrongWords,
+    /// An input or a device failed, or an allocation.
+    Fault,
+}
+
+impl Status {
+    /// Returns the exit status.
+    pub(crate) fn code(self) -> u8 {
+        match self {
+            Status::Done => 0,
+            Status::Errors => 1,
+            Status::WrongWords => 2,
+            Status::Fault => 3,
+        }
+    }
+}

@@ -1,0 +1,95 @@
+//! The engine of `bendrika check`: from the bytes of a configuration file to its findings.
+ghost use Rattle.std.specs.Prelude.{◌≡◌, false, IsTrue, IfOk, IfErr, IfSome};
+ghost use Rattle.vme_report.specs.Ends.{IsReportFault, is_write_end};
+ghost use Rattle.vme_findings.specs.Verdicts.{first_refusal};
+ghost use Rattle.vme_check.specs.Answers.{IsAnswer};
+ghost use Rattle.vme_engines.specs.Faults.{IsCyclesFault, ReadsWithin, is_read_failure, is_write_failure};
+
+use crate::form::{Counts, Form};
+use crate::located::Input;
+use crate::print::print_findings;
+use std::alloc::Global;
+use vme_engines::{FILE_LIMIT, ProgramFault, read_input};
+use vme_findings::{Finding, findings_of};
+use vme_io::{Sink, Source};
+use vme_positions::Outline;
+use vme_report::RunFault;
+use vme_script::ConfigFault;
+
+/// How a check of a configuration file ended.
+#[derive(Clone, Copy, Debug, PartialEq, Eq)]
+pub struct CheckEnd {
+    /// How many findings there are.
+    pub counts: Counts,
+    /// The refusal of the file; `None` if it is a configuration.
+    pub refusal: Option<ConfigFault>,
+}
+
+/// Finds the faults and warnings of a configuration file, and prints them as the form says.
+///
+/// The engine first reads the input, to its end or to one byte past `FILE_LIMIT`; it prints nothing
+/// before that. The text of the findings is not stated.
+///
+/// # Errors
+///
+/// `Read` or `Write`: the reader or the writer failed. `TooLong`: the input has more than
+/// `FILE_LIMIT` bytes. `Memory`: an allocation failed.
+pub fn check_engine<R: Source, W: Sink>(
+    alloc: Global,
+    name: &str,
+    form: &Form,
+    reader: &mut R,
+    writer: &mut W,
+) -> Result<CheckEnd, ProgramFault>
+    requires reader_unmarked { R.is_marked reader.old ≡ false }
+    requires writer_unmarked { W.is_marked writer.old ≡ false }
+    ensures answer { IfSome (R.remaining reader.old) (λ input.
+        IfOk result (λ end. IsAnswer input end.refusal)) }
+    ensures quiet { IsTrue form.now.quiet → writer.new ≡ writer.old }
+    ensures read { R.is_marked reader.new ≡ is_read_failure result }
+    ensures limit { ReadsWithin FILE_LIMIT (R.remaining reader.old) (R.remaining reader.new) result }
+    ensures write { W.is_marked writer.new ≡ is_write_failure result }
+    ensures faults { IfErr result IsCyclesFault }
+{
+    let input = read_input(alloc, reader, FILE_LIMIT)?;
+    let end = check_text(alloc, name, form, input.as_slice(), writer)?;
+    Ok(end)
+}
+
+/// Finds the faults and warnings of a text, and prints them.
+#[tactic(auto, using(crate::proofs::Refusals::answered))]
+fn check_text<W: Sink>(
+    alloc: Global,
+    name: &str,
+    form: &Form,
+    text: &[u8],
+    writer: &mut W,
+) -> Result<CheckEnd, RunFault>
+    requires unmarked { W.is_marked writer.old ≡ false }
+    ensures answer { IfOk result (λ end. IsAnswer text.now end.refusal) }
+    ensures quiet { IsTrue form.now.quiet → writer.new ≡ writer.old }
+    ensures write { W.is_marked writer.new ≡ is_write_end result }
+    ensures faults { IfErr result IsReportFault }
+{
+    let findings = findings_of(alloc, text)?;
+    let refusal = refusal_of(findings.as_slice());
+    let outline = Outline::of(alloc, text)?;
+    let input = Input::of_file(text, &outline);
+    let counts = print_findings(
+        alloc,
+        name,
+        input,
+        findings.as_slice(),
+        refusal,
+        form,
+        writer,
+    )?;
+    Ok(CheckEnd { counts, refusal })
+}
+
+/// The refusal of a file whose findings these are.
+fn refusal_of(findings: &[Finding]) -> Option<ConfigFault>
+    ensures { result ≡ first_refusal findings.now }
+{
+    findings.first()?.cause.refusal()
+}

@@ -1,0 +1,61 @@
+//! The engine of `bendrika cycles`: from the bytes of request lines to their findings.
+ghost use Rattle.std.specs.Prelude.{◌≡◌, false, IsTrue, IfErr};
+ghost use Rattle.vme_report.specs.Ends.{IsReportFault, is_write_end};
+ghost use Rattle.vme_engines.specs.Faults.{IsCyclesFault, ReadsWithin, is_read_failure, is_write_failure};
+
+use crate::form::{Counts, Form};
+use crate::located::Input;
+use crate::print::print_findings;
+use crate::requests::findings_of_lines;
+use std::alloc::Global;
+use vme_engines::{INPUT_LIMIT, ProgramFault, read_input};
+use vme_io::{Sink, Source};
+use vme_report::RunFault;
+
+/// Finds the faults and warnings of request lines, and prints them as the form says. No cycle is
+/// made.
+///
+/// The engine first reads the input, to its end or to one byte past `INPUT_LIMIT`; it prints
+/// nothing before that. The text of the findings is not stated.
+///
+/// # Errors
+///
+/// `Read` or `Write`: the reader or the writer failed. `TooLong`: the input has more than
+/// `INPUT_LIMIT` bytes. `Memory`: an allocation failed.
+pub fn request_check_engine<R: Source, W: Sink>(
+    alloc: Global,
+    name: &str,
+    form: &Form,
+    reader: &mut R,
+    writer: &mut W,
+) -> Result<Counts, ProgramFault>
+    requires reader_unmarked { R.is_marked reader.old ≡ false }
+    requires writer_unmarked { W.is_marked writer.old ≡ false }
+    ensures quiet { IsTrue form.now.quiet → writer.new ≡ writer.old }
+    ensures read { R.is_marked reader.new ≡ is_read_failure result }
+    ensures limit { ReadsWithin INPUT_LIMIT (R.remaining reader.old) (R.remaining reader.new) result }
+    ensures write { W.is_marked writer.new ≡ is_write_failure result }
+    ensures faults { IfErr result IsCyclesFault }
+{
+    let input = read_input(alloc, reader, INPUT_LIMIT)?;
+    let counts = check_lines(alloc, name, form, input.as_slice(), writer)?;
+    Ok(counts)
+}
+
+/// Finds the faults and warnings of the request lines of a text, and prints them.
+fn check_lines<W: Sink>(
+    alloc: Global,
+    name: &str,
+    form: &Form,
+    text: &[u8],
+    writer: &mut W,
+) -> Result<Counts, RunFault>
+    requires unmarked { W.is_marked writer.old ≡ false }
+    ensures quiet { IsTrue form.now.quiet → writer.new ≡ writer.old }
+    ensures write { W.is_marked writer.new ≡ is_write_end result }
+    ensures faults { IfErr result IsReportFault }
+{
+    let findings = findings_of_lines(alloc, text)?;
+    let input = Input::of_lines(text);
+    print_findings(alloc, name, input, findings.as_slice(), None, form, writer)
+}
