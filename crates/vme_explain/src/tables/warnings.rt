@@ -42,7 +42,7 @@ pub(crate) static WARNINGS: [Text; 12] = [
         example: None,
     },
     Text {
-        code: "nobody-answers",
+        code: "no-answer",
         others: &[],
         title: "address without a board",
         cause: "No board of the code's space has the address, or the board there is supervisory and \
