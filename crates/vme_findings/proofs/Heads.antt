@@ -4,7 +4,6 @@ use Rattle.vme_grammar.specs.declared.line.Line.{Line}
 use Rattle.vme_grammar.specs.declared.fault.LineFault.{LineFault}
 use Rattle.vme_script.specs.declared.context.ScriptContext.{ScriptContext}
 use Rattle.vme_script.specs.Contexts.{refusal_of, unless_refused, line_within}
-use Rattle.vme_script.proofs.Asked.{refused, empty}
 use Rattle.vme_grammar.specs.Grammar.{line_of}
 use Rattle.vme_script.specs.declared.fault.ScriptRefusal.{ScriptRefusal}
 use Rattle.vme_script.specs.declared.script.ScriptLine.{ScriptLine}
@@ -29,6 +28,16 @@ lines_first rules number [] = refl
 lines_first rules number (line ∷ more) =
     one_first number (line_within rules line) (lines_from rules (number + 1) more) (line_refusals rules (number + 1) more)
     (lines_first rules (number + 1) more)
+
+-- a line that is refused by itself is refused in each context
+refused : (rules : ScriptContext) (text : List ℕ) (fault : LineFault) → line_of text ≡ Err fault → line_within rules text ≡ Err fault
+unfolding line_within
+refused rules text fault read = rw read refl
+
+-- a line that requests nothing by itself requests nothing in each context
+empty : (rules : ScriptContext) (text : List ℕ) → line_of text ≡ Ok None → line_within rules text ≡ Ok None
+unfolding line_within
+empty rules text read = rw read refl
 
 -- a line that is refused by itself has that refusal in each context
 pub fault_refused :
