@@ -1,6 +1,6 @@
 //! Levels, data lanes and the bytes of a datum, as C has them.
 ghost use Rattle.std.specs.Prelude.{◌≡◌, ◌≤◌, length, map};
-ghost use Rattle.vme_ffi.specs.Data.{level_of, lane_of, datum_of};
+ghost use Rattle.vme_ffi.specs.Data.{level_of, lane_of, datum_of, datum_struct};
 
 use vme_lanes::Datum;
 
@@ -103,7 +103,8 @@ pub(crate) fn datum_of(datum: &VmeDatum) -> Datum
 /// The struct of a datum of some bytes, which zeros follow.
 pub(crate) fn datum_from(bytes: &[u8]) -> VmeDatum
     requires { length bytes.now ≤ 8 }
-    ensures { datum_of result ≡ bytes.now }
+    ensures value { datum_of result ≡ bytes.now }
+    ensures exact { result ≡ datum_struct bytes.now }
 {
     let n = bytes.len() as u8;
     // The lengths are literals, so that the compiler copies without a call.
