@@ -25,7 +25,7 @@ result_of Done = ok
 result_of Berr = bus_error
 
 -- what a reply writes to the struct for its bytes: the bytes that were read, none after a write, and nothing after a bus
--- error; `n` is the exact number of bytes
+-- error; `n` is the exact number of bytes, and zeros follow them
 abbrev pub Writes : Reply → VmeDatum → VmeDatum → Type 0
 Writes (Bytes datum) old new = (datum_of new ≡ datum.items) × (new ≡ datum_struct datum.items)
 Writes Done old new = (datum_of new ≡ []) × (new ≡ datum_struct [])

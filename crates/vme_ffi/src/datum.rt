@@ -1,6 +1,6 @@
 //! Levels, data lanes and the bytes of a datum, as C has them.
 ghost use Rattle.std.specs.Prelude.{◌≡◌, ◌≤◌, length, map};
-ghost use Rattle.vme_ffi.specs.Data.{level_of, lane_of, datum_of, datum_struct};
+ghost use Rattle.vme_ffi.specs.Data.{level_of, level_number, lane_of, lane_number, datum_of, datum_struct};
 
 use vme_lanes::Datum;
 
@@ -29,7 +29,8 @@ pub(crate) fn level_of(number: u8) -> bool
 
 /// The number of a level: 1 is high, 0 is low.
 pub(crate) fn level_number(level: bool) -> u8
-    ensures { level_of result ≡ level }
+    ensures level { level_of result ≡ level }
+    ensures exact { result ≡ level_number level }
 {
     if level { 1 } else { 0 }
 }
@@ -47,7 +48,8 @@ fn lane_of(number: u16) -> Option<u8>
 
 /// The number of what a lane carries.
 fn lane_number(lane: Option<u8>) -> u16
-    ensures { lane_of result ≡ lane }
+    ensures lane { lane_of result ≡ lane }
+    ensures exact { result ≡ lane_number lane }
 {
     match lane {
         Some(byte) => u16::from(byte),
@@ -68,7 +70,8 @@ pub(crate) fn lanes_of<const N: usize>(numbers: &[u16; N]) -> [Option<u8>; N]
 
 /// The numbers of what each lane carries.
 pub(crate) fn lane_numbers<const N: usize>(lanes: &[Option<u8>; N]) -> [u16; N]
-    ensures { map lane_of result ≡ lanes.now }
+    ensures lanes { map lane_of result ≡ lanes.now }
+    ensures exact { result ≡ map lane_number lanes.now }
 {
     let mut numbers = [IDLE; N];
     for (i, lane) in lanes.iter().enumerate() {
