@@ -16,7 +16,7 @@ const MOST_BYTES: usize = 8;
 pub struct VmeDatum {
     /// The number of bytes, 0 to 8. A greater number counts as 8.
     pub n: u8,
-    /// The bytes. Those after the first `n` are ignored.
+    /// The bytes. Those after the first `n` are ignored, and written as 0.
     pub bytes: [u8; 8],
 }
 
