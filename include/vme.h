@@ -17,7 +17,7 @@
  *           first. Sizes, lengths and offsets are in bytes.
  * Bytes.    The byte at the lowest address is the most significant one of a datum.
  * Results.  A result is VME_OK or the reason of a failure, except for the replies of the arbiter. A
- *           call that fails has written nothing.
+ *           call that fails, or that the arbiter denies, has written nothing.
  * Sections. The numbers in the titles below are the sections of the standard.
  */
 #ifndef VME_H
@@ -69,7 +69,7 @@ enum {
 /* ---- Data ---- */
 
 /* The bytes of one datum in order of address: the first n of bytes. n above 8 counts as 8; the library
- * writes at most 8. */
+ * writes the number of bytes, and zeros after them. */
 typedef struct vme_datum {
     uint8_t n;
     uint8_t bytes[8];
@@ -281,7 +281,7 @@ typedef struct vme_arbiter {
     uint8_t kind;        /* VME_PRIORITY or VME_ROTATING */
     uint8_t first;       /* the level at which the next grant begins, 0 to 3 */
     uint8_t held;        /* whether a slot holds the bus */
-    uint16_t holder;     /* the slot that holds the bus, if one does */
+    uint16_t holder;     /* the slot that holds the bus; 0 if none does */
     uint16_t levels[22]; /* by slot, 1 to 21: the level of its pending request, 0 to 3, or VME_IDLE */
 } vme_arbiter;
 

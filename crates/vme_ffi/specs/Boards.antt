@@ -7,7 +7,7 @@ use Rattle.vme_memory.specs.declared.reply.Reply.{Reply}
 use Rattle.vme_memory.specs.declared.reply.Reply.TheVariants.{Bytes, Done, Berr}
 use Rattle.vme_ffi.specs.declared.slave.VmeClass.{VmeClass}
 use Rattle.vme_ffi.specs.declared.datum.VmeDatum.{VmeDatum}
-use Rattle.vme_ffi.specs.Data.{level_of, datum_of}
+use Rattle.vme_ffi.specs.Data.{level_of, datum_of, datum_struct}
 use Rattle.vme_ffi.specs.Results.{ok, bus_error}
 
 -- the data width that a number selects: 8, 16 or 32, or the next one below
@@ -25,8 +25,8 @@ result_of Done = ok
 result_of Berr = bus_error
 
 -- what a reply writes to the struct for its bytes: the bytes that were read, none after a write, and nothing after a bus
--- error
+-- error; `n` is the exact number of bytes, and zeros follow them
 abbrev pub Writes : Reply → VmeDatum → VmeDatum → Type 0
-Writes (Bytes datum) old new = datum_of new ≡ datum.items
-Writes Done old new = datum_of new ≡ []
+Writes (Bytes datum) old new = (datum_of new ≡ datum.items) × (new ≡ datum_struct datum.items)
+Writes Done old new = (datum_of new ≡ []) × (new ≡ datum_struct [])
 Writes Berr old new = new ≡ old

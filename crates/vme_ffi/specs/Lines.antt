@@ -7,8 +7,8 @@ use Rattle.vme_am.specs.Spaces.{addresses_of}
 use Rattle.vme_lanes.specs.Rows.{location_sensed}
 use Rattle.vme_cycle.specs.SignalLines.{SignalLines, row_len}
 use Rattle.vme_ffi.specs.declared.lines.VmeLines.{VmeLines}
-use Rattle.vme_ffi.specs.Data.{level_of, lane_of}
-use Rattle.vme_ffi.specs.Tables.{strobes_of}
+use Rattle.vme_ffi.specs.Data.{level_of, level_number, lane_of, lane_number}
+use Rattle.vme_ffi.specs.Tables.{strobes_of, strobes_struct}
 
 -- the lines of a cycle with the row of its code
 abbrev pub lines_of : VmeLines → CodeRow → SignalLines
@@ -45,3 +45,13 @@ Shows v s =
     (v.am ≡ s.am.code)
     × ((v.addr ≡ s.addr)
     × ((strobes_of v.strobes ≡ s.strobes) × ((level_of v.write ≡ s.write) × (map lane_of v.lanes ≡ s.lanes))))
+
+-- the struct that the library writes for the lines of a cycle: each level is 0 or 1, and each idle lane is 0xffff
+abbrev pub lines_struct : SignalLines → VmeLines
+lines_struct s = record {
+  addr = s.addr;
+  am = s.am.code;
+  write = level_number s.write;
+  strobes = strobes_struct s.strobes;
+  lanes = map lane_number s.lanes;
+}

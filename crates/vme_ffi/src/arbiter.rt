@@ -2,7 +2,7 @@
 ghost use Rattle.std.specs.Prelude.{◌≡◌, Some, None, IfSome, IfNone};
 ghost use Rattle.vme_arbiter.specs.declared.command.ArbCmd.TheVariants.{Ask, Look, Done};
 ghost use Rattle.vme_arbiter.specs.Arbitration.{opening_bus, arbiter_step};
-ghost use Rattle.vme_ffi.specs.Arbiters.{kind_of, bus_of, reply_number};
+ghost use Rattle.vme_ffi.specs.Arbiters.{kind_of, kind_number, bus_of, reply_number, Exact, WritesState};
 ghost use Rattle.vme_ffi.specs.Results.{bad_state};
 
 use crate::datum::{lane_numbers, lanes_of, level_of};
@@ -39,7 +39,8 @@ fn kind_of(kind: u8) -> ArbiterKind
 
 /// The number of a kind of arbiter.
 fn kind_number(kind: ArbiterKind) -> u8
-    ensures { kind_of result ≡ kind }
+    ensures kind { kind_of result ≡ kind }
+    ensures exact { result ≡ kind_number kind }
 {
     match kind {
         ArbiterKind::Priority => 0,
@@ -77,7 +78,8 @@ fn arbiter_of(state: &VmeArbiter) -> Option<Arbiter>
 
 /// The state of an arbiter.
 fn state_from(arbiter: &Arbiter) -> VmeArbiter
-    ensures { bus_of result ≡ Some arbiter.now }
+    ensures bus { bus_of result ≡ Some arbiter.now }
+    ensures exact { Exact result }
 {
     let state = arbiter.state();
     let (held, holder) = match state.holder {
@@ -94,16 +96,20 @@ fn state_from(arbiter: &Arbiter) -> VmeArbiter
 }
 
 /// Applies a command to a state. Returns the number of the reply, or `BAD_STATE`.
+/// A command that is denied leaves the state as it was.
 fn apply(state: &mut VmeArbiter, cmd: ArbCmd) -> u8
     ensures step { IfSome (bus_of state.old) (λ bus. (result ≡ reply_number (arbiter_step bus cmd).1)
         × (bus_of state.new ≡ Some (arbiter_step bus cmd).0)) }
+    ensures written { IfSome (bus_of state.old) (λ bus. WritesState (arbiter_step bus cmd).1 state.old state.new) }
     ensures no_state { IfNone (bus_of state.old) ((result ≡ bad_state) × (state.new ≡ state.old)) }
 {
     let Some(mut arbiter) = arbiter_of(state) else {
         return BAD_STATE;
     };
     let reply = arbiter.apply(&cmd);
-    *state = state_from(&arbiter);
+    if !matches!(reply, ArbReply::Denied) {
+        *state = state_from(&arbiter);
+    }
     reply_number(reply)
 }
 
@@ -111,7 +117,8 @@ fn apply(state: &mut VmeArbiter, cmd: ArbCmd) -> u8
 /// 3.3 (arbiter and requesters).
 #[unsafe(no_mangle)]
 pub extern "C" fn vme_arbiter_open(kind: u8, out: &mut VmeArbiter)
-    ensures { bus_of out.new ≡ Some (opening_bus (kind_of kind)) }
+    ensures bus { bus_of out.new ≡ Some (opening_bus (kind_of kind)) }
+    ensures exact { Exact out.new }
 {
     *out = state_from(&Arbiter::of(kind_of(kind)));
 }
@@ -123,6 +130,8 @@ pub extern "C" fn vme_arbiter_open(kind: u8, out: &mut VmeArbiter)
 pub extern "C" fn vme_arbiter_ask(arbiter: &mut VmeArbiter, slot: u16, level: u8) -> u8
     ensures step { IfSome (bus_of arbiter.old) (λ bus. (result ≡ reply_number (arbiter_step bus (Ask slot level)).1)
         × (bus_of arbiter.new ≡ Some (arbiter_step bus (Ask slot level)).0)) }
+    ensures written { IfSome (bus_of arbiter.old) (λ bus.
+        WritesState (arbiter_step bus (Ask slot level)).1 arbiter.old arbiter.new) }
     ensures no_state { IfNone (bus_of arbiter.old) ((result ≡ bad_state) × (arbiter.new ≡ arbiter.old)) }
 {
     apply(arbiter, ArbCmd::Ask { slot, level })
@@ -134,6 +143,8 @@ pub extern "C" fn vme_arbiter_ask(arbiter: &mut VmeArbiter, slot: u16, level: u8
 pub extern "C" fn vme_arbiter_look(arbiter: &mut VmeArbiter, slot: u16) -> u8
     ensures step { IfSome (bus_of arbiter.old) (λ bus. (result ≡ reply_number (arbiter_step bus (Look slot)).1)
         × (bus_of arbiter.new ≡ Some (arbiter_step bus (Look slot)).0)) }
+    ensures written { IfSome (bus_of arbiter.old) (λ bus.
+        WritesState (arbiter_step bus (Look slot)).1 arbiter.old arbiter.new) }
     ensures no_state { IfNone (bus_of arbiter.old) ((result ≡ bad_state) × (arbiter.new ≡ arbiter.old)) }
 {
     apply(arbiter, ArbCmd::Look { slot })
@@ -146,6 +157,8 @@ pub extern "C" fn vme_arbiter_look(arbiter: &mut VmeArbiter, slot: u16) -> u8
 pub extern "C" fn vme_arbiter_done(arbiter: &mut VmeArbiter, slot: u16) -> u8
     ensures step { IfSome (bus_of arbiter.old) (λ bus. (result ≡ reply_number (arbiter_step bus (Done slot)).1)
         × (bus_of arbiter.new ≡ Some (arbiter_step bus (Done slot)).0)) }
+    ensures written { IfSome (bus_of arbiter.old) (λ bus.
+        WritesState (arbiter_step bus (Done slot)).1 arbiter.old arbiter.new) }
     ensures no_state { IfNone (bus_of arbiter.old) ((result ≡ bad_state) × (arbiter.new ≡ arbiter.old)) }
 {
     apply(arbiter, ArbCmd::Done { slot })

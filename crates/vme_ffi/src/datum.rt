@@ -1,6 +1,6 @@
 //! Levels, data lanes and the bytes of a datum, as C has them.
 ghost use Rattle.std.specs.Prelude.{◌≡◌, ◌≤◌, length, map};
-ghost use Rattle.vme_ffi.specs.Data.{level_of, lane_of, datum_of};
+ghost use Rattle.vme_ffi.specs.Data.{level_of, level_number, lane_of, lane_number, datum_of, datum_struct};
 
 use vme_lanes::Datum;
 
@@ -16,7 +16,7 @@ const MOST_BYTES: usize = 8;
 pub struct VmeDatum {
     /// The number of bytes, 0 to 8. A greater number counts as 8.
     pub n: u8,
-    /// The bytes. Those after the first `n` are ignored.
+    /// The bytes. Those after the first `n` are ignored, and written as 0.
     pub bytes: [u8; 8],
 }
 
@@ -29,7 +29,8 @@ pub(crate) fn level_of(number: u8) -> bool
 
 /// The number of a level: 1 is high, 0 is low.
 pub(crate) fn level_number(level: bool) -> u8
-    ensures { level_of result ≡ level }
+    ensures level { level_of result ≡ level }
+    ensures exact { result ≡ level_number level }
 {
     if level { 1 } else { 0 }
 }
@@ -47,7 +48,8 @@ fn lane_of(number: u16) -> Option<u8>
 
 /// The number of what a lane carries.
 fn lane_number(lane: Option<u8>) -> u16
-    ensures { lane_of result ≡ lane }
+    ensures lane { lane_of result ≡ lane }
+    ensures exact { result ≡ lane_number lane }
 {
     match lane {
         Some(byte) => u16::from(byte),
@@ -68,7 +70,8 @@ pub(crate) fn lanes_of<const N: usize>(numbers: &[u16; N]) -> [Option<u8>; N]
 
 /// The numbers of what each lane carries.
 pub(crate) fn lane_numbers<const N: usize>(lanes: &[Option<u8>; N]) -> [u16; N]
-    ensures { map lane_of result ≡ lanes.now }
+    ensures lanes { map lane_of result ≡ lanes.now }
+    ensures exact { result ≡ map lane_number lanes.now }
 {
     let mut numbers = [IDLE; N];
     for (i, lane) in lanes.iter().enumerate() {
@@ -103,7 +106,8 @@ pub(crate) fn datum_of(datum: &VmeDatum) -> Datum
 /// The struct of a datum of some bytes, which zeros follow.
 pub(crate) fn datum_from(bytes: &[u8]) -> VmeDatum
     requires { length bytes.now ≤ 8 }
-    ensures { datum_of result ≡ bytes.now }
+    ensures value { datum_of result ≡ bytes.now }
+    ensures exact { result ≡ datum_struct bytes.now }
 {
     let n = bytes.len() as u8;
     // The lengths are literals, so that the compiler copies without a call.

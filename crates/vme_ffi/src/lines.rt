@@ -3,7 +3,7 @@ ghost use Rattle.std.specs.Prelude.{◌≡◌, ◌%◌, ◌<◌, ◌≤◌, leng
 ghost use Rattle.vme_am.specs.Spaces.{addresses_of};
 ghost use Rattle.vme_cycle.specs.SignalLines.{answered_lines};
 ghost use Rattle.vme_ffi.specs.Data.{datum_of};
-ghost use Rattle.vme_ffi.specs.Lines.{sensed, cycle_shown, selects, Shows};
+ghost use Rattle.vme_ffi.specs.Lines.{sensed, cycle_shown, selects, lines_struct, Shows};
 ghost use Rattle.vme_ffi.specs.Results.{ok, bad_lines, bad_call};
 
 use crate::datum::{VmeDatum, datum_of, lane_numbers, lanes_of, level_number, level_of};
@@ -58,7 +58,8 @@ fn sensed(lines: &VmeLines, am: Am) -> Option<Signals>
 
 /// The struct that shows some signals.
 pub(crate) fn lines_from(signals: &Signals) -> VmeLines
-    ensures { Shows result signals.now }
+    ensures shows { Shows result signals.now }
+    ensures exact { result ≡ lines_struct signals.now }
 {
     VmeLines {
         addr: signals.addr(),
@@ -89,6 +90,8 @@ fn selects(signals: &Signals, bytes: &[u8]) -> bool
 pub extern "C" fn vme_lines_answer(lines: &mut VmeLines, datum: &VmeDatum) -> u8
     ensures answered { IfSome (cycle_shown lines.old) (λ s. IsTrue (selects s (datum_of datum.now)) →
         (result ≡ ok) × Shows lines.new (answered_lines s (datum_of datum.now))) }
+    ensures exact { IfSome (cycle_shown lines.old) (λ s. IsTrue (selects s (datum_of datum.now)) →
+        lines.new ≡ lines_struct (answered_lines s (datum_of datum.now))) }
     ensures other_len { IfSome (cycle_shown lines.old) (λ s. IsFalse (selects s (datum_of datum.now)) →
         (result ≡ bad_call) × (lines.new ≡ lines.old)) }
     ensures no_cycle { IfNone (cycle_shown lines.old) ((result ≡ bad_lines) × (lines.new ≡ lines.old)) }

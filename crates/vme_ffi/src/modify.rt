@@ -2,7 +2,7 @@
 ghost use Rattle.std.specs.Prelude.{◌≡◌, length, IsTrue, IsFalse};
 ghost use Rattle.vme_cycle.specs.declared.fault.CycleFault.TheVariants.{BadCount};
 ghost use Rattle.vme_cycle.specs.Functions.{value, has_len};
-ghost use Rattle.vme_ffi.specs.Data.{datum_of};
+ghost use Rattle.vme_ffi.specs.Data.{datum_of, datum_struct};
 ghost use Rattle.vme_ffi.specs.Requests.{modify_of, function_of};
 ghost use Rattle.vme_ffi.specs.Results.{ok, refusal_number};
 
@@ -55,6 +55,8 @@ pub(crate) fn function_of(f: &VmeModify) -> Option<Modify>
 pub extern "C" fn vme_modify_value(f: &VmeModify, old: &VmeDatum, out: &mut VmeDatum) -> u8
     ensures value { IsTrue (has_len (modify_of f.now) (length (datum_of old.now))) →
         (result ≡ ok) × (datum_of out.new ≡ value (modify_of f.now) (datum_of old.now)) }
+    ensures exact { IsTrue (has_len (modify_of f.now) (length (datum_of old.now))) →
+        out.new ≡ datum_struct (value (modify_of f.now) (datum_of old.now)) }
     ensures other_len { IsFalse (has_len (modify_of f.now) (length (datum_of old.now))) →
         (result ≡ refusal_number BadCount) × (out.new ≡ out.old) }
 {

@@ -5,7 +5,7 @@ ghost use Rattle.vme_cycle.specs.Plans.{signals_of, write_half_of};
 ghost use Rattle.vme_cycle.specs.Requests.{count_of};
 ghost use Rattle.vme_ffi.specs.Data.{datum_of};
 ghost use Rattle.vme_ffi.specs.Requests.{request_of, is_modified};
-ghost use Rattle.vme_ffi.specs.Lines.{Shows};
+ghost use Rattle.vme_ffi.specs.Lines.{lines_struct, Shows};
 ghost use Rattle.vme_ffi.specs.Results.{ok, bad_call, refusal_number, request_result};
 
 use crate::datum::{VmeDatum, datum_of};
@@ -96,6 +96,8 @@ pub extern "C" fn vme_request_check(request: &VmeRequest, datum: &VmeDatum) -> u
 fn write_lines(request: &Request, i: u16, out: &mut VmeLines) -> u8
     ensures lines { IfOk (transfer_of request.now) (λ t.
         i < count_of t.request → (result ≡ ok) × Shows out.new (signals_of t i)) }
+    ensures exact { IfOk (transfer_of request.now) (λ t.
+        i < count_of t.request → out.new ≡ lines_struct (signals_of t i)) }
     ensures past { IfOk (transfer_of request.now) (λ t.
         count_of t.request ≤ i → (result ≡ bad_call) × (out.new ≡ out.old)) }
     ensures refused { IfErr (transfer_of request.now) (λ fault.
@@ -124,6 +126,8 @@ pub extern "C" fn vme_request_lines(
 ) -> u8
     ensures lines { IfOk (transfer_of (request_of request.now (datum_of datum.now))) (λ t.
         i < count_of t.request → (result ≡ ok) × Shows out.new (signals_of t i)) }
+    ensures exact { IfOk (transfer_of (request_of request.now (datum_of datum.now))) (λ t.
+        i < count_of t.request → out.new ≡ lines_struct (signals_of t i)) }
     ensures past { IfOk (transfer_of (request_of request.now (datum_of datum.now))) (λ t.
         count_of t.request ≤ i → (result ≡ bad_call) × (out.new ≡ out.old)) }
     ensures refused { IfErr (transfer_of (request_of request.now (datum_of datum.now))) (λ fault.
@@ -140,6 +144,8 @@ pub extern "C" fn vme_request_lines(
 fn write_half(request: &Request, bytes: &Datum, out: &mut VmeLines) -> u8
     ensures lines { IfOk (transfer_of request.now) (λ t. IsTrue (is_modified t.request bytes.now.items) →
         (result ≡ ok) × Shows out.new (write_half_of t bytes.now.items)) }
+    ensures exact { IfOk (transfer_of request.now) (λ t. IsTrue (is_modified t.request bytes.now.items) →
+        out.new ≡ lines_struct (write_half_of t bytes.now.items)) }
     ensures other { IfOk (transfer_of request.now) (λ t. IsFalse (is_modified t.request bytes.now.items) →
         (result ≡ bad_call) × (out.new ≡ out.old)) }
     ensures refused { IfErr (transfer_of request.now) (λ fault.
@@ -168,6 +174,9 @@ pub extern "C" fn vme_request_write_half(
     ensures lines { IfOk (transfer_of (request_of request.now (datum_of datum.now))) (λ t.
         IsTrue (is_modified t.request (datum_of datum.now)) →
         (result ≡ ok) × Shows out.new (write_half_of t (datum_of datum.now))) }
+    ensures exact { IfOk (transfer_of (request_of request.now (datum_of datum.now))) (λ t.
+        IsTrue (is_modified t.request (datum_of datum.now)) →
+        out.new ≡ lines_struct (write_half_of t (datum_of datum.now))) }
     ensures other { IfOk (transfer_of (request_of request.now (datum_of datum.now))) (λ t.
         IsFalse (is_modified t.request (datum_of datum.now)) →
         (result ≡ bad_call) × (out.new ≡ out.old)) }

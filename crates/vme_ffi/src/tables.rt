@@ -3,7 +3,7 @@ ghost use Rattle.std.specs.Prelude.{◌≡◌, IfSome, IfNone, IfOk, IfErr};
 ghost use Rattle.vme_am.specs.Codes.{read_code};
 ghost use Rattle.vme_lanes.specs.Rows.{row_of, location_at, location_sensed};
 ghost use Rattle.vme_ffi.specs.Data.{level_of};
-ghost use Rattle.vme_ffi.specs.Tables.{space_number, kind_number, strobes_of};
+ghost use Rattle.vme_ffi.specs.Tables.{space_number, kind_number, strobes_of, strobes_struct, am_struct};
 ghost use Rattle.vme_ffi.specs.Results.{ok, bad_lines, code_refusal_number, refusal_number};
 ghost use Rattle.vme_cycle.specs.declared.fault.CycleFault.TheVariants.{NoCycle};
 
@@ -88,7 +88,8 @@ pub(crate) fn strobes_of(strobes: &VmeStrobes) -> Strobes
 
 /// The struct of the levels of the strobes.
 pub(crate) fn strobes_from(strobes: Strobes) -> VmeStrobes
-    ensures { strobes_of result ≡ strobes }
+    ensures strobes { strobes_of result ≡ strobes }
+    ensures exact { result ≡ strobes_struct strobes }
 {
     VmeStrobes {
         ds1: level_number(strobes.ds1),
@@ -105,6 +106,7 @@ pub extern "C" fn vme_am_read(code: u8, out: &mut VmeAm) -> u8
     ensures row { IfOk (read_code code) (λ row. (result ≡ ok)
         × (out.new.space ≡ space_number row.space) × (out.new.kind ≡ kind_number row.kind)
         × (level_of out.new.supervisory ≡ row.supervisory) × (level_of out.new.wide ≡ row.wide)) }
+    ensures exact { IfOk (read_code code) (λ row. out.new ≡ am_struct row) }
     ensures refused { IfErr (read_code code) (λ fault. (result ≡ code_refusal_number fault) × (out.new ≡ out.old)) }
 {
     match Am::from_code(code) {
@@ -126,6 +128,7 @@ pub extern "C" fn vme_am_read(code: u8, out: &mut VmeAm) -> u8
 #[unsafe(no_mangle)]
 pub extern "C" fn vme_strobes_drive(addr: u32, n: u8, out: &mut VmeStrobes) -> u8
     ensures found { IfSome (location_at addr n) (λ l. (result ≡ ok) × (strobes_of out.new ≡ (row_of l).strobes)) }
+    ensures exact { IfSome (location_at addr n) (λ l. out.new ≡ strobes_struct (row_of l).strobes) }
     ensures none { IfNone (location_at addr n) ((result ≡ refusal_number NoCycle) × (out.new ≡ out.old)) }
 {
     let Some(location) = Location::of(addr, n) else {
