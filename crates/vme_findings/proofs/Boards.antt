@@ -16,7 +16,7 @@ use Rattle.vme_decode.specs.Entries.{end_of}
 use Rattle.vme_memory.specs.declared.class.Class.{Class}
 use Rattle.vme_findings.specs.Boards.{board_refusals, refusal_in}
 
--- the last refusals, where the words are those of a board
+-- the refusals of size, base and range, if the space and the width are lawful
 last_first :
     {A : Type 0} (size_good base_good outside : Bool) (x : A)
     → refusal_in ((refuse (not size_good) BadSize >>= (λ d. refuse (not base_good) Misaligned >>= (λ f.

@@ -40,6 +40,7 @@ fault_refused rules text fault read = rw (refused rules text fault read) refl
 pub fault_empty : (rules : ScriptContext) (text : List ℕ) → line_of text ≡ Ok None → fault_of (line_within rules text) ≡ None
 fault_empty rules text read = rw (empty rules text read) refl
 
+-- a line that is kept unless it has a refusal has that refusal
 unless_faulted : (refusal : Option LineFault) (line : Line) → fault_of (unless_refused refusal line) ≡ refusal
 unless_faulted None line = refl
 unless_faulted (Some fault) line = refl

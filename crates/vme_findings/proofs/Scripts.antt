@@ -11,11 +11,11 @@ use Rattle.vme_findings.specs.declared.script.FaultyLine.{FaultyLine}
 use Rattle.vme_findings.specs.Causes.{line_fault, script_refusal}
 use Rattle.vme_findings.specs.Lines.{fault_of, refusal_at, line_refusals, refusal_for}
 
--- the first of some lines and the others
+-- some first elements of a list: its head, and one fewer of its tail
 take_first : {X : Type 0} (left : ℕ) (line : X) (rest : List X) → 0 < left → take left (line ∷ rest) ≡ line ∷ take (left - 1) rest
 take_first left line rest some = grind arith
 
--- a cause that was found is that of a refusal
+-- if the cause that was found stands for the refusal of a line, its refusal is the only one at that line
 found_there :
     (number : ℕ) (cause fault : Option LineFault) → Some cause ≡ option_map Some fault
     → script_refusal number cause ∷ [] ≡ refusal_at number fault
@@ -34,7 +34,7 @@ line_next rules number left line rest text before all is some sofar =
     let own = refusal_at number (fault_of (line_within rules line)) in
     rw (append_assoc before own (line_refusals rules (number + 1) (take (left - 1) rest))) whole
 
--- a faulty line is found
+-- after a faulty line is found, the refusals found and those of the lines that are left are all
 pub line_found :
     (rules : ScriptContext) (number left : ℕ) (line : List ℕ) (rest text : List (List ℕ)) (found after : List FaultyLine)
     (faulty : FaultyLine)
@@ -49,12 +49,12 @@ line_found rules number left line rest text found after faulty all pushed number
     rw (pushed, map-append refusal_for found (faulty ∷ []), there)
     (line_next rules number left line rest text (map refusal_for found) all is some sofar)
 
--- no fault
+-- a line without a finding has no fault
 no_fault : (fault : Option LineFault) → None ≡ option_map Some fault → fault ≡ None
 no_fault None is = refl
 no_fault (Some x) is = grind arith
 
--- a line without a fault is passed over
+-- after a line without a fault, the refusals found and those of the lines that are left are all
 pub line_passed :
     (rules : ScriptContext) (number left : ℕ) (line : List ℕ) (rest text : List (List ℕ)) (before all : List ScriptRefusal)
     → None ≡ option_map Some (fault_of (line_within rules line)) → text ≡ line ∷ rest → 0 < left

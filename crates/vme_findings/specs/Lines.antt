@@ -29,7 +29,7 @@ line_refusals rules number (line ∷ more) =
 abbrev pub refusal_for : FaultyLine → ScriptRefusal
 refusal_for faulty = script_refusal faulty.number (line_fault faulty.cause)
 
--- a result goes with a list of refusals: a success has none, and a refusal is the first of them
+-- a result agrees with a list of refusals: a success has no refusals, and a refusal is the first of them
 abbrev pub IsFirstOf : {A F : Type 0} → Result A F → List F → Type 0
 IsFirstOf (Ok x) refusals = refusals ≡ []
 IsFirstOf {F = F} (Err refusal) refusals = (more : List F) × (refusals ≡ refusal ∷ more)

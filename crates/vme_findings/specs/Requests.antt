@@ -9,7 +9,7 @@ use Rattle.vme_findings.specs.declared.request_line.RequestRefusal.{RequestRefus
 use Rattle.vme_findings.specs.declared.request_line.RequestRefusal.TheVariants.{Line, Cycle}
 use Rattle.vme_findings.specs.Causes.{line_fault, cycle_fault}
 
--- the refusal of a request line by its cause; a warning has none
+-- the refusal of a request line by its cause; a warning, and a fault of a file, have none
 abbrev pub refusal_by : Cause → Option RequestRefusal
 refusal_by (causes.RequestLine cause) = option_map Line (line_fault cause)
 refusal_by (causes.RequestCycle cause) = Some (Cycle (cycle_fault cause))

@@ -17,7 +17,7 @@ abbrev pub first_refusal : List Finding → Option ConfigFault
 first_refusal [] = None
 first_refusal (finding ∷ more) = refusal_of finding.cause
 
--- whether a finding is a warning
+-- whether a finding of a file is a warning: it stands for no refusal of the file
 abbrev pub is_warning : Finding → Bool
 is_warning finding = is_none (refusal_of finding.cause)
 

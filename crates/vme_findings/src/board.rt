@@ -5,7 +5,14 @@ ghost use Rattle.std.specs.Option.{option_map};
 ghost use Rattle.vme_cycle.specs.Refusals.{where_true};
 ghost use Rattle.vme_memory.specs.Boards.{is_board_size};
 ghost use Rattle.vme_script.specs.Boards.{space_named, width_of};
-ghost use Rattle.vme_script.specs.declared.fault.ConfigFault.TheVariants.{BadSlot, BadLevel, BadWord, BadSize, Misaligned, OutsideSpace};
+ghost use Rattle.vme_script.specs.declared.fault.ConfigFault.TheVariants.{
+  BadLevel,
+  BadSize,
+  BadSlot,
+  BadWord,
+  Misaligned,
+  OutsideSpace,
+};
 ghost use Rattle.vme_findings.specs.Boards.{ends_outside};
 ghost use Rattle.vme_findings.specs.Causes.{board_refusal};
 
@@ -19,11 +26,11 @@ pub(crate) const LAST_SLOT: u32 = 21;
 /// The greatest request level.
 const LAST_LEVEL: u32 = 3;
 
-/// The greatest size of a board.
+/// The greatest number of bytes of a board.
 const MOST_BYTES: u32 = 1_048_576;
 
-/// The fault of a slot that follows the slot `before`, which the board with index `other` has.
-/// `same` is the index of an earlier board with the same slot.
+/// The fault of a slot. `before` is the last earlier slot from 1 to 21, of the board with index
+/// `other`, or 0 if there is none. `same` is the index of an earlier board with the same slot.
 pub(crate) fn slot_fault(
     before: u32,
     other: usize,
@@ -72,7 +79,7 @@ pub(crate) fn space_named(word: &str) -> Option<Space>
     }
 }
 
-/// The fault of a number of data lines.
+/// The fault of a board's number of data lines.
 #[tactic(auto, unfolding(vme_script::specs::Boards::width_of))]
 pub(crate) fn width_fault(width: u32) -> Option<BoardCause>
     ensures { option_map board_refusal result ≡ where_true (is_none (width_of width)) BadWord }
@@ -94,7 +101,7 @@ pub(crate) fn unaligned_fault(uat: bool, width: u32) -> Option<BoardCause>
     None
 }
 
-/// The fault of a size.
+/// The fault of a board's number of bytes.
 pub(crate) fn size_fault(size: u32) -> Option<BoardCause>
     ensures { option_map board_refusal result ≡ where_true (not (is_board_size size)) BadSize }
 {
@@ -107,7 +114,7 @@ pub(crate) fn size_fault(size: u32) -> Option<BoardCause>
     Some(BoardCause::SizeNotAligned { size })
 }
 
-/// The fault of a base.
+/// The fault of a board's first address.
 pub(crate) fn base_fault(base: u32) -> Option<BoardCause>
     ensures { option_map board_refusal result ≡ where_true (not (base % 4 == 0)) Misaligned }
 {
@@ -117,7 +124,7 @@ pub(crate) fn base_fault(base: u32) -> Option<BoardCause>
     None
 }
 
-/// The fault of a range, if its size and its base have none.
+/// The fault of a range that ends outside its space, if its size and its base have no fault.
 pub(crate) fn end_fault(space: Space, base: u32, size: u32) -> Option<BoardCause>
     ensures { option_map board_refusal result ≡
         where_true (ends_outside base size space) OutsideSpace }

@@ -20,7 +20,7 @@ use vme_positions::Place;
 use vme_script::{ConfigFault, ScriptRefusal};
 pub use warning::{FileWarning, Lack, LineWarning};
 
-/// How grave a finding is.
+/// Whether a finding is an error or a warning.
 #[derive(Clone, Copy, Debug, PartialEq, Eq)]
 pub enum Severity {
     /// The file or the request line is refused.
@@ -40,14 +40,15 @@ pub enum Cause {
     Schedule(ScheduleCause),
     /// A fault of a mailbox: C13.
     Mailbox(MailboxCause),
-    /// A fault of a script's line: C14. `slot` is that of the script's board, or `None` if the
-    /// file has no lawful slot for it; `line` is from 1.
+    /// A fault of a script's line: C14. `slot` is that of the script's board, or `None` if that
+    /// slot is absent or refused. `line` is the number of the line, from 1.
     Script {
         slot: Option<u16>,
         line: u16,
         cause: LineCause,
     },
-    /// The refusal of the file without its values: no other finding has this refusal.
+    /// The refusal of the file, without values and without a place, if no fault that was found has
+    /// this refusal.
     Refused(ConfigFault),
     /// A warning of a file's turns, mailboxes or numbers.
     File(FileWarning),
@@ -61,7 +62,7 @@ pub enum Cause {
     RequestLine(LineCause),
     /// A request line whose request is refused: K1 to K9.
     RequestCycle(CycleCause),
-    /// A request line whose address does not select the board of `vme cycles`.
+    /// A request line whose code or address does not select the board of `vme cycles`: a warning.
     RequestBoard,
 }
 
@@ -81,8 +82,9 @@ impl Cause {
         }
     }
 
-    /// Returns the number of the refusal, without `C14` and its slot and line, or the name of the
-    /// warning.
+    /// Returns the number of the refusal, as `C7`, or the name of the warning, as `no-turns`. A
+    /// script's line has the number of the line's refusal, as `S4`. A line whose request is always
+    /// refused is a warning with the number of that refusal, as `K8`.
     pub fn code(self) -> &'static str {
         match self {
             Cause::Document(cause) => cause.code(),
@@ -101,8 +103,8 @@ impl Cause {
     /// Returns the refusal of a file whose first fault this is; `None` for a warning and for a
     /// request line.
     ///
-    /// The slot is 0 where the file has no lawful slot for the script's board. Then another fault
-    /// comes first.
+    /// The refusal of a script has the slot 0 if the slot of its board is absent or refused. In
+    /// such a file another fault comes first.
     pub fn refusal(self) -> Option<ConfigFault>
         ensures { result ≡ refusal_of self }
     {
@@ -135,7 +137,7 @@ impl Cause {
     }
 }
 
-/// The number of a refusal; for a script that of the line.
+/// The number of a file's refusal, or for a script that of its line's refusal.
 fn refusal_code(fault: ConfigFault) -> &'static str {
     match fault {
         ConfigFault::NotToml => "C6",

@@ -102,7 +102,8 @@ fn read_boards<'a>(
     })
 }
 
-/// Reads one board after `earlier` ones. Of one past the greatest number only the keys are checked.
+/// Reads one board after the `earlier` ones. If it is past the greatest number, only its keys are
+/// checked.
 fn read_board<'a>(
     item: &'a Value,
     index: usize,
@@ -125,7 +126,7 @@ fn read_board<'a>(
     }
 }
 
-/// Finds that there is no board, or more than 21.
+/// Finds the fault of the number of boards: none, or more than 21.
 fn find_count(
     file: &Section<'_>,
     boards: usize,
@@ -156,7 +157,7 @@ fn find_count(
 #[derive(Drop)]
 struct Mailboxes {
     known: Vec<KnownMailbox>,
-    /// The number of tables, if it is known.
+    /// The number of elements of `mailbox`, if its value is an array or absent.
     declared: Option<usize>,
 }
 
@@ -198,7 +199,7 @@ fn read_mailboxes(
     })
 }
 
-/// Reads one mailbox after `earlier` ones. Of one past the greatest number only the keys are
+/// Reads one mailbox after the `earlier` ones. If it is past the greatest number, only its keys are
 /// checked.
 fn read_mailbox(
     item: &Value,
@@ -279,7 +280,7 @@ fn collect_scripts<'a>(
     Ok(())
 }
 
-/// Finds a fault of a script's line.
+/// Appends the finding of a script's line, with its cause and the bytes at fault.
 fn find_line(
     board: usize,
     slot: Option<u16>,
@@ -296,7 +297,7 @@ fn find_line(
     find(found, Cause::Script { slot, line, cause }, place)
 }
 
-/// Finds the faults of a script's lines.
+/// Appends the findings of a script's faulty lines.
 fn find_lines(
     board: usize,
     slot: Option<u16>,

@@ -7,7 +7,17 @@ use crate::cause::CycleCause;
 use vme_am::{Am, AmFault};
 use vme_cycle::{CycleFault, Request};
 
-/// The parts of a request that its refusals speak of.
+/// The greatest number of data of a block.
+const MOST_DATA: usize = 256;
+
+/// The distance between the addresses that no block crosses: IEEE 1014-1987, 2.3.7 (block
+/// transfer).
+const BOUNDARY: u16 = 256;
+
+/// The distance between the addresses that no block of eight-byte data crosses.
+const WIDE_BOUNDARY: u16 = 2048;
+
+/// The parts of a request on which its refusals depend.
 #[derive(Clone, Copy)]
 pub(crate) struct Parts {
     pub am: u8,
@@ -22,7 +32,7 @@ pub(crate) struct Parts {
     pub is_modify: bool,
 }
 
-/// The quotient of two numbers, or 0 where there is none.
+/// The whole quotient of two numbers, or 0 if the divisor is 0.
 fn quotient(bytes: usize, n: u8) -> usize {
     if n == 0 { 0 } else { bytes / usize::from(n) }
 }
@@ -85,7 +95,7 @@ impl Parts {
         u64::from(self.addr).saturating_add(bytes.saturating_sub(1))
     }
 
-    /// The datum length as a byte.
+    /// The number of bytes of each datum, or 0 if it is above 255.
     fn datum_byte(&self) -> u8 {
         match u8::try_from(self.datum) {
             Ok(datum) => datum,
@@ -120,12 +130,16 @@ pub(crate) fn cycle_cause(parts: &Parts, fault: CycleFault) -> CycleCause
         CycleFault::CrossesBoundary => CycleCause::Crosses {
             addr: parts.addr,
             last: parts.last(),
-            boundary: if parts.is_wide() { 2048 } else { 256 },
+            boundary: if parts.is_wide() {
+                WIDE_BOUNDARY
+            } else {
+                BOUNDARY
+            },
         },
     }
 }
 
-/// K8.
+/// The cause of K8: which number of bytes or of data is not lawful.
 fn count_cause(parts: &Parts) -> CycleCause
     ensures { cycle_fault result ≡ cycle.BadCount }
 {
@@ -144,7 +158,7 @@ fn count_cause(parts: &Parts) -> CycleCause
     } else if bytes != 1 && bytes != 2 && bytes != 4 {
         return CycleCause::DatumLength { am, bytes };
     }
-    if parts.count < 1 || parts.count > 256 {
+    if parts.count < 1 || parts.count > MOST_DATA {
         return CycleCause::DataCount { data: parts.count };
     }
     CycleCause::BytesLeft {
@@ -153,7 +167,8 @@ fn count_cause(parts: &Parts) -> CycleCause
     }
 }
 
-/// K4. A code without a row is refused before.
+/// The cause of K4: the space and the address of the last byte. A code that has no space is refused
+/// before.
 fn space_cause(parts: &Parts) -> CycleCause
     ensures { cycle_fault result ≡ cycle.OutsideSpace }
 {
@@ -167,7 +182,7 @@ fn space_cause(parts: &Parts) -> CycleCause
     }
 }
 
-/// K3.
+/// The cause of K3: an address that is not aligned, or bytes that have no byte location.
 fn location_cause(parts: &Parts) -> CycleCause
     ensures { cycle_fault result ≡ cycle.NoCycle }
 {
@@ -179,7 +194,7 @@ fn location_cause(parts: &Parts) -> CycleCause
     CycleCause::NoLocation { addr, bytes: datum }
 }
 
-/// The index, from 0, of the word of a request line that is at fault.
+/// The index, from 0, of the word at fault in a request line with this cause.
 pub(crate) fn faulty_word(cause: CycleCause) -> usize {
     match cause {
         CycleCause::NoCode { .. }

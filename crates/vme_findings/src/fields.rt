@@ -16,7 +16,7 @@ pub(crate) struct Located {
     pub span: Span,
 }
 
-/// The cause at the word with this index, from 0.
+/// The cause, at the word of the line with this index, from 0.
 fn at_word(line: &[u8], word: usize, cause: LineCause) -> Located
     ensures { result.cause ≡ cause }
 {
@@ -53,7 +53,7 @@ pub(crate) fn cause_of(line: &[u8], fault: LineFault) -> Located
     }
 }
 
-/// S1, at the bytes past the limit.
+/// The cause of S1, at the bytes past the limit.
 fn too_long(line: &[u8]) -> Located
     ensures { line_fault result.cause ≡ Some faults.LineTooLong }
 {
@@ -67,7 +67,8 @@ fn too_long(line: &[u8]) -> Located
     }
 }
 
-/// S2: a comment that does not begin in the first column, a command, or a function.
+/// The cause of S2: a comment that does not begin in the first column, an unknown command, or an
+/// unknown function.
 fn unknown_word(line: &[u8]) -> Located
     ensures { line_fault result.cause ≡ Some faults.UnknownWord }
 {
@@ -78,7 +79,8 @@ fn unknown_word(line: &[u8]) -> Located
     }
 }
 
-/// S2 of the first word.
+/// The cause of S2 at the first word: a comment that does not begin in the first column, or an
+/// unknown command.
 fn unknown_command(line: &[u8]) -> Located
     ensures { line_fault result.cause ≡ Some faults.UnknownWord }
 {
@@ -95,7 +97,7 @@ fn unknown_command(line: &[u8]) -> Located
     at_word(line, 0, LineCause::UnknownCommand)
 }
 
-/// The form of a line whose first word is a command.
+/// The form of a line whose first word is a command; that of `r` for another line.
 fn known_form(line: &[u8]) -> LineForm {
     match form_of(line) {
         Some(form) => form,
@@ -103,7 +105,7 @@ fn known_form(line: &[u8]) -> LineForm {
     }
 }
 
-/// S3, from the first word too many on, or at the end of the line.
+/// The cause of S3, from the first word too many on, or at the end of the line.
 fn wrong_count(line: &[u8]) -> Located
     ensures { line_fault result.cause ≡ Some faults.WordCount }
 {
@@ -137,7 +139,7 @@ fn is_local(form: LineForm) -> bool {
     )
 }
 
-/// S5: the address, or the offset of a local line.
+/// The cause of S5: the address, or the offset of a local line.
 fn bad_address(line: &[u8]) -> Located
     ensures { line_fault result.cause ≡ Some faults.BadAddress }
 {
@@ -147,7 +149,7 @@ fn bad_address(line: &[u8]) -> Located
     at_word(line, 2, LineCause::BadAddress)
 }
 
-/// S6: the number of bytes, of data, or of a mailbox.
+/// The cause of S6: the number of bytes or of data, or the number of a mailbox.
 fn bad_number(line: &[u8]) -> Located
     ensures { line_fault result.cause ≡ Some faults.BadNumber }
 {
@@ -164,7 +166,8 @@ fn bad_number(line: &[u8]) -> Located
     }
 }
 
-/// The word of the bytes of a line, by its index, and the numbers of bytes that it may have.
+/// The index, from 0, of the word with the bytes of a line, and the numbers of bytes that it may
+/// have.
 fn bytes_of(line: &[u8], form: LineForm) -> (usize, DataLength) {
     match form {
         LineForm::BlockWrite => (4, DataLength::Any),
@@ -179,7 +182,7 @@ fn bytes_of(line: &[u8], form: LineForm) -> (usize, DataLength) {
     }
 }
 
-/// The number that the word with this index spells.
+/// The number of bytes that the word with this index states.
 fn number_at(line: &[u8], word: usize) -> DataLength {
     match small_number(word_of(line, word)) {
         Some(number) => DataLength::Exactly(number),
@@ -187,7 +190,8 @@ fn number_at(line: &[u8], word: usize) -> DataLength {
     }
 }
 
-/// The faulty one of two words from `first` on, by its index. The word `number` is their length.
+/// The index of the faulty one of two words from `first` on. The word with the index `number`
+/// states how many bytes each has.
 fn operand_of_two(line: &[u8], first: usize, number: usize) -> usize {
     match small_number(word_of(line, number)) {
         Some(len) if exact_bytes(len, word_of(line, first)).is_some() => first.saturating_add(1),
@@ -195,7 +199,7 @@ fn operand_of_two(line: &[u8], first: usize, number: usize) -> usize {
     }
 }
 
-/// S7, at the word of the bytes.
+/// The cause of S7, at the word with the bytes.
 fn bad_bytes(line: &[u8]) -> Located
     ensures { line_fault result.cause ≡ Some faults.BadBytes }
 {

@@ -53,7 +53,7 @@ fn errors_of(alloc: Global, text: &[u8], fault: ConfigFault) -> Result<Vec<Findi
     Ok(findings)
 }
 
-/// The first finding with this refusal.
+/// The first finding with this refusal, or one without values if there is none.
 fn first_finding(found: &[Finding], fault: ConfigFault) -> Finding
     ensures { refusal_of result.cause ≡ Some fault }
 {
@@ -68,7 +68,7 @@ fn first_finding(found: &[Finding], fault: ConfigFault) -> Finding
     }
 }
 
-/// Appends the findings other than the first.
+/// Appends those of the findings that differ from the first.
 fn push_others(
     found: &[Finding],
     first: Finding,

@@ -3,7 +3,7 @@ use crate::cause::LineForm;
 use crate::words::word_of;
 
 /// The form of a line, if its first word is a command. A read-modify-write has the form of its
-/// function, or the general one where no function has the name.
+/// function, or `Modify` or `LocalModify` if the function is absent or unknown.
 pub(crate) fn form_of(line: &[u8]) -> Option<LineForm> {
     let form = match word_of(line, 0) {
         b"r" => LineForm::Read,

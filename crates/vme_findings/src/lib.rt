@@ -2,7 +2,8 @@
 //! lawful files.
 //!
 //! A finding is a cause and its place in the document. The crate writes no texts and counts no
-//! columns.
+//! columns. C1 to C14, K1 to K9 and S1 to S9 are the refusals of a file, of a request and of a
+//! line, with the numbers of `docs/GUIDE.md`.
 #![tactic(auto)]
 
 mod board;

@@ -11,14 +11,14 @@ use vme_positions::Key;
 use vme_script::{BoardRange, Mailbox, mailbox_from_table};
 
 /// The bit of a code that states supervisory privilege.
-const SUPERVISORY: u8 = 0x04;
+pub(crate) const SUPERVISORY: u8 = 0x04;
 
 /// What is known of a mailbox.
 #[derive(Clone, Copy)]
 pub(crate) struct KnownMailbox {
-    /// Its numbers, if they are those of a mailbox.
+    /// Its numbers, if each of them is lawful by itself.
     pub mailbox: Option<Mailbox>,
-    /// Its bytes, if they lie within one board.
+    /// Its bytes, if they are known to lie within one board.
     pub range: Option<BoardRange>,
     /// Whether all of it is known and lawful.
     pub is_lawful: bool,
@@ -35,7 +35,8 @@ impl KnownMailbox {
     }
 }
 
-/// The numbers of a mailbox; one that has a fault by itself is `None`.
+/// The values of a mailbox's keys. A value is `None` if it is absent, of another kind, or not from
+/// 0 to 2^32 - 1.
 #[derive(Clone, Copy)]
 pub(crate) struct MailboxKeys {
     am: Option<u32>,
@@ -43,7 +44,7 @@ pub(crate) struct MailboxKeys {
     slots: Option<u32>,
 }
 
-/// Reads the keys of a mailbox, and finds their faults.
+/// Reads the keys of a mailbox, and finds the faults of keys and of the kinds of values.
 pub(crate) fn read_keys(
     section: &Section<'_>,
     found: &mut Vec<Finding>,
@@ -60,10 +61,12 @@ fn may_have(am: u32, addr: u32, slots: u32) -> bool {
     mailbox_from_table(MailboxTable { am, addr, slots }).is_some()
 }
 
-/// The code of a mailbox whose other numbers are lawful, its address, and its slots.
+/// A lawful code, address and number of slots. Each number of a mailbox is tested with the other
+/// two of these.
 const LAWFUL: (u32, u32, u32) = (0x09, 0, 1);
 
-/// Finds the faults of each number by itself. Returns the mailbox if there is none.
+/// Finds the faults of each number by itself. Returns the mailbox if all numbers are known and have
+/// no fault.
 fn check_numbers(
     section: &Section<'_>,
     keys: MailboxKeys,
@@ -183,7 +186,7 @@ fn class_cause(board: KnownBoard<'_>, index: usize) -> Option<MailboxCause> {
     }
 }
 
-/// The last byte of a range on its board.
+/// The offset of the last byte of a range.
 pub(crate) fn last_byte(range: BoardRange) -> u32 {
     range.offset.saturating_add(range.len.saturating_sub(1))
 }
@@ -203,7 +206,7 @@ pub(crate) fn first_shared(
     None
 }
 
-/// The cause of a mailbox that shares a byte with an earlier one.
+/// The cause of a mailbox that shares a byte with an earlier one, if it does.
 fn shared_with(range: BoardRange, earlier: &[KnownMailbox]) -> Option<MailboxCause> {
     match first_shared(range, earlier) {
         Some((other, shared)) => Some(MailboxCause::Shared {

@@ -22,7 +22,7 @@ fn shared(a: Entry, b: Entry) -> Option<(u32, u32)> {
     }
 }
 
-/// Finds each board that shares an address with an earlier one, with the first of these.
+/// Finds each board that shares an address with an earlier one, and names the first of these.
 pub(crate) fn find_overlaps(
     boards: &[KnownBoard<'_>],
     found: &mut Vec<Finding>,
@@ -42,7 +42,8 @@ pub(crate) fn find_overlaps(
     Ok(())
 }
 
-/// The overlap of a board with the first earlier board that has an address of its range.
+/// The overlap of a board with the first earlier board that has an address of its range, if there
+/// is one.
 fn overlap_of(
     boards: &[KnownBoard<'_>],
     index: usize,

@@ -32,8 +32,8 @@ pub enum RequestRefusal {
 }
 
 /// Returns the finding of a line of `vme cycles`, if there is one: its refusal, or the warning that
-/// its address does not select the board. The place is `Word` of board 0, with this number of the
-/// line.
+/// its code or address does not select the board. The place is `Place::Word` of board 0, with this
+/// number of the line.
 pub fn request_finding(line: &[u8], number: usize) -> Option<Finding>
     ensures { option_and_then (λ finding. refusal_by finding.cause) result
         ≡ request_refusal (request_of line.now) }
@@ -63,7 +63,8 @@ fn finding_at(number: usize, span: Span, cause: Cause) -> Finding
     }
 }
 
-/// The request of a line. A first word that only scripts know is unknown, whatever follows it.
+/// The request of a line, or `None` for a comment or an empty line. A command that only scripts
+/// have is unknown, whatever follows it.
 #[tactic(auto, unfolding(vme_engines::specs::Lines::request_of))]
 fn read_request(line: &[u8]) -> Result<Option<Request>, LineFault>
     ensures { result ≡ request_of line.now }
@@ -91,6 +92,7 @@ fn begins_otherwise(line: &[u8]) -> bool
     }
 }
 
+/// Whether a word is the command of a request.
 fn is_request_word(word: &[u8]) -> bool
     ensures { result ≡ is_request_word word.now }
 {
@@ -120,7 +122,7 @@ fn unknown_command(line: &[u8]) -> Located
     }
 }
 
-/// The finding of a request: its refusal, or that its address does not select the board.
+/// The finding of a request: its refusal, or that its code or address does not select the board.
 fn cycle_finding(line: &[u8], number: usize, request: &Request) -> Option<Finding>
     ensures { option_and_then (λ finding. refusal_by finding.cause) result
         ≡ request_refusal (Ok (Some request.now)) }

@@ -44,7 +44,8 @@ pub(crate) fn check_numbers(
     Ok(())
 }
 
-/// The pair of an element of `schedule`, if it has no fault, or whether it is no pair at all.
+/// The slot and the turns of an element of `schedule`, each `None` if it is out of range, which is
+/// found. Returns `None` if the element is not an array of two whole numbers.
 fn read_pair(
     index: usize,
     item: &Value,
@@ -61,7 +62,7 @@ fn read_pair(
     Ok(Some((slot, turns)))
 }
 
-/// Finds elements that are no pairs: the first of them, and how many come after it.
+/// Finds a run of elements that are no pairs: the first of them, and how many come after it.
 fn find_no_pair(run: Option<(usize, usize)>, found: &mut Vec<Finding>) -> Result<(), AllocError> {
     match run {
         Some((index, more)) => {
@@ -116,7 +117,8 @@ pub(crate) fn read_pairs(
     }
 }
 
-/// The slots of boards, as bits: bit i for slot i. Returns `None` if a slot is unknown.
+/// The slots of boards, as bits: bit i for slot i. Returns `None` if a board's slot is not known to
+/// be from 1 to 21.
 fn slots_of(boards: &[KnownBoard<'_>]) -> Option<u32> {
     let mut slots: u32 = 0;
     for board in boards {
@@ -188,7 +190,7 @@ fn find_slot(
     }
 }
 
-/// Finds the pair with which the turns pass their greatest number.
+/// Finds the first pair with which the turns are more than their greatest number.
 fn find_turns(pairs: &[(u32, u32)], found: &mut Vec<Finding>) -> Result<(), AllocError> {
     let mut sum: u64 = 0;
     let mut passes: Option<usize> = None;

@@ -21,7 +21,7 @@ use vme_script::{BoardRange, ScriptContext};
 /// The greatest number of lines of a script.
 pub(crate) const MOST_LINES: u16 = 1000;
 
-/// What the causes of a script's lines name.
+/// What the causes of a script's lines name: boards and mailboxes of the file.
 #[derive(Clone, Copy)]
 pub(crate) struct Surroundings<'a> {
     /// The boards.
@@ -44,7 +44,7 @@ pub(crate) struct FaultyLine {
     pub span: Span,
 }
 
-/// The faults of the first 1,000 lines of a script in a context.
+/// The faults of the first 1,000 lines of a script in a context, with the lines' numbers from 1.
 pub(crate) fn faulty_lines(
     alloc: Global,
     text: &[u8],
@@ -105,7 +105,7 @@ fn context_fault(text: &[u8], line: &Line, fault: LineFault, around: &Surroundin
     }
 }
 
-/// S6 of a line that names a mailbox.
+/// The cause of S6 of a line that names a mailbox which the file does not declare.
 fn no_mailbox(text: &[u8], line: &Line, declared: usize) -> Located
     ensures { line_fault result.cause ≡ Some LineFault.BadNumber }
 {
@@ -129,7 +129,7 @@ fn names_other(line: &Line, declared: usize) -> bool {
     }
 }
 
-/// The fault of a line whose context is not known, but for the number of mailboxes.
+/// The fault of a line if of its context only the number of mailboxes may be known.
 pub(crate) fn fault_alone(text: &[u8], around: &Surroundings<'_>) -> Option<Located> {
     match parse_line(text) {
         Ok(Some(line)) => {
@@ -144,7 +144,7 @@ pub(crate) fn fault_alone(text: &[u8], around: &Surroundings<'_>) -> Option<Loca
     }
 }
 
-/// S9 of a line, at its address or offset.
+/// The cause of S9 of a line, at its address or offset.
 fn touching(text: &[u8], line: &Line, around: &Surroundings<'_>) -> Located
     ensures { line_fault result.cause ≡ Some LineFault.MailboxBytes }
 {
@@ -199,7 +199,7 @@ pub(crate) fn line_bytes(line: &Line, map: &AddressMap, board: usize) -> Option<
     }
 }
 
-/// The bytes of a lawful request.
+/// The bytes that a request accesses, if it is lawful and selects a board.
 fn request_bytes(map: &AddressMap, request: &Request) -> Option<BoardRange> {
     let Ok(plan) = Plan::of(request) else {
         return None;
@@ -209,7 +209,7 @@ fn request_bytes(map: &AddressMap, request: &Request) -> Option<BoardRange> {
     Some(BoardRange { board, offset, len })
 }
 
-/// The bytes of a command to the local port of a board.
+/// The bytes that a command to the local port of a board accesses.
 fn local_bytes(board: usize, command: &BoardCmd) -> Option<BoardRange> {
     let (offset, len) = match command {
         BoardCmd::LocalRead { offset, n } | BoardCmd::LocalModify { offset, n, .. } => {

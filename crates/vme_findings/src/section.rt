@@ -1,4 +1,4 @@
-//! The keys and values of a table, with its faults: unknown and absent keys, and values of another
+//! The keys and values of a table, and their faults: unknown and absent keys, and values of another
 //! kind or out of range.
 use crate::cause::{Cause, DocumentCause, ValueKind};
 use crate::finding::{Finding, find};
@@ -100,7 +100,7 @@ impl<'a> Section<'a> {
         Ok(())
     }
 
-    /// The value of a required key, whose absence is found.
+    /// The value of a required key. If the key is absent, that is found.
     fn required(
         &self,
         key: Key,
@@ -205,8 +205,8 @@ impl<'a> Section<'a> {
         }
     }
 
-    /// The elements of the array at `key`, or `None` if the value has another kind. An absent array
-    /// has none.
+    /// The elements of the array at `key`, or no elements if the key is absent. Returns `None` if
+    /// the value has another kind, which is found.
     pub(crate) fn elements(
         &self,
         key: Key,
@@ -223,7 +223,7 @@ impl<'a> Section<'a> {
     }
 }
 
-/// A number from 0 to 2^32 - 1; another number is found.
+/// The number, if it is from 0 to 2^32 - 1. Another number is found, at `place`.
 pub(crate) fn find_range(
     number: i64,
     place: Place,
@@ -237,11 +237,10 @@ pub(crate) fn find_range(
     Ok(None)
 }
 
-/// The tables of an array, one for each element; an element that is no table is `None`, and found.
-/// Neighbours of one kind are one finding.
+/// Finds the elements of an array that are not tables. Neighbours of one kind are one finding.
 pub(crate) fn find_tables(
     key: Key,
-    items: &'_ [Value],
+    items: &[Value],
     found: &mut Vec<Finding>,
 ) -> Result<(), AllocError> {
     let mut run: Option<(usize, ValueKind, usize)> = None;
@@ -260,7 +259,8 @@ pub(crate) fn find_tables(
     find_no_table(key, run, found)
 }
 
-/// Finds elements of one kind that are not tables: the first of them, and how many come after it.
+/// Finds a run of elements of one kind, unless they are tables: the first of them, and how many
+/// come after it.
 fn find_no_table(
     key: Key,
     run: Option<(usize, ValueKind, usize)>,

@@ -11,7 +11,8 @@ use vme_am::Space;
 use vme_decode::Entry;
 use vme_positions::Key;
 
-/// The values of a board's keys; one that has a fault by itself is `None`.
+/// The values of a board's keys, or their defaults. A value is `None` if it is of another kind, not
+/// from 0 to 2^32 - 1, or absent and required.
 #[derive(Clone, Copy)]
 pub(crate) struct BoardKeys<'a> {
     slot: Option<u32>,
@@ -31,13 +32,13 @@ pub(crate) struct BoardKeys<'a> {
 pub(crate) struct KnownBoard<'a> {
     /// The slot, if it is from 1 to 21.
     pub in_range: Option<u32>,
-    /// The slot, if it is also above that of the board before.
+    /// The slot, if it is from 1 to 21 and above the last earlier slot in that range.
     pub slot: Option<u16>,
     /// The range, if it is lawful by itself.
     pub entry: Option<Entry>,
-    /// The number of data lines.
+    /// The number of data lines, if it is 8, 16 or 32.
     pub width: Option<u32>,
-    /// Whether there are read-modify-writes.
+    /// Whether the board carries out read-modify-writes.
     pub rmw: Option<bool>,
     /// The text of the script.
     pub script: Option<&'a str>,
@@ -65,7 +66,7 @@ impl<'a> KnownBoard<'a> {
     }
 }
 
-/// Reads the keys of a board, and finds their faults.
+/// Reads the keys of a board, and finds the faults of keys and of the kinds of values.
 pub(crate) fn read_keys<'a>(
     section: &Section<'a>,
     found: &mut Vec<Finding>,
@@ -156,7 +157,7 @@ fn lawful(
     }
 }
 
-/// The last board whose slot is in range: its slot, or 0, and its index.
+/// The slot and the index of the last board whose slot is in range, or 0 and 0.
 fn last_in_range(boards: &[KnownBoard<'_>]) -> (u32, usize) {
     let mut last = (0, 0);
     for (index, board) in boards.iter().enumerate() {
@@ -167,7 +168,7 @@ fn last_in_range(boards: &[KnownBoard<'_>]) -> (u32, usize) {
     last
 }
 
-/// The first board with this slot.
+/// The index of the first board with this slot.
 fn with_slot(boards: &[KnownBoard<'_>], slot: u32) -> Option<usize> {
     for (index, board) in boards.iter().enumerate() {
         if board.in_range == Some(slot) {
@@ -232,7 +233,8 @@ fn check_width(
     lawful(section, Key::Width, width, width_fault(width), found)
 }
 
-/// The range of a board, if its values are known and it ends within its space.
+/// The range of a board, if its values are known and it ends within its space. Finds the fault of a
+/// range that does not.
 fn check_range(
     section: &Section<'_>,
     values: (Option<Space>, Option<u32>, Option<u32>, Option<bool>),

@@ -55,7 +55,8 @@ fn find_in(
     }
 }
 
-/// The place of the file's turns: the rounds, the schedule, or the header of the first board.
+/// The place at which the file's turns are stated: the value of `rounds` or else that of
+/// `schedule`, or the header of the first board if both are absent.
 fn turns_place(table: &Table) -> Place {
     for key in [Key::Rounds, Key::Schedule] {
         if table.get(key.name()).is_some() {
@@ -97,7 +98,8 @@ fn find_all<'a>(
     find_idle(config.mailboxes().len(), named, warnings)
 }
 
-/// Finds the mailboxes that no line names. Bit i of `named` is set where a line names mailbox i.
+/// Finds the mailboxes that no line names. Bit i of `named` is set if a line names the mailbox with
+/// number i, from 1.
 fn find_idle(count: usize, named: u32, warnings: &mut Warnings) -> Result<(), AllocError> {
     for index in 0..count {
         if index < 31 && named & (2 << index) == 0 {

@@ -4,11 +4,14 @@ use vme_lexer::{Words, words_of};
 /// The bytes of a line from `from` to before `to`.
 #[derive(Clone, Copy, Debug, PartialEq, Eq)]
 pub(crate) struct Span {
+    /// The index of the first byte, from 0.
     pub from: usize,
+    /// The index after the last byte.
     pub to: usize,
 }
 
-/// The place of the word with this index, from 0. A line with fewer words has the place at its end.
+/// The bytes of the word with this index, from 0. If the line has fewer words, no bytes, at its
+/// end.
 pub(crate) fn span_of(line: &[u8], word: usize) -> Span {
     let mut ended: usize = 0;
     let mut start: Option<usize> = None;

@@ -1,7 +1,7 @@
 //! The codes of files: each refusal alone, and several in one file.
 use crate::support::check_codes;
 
-/// Files with one fault each.
+/// Files with one finding each, and two scripts with a fault in each line.
 static ALONE: [(&str, &str); 42] = [
     (
         "rounds = 1\n[[board]]\nslot = 1\nbase = 0\nsize = 16\n",

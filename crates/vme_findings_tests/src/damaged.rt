@@ -4,7 +4,7 @@ use std::alloc::Global;
 use std::process::Abort;
 use vme_findings::{Cause, findings_of};
 
-/// A file with all tables, and a line of each kind.
+/// A configuration with a board, a mailbox and a schedule, and with bus, local and mailbox lines.
 static FILE: &str = "schedule = [[2, 2], [1, 1]]
 tries = 5
 arbiter = \"priority\"
@@ -26,7 +26,7 @@ width = 16
 script = \"br 0b 00000030 4 2\\nm 09 00000024 4 add 00000001\"
 ";
 
-/// A file with a fault in each table.
+/// A refused file with faults at its top, in a board and in a script.
 static REFUSED: &str = "schedule = [[2, 2], 7]
 tries = 0
 [[mailbox]]
@@ -54,7 +54,7 @@ script = \"br 0b 00000000 4 2\\nm 09 00000024 4 add 00000001\"
 /// Bytes to put in the place of another one.
 static OTHERS: &[u8] = b"0z\" \n[]=#,";
 
-/// Checks that the refusal of a file is one of the collected findings.
+/// Checks that no finding of a file is its refusal without values.
 fn check(rt: &impl Abort, alloc: Global, file: &[u8]) {
     let findings = findings_of(alloc, file).expect(rt, "no memory");
     for finding in &findings {
@@ -62,7 +62,7 @@ fn check(rt: &impl Abort, alloc: Global, file: &[u8]) {
     }
 }
 
-/// Checks a file with each of its bytes replaced by each of the others.
+/// Checks a file with each of its bytes replaced by each of `OTHERS`.
 fn check_damaged(rt: &impl Abort, alloc: Global, file: &str) {
     for at in 0..file.len() {
         let mut bytes = Vec::from_slice(alloc, file.as_bytes()).expect(rt, "no memory");
@@ -89,7 +89,7 @@ fn has_an_error_where_it_is_refused(rt: HostRuntime) {
     }
 }
 
-/// Files with errors of all kinds, and with warnings.
+/// Three files with errors, and one with warnings.
 static FILES: [&str; 4] = [
     "am = 09",
     "schedule = [[1, 1], 5, [9, 1]]
@@ -132,7 +132,7 @@ static CODES: [&str; 4] = [
     " nobody-answers K2 few-turns idle-mailbox",
 ];
 
-/// Gives all codes, or lacks memory.
+/// If an allocation fails, the result is an `AllocError`; otherwise it has all codes.
 #[test]
 fn finds_all_or_lacks_memory(rt: HostRuntime) {
     for (file, wanted) in FILES.iter().zip(CODES.iter()) {

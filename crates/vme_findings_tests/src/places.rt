@@ -3,7 +3,7 @@ use std::alloc::Global;
 use std::process::Abort;
 use vme_findings::{Key, Place, TableName, findings_of};
 
-/// A file with a fault in each kind of place, and the places in the order of the findings.
+/// A file with faults at unknown keys, elements, values and words.
 static FILE: &str = "schedule = [[1, 1], 5, 6, [9, 1], [1, -1]]
 [[board]]
 slot = 1

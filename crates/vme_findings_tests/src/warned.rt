@@ -1,7 +1,7 @@
-//! The codes of configurations with warnings: each warning.
+//! The codes of configurations with warnings: each warning but `no-lines`, which `codes` has.
 use crate::support::check_codes;
 
-/// Configurations with warnings.
+/// A configuration without warnings, and six with warnings.
 static WARNED: [(&str, &str); 7] = [
     (
         "rounds = 20\n[[board]]\nslot = 1\nbase = 0\nsize = 16\nscript = \"lr 00000000 4\"\n",

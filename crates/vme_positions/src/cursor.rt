@@ -11,7 +11,8 @@ pub struct Position {
 }
 
 impl Position {
-    /// Returns the position of an offset in a text. It walks the text up to there.
+    /// Returns the position of the character in which an offset of a text lies, or that of the end
+    /// of the text if the offset is past it. Walks the text up to there.
     pub fn of(text: &[u8], offset: usize) -> Position
         ensures { result.line ≡ line_feeds_before offset text.now + 1 }
     {
@@ -19,8 +20,8 @@ impl Position {
     }
 }
 
-/// A walk over a text that finds positions. A step forward in the text costs only the way there, so
-/// offsets in rising order cost one walk. A step back begins the walk again.
+/// A walk over a text that finds positions. A move forward reads only the bytes in between, so
+/// offsets in rising order cost one walk. A move back begins the walk again.
 #[derive(Clone, Copy)]
 pub struct Cursor<'a> {
     /// The whole text.
@@ -33,6 +34,7 @@ pub struct Cursor<'a> {
     begun: usize,
     /// The end of the last character that begins before the offset.
     character_end: usize,
+    /// The line in which the offset lies, without its line end.
     line: &'a [u8],
     ghost inside: { offset ≤ length text.now },
     ghost counted: { line_ends ≡ line_feeds_before offset text.now },
@@ -54,8 +56,8 @@ impl<'a> Cursor<'a> {
         }
     }
 
-    /// Moves to an offset of the text, or to the end of the text. Returns the position of the
-    /// character in which the offset lies.
+    /// Moves to an offset of the text, or to the end of the text if the offset is past it. Returns
+    /// the position of the character in which the offset lies.
     pub fn move_to(&mut self, offset: usize) -> Position
         ensures line { result.line ≡ line_feeds_before offset self.old.text.now + 1 }
         ensures text { self.new.text.now ≡ self.old.text.now }
@@ -111,7 +113,7 @@ impl<'a> Cursor<'a> {
         }
     }
 
-    /// Returns the line of the position, without its line end.
+    /// Returns the line in which the cursor's offset lies, without its line end.
     pub fn line(&self) -> &'a [u8] {
         self.line
     }

@@ -31,7 +31,8 @@ pub(crate) struct Element<'a> {
     pub(crate) after: &'a str,
 }
 
-/// Reads a pair. `s` is a suffix of `text`.
+/// Reads a key and its value at the start of `s`, a suffix of `text`. Returns the pair and the text
+/// after it.
 pub(crate) fn read_pair<'a>(
     alloc: Global,
     text: &str,
@@ -116,7 +117,8 @@ fn nested_end(alloc: Global, s: &str) -> Result<&str, ParseError>
     }
 }
 
-/// The text after a string or after another byte of an array or an inline table.
+/// The text after the first token of `s`, a part of an array or an inline table: a string, or one
+/// other ASCII byte.
 fn token_end(alloc: Global, s: &str) -> Result<&str, ParseError>
     ensures { IfOk result (λ rest. length rest.now < length s.now) }
 {
@@ -144,7 +146,7 @@ pub(crate) fn after_comma(s: &str) -> &str
     }
 }
 
-/// The elements of an array; of another value there are none. `s` is the text from the value on.
+/// The elements of an array, or none if the value is no array. `s` is the text from the value on.
 pub(crate) fn elements(alloc: Global, s: &str) -> Result<Vec<Element<'_>>, ParseError> {
     let mut found = Vec::new(alloc);
     if first(s) != b'[' {

@@ -18,7 +18,7 @@ pub(crate) struct ScheduledPair {
 }
 
 impl ScheduledPair {
-    /// An element whose slot and turns are not known.
+    /// An element whose slot and turns were not found: both stand at the whole element.
     pub(crate) fn whole(whole: Span) -> ScheduledPair {
         ScheduledPair {
             whole,
@@ -71,8 +71,8 @@ impl Outline {
         }
     }
 
-    /// Returns where a place of the document stands in `text`, the text of the outline. A place
-    /// that was not found is the start of the text.
+    /// Returns the bytes of a place in `text`, the text of the outline. A place that was not found
+    /// has no bytes, at the start of the text.
     pub fn range(&self, text: &[u8], place: &Place) -> Span
         ensures order { result.from ≤ result.to }
         ensures within { result.to ≤ length text.now }
@@ -88,8 +88,8 @@ impl Outline {
         span.within(text)
     }
 
-    /// Returns the name of the `nth` unknown key of a table, where its keys are sorted by their
-    /// bytes.
+    /// Returns the name of the `nth` unknown key of a table, from 0, where these keys are sorted by
+    /// their bytes. Returns `None` if the table was not found or has no such key.
     pub fn unknown_name(&self, table: TableName, index: usize, nth: usize) -> Option<&str> {
         Some(self.unknown(table, index, nth)?.name.as_str())
     }
@@ -114,6 +114,7 @@ impl Outline {
         }
     }
 
+    /// The parts of a table, if it was found.
     fn parts(&self, table: TableName, index: usize) -> Option<&Parts> {
         match table {
             TableName::File => Some(&self.file),
@@ -122,14 +123,17 @@ impl Outline {
         }
     }
 
+    /// A key of a table, if it was found.
     fn key(&self, table: TableName, index: usize, key: Key) -> Option<KnownKey> {
         self.parts(table, index)?.find(key)
     }
 
+    /// The `nth` unknown key of a table, if it was found.
     fn unknown(&self, table: TableName, index: usize, nth: usize) -> Option<&UnknownKey> {
         self.parts(table, index)?.unknown.get(nth)
     }
 
+    /// The bytes of an element of the array at `key`, if it was found.
     fn element(&self, key: Key, index: usize) -> Option<Span> {
         match key {
             Key::Schedule => Some(self.schedule.get(index)?.whole),
@@ -139,7 +143,8 @@ impl Outline {
         }
     }
 
-    /// The bytes of a line of a board's script.
+    /// Where bytes of a line of a board's script stand, if the line was found. Lines are counted
+    /// from 1.
     fn word(&self, text: &[u8], board: usize, line: usize, bytes: Span) -> Option<Span> {
         let parts = self.boards.get(board)?;
         let start = *parts.lines.get(line.checked_sub(1)?)?;

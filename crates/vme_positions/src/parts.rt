@@ -30,14 +30,14 @@ pub(crate) struct Parts {
     /// The header, or the whole inline table.
     pub(crate) whole: Span,
     pub(crate) known: Vec<KnownKey>,
-    /// The unknown keys: in the order of the text, and once `sort` ran by their bytes.
+    /// The unknown keys: in the order of the text, or sorted by their bytes after `sort`.
     pub(crate) unknown: Vec<UnknownKey>,
     /// The start of each line of the script in the text.
     pub(crate) lines: Vec<usize>,
 }
 
 impl Parts {
-    /// A table with this header and no keys.
+    /// The parts of a table with this header and no keys.
     pub(crate) fn new(alloc: Global, header: Span) -> Parts {
         Parts {
             header,
@@ -105,7 +105,7 @@ impl Parts {
         self.add_key(table, name, name_at, value_at)
     }
 
-    /// Adds a key, unless it is there.
+    /// Adds a key of the format, unless it is there, or an unknown key.
     pub(crate) fn add_key(
         &mut self,
         table: TableName,
@@ -123,6 +123,7 @@ impl Parts {
         }
     }
 
+    /// Adds a key of the format, unless it is there.
     fn add_known(&mut self, known: KnownKey) -> Result<(), AllocError> {
         if self.find(known.key).is_none() {
             self.known.push(known)?;

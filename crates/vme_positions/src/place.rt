@@ -11,7 +11,8 @@ pub enum TableName {
     Mailbox,
 }
 
-/// A key of a configuration file.
+/// A key of a configuration file. The keys from `Rounds` to `Mailbox` are those at the top of the
+/// file, from `Slot` to `Script` those of a board, and from `Am` to `Slots` those of a mailbox.
 #[derive(Clone, Copy, PartialEq, Eq, Debug)]
 pub enum Key {
     Rounds,
@@ -37,7 +38,7 @@ pub enum Key {
 }
 
 impl Key {
-    /// The key of a table with this name.
+    /// Returns the key of a table that has this name, or `None` if the table has no such key.
     pub fn named(table: TableName, name: &str) -> Option<Key> {
         match table {
             TableName::File => Key::of_file(name),
@@ -46,6 +47,7 @@ impl Key {
         }
     }
 
+    /// The key at the top of a file that has this name.
     fn of_file(name: &str) -> Option<Key> {
         match name {
             "rounds" => Some(Key::Rounds),
@@ -58,6 +60,7 @@ impl Key {
         }
     }
 
+    /// The key of a board that has this name.
     fn of_board(name: &str) -> Option<Key> {
         match name {
             "slot" => Some(Key::Slot),
@@ -75,6 +78,7 @@ impl Key {
         }
     }
 
+    /// The key of a mailbox that has this name.
     fn of_mailbox(name: &str) -> Option<Key> {
         match name {
             "am" => Some(Key::Am),
@@ -84,7 +88,7 @@ impl Key {
         }
     }
 
-    /// The key as it is written in a file.
+    /// Returns the key as it is written in a file.
     pub fn name(self) -> &'static str {
         match self {
             Key::Rounds => "rounds",
@@ -145,7 +149,7 @@ pub enum Place {
         index: usize,
         nth: usize,
     },
-    /// An element of an array at the top of the file.
+    /// An element of an array at the top of the file: of `schedule`, `board` or `mailbox`.
     Element {
         key: Key,
         index: usize,
@@ -158,7 +162,8 @@ pub enum Place {
     PairTurns {
         index: usize,
     },
-    /// The bytes from `from` to before `to` of a line of a board's script.
+    /// The bytes from `from` to before `to` of a line of a board's script. They are counted from 0
+    /// in the line that the string stands for, with its escape sequences decoded.
     Word {
         board: usize,
         line: usize,

@@ -1,7 +1,7 @@
 //! The lines of a script in the text of its file.
 //!
-//! A script is a string of TOML. Its body is a row of pieces: a byte that stands for itself, an
-//! escape sequence, or a line end with the blanks around it that a `\` leaves out.
+//! A script is a string of TOML. Its body is a sequence of pieces: a byte that stands for itself,
+//! an escape sequence, or a line end with the blanks around it that a `\` leaves out.
 ghost use Rattle.std.specs.Prelude.{◌+◌, ◌<◌, ◌≤◌, length};
 
 use crate::span::Span;
@@ -29,7 +29,7 @@ struct Piece {
     is_line_end: bool,
 }
 
-/// The body of a string at `value`. Of another value it is empty.
+/// The body of the string at `value`, or an empty body if the value is no string.
 fn body_of(text: &[u8], value: Span) -> Body<'_> {
     let whole = value.bytes(text);
     let (inner, skipped) = match whole {
@@ -67,7 +67,8 @@ fn first_piece(rest: &[u8], has_escapes: bool) -> Piece
     }
 }
 
-/// The piece of an escape sequence: a `\`, the byte `kind`, and what `after` has of it.
+/// The piece of an escape sequence: a `\`, the byte `kind`, and the first bytes of `after` if the
+/// sequence has more than two.
 fn escape(kind: u8, after: &[u8]) -> Piece
     ensures some { 0 < result.source }
     ensures within { result.source ≤ length after.now + 2 }
@@ -89,11 +90,12 @@ fn escape(kind: u8, after: &[u8]) -> Piece
     }
 }
 
+/// Whether a `\` at the end of a line leaves out this byte after it.
 fn is_blank(byte: u8) -> bool {
     matches!(byte, b' ' | b'\t' | b'\n' | b'\r')
 }
 
-/// The piece of an escape sequence with a number of `len` hexadecimal digits.
+/// The piece of an escape sequence with `len` hexadecimal digits, the first bytes of `after`.
 fn coded(after: &[u8], len: usize) -> Piece
     ensures some { 0 < result.source }
     ensures within { result.source ≤ length after.now + 2 }

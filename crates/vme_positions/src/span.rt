@@ -9,7 +9,7 @@ pub struct Span {
 }
 
 impl Span {
-    /// The start of a text.
+    /// No bytes, at the start of a text.
     pub const START: Span = Span { from: 0, to: 0 };
 
     /// The part of `text` between two of its suffixes: from the first byte of `at` to before the
@@ -29,7 +29,7 @@ impl Span {
         }
     }
 
-    /// Whether a byte of a text belongs to the span.
+    /// Returns whether the byte at `offset` belongs to the span.
     pub fn contains(self, offset: usize) -> bool
         ensures { IsTrue result ↔ ((self.from ≤ offset) × (offset < self.to)) }
     {
@@ -49,7 +49,8 @@ impl Span {
         }
     }
 
-    /// The bytes of the span in `text`. What lies past the end of the text is left out.
+    /// Returns the bytes of the span in `text`, without those past the end of the text. A span that
+    /// ends before it begins has none.
     pub fn bytes(self, text: &[u8]) -> &[u8]
         ensures { self.from ≤ self.to → self.to ≤ length text.now →
             result.now ≡ slice_range text.now self.from self.to }

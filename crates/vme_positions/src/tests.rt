@@ -4,9 +4,9 @@ use std::alloc::AllocError;
 use std::test::Fail;
 
 mod cases;
-mod leaves;
+mod checks;
 
-use leaves::leaves_of;
+use checks::checks_of;
 
 /// Documents with the forms of keys and values that TOML has.
 const DOCUMENTS: [&str; 12] = [
@@ -34,31 +34,31 @@ const DOCUMENTS: [&str; 12] = [
 #[test]
 fn each_part_stands_at_its_place(rt: HostRuntime) -> Result<(), Fail> {
     for text in &DOCUMENTS {
-        let leaves = leaves_of(rt.alloc(), text.as_bytes())?;
-        assert!(rt; leaves.faults.is_empty(), "{:?} in {text:?}", leaves.faults);
-        assert!(rt; leaves.count > 0, "{text:?}");
+        let checks = checks_of(rt.alloc(), text.as_bytes())?;
+        assert!(rt; checks.faults.is_empty(), "{:?} in {text:?}", checks.faults);
+        assert!(rt; checks.count > 0, "{text:?}");
     }
     Ok(())
 }
 
-/// Of a text that is no TOML the outline has what stands before the fault.
+/// A document that is cut is outlined too. If what is left of it is TOML, its parts are compared.
 #[test]
 fn a_text_may_be_cut_anywhere(rt: HostRuntime) -> Result<(), Fail> {
     for text in &DOCUMENTS {
         let bytes = text.as_bytes();
         for len in 0..bytes.len() {
-            let leaves = leaves_of(rt.alloc(), &bytes[..len])?;
+            let checks = checks_of(rt.alloc(), &bytes[..len])?;
             assert!(rt;
-                leaves.faults.is_empty(),
+                checks.faults.is_empty(),
                 "{:?} in {len} of {text:?}",
-                leaves.faults
+                checks.faults
             );
         }
     }
     Ok(())
 }
 
-/// If an allocation fails, the result is that fault; otherwise it is the whole outline.
+/// If an allocation fails, the result is an `AllocError`; otherwise it is the whole outline.
 #[test]
 fn is_outlined_or_lacks_memory(rt: HostRuntime) {
     let text =

@@ -10,7 +10,7 @@ use std::alloc::{AllocError, Global};
 use toml_parser::text::{byte_at, first, skip, skip_blank, skip_ws};
 use toml_parser::{ErrorKind, ParseError, dotted_key};
 
-/// Whose keys the next lines have: those of a table of the format, or of one that it does not have.
+/// The table whose keys the next lines have; `None` for a table that the format does not have.
 type Section = Option<TableName>;
 
 /// Adds the parts of a document to `outline`.
@@ -210,6 +210,7 @@ fn schedule(alloc: Global, text: &str, value: &str) -> Result<Vec<ScheduledPair>
     Ok(found)
 }
 
+/// The bytes of an element in `text`.
 fn span_of(text: &str, element: &Element<'_>) -> Span {
     Span::between(text, element.at, element.after)
 }

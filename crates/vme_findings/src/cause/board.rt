@@ -9,13 +9,17 @@ use vme_script::ConfigFault;
 /// How a text names a board.
 #[derive(Clone, Copy, Debug, PartialEq, Eq)]
 pub enum BoardName {
-    /// By its slot, from 1 to 21, which no earlier board has.
+    /// By its slot, which is lawful: from 1 to 21, and above the last earlier slot in that range.
     Slot(u16),
-    /// By its index among the tables, from 0, where its slot is refused.
+    /// By its index among the tables, from 0, if its slot is absent or refused.
     Index(usize),
 }
 
 /// A fault of a board: C8, C9, C10, C5, C3, C2 and C1.
+///
+/// The rules for C1 and C2 are those of IEEE 1014-1987, 2.3.5 (addressing), for C3 of 2.2.1
+/// (addressing lines), and for C10 of 2.3.5, 2.3.6 (basic data transfer) and 2.3.9 (unaligned
+/// transfer).
 #[derive(Clone, Copy, Debug, PartialEq, Eq)]
 pub enum BoardCause {
     /// C8: the slot is not from 1 to 21.
@@ -48,11 +52,11 @@ pub enum BoardCause {
     UnalignedWidth {
         width: u32,
     },
-    /// C5: the size is not from 4 to 1,048,576.
+    /// C5: the size is 0 or above 1,048,576.
     SizeRange {
         size: u32,
     },
-    /// C5: the size is in that range and not a multiple of four.
+    /// C5: the size is from 1 to 1,048,575 and not a multiple of four.
     SizeNotAligned {
         size: u32,
     },
@@ -60,7 +64,7 @@ pub enum BoardCause {
     BaseNotAligned {
         base: u32,
     },
-    /// C2: the last address is past that of the space.
+    /// C2: the board's last address, `last`, is past the last one of the space.
     OutsideSpace {
         space: Space,
         last: u64,
@@ -116,7 +120,7 @@ impl BoardCause {
         }
     }
 
-    /// Returns the place of the other board's slot or base.
+    /// Returns the place of the other board's slot or base, if the fault is one of two boards.
     pub(crate) fn other_place(self) -> Option<Place> {
         match self {
             BoardCause::SlotTaken { other, .. } | BoardCause::SlotOrder { other, .. } => {

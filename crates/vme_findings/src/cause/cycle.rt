@@ -2,6 +2,10 @@
 use vme_am::Space;
 
 /// A fault of a request: K1 to K9.
+///
+/// The rules for codes (K9, K2, K1 and K5) are those of IEEE 1014-1987, 2.2.2 (address modifier
+/// lines), for K4 of 2.3.5 (addressing), for K3 of 2.2.1 (addressing lines), for K6 of 2.3.7 (block
+/// transfer), and for K8 of 2.2.1, 2.3.7 and 2.3.8 (read-modify-write).
 #[derive(Clone, Copy, Debug, PartialEq, Eq)]
 pub enum CycleCause {
     /// K9: the code is above 3f.
@@ -10,29 +14,29 @@ pub enum CycleCause {
     UserCode { am: u8 },
     /// K1: the standard reserves the code.
     ReservedCode { am: u8 },
-    /// K5: the code is one of blocks, and the request is no block.
+    /// K5: the code is a block code, and the request is no block.
     BlockCode { am: u8 },
-    /// K5: the request is a block, and the code is not one of blocks.
+    /// K5: the request is a block, and the code is no block code.
     NoBlockCode { am: u8 },
     /// K7: a read-modify-write has a program code.
     ProgramModify { am: u8 },
-    /// K8: a single cycle carries 1 to 4 bytes, and this one `bytes`.
+    /// K8: a single read or write has 1 to 4 bytes, and this one `bytes`.
     SingleLength { bytes: usize },
     /// K8: a read-modify-write has 1, 2 or 4 bytes, and this one `bytes`.
     ModifyLength { bytes: usize },
-    /// K8: data of a block with this code have 1, 2 or 4 bytes, and these `bytes`.
+    /// K8: a datum of a block with this code has 1, 2 or 4 bytes, and here `bytes`.
     DatumLength { am: u8, bytes: usize },
-    /// K8: data with this code have eight bytes, and these `bytes`.
+    /// K8: a datum of a block with this code has eight bytes, and here `bytes`.
     WideLength { am: u8, bytes: usize },
     /// K8: a block has 1 to 256 data, and this one `data`.
     DataCount { data: usize },
-    /// K8: the bytes of a block write are not a multiple of the datum length.
+    /// K8: the number of bytes of a block write, `bytes`, is not a multiple of the datum length.
     BytesLeft { bytes: usize, datum: u8 },
     /// K4: the last byte is at `last`, past the last address of the space.
     OutsideSpace { space: Space, last: u64 },
     /// K3: no byte location has `bytes` bytes from `addr` on.
     NoLocation { addr: u32, bytes: u8 },
-    /// K3: the address is not a multiple of the datum length.
+    /// K3: the address of a block or of a read-modify-write is not a multiple of the datum length.
     AddressNotAligned { addr: u32, datum: u8 },
     /// K6: the block from `addr` to `last` crosses a multiple of `boundary`.
     Crosses { addr: u32, last: u64, boundary: u16 },

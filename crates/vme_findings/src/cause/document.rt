@@ -10,12 +10,19 @@ use vme_script::ConfigFault;
 /// The kind of a TOML value.
 #[derive(Clone, Copy, Debug, PartialEq, Eq)]
 pub enum ValueKind {
+    /// A string.
     Text,
+    /// A whole number.
     Whole,
+    /// A number with a fraction or an exponent, an infinity, or `nan`.
     Float,
+    /// A Boolean.
     Truth,
+    /// A date, a time, or both.
     Date,
+    /// An array, also one of tables.
     Array,
+    /// A table.
     Table,
 }
 
@@ -39,11 +46,12 @@ impl ValueKind {
 pub enum DocumentCause {
     /// C6: the text is not TOML.
     NotToml { error: Error },
-    /// C7: no key of the table has this name. The place is `Unknown`.
+    /// C7: the table has no key of this name. The place is `Place::Unknown`.
     UnknownKey,
     /// C7: the table has no `key`, which is required. The place is the table.
     MissingKey { key: Key },
-    /// C7: the value has another kind. For `board` and `mailbox` the kind wanted is `Array`.
+    /// C7: the value has the kind `found` in place of `wanted`. For `schedule`, `board` and
+    /// `mailbox` the kind wanted is `Array`.
     WrongKind { found: ValueKind, wanted: ValueKind },
     /// C7: the whole number is below 0 or above 2^32 - 1. The place is a value, or the slot or the
     /// turns of a pair of `schedule`.
@@ -51,8 +59,8 @@ pub enum DocumentCause {
     /// C7: an element of `schedule` is not an array of two whole numbers, nor are the `more`
     /// elements after it.
     NotPair { more: usize },
-    /// C7: an element of `board` or `mailbox` is not a table but of this kind, and so are the
-    /// `more` elements after it.
+    /// C7: an element of `board` or `mailbox` is not a table but of the kind `found`, and so are
+    /// the `more` elements after it.
     NotTable { found: ValueKind, more: usize },
     /// C11: there is no board.
     NoBoard,

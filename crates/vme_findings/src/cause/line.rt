@@ -8,33 +8,53 @@ use vme_script::{LineFault, ScriptRefusal};
 /// The form of a line: its command, and the function of a read-modify-write if it is known.
 #[derive(Clone, Copy, Debug, PartialEq, Eq)]
 pub enum LineForm {
+    /// `r`.
     Read,
+    /// `w`.
     Write,
+    /// `br`.
     BlockRead,
+    /// `bw`.
     BlockWrite,
+    /// `bf`.
     BlockFill,
-    /// `m` without a function.
+    /// `m` whose function is absent or unknown.
     Modify,
+    /// `m` with `set`.
     ModifySet,
+    /// `m` with `xchg`.
     ModifyExchange,
+    /// `m` with `add`.
     ModifyAdd,
+    /// `m` with `cas`.
     ModifyCompare,
+    /// `lr`.
     LocalRead,
+    /// `lw`.
     LocalWrite,
-    /// `lm` without a function.
+    /// `lm` whose function is absent or unknown.
     LocalModify,
+    /// `lm` with `set`.
     LocalModifySet,
+    /// `lm` with `xchg`.
     LocalModifyExchange,
+    /// `lm` with `add`.
     LocalModifyAdd,
+    /// `lm` with `cas`.
     LocalModifyCompare,
+    /// `await`.
     Await,
+    /// `lock`.
     Lock,
+    /// `unlock`.
     Unlock,
+    /// `put`.
     Put,
+    /// `take`.
     Take,
 }
 
-/// The numbers of bytes that a field has.
+/// The numbers of bytes that a word may have.
 #[derive(Clone, Copy, Debug, PartialEq, Eq)]
 pub enum DataLength {
     /// This many.
@@ -65,7 +85,8 @@ pub enum LineCause {
     /// S2: no function has this name.
     UnknownFunction,
     /// S3: a line of this form has `wanted` words after the first one, and this line has `found`.
-    /// The place is what begins with the first word too many, or the end of the line.
+    /// The place is from the first word too many to the end of the line, or the end if words are
+    /// missing.
     WordCount {
         form: LineForm,
         wanted: usize,
@@ -90,24 +111,25 @@ pub enum LineCause {
         number: u8,
         declared: usize,
     },
-    /// S7: the word is not all hexadecimal digits.
+    /// S7: a character of the word is no hexadecimal digit.
     NoHexDigits,
     /// S7: the word has this odd number of hexadecimal digits.
     OddDigits {
         digits: usize,
     },
-    /// S7: the word is `found` bytes, and a line of this form has `wanted`.
+    /// S7: the word has `found` bytes, two digits each, and a line of this form has `wanted`.
     WrongLength {
         form: LineForm,
         found: usize,
         wanted: DataLength,
     },
-    /// S8: the script has this many lines, more than 1,000. The place is line 1,001.
+    /// S8: the script has this many lines, more than 1,000. The place is the whole line 1,001.
     TooManyLines {
         lines: usize,
     },
-    /// S9: the line accesses the bytes from `low` to `high` of the board, and the mailbox with the
-    /// index `mailbox` has those from `mailbox_low` to `mailbox_high`.
+    /// S9: the line accesses the bytes of the board at the offsets from `low` to `high`, and the
+    /// mailbox with the index `mailbox` has those from `mailbox_low` to `mailbox_high`. The place
+    /// is the address or the offset.
     TouchesMailbox {
         board: BoardName,
         low: u32,
@@ -119,7 +141,7 @@ pub enum LineCause {
 }
 
 impl LineCause {
-    /// Returns the refusal of the line, or `None` for a script that has too many.
+    /// Returns the refusal of the line, or `None` for a script that has too many lines.
     pub(crate) fn fault(self) -> Option<LineFault>
         ensures { result ≡ line_fault self }
     {
@@ -144,7 +166,7 @@ impl LineCause {
         }
     }
 
-    /// Returns the refusal of a script whose line with this number has the fault.
+    /// Returns the refusal of a script whose line with this number, from 1, has the fault.
     pub(crate) fn refusal(self, number: u16) -> ScriptRefusal
         ensures { result ≡ script_refusal number (line_fault self) }
     {

@@ -10,7 +10,7 @@ pub enum MailboxCause {
     TooManyMailboxes {
         mailboxes: usize,
     },
-    /// The code is not one of data or short access.
+    /// The code is none of 09, 0d, 29, 2d, 39 and 3d, those of data and short access.
     CodeRange {
         am: u32,
     },
@@ -22,14 +22,16 @@ pub enum MailboxCause {
     SlotsRange {
         slots: u32,
     },
-    /// No board of the code's space has the address. `there` is a space in which a board has it.
+    /// No board of the code's space has the address. `there` is another space in which a board has
+    /// it, or `None`.
     NoBoardThere {
         am: u8,
         addr: u32,
         space: Space,
         there: Option<Space>,
     },
-    /// The board has the address, and responds to supervisory codes only, as `instead`.
+    /// The board has the address, and responds to supervisory codes only. `instead` is the one in
+    /// place of `am`.
     SupervisoryBoard {
         board: BoardName,
         am: u8,
@@ -51,8 +53,8 @@ pub enum MailboxCause {
     NoModify {
         board: BoardName,
     },
-    /// The mailbox shares a byte with an earlier one, with index `other`, which has the bytes from
-    /// `low` to `high` of its board.
+    /// The mailbox shares a byte with an earlier one, with index `other`, which has the bytes at
+    /// the offsets from `low` to `high` of its board.
     Shared {
         other: usize,
         low: u32,
@@ -61,7 +63,7 @@ pub enum MailboxCause {
 }
 
 impl MailboxCause {
-    /// Returns the place of the other mailbox's address.
+    /// Returns the place of the other mailbox's address, if the fault is one of two mailboxes.
     pub(crate) fn other_place(self) -> Option<Place> {
         match self {
             MailboxCause::Shared { other, .. } => Some(Place::Value {

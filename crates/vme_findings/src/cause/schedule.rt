@@ -16,7 +16,7 @@ pub enum ScheduleCause {
     /// C12: there is no board in the slot of a pair, nor in that of `more` later pairs with the
     /// same slot. Bit i of `slots` is set where there is a board in slot i.
     NoBoardInSlot { slot: u32, more: usize, slots: u32 },
-    /// C12: the turns up to this pair are more than 1,000,000. All pairs have `turns`.
+    /// C12: the turns up to this pair are more than 1,000,000. All pairs together have `turns`.
     TooManyTurns { turns: u64 },
 }
 

@@ -5,13 +5,13 @@ use vme_am::Space;
 /// A warning of a file's turns, mailboxes or numbers.
 #[derive(Clone, Copy, Debug, PartialEq, Eq)]
 pub enum FileWarning {
-    /// `no-turns`: scripts have lines, and `vme step` gives nobody a turn.
+    /// `no-turns`: scripts have lines, and no slot with a board has a turn of `vme step`.
     NoTurns,
     /// `no-turns`: the script of the board in `slot` has lines, and its slot has no turn.
     NoTurnsOfSlot { slot: u16 },
-    /// `few-turns`: the slot has `turns` turns, and its lines take at least `least`.
+    /// `few-turns`: the slot has `turns` turns of `vme step`, and its lines take at least `least`.
     FewTurns { slot: u16, turns: u64, least: u64 },
-    /// `idle-turns`: the slot has turns in `schedule`, and no line.
+    /// `idle-turns`: the slot has turns in `schedule`, and its script has no line.
     IdleTurns { slot: u16 },
     /// `no-lines`: no script requests anything.
     NoLines,
@@ -35,7 +35,7 @@ impl FileWarning {
     }
 }
 
-/// What a board lacks for a transfer.
+/// What a board does not have and a transfer needs.
 #[derive(Clone, Copy, Debug, PartialEq, Eq)]
 pub enum Lack {
     /// Unaligned transfers.
@@ -48,13 +48,13 @@ pub enum Lack {
     DataLines(u8),
 }
 
-/// A warning of a script's line. The place is the word that is meant.
+/// A warning of a script's line. The place is the word of the line that causes it.
 #[derive(Clone, Copy, Debug, PartialEq, Eq)]
 pub enum LineWarning {
     /// K1 to K9: the line's request is always refused.
     AlwaysRefused(CycleCause),
     /// `nobody-answers`: no board of the space has the address. `there` is the slot and the space
-    /// of a board that has it.
+    /// of a board that has it in another space, or `None`.
     NoBoardThere {
         space: Space,
         addr: u32,
@@ -62,7 +62,7 @@ pub enum LineWarning {
         there: Option<(u16, Space)>,
     },
     /// `nobody-answers`: the board in `slot` has the address, and responds to supervisory codes
-    /// only, as `instead`.
+    /// only. `instead` is the one in place of `am`.
     SupervisoryBoard {
         slot: u16,
         am: u8,
@@ -75,25 +75,28 @@ pub enum LineWarning {
         size: u32,
         datum: u32,
     },
-    /// `past-end`: the bytes end past the board in `slot`, which has `size` bytes.
+    /// `past-end`: the bytes that the line accesses end past the board in `slot`, which has `size`
+    /// bytes.
     PastEnd {
         slot: u16,
         size: u32,
     },
-    /// `board-lacks`: the board in `slot` lacks something for the transfer, after `data` data.
+    /// `board-lacks`: the board in `slot` does not support the transfer, which ends after `data`
+    /// data.
     BoardLacks {
         slot: u16,
         lack: Lack,
         data: u32,
     },
-    /// `never-met`: no line writes an awaited byte other than 00.
+    /// `never-met`: the line waits for bytes, and no line may write one of them that is not 00.
     NeverMet,
-    /// `lock-written`: the line with this slot and number writes the lock byte.
+    /// `lock-written`: another line, with this number in the script of the board in `slot`, writes
+    /// the byte of the lock.
     LockWritten {
         slot: u16,
         line: u16,
     },
-    /// `lock-kept`: no line unlocks the byte.
+    /// `lock-kept`: no line unlocks the byte that this line locks.
     LockKept,
 }
 

@@ -55,12 +55,12 @@ fn has_round(file: &FileTable<'_>) -> bool {
     false
 }
 
-/// Whether a whole number of a TOML text is decimal.
+/// Whether the text of a whole number of TOML is decimal.
 fn is_decimal(digits: &[u8]) -> bool {
     !matches!(digits, [] | [b'0', b'x' | b'o' | b'b', ..])
 }
 
-/// Finds one address, if its text is decimal.
+/// Finds one address, if its text is decimal and its digits end in 00.
 fn find_decimal(
     text: &[u8],
     outline: &Outline,

@@ -15,10 +15,12 @@ use vme_lexer::Lines;
 use vme_memory::BoardCmd;
 use vme_positions::Place;
 
-/// The least number of turns of a lock, an unlock, a put, a take or a wait that is met.
+/// The least number of turns of `vme step` that a lock, an unlock, a put, a take or a wait takes if
+/// it ends.
 const SHARED_TURNS: u64 = 3;
 
-/// Finds the warnings of a script's lines. Returns what the script asks for.
+/// Finds the warnings of a script's lines, and records in `uses` what the lines do to shared bytes.
+/// Returns the turns and the mailboxes that the script asks for.
 pub(crate) fn find_lines(
     board: usize,
     table: &BoardTable<'_>,
@@ -39,7 +41,7 @@ pub(crate) fn find_lines(
         if let Ok(Some(line)) = parse_line(text) {
             let outcome = line_outcome(&line, table, backplane);
             demand.lines = demand.lines.saturating_add(1);
-            demand.mailboxes |= box_bit(&line);
+            demand.mailboxes |= mailbox_bit(&line);
             demand.least = demand.least.saturating_add(outcome.least);
             let asked = Asked {
                 board,
@@ -57,10 +59,13 @@ pub(crate) fn find_lines(
 /// A line of a script that requests something.
 #[derive(Clone, Copy)]
 struct Asked<'a> {
-    /// The board of the script.
+    /// The index of the script's board.
     board: usize,
+    /// The slot of that board.
     slot: u16,
+    /// The number of the line, from 1.
     number: u16,
+    /// The bytes of the line.
     text: &'a [u8],
 }
 
@@ -85,7 +90,8 @@ fn find_outcome(
     }
 }
 
-/// Keeps what a line does to shared bytes.
+/// Records the bytes that a line changes, and those of its lock or its wait. `is_certain` states
+/// that the line has no warning.
 fn keep_uses(
     asked: &Asked<'_>,
     line: &Line,
@@ -119,15 +125,15 @@ fn keep_uses(
     Ok(())
 }
 
-/// The bit of the mailbox that a line names.
-fn box_bit(line: &Line) -> u32 {
+/// The bit of the mailbox that a line names, or 0: bit i for number i.
+fn mailbox_bit(line: &Line) -> u32 {
     match line {
         Line::Put { mailbox, .. } | Line::Take { mailbox } if *mailbox < 32 => 1 << *mailbox,
         _ => 0,
     }
 }
 
-/// What always becomes of a line.
+/// The outcome that a line has in every run.
 fn line_outcome(line: &Line, board: &BoardTable<'_>, backplane: &Backplane<'_, '_>) -> Outcome {
     match line {
         Line::Bus(request) => outcome_of(request, backplane),
@@ -164,7 +170,8 @@ fn line_outcome(line: &Line, board: &BoardTable<'_>, backplane: &Backplane<'_, '
     }
 }
 
-/// What always becomes of a line that makes this request, perhaps several times.
+/// The outcome that a lock, an unlock or a wait has in every run. Its line makes this request once
+/// or more often.
 fn shared(request: &Request, backplane: &Backplane<'_, '_>) -> Outcome {
     let outcome = outcome_of(request, backplane);
     match outcome.warning {
@@ -173,7 +180,7 @@ fn shared(request: &Request, backplane: &Backplane<'_, '_>) -> Outcome {
     }
 }
 
-/// What always becomes of a command to the local port.
+/// The outcome that a command to the local port has in every run.
 fn local_outcome(command: &BoardCmd, board: &BoardTable<'_>) -> Outcome {
     let (offset, len) = match command {
         BoardCmd::LocalRead { offset, n } | BoardCmd::LocalModify { offset, n, .. } => {

@@ -1,17 +1,15 @@
-//! What becomes of a request in every run: its refusal, or the bus error with which it ends.
+//! The outcome that a request has in every run: its refusal, or the bus error with which it ends.
 use crate::cause::{Lack, LineWarning};
 use crate::cycle::{cycle_cause, faulty_word, parts_of};
+use crate::mailboxes::SUPERVISORY;
 use vme_am::{Am, Space};
 use vme_config_toml::BoardTable;
 use vme_cycle::{Plan, Request};
 use vme_decode::AddressMap;
 use vme_lanes::Location;
 
-/// The least number of turns of a transfer, without those of its data.
-const ENDS: u64 = 2;
-
-/// The bit of a code that states supervisory privilege.
-const SUPERVISORY: u8 = 0x04;
+/// The least number of turns of `vme step` that a transfer takes besides those of its data.
+const TRANSFER_TURNS: u64 = 2;
 
 /// The boards of a configuration, and their address map.
 #[derive(Clone, Copy)]
@@ -20,12 +18,12 @@ pub(crate) struct Backplane<'a, 't> {
     pub boards: &'a [BoardTable<'t>],
 }
 
-/// What becomes of a line in every run.
+/// What every run of a line has in common.
 #[derive(Clone, Copy)]
 pub(crate) struct Outcome {
-    /// The least number of turns that the line takes.
+    /// The least number of turns of `vme step` that the line takes.
     pub least: u64,
-    /// The warning, and the word of the line that it means, from 0.
+    /// The warning, and the index of the word that causes it, from 0.
     pub warning: Option<(LineWarning, usize)>,
 }
 
@@ -38,7 +36,7 @@ impl Outcome {
         }
     }
 
-    /// An outcome with a warning of the address or offset.
+    /// An outcome with a warning at the address of a request.
     fn warned(least: u64, warning: LineWarning) -> Outcome {
         Outcome {
             least,
@@ -47,7 +45,7 @@ impl Outcome {
     }
 }
 
-/// A lawful slot as the number of a board.
+/// A slot as a `u16`. The slot of a configuration is from 1 to 21, so it fits; another is 0.
 pub(crate) fn slot_number(slot: u32) -> u16 {
     match u16::try_from(slot) {
         Ok(slot) => slot,
@@ -55,7 +53,7 @@ pub(crate) fn slot_number(slot: u32) -> u16 {
     }
 }
 
-/// What becomes of a request in every run.
+/// The outcome that a request has in every run.
 pub(crate) fn outcome_of(request: &Request, backplane: &Backplane<'_, '_>) -> Outcome {
     match Plan::of(request) {
         Err(fault) => {
@@ -68,11 +66,11 @@ pub(crate) fn outcome_of(request: &Request, backplane: &Backplane<'_, '_>) -> Ou
         Ok(plan) => match backplane.map.select_at(plan.am(), plan.addr()) {
             Some((board, offset)) => match backplane.boards.get(board) {
                 Some(table) => plan_outcome(&plan, table, offset),
-                None => Outcome::of_turns(ENDS),
+                None => Outcome::of_turns(TRANSFER_TURNS),
             },
             None => Outcome {
-                least: ENDS,
-                warning: Some(nobody(plan.am(), plan.addr(), backplane)),
+                least: TRANSFER_TURNS,
+                warning: Some(nobody_answers(plan.am(), plan.addr(), backplane)),
             },
         },
     }
@@ -93,7 +91,7 @@ fn name_of(space: Space) -> &'static str {
     }
 }
 
-/// The slot of a board that has an address of a space.
+/// The slot of the first board that has an address of a space.
 fn slot_with(backplane: &Backplane<'_, '_>, space: Space, addr: u32) -> Option<u16> {
     for board in backplane.boards {
         if has_address(board, name_of(space), addr) {
@@ -103,8 +101,9 @@ fn slot_with(backplane: &Backplane<'_, '_>, space: Space, addr: u32) -> Option<u
     None
 }
 
-/// The warning of a transfer that no board responds to, at its address or code.
-fn nobody(am: Am, addr: u32, backplane: &Backplane<'_, '_>) -> (LineWarning, usize) {
+/// The warning of a transfer to which no board responds, and the index of the word that causes it:
+/// the code or the address.
+fn nobody_answers(am: Am, addr: u32, backplane: &Backplane<'_, '_>) -> (LineWarning, usize) {
     let space = am.space();
     if let Some(slot) = slot_with(backplane, space, addr) {
         let warning = LineWarning::SupervisoryBoard {
@@ -132,7 +131,7 @@ fn nobody(am: Am, addr: u32, backplane: &Backplane<'_, '_>) -> (LineWarning, usi
     (warning, 2)
 }
 
-/// What a board lacks for a transfer.
+/// What a board does not have and a transfer needs, if there is anything.
 fn lack_of(plan: &Plan<'_>, board: &BoardTable<'_>) -> Option<Lack> {
     if plan.am().kind().is_block() && !board.class.blt {
         return Some(Lack::Blocks);
@@ -163,7 +162,7 @@ fn needs(location: Location) -> (u8, bool) {
     }
 }
 
-/// What becomes of a lawful request whose first byte is at an offset of a board.
+/// The outcome in every run of a lawful request whose first byte is at an offset of a board.
 fn plan_outcome(plan: &Plan<'_>, board: &BoardTable<'_>, offset: u32) -> Outcome {
     let slot = slot_number(board.slot);
     if let Some(lack) = lack_of(plan, board) {
@@ -172,13 +171,13 @@ fn plan_outcome(plan: &Plan<'_>, board: &BoardTable<'_>, offset: u32) -> Outcome
             lack,
             data: 0,
         };
-        return Outcome::warned(ENDS, warning);
+        return Outcome::warned(TRANSFER_TURNS, warning);
     }
     let size = board.range.size;
     let data = u32::from(plan.len());
     let fit = size.saturating_sub(offset) / u32::from(plan.datum_len());
     if fit >= data {
-        return Outcome::of_turns(ENDS + u64::from(data));
+        return Outcome::of_turns(TRANSFER_TURNS + u64::from(data));
     }
     let warning = if plan.am().kind().is_block() {
         LineWarning::DatumPastEnd {
@@ -189,5 +188,5 @@ fn plan_outcome(plan: &Plan<'_>, board: &BoardTable<'_>, offset: u32) -> Outcome
     } else {
         LineWarning::PastEnd { slot, size }
     };
-    Outcome::warned(ENDS + u64::from(fit), warning)
+    Outcome::warned(TRANSFER_TURNS + u64::from(fit), warning)
 }

@@ -1,5 +1,5 @@
-//! Warnings of bytes that several lines use: locks that stay taken or are written over, and waits
-//! for bytes that nobody writes.
+//! Warnings of bytes that several lines use: locks that stay taken or are overwritten, and waits
+//! for bytes that no line writes.
 use crate::cause::LineWarning;
 use crate::warnings::list::Warnings;
 use crate::words::Span;
@@ -26,35 +26,45 @@ pub(crate) enum Change {
 /// Bytes that a line changes.
 #[derive(Clone, Copy)]
 pub(crate) struct Access {
+    /// The bytes.
     pub range: BoardRange,
+    /// How the line changes them.
     pub change: Change,
+    /// The slot of the script's board.
     pub slot: u16,
+    /// The number of the line, from 1.
     pub line: u16,
-    /// Whether the line has no warning: else it may change fewer bytes, or none.
+    /// Whether the line has no warning. A line with one may change fewer bytes, or none.
     pub is_certain: bool,
 }
 
 /// The byte of a lock, or the bytes for which a line waits.
 #[derive(Clone, Copy)]
 pub(crate) struct Watch {
+    /// The bytes.
     pub range: BoardRange,
-    /// Bit i is set where byte i is awaited and not 00. A lock awaits none.
+    /// Bit i is set if byte i is awaited and not 00. A lock has no bits.
     pub awaited: u32,
-    /// The board of the script.
+    /// The index of the script's board.
     pub board: usize,
+    /// The slot of that board.
     pub slot: u16,
+    /// The number of the line, from 1.
     pub line: u16,
+    /// The word of the line at which a warning stands.
     pub span: Span,
 }
 
 /// What the lines of all scripts do to shared bytes.
 #[derive(Drop)]
 pub(crate) struct Uses {
+    /// The bytes that lines change.
     pub accesses: Vec<Access>,
+    /// The bytes of locks and waits.
     pub watches: Vec<Watch>,
 }
 
-/// How a line changes bytes, if it does. A put and a take change those of a mailbox alone.
+/// How a line changes bytes outside mailboxes, if it does.
 pub(crate) fn change_of(line: &Line) -> Option<Change> {
     match line {
         Line::Bus(request) => match request {
@@ -103,7 +113,7 @@ pub(crate) fn find_shared(uses: &Uses, warnings: &mut Warnings) -> Result<(), Al
     Ok(())
 }
 
-/// Appends a warning of a line.
+/// Appends a warning of the line of a lock or a wait.
 fn warn(watch: &Watch, warning: LineWarning, warnings: &mut Warnings) -> Result<(), AllocError> {
     let place = Place::Word {
         board: watch.board,
@@ -119,7 +129,7 @@ fn has_byte(range: BoardRange, board: usize, offset: u32) -> bool {
     range.board == board && range.offset <= offset && offset - range.offset < range.len
 }
 
-/// Whether some awaited byte that is not 00 is one that no line writes.
+/// Whether no line writes some awaited byte that is not 00.
 fn is_unwritten(watch: &Watch, accesses: &[Access]) -> bool {
     for index in 0..8 {
         if watch.awaited & (1 << index) != 0 {

@@ -5,14 +5,14 @@ use std::alloc::AllocError;
 use vme_positions::{Key, Place, TableName};
 use vme_script::Config;
 
-/// What the script of a board asks for.
+/// The turns and the mailboxes that the script of a board asks for.
 #[derive(Clone, Copy)]
 pub(crate) struct Demand {
     /// The number of lines that request something.
     pub lines: u32,
-    /// The least number of turns that they take.
+    /// The least number of turns of `vme step` that these lines take.
     pub least: u64,
-    /// The mailboxes that they name: bit i is set for number i.
+    /// The mailboxes that these lines name: bit i is set for number i.
     pub mailboxes: u32,
     /// The slot of the board.
     pub slot: u16,
@@ -44,8 +44,8 @@ pub(crate) const FIRST_BOARD: Place = Place::Table {
     index: 0,
 };
 
-/// Finds the warnings of turns. `demands` are those of the boards, and `place` is that of the
-/// file's turns.
+/// Finds the warnings of turns. `demands` has an element for each board, and `place` is the place
+/// at which the file's turns are stated.
 pub(crate) fn find_turns(
     demands: &[Demand],
     config: &Config,

@@ -7,14 +7,15 @@ use toml_parser::dotted_key;
 
 /// What a comparison found.
 #[derive(Drop)]
-pub(super) struct Leaves {
+pub(super) struct Checks {
     /// How many parts were compared.
     pub(super) count: usize,
-    /// The parts whose text is another.
+    /// The parts that do not stand where the outline has them.
     pub(super) faults: Vec<String>,
 }
 
-impl Leaves {
+impl Checks {
+    /// Counts a part, and adds its place to the faults unless `holds`.
     fn expect(&mut self, alloc: Global, holds: bool, place: &Place) -> Result<(), AllocError> {
         self.count = self.count.saturating_add(1);
         if !holds {
@@ -24,7 +25,7 @@ impl Leaves {
     }
 }
 
-/// A text, its outline, and what was found of it.
+/// A text and its outline.
 #[derive(Drop)]
 struct Comparison<'a> {
     alloc: Global,
@@ -32,32 +33,32 @@ struct Comparison<'a> {
     outline: &'a Outline,
 }
 
-/// Compares the outline of a text with its table. Of a text that is no TOML there is nothing.
-pub(super) fn leaves_of(alloc: Global, text: &[u8]) -> Result<Leaves, AllocError> {
-    let mut leaves = Leaves {
+/// Compares the outline of a text with its table. If the text is no TOML, it compares nothing.
+pub(super) fn checks_of(alloc: Global, text: &[u8]) -> Result<Checks, AllocError> {
+    let mut checks = Checks {
         count: 0,
         faults: Vec::new(alloc),
     };
     let outline = Outline::of(alloc, text)?;
     let Ok(file) = toml::table_from_slice(alloc, text) else {
-        return Ok(leaves);
+        return Ok(checks);
     };
     let comparison = Comparison {
         alloc,
         text,
         outline: &outline,
     };
-    comparison.table(&mut leaves, TableName::File, 0, &file)?;
+    comparison.table(&mut checks, TableName::File, 0, &file)?;
     if let Some(Value::Array(items)) = file.get("schedule") {
-        comparison.schedule(&mut leaves, items)?;
+        comparison.schedule(&mut checks, items)?;
     }
     if let Some(Value::Array(items)) = file.get("board") {
-        comparison.tables(&mut leaves, TableName::Board, Key::Board, items)?;
+        comparison.tables(&mut checks, TableName::Board, Key::Board, items)?;
     }
     if let Some(Value::Array(items)) = file.get("mailbox") {
-        comparison.tables(&mut leaves, TableName::Mailbox, Key::Mailbox, items)?;
+        comparison.tables(&mut checks, TableName::Mailbox, Key::Mailbox, items)?;
     }
-    Ok(leaves)
+    Ok(checks)
 }
 
 impl<'a> Comparison<'a> {
@@ -68,10 +69,10 @@ impl<'a> Comparison<'a> {
         std::str::from_utf8(bytes).unwrap_or("")
     }
 
-    /// The keys of a table and their values.
+    /// Compares the keys of a table and their values.
     fn table(
         &self,
-        leaves: &mut Leaves,
+        checks: &mut Checks,
         table: TableName,
         index: usize,
         members: &Table,
@@ -81,23 +82,23 @@ impl<'a> Comparison<'a> {
             match Key::named(table, name.as_str()) {
                 Some(key) => {
                     let at = Place::Key { table, index, key };
-                    leaves.expect(self.alloc, self.is_key(&at, name.as_str())?, &at)?;
+                    checks.expect(self.alloc, self.is_key(&at, name.as_str())?, &at)?;
                     let at = Place::Value { table, index, key };
-                    leaves.expect(self.alloc, self.is_value(&at, value)?, &at)?;
+                    checks.expect(self.alloc, self.is_value(&at, value)?, &at)?;
                 }
                 None => {
                     let at = Place::Unknown { table, index, nth };
                     let known = self.outline.unknown_name(table, index, nth);
                     let is_named = known.unwrap_or("") == name.as_str();
                     let holds = is_named && self.is_key(&at, name.as_str())?;
-                    leaves.expect(self.alloc, holds, &at)?;
+                    checks.expect(self.alloc, holds, &at)?;
                     nth = nth.saturating_add(1);
                 }
             }
         }
         let at = Place::Unknown { table, index, nth };
         let is_last = self.outline.unknown_name(table, index, nth).is_none();
-        leaves.expect(self.alloc, is_last, &at)
+        checks.expect(self.alloc, is_last, &at)
     }
 
     /// Whether a key stands at a place, or a header with that key.
@@ -130,53 +131,53 @@ impl<'a> Comparison<'a> {
         Ok(is_table && dotted_key(self.alloc, text.trim_start_matches('[').trim_start()).is_ok())
     }
 
-    /// The elements of `schedule`.
-    fn schedule(&self, leaves: &mut Leaves, items: &Vec<Value>) -> Result<(), AllocError> {
+    /// Compares the elements of `schedule`.
+    fn schedule(&self, checks: &mut Checks, items: &Vec<Value>) -> Result<(), AllocError> {
         for (index, item) in items.iter().enumerate() {
             let key = Key::Schedule;
             let at = Place::Element { key, index };
-            leaves.expect(self.alloc, self.is_value(&at, item)?, &at)?;
+            checks.expect(self.alloc, self.is_value(&at, item)?, &at)?;
             if let Value::Array(pair) = item
                 && let [slot, turns] = pair.as_slice()
             {
                 let at = Place::PairSlot { index };
-                leaves.expect(self.alloc, self.is_value(&at, slot)?, &at)?;
+                checks.expect(self.alloc, self.is_value(&at, slot)?, &at)?;
                 let at = Place::PairTurns { index };
-                leaves.expect(self.alloc, self.is_value(&at, turns)?, &at)?;
+                checks.expect(self.alloc, self.is_value(&at, turns)?, &at)?;
             }
         }
         Ok(())
     }
 
-    /// The elements of an array of tables, their keys and values, and their scripts.
+    /// Compares the elements of an array of tables, their keys and values, and their scripts.
     fn tables(
         &self,
-        leaves: &mut Leaves,
+        checks: &mut Checks,
         table: TableName,
         key: Key,
         items: &Vec<Value>,
     ) -> Result<(), AllocError> {
         for (index, item) in items.iter().enumerate() {
             let at = Place::Element { key, index };
-            leaves.expect(self.alloc, self.is_value(&at, item)?, &at)?;
+            checks.expect(self.alloc, self.is_value(&at, item)?, &at)?;
             if let Value::Table(members) = item {
                 let at = Place::Table { table, index };
                 let header = self.text_at(&at);
                 let is_header = header == "{" || header.starts_with("[[");
-                leaves.expect(self.alloc, is_header, &at)?;
-                self.table(leaves, table, index, members)?;
+                checks.expect(self.alloc, is_header, &at)?;
+                self.table(checks, table, index, members)?;
                 if let Some(Value::String(script)) = members.get("script")
                     && table == TableName::Board
                 {
-                    self.script(leaves, index, script.as_str())?;
+                    self.script(checks, index, script.as_str())?;
                 }
             }
         }
         Ok(())
     }
 
-    /// The lines of a script, and the bytes of each line.
-    fn script(&self, leaves: &mut Leaves, board: usize, script: &str) -> Result<(), AllocError> {
+    /// Compares each line of a script, and each of its characters.
+    fn script(&self, checks: &mut Checks, board: usize, script: &str) -> Result<(), AllocError> {
         let value = self.text_at(&Place::Value {
             table: TableName::Board,
             index: board,
@@ -186,22 +187,23 @@ impl<'a> Comparison<'a> {
             let mut from = 0usize;
             for character in line.chars() {
                 let to = from.saturating_add(character.len_utf8());
-                self.word(leaves, value, board, index, line, Span { from, to })?;
+                self.word(checks, value, board, index, line, Span { from, to })?;
                 from = to;
             }
             let whole = Span {
                 from: 0,
                 to: line.len(),
             };
-            self.word(leaves, value, board, index, line, whole)?;
+            self.word(checks, value, board, index, line, whole)?;
         }
         Ok(())
     }
 
-    /// Bytes of a line: their text between the delimiters of the script is a string of these bytes.
+    /// Compares bytes of a line: their text, between the delimiters of the script, is a string that
+    /// stands for these bytes.
     fn word(
         &self,
-        leaves: &mut Leaves,
+        checks: &mut Checks,
         value: &str,
         board: usize,
         index: usize,
@@ -221,7 +223,7 @@ impl<'a> Comparison<'a> {
             Ok(read) => read.as_str() == line.get(bytes.from..bytes.to),
             Err(_) => false,
         };
-        leaves.expect(self.alloc, holds, &at)
+        checks.expect(self.alloc, holds, &at)
     }
 }
 
