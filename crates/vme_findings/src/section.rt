@@ -6,44 +6,6 @@ use std::alloc::AllocError;
 use toml::{Table, Value};
 use vme_positions::{Key, Place, TableName};
 
-/// The keys at the top of a file.
-static FILE_KEYS: [Key; 6] = [
-    Key::Rounds,
-    Key::Schedule,
-    Key::Arbiter,
-    Key::Tries,
-    Key::Board,
-    Key::Mailbox,
-];
-
-/// The keys of a board.
-static BOARD_KEYS: [Key; 11] = [
-    Key::Slot,
-    Key::Level,
-    Key::Space,
-    Key::Base,
-    Key::Size,
-    Key::Width,
-    Key::Uat,
-    Key::Blt,
-    Key::Rmw,
-    Key::Supervisory,
-    Key::Script,
-];
-
-/// The keys of a mailbox.
-static MAILBOX_KEYS: [Key; 3] = [Key::Am, Key::Addr, Key::Slots];
-
-/// Whether `name` is the name of one of the keys.
-fn is_one_of(keys: &[Key], name: &str) -> bool {
-    for key in keys {
-        if key.name() == name {
-            return true;
-        }
-    }
-    false
-}
-
 /// A table of a file.
 #[derive(Clone, Copy)]
 pub(crate) struct Section<'a> {
@@ -80,14 +42,9 @@ impl<'a> Section<'a> {
 
     /// Finds the unknown keys.
     pub(crate) fn find_unknown(&self, found: &mut Vec<Finding>) -> Result<(), AllocError> {
-        let keys: &[Key] = match self.table {
-            TableName::File => &FILE_KEYS,
-            TableName::Board => &BOARD_KEYS,
-            TableName::Mailbox => &MAILBOX_KEYS,
-        };
         let mut nth: usize = 0;
         for name in self.values.keys() {
-            if !is_one_of(keys, name.as_str()) {
+            if Key::named(self.table, name.as_str()).is_none() {
                 let place = Place::Unknown {
                     table: self.table,
                     index: self.index,
