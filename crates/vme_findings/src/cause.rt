@@ -98,7 +98,7 @@ impl Cause {
             Cause::File(warning) => warning.name(),
             Cause::Line { warning, .. } => warning.name(),
             Cause::RequestCycle(cause) => cause.code(),
-            Cause::RequestBoard => "nobody-answers",
+            Cause::RequestBoard => "no-answer",
         }
     }
 
