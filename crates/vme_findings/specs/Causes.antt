@@ -1,4 +1,4 @@
--- The refusal that the cause of a finding stands for.
+-- The refusal that the cause of a finding stands for, and its severity.
 use Rattle.std.specs.Prelude.{ℕ, Option, Some, None, unwrap_or}
 use Rattle.vme_grammar.specs.declared.fault.LineFault.{LineFault}
 use Rattle.vme_grammar.specs.declared.fault.LineFault.TheVariants as line
@@ -9,6 +9,8 @@ use Rattle.vme_script.specs.declared.fault.ScriptRefusal.{ScriptRefusal}
 use Rattle.vme_script.specs.declared.fault.ScriptRefusal.TheVariants as script
 use Rattle.vme_script.specs.declared.fault.ConfigFault.{ConfigFault}
 use Rattle.vme_script.specs.declared.fault.ConfigFault.TheVariants as config
+use Rattle.vme_findings.specs.declared.cause.Severity.{Severity}
+use Rattle.vme_findings.specs.declared.cause.Severity.TheVariants.{Error, Warning}
 use Rattle.vme_findings.specs.declared.cause.Cause.{Cause}
 use Rattle.vme_findings.specs.declared.cause.Cause.TheVariants as causes
 use Rattle.vme_findings.specs.declared.cause.document.DocumentCause.{DocumentCause}
@@ -100,3 +102,17 @@ refusal_of (causes.Script slot number cause) =
     Some (config.BadScript (unwrap_or slot 0) (script_refusal number (line_fault cause)))
 refusal_of (causes.Refused fault) = Some fault
 refusal_of _ = None
+
+-- whether a cause is an error or a warning
+abbrev pub severity_of : Cause → Severity
+severity_of (causes.Document cause) = Error
+severity_of (causes.Board cause) = Error
+severity_of (causes.Schedule cause) = Error
+severity_of (causes.Mailbox cause) = Error
+severity_of (causes.Script slot number cause) = Error
+severity_of (causes.Refused fault) = Error
+severity_of (causes.File warning) = Warning
+severity_of (causes.Line slot number warning) = Warning
+severity_of (causes.RequestLine cause) = Error
+severity_of (causes.RequestCycle cause) = Error
+severity_of causes.RequestBoard = Warning

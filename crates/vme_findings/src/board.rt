@@ -29,7 +29,7 @@ const LAST_LEVEL: u32 = 3;
 /// The greatest number of bytes of a board.
 const MOST_BYTES: u32 = 1_048_576;
 
-/// The fault of a slot. `before` is the last earlier slot from 1 to 21, of the board with index
+/// The fault of a slot. `before` is the greatest earlier slot from 1 to 21, of the board with index
 /// `other`, or 0 if there is none. `same` is the index of an earlier board with the same slot.
 pub(crate) fn slot_fault(
     before: u32,

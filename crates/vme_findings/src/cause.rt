@@ -1,6 +1,6 @@
 //! The causes of findings. A cause has the values that its text names, and allocates nothing.
 ghost use Rattle.std.specs.Prelude.{◌≡◌};
-ghost use Rattle.vme_findings.specs.Causes.{refusal_of};
+ghost use Rattle.vme_findings.specs.Causes.{refusal_of, severity_of};
 
 mod board;
 mod cycle;
@@ -68,7 +68,9 @@ pub enum Cause {
 
 impl Cause {
     /// Returns whether the cause is an error or a warning.
-    pub fn severity(self) -> Severity {
+    pub fn severity(self) -> Severity
+        ensures { result ≡ severity_of self }
+    {
         match self {
             Cause::File(_) | Cause::Line { .. } | Cause::RequestBoard => Severity::Warning,
             Cause::Document(_)
@@ -96,7 +98,7 @@ impl Cause {
             Cause::File(warning) => warning.name(),
             Cause::Line { warning, .. } => warning.name(),
             Cause::RequestCycle(cause) => cause.code(),
-            Cause::RequestBoard => "nobody-answers",
+            Cause::RequestBoard => "no-answer",
         }
     }
 

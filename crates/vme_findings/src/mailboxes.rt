@@ -122,7 +122,7 @@ pub(crate) fn check(
         });
     };
     let Some(range) = BoardRange::of(map, numbers) else {
-        find_nobody(section, boards, numbers, found)?;
+        find_no_board(section, boards, numbers, found)?;
         return Ok(KnownMailbox::unknown());
     };
     let Some(board) = boards.get(range.board) else {
@@ -242,7 +242,7 @@ fn space_with(boards: &[KnownBoard<'_>], addr: u32) -> Option<Space> {
 }
 
 /// Finds that no board responds to the first byte of a mailbox.
-fn find_nobody(
+fn find_no_board(
     section: &Section<'_>,
     boards: &[KnownBoard<'_>],
     mailbox: Mailbox,

@@ -1,11 +1,12 @@
 //! The finding of a request line: its refusal by `vme cycles`, or a warning.
-ghost use Rattle.std.specs.Prelude.{◌≡◌, Some, Ok, slice_get};
-ghost use Rattle.std.specs.Option.{option_and_then};
+ghost use Rattle.std.specs.Prelude.{◌≡◌, true, Some, is_none, Ok, slice_get};
+ghost use Rattle.std.specs.Option.{option_and_then, option_map_or};
 ghost use Rattle.vme_cycle.specs.Lawful.{first_refusal};
 ghost use Rattle.vme_lexer.specs.Words.{words_of};
 ghost use Rattle.vme_engines.specs.Lines.{is_request_word, is_other_word, request_of};
 ghost use Rattle.vme_findings.specs.Causes.{line_fault};
 ghost use Rattle.vme_findings.specs.Requests.{refusal_by, request_refusal};
+ghost use Rattle.vme_findings.specs.Verdicts.{is_warning};
 
 use crate::cause::{Cause, LineCause};
 use crate::cycle::{cycle_cause, faulty_word, parts_of};
@@ -32,11 +33,13 @@ pub enum RequestRefusal {
 }
 
 /// Returns the finding of a line of `vme cycles`, if there is one: its refusal, or the warning that
-/// its code or address does not select the board. The place is `Place::Word` of board 0, with this
-/// number of the line.
+/// its code or address does not select the board. A lawful line has no finding, or a warning; a
+/// refused line has an error. The place is `Place::Word` of board 0, with this number of the line.
 pub fn request_finding(line: &[u8], number: usize) -> Option<Finding>
-    ensures { option_and_then (λ finding. refusal_by finding.cause) result
+    ensures refusal { option_and_then (λ finding. refusal_by finding.cause) result
         ≡ request_refusal (request_of line.now) }
+    ensures severity { option_map_or is_warning result true
+        ≡ is_none (request_refusal (request_of line.now)) }
 {
     match read_request(line) {
         Ok(Some(request)) => cycle_finding(line, number, &request),
@@ -124,8 +127,10 @@ fn unknown_command(line: &[u8]) -> Located
 
 /// The finding of a request: its refusal, or that its code or address does not select the board.
 fn cycle_finding(line: &[u8], number: usize, request: &Request) -> Option<Finding>
-    ensures { option_and_then (λ finding. refusal_by finding.cause) result
+    ensures refusal { option_and_then (λ finding. refusal_by finding.cause) result
         ≡ request_refusal (Ok (Some request.now)) }
+    ensures severity { option_map_or is_warning result true
+        ≡ is_none (request_refusal (Ok (Some request.now))) }
 {
     match Plan::of(request) {
         Ok(plan) => {

@@ -32,7 +32,7 @@ pub(crate) struct BoardKeys<'a> {
 pub(crate) struct KnownBoard<'a> {
     /// The slot, if it is from 1 to 21.
     pub in_range: Option<u32>,
-    /// The slot, if it is from 1 to 21 and above the last earlier slot in that range.
+    /// The slot, if it is from 1 to 21 and above all earlier slots in that range.
     pub slot: Option<u16>,
     /// The range, if it is lawful by itself.
     pub entry: Option<Entry>,
@@ -157,15 +157,16 @@ fn lawful(
     }
 }
 
-/// The slot and the index of the last board whose slot is in range, or 0 and 0.
-fn last_in_range(boards: &[KnownBoard<'_>]) -> (u32, usize) {
-    let mut last = (0, 0);
+/// The greatest slot that is in range, and the index of the first board with it, or 0 and 0.
+fn greatest_in_range(boards: &[KnownBoard<'_>]) -> (u32, usize) {
+    let mut greatest = (0, 0);
     for (index, board) in boards.iter().enumerate() {
-        if let Some(slot) = board.in_range {
-            last = (slot, index);
+        match board.in_range {
+            Some(slot) if slot > greatest.0 => greatest = (slot, index),
+            _ => {}
         }
     }
-    last
+    greatest
 }
 
 /// The index of the first board with this slot.
@@ -188,7 +189,7 @@ fn check_slot(
     let Some(slot) = slot else {
         return Ok((None, None));
     };
-    let (before, other) = last_in_range(earlier);
+    let (before, other) = greatest_in_range(earlier);
     let fault = slot_fault(before, other, with_slot(earlier, slot), slot);
     find_fault(section, Key::Slot, fault, found)?;
     if slot < 1 || slot > LAST_SLOT {

@@ -207,7 +207,7 @@ lock 09 00000000
 ];
 
 /// Files with several faults: the first is the refusal of `vme`.
-static SEVERAL: [(&str, &str); 7] = [
+static SEVERAL: [(&str, &str); 9] = [
     (
         "schedule = [1, 2, 3]
 [[boad]]
@@ -304,6 +304,38 @@ supervisory = true
     (
         "board = [1, 2, {slot = 1, base = 0, size = 16}, \"x\"]\n",
         " C7 C7",
+    ),
+    (
+        "[[board]]
+slot = 5
+base = 0
+size = 16
+[[board]]
+slot = 2
+base = 16
+size = 16
+[[board]]
+slot = 5
+base = 32
+size = 16
+",
+        " C8 C8",
+    ),
+    (
+        "[[board]]
+slot = 5
+base = 0
+size = 16
+[[board]]
+slot = 2
+base = 16
+size = 16
+[[board]]
+slot = 3
+base = 32
+size = 16
+",
+        " C8 C8",
     ),
 ];
 

@@ -129,7 +129,7 @@ static CODES: [&str; 4] = [
     " C6",
     " C7 C7 C5 C3 S2",
     " C12 S9 S7",
-    " nobody-answers K2 few-turns idle-mailbox",
+    " no-answer K2 few-turns idle-mailbox",
 ];
 
 /// If an allocation fails, the result is an `AllocError`; otherwise it has all codes.

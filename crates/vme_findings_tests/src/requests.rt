@@ -33,7 +33,7 @@ static LINES: [(&str, &str, usize, usize); 25] = [
     ("m 0a 00000000 1 set", "K7", 2, 4),
     ("w 0d 00000000 010203040506", "K8", 14, 26),
     ("r 40 00000000 1", "K9", 2, 4),
-    ("r 39 00000000 1", "nobody-answers", 2, 4),
+    ("r 39 00000000 1", "no-answer", 2, 4),
 ];
 
 /// Checks the finding of one line.

@@ -68,7 +68,7 @@ br 0b 0000005c 4 2
 lr 0000005e 4
 \"\"\"
 ",
-        " K8 nobody-answers nobody-answers K3 past-end past-end idle-mailbox",
+        " K8 no-answer no-answer K3 past-end past-end idle-mailbox",
     ),
     (
         "rounds = 99
@@ -98,7 +98,7 @@ r 0d 00000010 3
 unlock 0d 00000010
 \"\"\"
 ",
-        " board-lacks K2 board-lacks board-lacks nobody-answers board-lacks",
+        " board-lacks K2 board-lacks board-lacks no-answer board-lacks",
     ),
     (
         "rounds = 99

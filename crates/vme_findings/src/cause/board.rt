@@ -31,8 +31,8 @@ pub enum BoardCause {
         slot: u32,
         other: usize,
     },
-    /// C8: the board with index `other`, the last before this one whose slot is in range, has the
-    /// greater slot `before`.
+    /// C8: the board with index `other` has the greater slot `before`, the greatest from 1 to 21
+    /// before this board.
     SlotOrder {
         slot: u32,
         before: u32,

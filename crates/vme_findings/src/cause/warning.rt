@@ -53,7 +53,7 @@ pub enum Lack {
 pub enum LineWarning {
     /// K1 to K9: the line's request is always refused.
     AlwaysRefused(CycleCause),
-    /// `nobody-answers`: no board of the space has the address. `there` is the slot and the space
+    /// `no-answer`: no board of the space has the address. `there` is the slot and the space
     /// of a board that has it in another space, or `None`.
     NoBoardThere {
         space: Space,
@@ -61,7 +61,7 @@ pub enum LineWarning {
         am: u8,
         there: Option<(u16, Space)>,
     },
-    /// `nobody-answers`: the board in `slot` has the address, and responds to supervisory codes
+    /// `no-answer`: the board in `slot` has the address, and responds to supervisory codes
     /// only. `instead` is the one in place of `am`.
     SupervisoryBoard {
         slot: u16,
@@ -105,9 +105,7 @@ impl LineWarning {
     pub(crate) fn name(self) -> &'static str {
         match self {
             LineWarning::AlwaysRefused(cause) => cause.code(),
-            LineWarning::NoBoardThere { .. } | LineWarning::SupervisoryBoard { .. } => {
-                "nobody-answers"
-            }
+            LineWarning::NoBoardThere { .. } | LineWarning::SupervisoryBoard { .. } => "no-answer",
             LineWarning::DatumPastEnd { .. } | LineWarning::PastEnd { .. } => "past-end",
             LineWarning::BoardLacks { .. } => "board-lacks",
             LineWarning::NeverMet => "never-met",

@@ -1,7 +1,8 @@
 //! Lists of warnings.
-ghost use Rattle.std.specs.Prelude.{◌≡◌, true, None};
+ghost use Rattle.std.specs.Prelude.{◌≡◌, true};
 ghost use Rattle.std.specs.List.{list_all};
-ghost use Rattle.vme_findings.specs.Causes.{refusal_of};
+ghost use Rattle.vme_findings.specs.declared.cause.Severity.TheVariants.{Warning};
+ghost use Rattle.vme_findings.specs.Causes.{severity_of};
 ghost use Rattle.vme_findings.specs.Verdicts.{is_warning};
 
 use crate::cause::{Cause, FileWarning, LineWarning};
@@ -48,7 +49,7 @@ impl Warnings {
     /// Appends a warning.
     #[tactic(auto, using(crate::proofs::Verdicts::still_warnings))]
     fn push(&mut self, cause: Cause, place: Place) -> Result<(), AllocError>
-        requires { refusal_of cause ≡ None }
+        requires { severity_of cause ≡ Warning }
     {
         find(&mut self.found, cause, place)
     }

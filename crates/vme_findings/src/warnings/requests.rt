@@ -70,7 +70,7 @@ pub(crate) fn outcome_of(request: &Request, backplane: &Backplane<'_, '_>) -> Ou
             },
             None => Outcome {
                 least: TRANSFER_TURNS,
-                warning: Some(nobody_answers(plan.am(), plan.addr(), backplane)),
+                warning: Some(no_answer(plan.am(), plan.addr(), backplane)),
             },
         },
     }
@@ -103,7 +103,7 @@ fn slot_with(backplane: &Backplane<'_, '_>, space: Space, addr: u32) -> Option<u
 
 /// The warning of a transfer to which no board responds, and the index of the word that causes it:
 /// the code or the address.
-fn nobody_answers(am: Am, addr: u32, backplane: &Backplane<'_, '_>) -> (LineWarning, usize) {
+fn no_answer(am: Am, addr: u32, backplane: &Backplane<'_, '_>) -> (LineWarning, usize) {
     let space = am.space();
     if let Some(slot) = slot_with(backplane, space, addr) {
         let warning = LineWarning::SupervisoryBoard {
