@@ -36,7 +36,7 @@ pub(crate) static FAULTS: [Text; 7] = [
         code: "F4",
         others: &["U2"],
         title: "memory",
-        cause: "An allocation failed. U2 of the library is F4 of the program.",
+        cause: "An allocation failed. U2 of the crates is F4 of the program.",
         sections: "",
         help: "Free memory, or use smaller boards.",
         example: None,
@@ -45,7 +45,7 @@ pub(crate) static FAULTS: [Text; 7] = [
         code: "F5",
         others: &["U1"],
         title: "thread",
-        cause: "`vme run` could not start a thread, and there is no report. U1 of the library is F5 \
+        cause: "`vme run` could not start a thread, and there is no report. U1 of the crates is F5 \
             of the program.",
         sections: "",
         help: "Raise the limit of processes (`ulimit -u`).",
@@ -55,7 +55,7 @@ pub(crate) static FAULTS: [Text; 7] = [
         code: "F6",
         others: &["U3"],
         title: "spent",
-        cause: "In `vme run` a board or the arbiter has made 2^64 - 1 steps. U3 of the library is F6 \
+        cause: "In `vme run` a board or the arbiter has made 2^64 - 1 steps. U3 of the crates is F6 \
             of the program.",
         sections: "",
         help: "Run the file again.",
