@@ -27,7 +27,7 @@ pub(crate) static FAULTS: [Text; 7] = [
         others: &["U4"],
         title: "write",
         cause: "The output cannot be written. What was written is a prefix of the text. U4 of the \
-            library is F3 of the program.",
+            crates is F3 of the program.",
         sections: "",
         help: "Look for a full disk or a closed pipe.",
         example: None,
@@ -55,8 +55,8 @@ pub(crate) static FAULTS: [Text; 7] = [
         code: "F6",
         others: &["U3"],
         title: "spent",
-        cause: "In `vme run` a board or the arbiter has made 2^64 - 1 steps. U3 of the crates is F6 \
-            of the program.",
+        cause: "In `vme run` a board or the arbiter has made 2^64 - 1 steps. U3 of the crates is \
+            F6 of the program.",
         sections: "",
         help: "Run the file again.",
         example: None,
