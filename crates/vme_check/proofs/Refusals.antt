@@ -6,14 +6,30 @@ use Rattle.vme_script.specs.declared.fault.ConfigFault.{ConfigFault}
 use Rattle.vme_script.specs.Configurations.{Configuration}
 use Rattle.vme_engines.specs.Files.{Configures}
 use Rattle.vme_findings.specs.declared.finding.Finding.{Finding}
-use Rattle.vme_findings.specs.Causes.{refusal_of}
-use Rattle.vme_findings.specs.Verdicts.{IsVerdict, Agree, AreFindingsOf, first_refusal, is_warning}
+use Rattle.vme_findings.specs.declared.cause.Cause.{Cause}
+use Rattle.vme_findings.specs.declared.cause.Cause.TheVariants as causes
+use Rattle.vme_findings.specs.Causes.{refusal_of, severity_of}
+use Rattle.vme_findings.specs.Verdicts.{IsVerdict, Agree, AreFindingsOf, first_refusal, is_of_warning, is_warning}
 use Rattle.vme_check.specs.Answers.{IsAnswer}
 
 -- the first of two that are both true is true
 first_true : (a b : Bool) → (a && b) ≡ true → a ≡ true
 first_true true b both = refl
 first_true false b both = both
+
+-- the cause of a warning has no refusal
+no_refusal : (cause : Cause) → is_of_warning (severity_of cause) ≡ true → is_none (refusal_of cause) ≡ true
+no_refusal (causes.Document cause) warning = cc
+no_refusal (causes.Board cause) warning = cc
+no_refusal (causes.Schedule cause) warning = cc
+no_refusal (causes.Mailbox cause) warning = cc
+no_refusal (causes.Script slot number cause) warning = cc
+no_refusal (causes.Refused fault) warning = cc
+no_refusal (causes.File it) warning = refl
+no_refusal (causes.Line slot number it) warning = refl
+no_refusal (causes.RequestLine cause) warning = cc
+no_refusal (causes.RequestCycle cause) warning = cc
+no_refusal causes.RequestBoard warning = refl
 
 -- a configuration is the answer where no refusal is
 without_refusal : (input : List ℕ) (config : Configuration) → Configures input config → (refusal : Option ConfigFault)
@@ -27,7 +43,7 @@ of_warnings : (input : List ℕ) (config : Configuration) → Configures input c
 of_warnings input config configures [] all = (config, configures)
 of_warnings input config configures (finding ∷ more) all =
     without_refusal input config configures (refusal_of finding.cause)
-    (first_true (is_warning finding) (list_all is_warning more) all)
+    (no_refusal finding.cause (first_true (is_warning finding) (list_all is_warning more) all))
 
 -- the first finding has the refusal of the verdict, if it is one
 of_verdict : (input : List ℕ) (findings : List Finding) (verdict : Result Configuration ConfigFault) → IsVerdict input verdict
