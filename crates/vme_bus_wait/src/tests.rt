@@ -26,7 +26,7 @@ fn take_turns<R: Wait>(rt: &R, waiters: &BusWaiters, turn: &AtomicU64, who: usiz
         }
         waiters.leave(&mut wait_state);
         turn.fetch_add(1, Ordering::SeqCst);
-        waiters.release();
+        waiters.release(&mut wait_state);
     }
 }
 
@@ -77,7 +77,7 @@ fn rounds_until<R: Wait>(rt: &R, waiters: &BusWaiters, sign: &AtomicBool, who: u
 fn hold<R: Clock>(rt: &R, waiters: &BusWaiters, sign: &AtomicBool) {
     thread::sleep(rt, Duration::from_millis(HELD));
     sign.store(true, Ordering::SeqCst);
-    waiters.release();
+    waiters.release(&mut WaitState::new());
 }
 
 /// Returns the number of rounds that one processor waits while the other holds the bus.
@@ -160,10 +160,10 @@ fn wake<R: Wait + Clock>(rt: &R, waiters: &BusWaiters, sign: &AtomicBool, waking
     }
     thread::sleep(rt, Duration::from_millis(1));
     sign.store(true, Ordering::SeqCst);
+    let mut wait_state = WaitState::new();
     match waking {
-        Waking::Release => waiters.release(),
+        Waking::Release => waiters.release(&mut wait_state),
         Waking::StillRounds => {
-            let mut wait_state = WaitState::new();
             for _ in 0..STILL_ROUNDS {
                 waiters.wait(rt, 1, waiters.releases(), &mut wait_state);
             }

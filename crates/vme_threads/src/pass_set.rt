@@ -69,7 +69,7 @@ impl PassSet {
                 .waiters
                 .wait(rt, self.who, releases, &mut self.wait_state),
             EventReply::Bus(ArbReply::Granted) => ports.waiters.leave(&mut self.wait_state),
-            EventReply::Bus(ArbReply::Freed) => ports.waiters.release(),
+            EventReply::Bus(ArbReply::Freed) => ports.waiters.release(&mut self.wait_state),
             EventReply::Bus(ArbReply::Denied) => {}
             EventReply::Board(_) => {}
         }
