@@ -50,7 +50,7 @@ impl<'a> DatumCycle<'a> {
         DatumCycle { plan, i, at }
     }
 
-    /// The command, with what the lines of its cycle show.
+    /// The command, with the signals of its cycle computed.
     pub(crate) fn to_command(&self) -> BoardCmd
         ensures { result ≡ self.now }
     {

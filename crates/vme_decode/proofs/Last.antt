@@ -45,7 +45,7 @@ some_up_to rows top end last rising turns some found =
           omega arith;
     }
 
--- a row before the partition point exists
+-- if the partition point is positive, the row before it exists
 not_none : (rows : List Row) (top end : ℕ) → Turns rows top end → 0 < end → None ≡ slice_get rows (end - 1)
     → IsLastUpTo rows top None
 not_none rows top end turns some found_is row there =

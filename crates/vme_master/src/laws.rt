@@ -90,7 +90,7 @@ pub fn transfers_keep_their_tenure()
         reply ≡ replies.Bus Freed }
 {}
 
-/// States that every reply of a board or of the arbiter fits the command that it answers.
+/// States that every reply of a board or of the arbiter fits its command.
 pub fn replies_fit()
     ensures board { (memory : Board) (board : ℕ) (command : Option Command) →
         IsTrue (fits (OnBoard board command) (replies.Board (command_step memory command).1)) }

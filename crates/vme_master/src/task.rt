@@ -222,7 +222,7 @@ impl<'a> Task<'a> {
         }
     }
 
-    /// Returns whether the task has ended. It reads less than `outcome`.
+    /// Returns whether the task has ended. It reads fewer fields than `outcome`.
     #[inline(always)]
     pub fn is_finished(&self) -> bool
         ensures { result ≡ is_some (result_in (to_do self.now)) }
@@ -260,7 +260,7 @@ impl<'a> Task<'a> {
         }
     }
 
-    /// Puts the task back before its first call.
+    /// Returns the task to its state before the first call.
     pub fn restart(&mut self)
         ensures { self.new ≡ fresh_task self.old.job }
     {

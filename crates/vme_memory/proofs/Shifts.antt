@@ -26,7 +26,7 @@ three a b c e f g p q r = cc
 abbrev pub upper : ℕ → ℕ → ℕ → ℕ
 upper here next place = (here * 4294967296 % 18446744073709551616 + next) * 2 ^ (8 * place) % 18446744073709551616 / 4294967296
 
--- the upper half has the four bytes at that place
+-- the upper half of two words that are shifted up by a place has the four bytes at that place
 pub upper_bytes :
     (here next place : ℕ) → here < 2 ^ 32 → next < 2 ^ 32 → place < 4
     → word_bytes (upper here next place) ≡ slice_range (word_bytes here ++ word_bytes next) place (place + 4)
@@ -162,7 +162,7 @@ merged_across here next (suc (suc (suc zero))) new small less =
     ∙ ap (λ bytes. shared_from (word_bytes here) (word_bytes next) bytes 3) (turned_bytes new 3 small less)
 merged_across here next (suc (suc (suc (suc place)))) new small less = absurd (omega arith)
 
--- the first bytes of a word, in two parts
+-- the first h bytes of a word, followed by the first n - h bytes of the word shifted up by h bytes, are its first n bytes
 pub halves :
     (word h n : ℕ) → word < 2 ^ 32 → 0 < h → h < n → n ≤ 4
     → take h (word_bytes word) ++ take (n - h) (word_bytes (word * 2 ^ (8 * h) % 4294967296)) ≡ take n (word_bytes word)

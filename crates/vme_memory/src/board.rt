@@ -147,7 +147,7 @@ impl ByteMemory {
         }
     }
 
-    /// The reply to a cycle with a code of eight-byte data, in which BYTE(0-3) stands for all eight
+    /// The reply to a cycle with a code of eight-byte data, in which BYTE(0-3) selects all eight
     /// bytes.
     #[tactic(auto, using(crate::proofs::Places::quad_first))]
     fn wide_cycle(

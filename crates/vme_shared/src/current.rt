@@ -9,7 +9,7 @@ use crate::stage::{Stage, StageResult};
 use vme_core::EventReply;
 use vme_master::Task;
 
-/// The transfer at work, or the end.
+/// The current transfer, or the end.
 #[derive(Debug, Drop)]
 pub enum CurrentTransfer<'a> {
     /// The bus task of this stage.
@@ -19,7 +19,7 @@ pub enum CurrentTransfer<'a> {
 }
 
 impl CurrentTransfer<'_> {
-    /// Gives the transfer at work the reply to its event, or `None` at its first call. If this ends
+    /// Gives the current transfer the reply to its event, or `None` at its first call. If this ends
     /// the transfer, returns what follows the transfer.
     #[tactic(auto, using(crate::proofs::lemmas::Stands::by_outcome))]
     pub(crate) fn advance(

@@ -103,7 +103,7 @@ impl<'a> SharedTask<'a> {
         }
     }
 
-    /// Puts the task back before its first call.
+    /// Returns the task to its state before the first call.
     pub fn restart(&mut self)
         ensures { self.new ≡ shared_fresh self.old.job }
     {

@@ -35,11 +35,11 @@ did_trans r s a b c first then = record {
   bus = rw (filter_map-append (λ m. bus_entry m.who m.event m.reply) r s) (went_trans arbiter_step (bus_part r) (bus_part s) a.bus b.bus c.bus first.bus then.bus);
 }
 
--- no event was performed yet
+-- a machine and replies that are unchanged are those after no events
 pub done_nothing : (m : Machine) (old : List EventReply) → HasApplied [] m m old old
 done_nothing m old = record { run = []; asked = refl; reported = sym (append-nil old); did = did_nil m }
 
--- one more event was performed
+-- an event that is performed after the first i events is applied as the next one, with its reply appended
 pub done_more :
     (events : List (ℕ × Event)) (i : ℕ) (a b c : Machine) (old new : List EventReply) (who : ℕ) (event : Event) (reply : EventReply)
     → i < length events → slice_index_or events i (who, event) ≡ (who, event) → HasApplied (take i events) a b old new
@@ -56,13 +56,13 @@ done_more events i a b c old new who event reply i< here done one = record {
   did = did_trans done.run (move who event reply ∷ []) a b c done.did one;
 }
 
--- all events were performed
+-- if all events were performed, the run has the result Ok
 pub run_all :
     (events : List (ℕ × Event)) (n : ℕ) (a b : Machine) (old new : List EventReply) (all : Unit {0}) → n ≡ length events
     → HasApplied (take n events) a b old new → HasRun events a b old new (Ok all)
 run_all events n a b old new all end done = record { done = n; has = done; ends = end }
 
--- the next event has an object that can count no further step
+-- if the object of the next event can count no further step, the run has the result Spent
 pub run_spent :
     (events : List (ℕ × Event)) (n : ℕ) (a b : Machine) (old new : List EventReply) (who : ℕ) (event : Event) → n < length events
     → slice_index_or events n (who, event) ≡ (who, event) → steps_of b (target_of event) ≡ Some (2 ^ 64 - 1)
@@ -73,7 +73,7 @@ run_spent events n a b old new who event n< here spent done = record {
   ends = rw (slice_get-get_or events n (who, event) n<) (rw here spent);
 }
 
--- no event was performed, and the reservation failed
+-- if the replies are unchanged, a run that performed no event has the result OutOfMemory
 pub run_none :
     (events : List (ℕ × Event)) (m : Machine) (old new : List EventReply) → new ≡ old → HasRun events m m old new (Err stops.OutOfMemory)
 run_none events m old new same = record { done = 0; has = rw same (done_nothing m old); ends = refl }

@@ -15,7 +15,7 @@ use Rattle.vme_decode.proofs.Aligned.{lawful_entry, same_remainder}
 use Rattle.vme_decode.proofs.Apart.{one_place}
 use Rattle.vme_decode.proofs.Found.{first_from, found_at, only_one}
 
--- a selection comes from an entry that was found
+-- the position and the offset of a selection are those of the entry that was found
 found_from : (found : Option (ℕ × Entry)) (addr place offset : ℕ)
     → option_map {U = ℕ × ℕ} (λ p. (p.0, addr - p.1.base)) found ≡ Some (place, offset)
     → (entry : Entry) × (found ≡ Some (place, entry)) × (addr - entry.base ≡ offset)
@@ -24,7 +24,7 @@ found_from (Some p) addr place offset chosen =
     let same = some_pair_parts p.0 place (addr - p.1.base) offset chosen in
     (p.1, ap (λ k. Some (k, p.1)) same.0, same.1)
 
--- a search that finds no pair finds nothing
+-- an option that has no pair is None
 no_pair : (found : Option (ℕ × ℕ)) → ((place offset : ℕ) → found ≡ Some (place, offset) → ⊥) → found ≡ None
 no_pair None none = refl
 no_pair (Some p) none = absurd (none p.0 p.1 refl)

@@ -39,7 +39,7 @@ own_row j call (replies.Board Done) g = elim (cases_Bool (fits call (replies.Boa
 own_row j call (replies.Board Berr) g = elim (cases_Bool (fits call (replies.Board Berr))) [ inl fit ↦ rw fit tt | inr misfit ↦ rw misfit tt ]
 own_row j call (replies.Bus reply) g = elim (cases_Bool (fits call (replies.Bus reply))) [ inl fit ↦ rw fit tt | inr misfit ↦ rw misfit tt ]
 
--- after one input more, a local command makes no other call than its own
+-- after one more input, a local command makes no other call than its own
 own_step : (j : LocalJob) (next : NextStep Outcome) (last : Option EventReply) (g : Inputs) → MakesOwn j (next_after (Local j) next last g)
 own_step j NotStarted None g = refl
 own_step j NotStarted (Some reply) g = tt

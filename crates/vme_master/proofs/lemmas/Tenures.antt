@@ -52,11 +52,11 @@ on_stands j g i same held =
       | inr past ↦ rw past (refl, held)
     ]
 
--- the outcome with no board selected is the bus timer's
+-- with no board selected, the outcome is the bus timer's error
 timer : (j : BusJob) (g : Inputs) → j.place ≡ None → outcome_by j j.place g ≡ error_outcome 0 []
 timer j g placed = rw placed refl
 
--- what follows a board's reply
+-- what a transfer does next after a board's reply follows from what it was given
 board_stands : (j : BusJob) (g : Inputs) (board : ℕ) (command : Option Command) (reply : Reply)
     → IsNextDatum j g board command × (last_arb_reply g ≡ Some arb_replies.Granted)
     → Stands j (Some (replies.Board reply) ∷ g) (bus_row j (replies.Board reply) g)
@@ -64,7 +64,7 @@ board_stands j g board command (Bytes datum) stands = on_stands j (Some (replies
 board_stands j g board command Done stands = on_stands j (Some (replies.Board Done) ∷ g) (data_in g + 1) refl stands.1
 board_stands j g board command Berr stands = (refl, stands.1)
 
--- what follows one reply more
+-- what a transfer does next after one more reply follows from what it was given
 step_stands : (j : BusJob) (g : Inputs) (next : NextStep Outcome) (last : Option EventReply) → Stands j g next
     → Stands j (last ∷ g) (next_after (Bus j) next last g)
 step_stands j g NotStarted None stands = (refl, refl, ap last_arb_reply stands, ap data_in stands)
@@ -153,7 +153,7 @@ row_ends j g (replies.Board (Bytes datum)) outcome row good = absurd cc
 row_ends j g (replies.Board Done) outcome row good = absurd cc
 row_ends j g (replies.Board Berr) outcome row good = absurd cc
 
--- a call that ends without a denial was answered by `Freed`
+-- a call after which a transfer ends without a denial had the reply `Freed`
 pub ends_freed : (j : BusJob) (g : Inputs) (call : Call) (reply : EventReply) (outcome : Outcome) → next_of (Bus j) g ≡ Invokes call
     → next_of (Bus j) (Some reply ∷ g) ≡ Returns outcome → outcome ≢ outcomes.Denied → reply ≡ replies.Bus arb_replies.Freed
 ends_freed j g call reply outcome made next good =
