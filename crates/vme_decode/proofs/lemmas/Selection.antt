@@ -36,7 +36,7 @@ responding entry code addr responds_is =
     let parts = and_parts (covers entry code.space addr) (admits entry code) responds_is in
     (has_from_covers entry code.space addr parts.0, parts.1)
 
--- a code and an address fall to the entry that is selected for them
+-- the entry that is selected for a code and an address responds to them
 pub place_falls : (entries : List Entry) (code : CodeRow) (addr place offset : ℕ)
     → selection_at entries code addr ≡ Some (place, offset) → FallsTo entries code addr place offset
 unfolding first_from
@@ -54,7 +54,7 @@ place_falls entries code addr place offset chosen =
       within = omega (arith, shows.0.below, from.2, shows.0.from);
     }
 
--- an entry to which a code and an address fall responds to them
+-- an entry that has the code's space, admits the code and contains the address passes the test `responds`
 falls_responds : (entries : List Entry) (code : CodeRow) (addr place offset : ℕ) (facts : FallsTo entries code addr place offset)
     → responds facts.entry code addr ≡ true
 falls_responds entries code addr place offset facts =
@@ -83,7 +83,7 @@ selected_by entries code addr place entry lawful there responds_is =
     (λ k e at_k responds_k.
     one_place entries k place e entry code.space addr lawful at_k there (covers_of e responds_k) (covers_of entry responds_is)))
 
--- in a lawful map, the entry to which a code and an address fall is the selected one
+-- in a lawful map, an entry that has the code's space, admits the code and contains the address is the selected one
 pub falls_place : (entries : List Entry) (code : CodeRow) (addr place offset : ℕ) → first_refusal entries ≡ None
     → FallsTo entries code addr place offset → selection_at entries code addr ≡ Some (place, offset)
 falls_place entries code addr place offset lawful facts =
