@@ -44,7 +44,7 @@ pub fn pending_requests_are_a_set()
 /// States that every reachable state of an arbiter of either kind is orderly, and that each command
 /// keeps this. The first level is in range, and 3 by priority. The holder and the requests are in
 /// range, the holder has no pending request, no slot has two, and none is pending while the bus is
-/// free.
+/// free. No command changes the kind.
 pub fn states_are_orderly()
     ensures all { (kind : ArbiterKind) (h : List (Entry ArbCmd ArbReply)) →
         IsOrderly (replay arbiter_step (opening_bus kind) h) }
