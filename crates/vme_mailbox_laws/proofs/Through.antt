@@ -22,7 +22,7 @@ pub record IsAnswered (m : BoardMailbox) (e : Entry BoardCmd Reply) : Type 0 whe
 abbrev pub Wanted : Type 1
 Wanted = Option Phase → List ℕ → List ℕ → Type 0
 
--- a goal after these words
+-- the goal that remains after these words
 abbrev pub behind : Wanted → List ℕ → List ℕ → Wanted
 behind wanted put taken = λ p ps ts. wanted p (put ++ ps) (taken ++ ts)
 
