@@ -143,8 +143,8 @@ fn line_start_of(text: &[u8]) -> (&[u8], bool) {
     }
 }
 
-/// The range of the characters of a line that are shown: all of a short line, otherwise those around
-/// the place.
+/// The range of the characters of a line that are shown: all of a short line, otherwise those
+/// around the place.
 fn window_of(shown: &Shown) -> Range<usize> {
     let count = shown.chars.len();
     if count <= WHOLE && !shown.is_cut_before && !shown.is_cut_after {

@@ -11,8 +11,8 @@ use vme_io::{Sink, WRITE_SIZE, flush_if_full, write_all};
 use vme_report::RunFault;
 use vme_script::ConfigFault;
 
-/// Prints the findings of an input as the form says, and then its refusal. Returns the counts of all
-/// its findings. The text is collected in a buffer and written in large pieces.
+/// Prints the findings of an input as the form says, and then its refusal. Returns the counts of
+/// all its findings. The text is collected in a buffer and written in large pieces.
 pub(crate) fn print_findings<W: Sink>(
     alloc: Global,
     name: &str,

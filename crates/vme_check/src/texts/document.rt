@@ -114,8 +114,8 @@ pub(crate) fn write_help(
     }
 }
 
-/// Appends the message of a TOML error. The message about an invalid value lists all kinds of values,
-/// so a message that quotes the word is appended in its place.
+/// Appends the message of a TOML error. The message about an invalid value lists all kinds of
+/// values, so a message that quotes the word is appended in its place.
 fn write_toml_message(message: &str, word: &[u8], to: &mut String) -> Result<(), AllocError> {
     if !message.starts_with("invalid value") {
         return to.push_str(message);

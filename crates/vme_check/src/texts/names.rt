@@ -1,4 +1,5 @@
-//! Names of spaces, keys and commands in messages, and the names that are similar to a misspelt one.
+//! Names of spaces, keys and commands in messages, and the names that are similar to a misspelt
+//! one.
 use std::alloc::{AllocError, Global};
 use std::fmt::Write;
 use std::str;
@@ -37,8 +38,8 @@ static FUNCTIONS: [&str; 4] = ["set", "xchg", "add", "cas"];
 /// The greatest length of a word that is compared with names.
 const LONGEST: usize = 16;
 
-/// The greatest length of a name from which a word may differ by one edit; from a longer name it may
-/// differ by two.
+/// The greatest length of a name from which a word may differ by one edit; from a longer name it
+/// may differ by two.
 const SHORT: usize = 4;
 
 /// Returns the name of a space as a file has it.
