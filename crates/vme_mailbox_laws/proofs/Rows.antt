@@ -24,7 +24,7 @@ use Rattle.vme_shared.specs.declared.stage.Stage.TheVariants.{Locks, ReadsPutCou
 use Rattle.vme_shared.specs.declared.stage.StageResult.{StageResult}
 use Rattle.vme_shared.specs.declared.stage.StageResult.TheVariants.{Continue, Finish}
 use Rattle.vme_shared.specs.Mailboxes.{raised}
-use Rattle.vme_shared.specs.Steps.{has_top_bit, word_in, words_between, counted_stage, mailbox_step, step_after}
+use Rattle.vme_shared.specs.Steps.{has_top_bit, words_between, counted_stage, mailbox_step, step_after}
 use Rattle.vme_mailbox_laws.specs.Along.{mailbox_in, IsCount, put_by_outcome, taken_by_outcome}
 use Rattle.vme_mailbox_laws.proofs.Single.{reply_bytes}
 use Rattle.vme_mailbox_laws.proofs.Stages.{stage_command, stage_expected, stage_touches}
@@ -98,10 +98,6 @@ locks_found (byte ∷ other ∷ bytes) long = absurd (omega arith)
 -- no words followed by no words are no words
 nothing : (words : List ℕ) → words ≡ [] → words ++ [] ≡ []
 nothing words none = ap (λ ws. ws ++ []) none
-
--- four bytes that were read are a word
-fine_four : (bytes : List ℕ) → (length bytes == 4) ≡ true → word_in bytes ≡ Some (number_of bytes)
-fine_four bytes long = rw long refl
 
 module _ (m : BoardMailbox) (request : SharedRequest) (mailbox : Mailbox) (is : mailbox_in request ≡ Some mailbox) (slots : m.slots ≡ mailbox.slots)
     (some : 1 ≤ m.slots) (put taken : List ℕ) where
