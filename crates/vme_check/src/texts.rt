@@ -1,4 +1,4 @@
-//! The texts of findings: for each cause one message, and what helps.
+//! The texts of findings: for each cause a message, and for some a help.
 //!
 //! A message and a help are one line without a line end. Words of the file are quoted as
 //! [`push_quoted`](quote::push_quoted) writes them.
@@ -47,7 +47,7 @@ pub(crate) fn write_message(
     }
 }
 
-/// Appends what helps, or nothing.
+/// Appends the help of a cause, or nothing.
 ///
 /// # Errors
 ///

@@ -47,7 +47,7 @@ part_cons x m run = by_entry (board_entry x m.who m.event m.reply) refl
     by_entry None is = rw is refl
     by_entry (Some e) is = rw is refl
 
--- an end of the line is the end of its attempt
+-- the reply of a line is the outcome of its last attempt
 pub shares_ends : (n : NextStep SharedOutcome) (answer : LineReply) → shares_next n ≡ Returns answer → (outcome : SharedOutcome) × (n ≡ Returns outcome) × (answer ≡ Shared outcome)
 shares_ends NotStarted answer is = absurd cc
 shares_ends (Invokes call) answer is = absurd cc
@@ -73,7 +73,7 @@ module _ (s : SharedJob) (board : ℕ) (m : BoardMailbox) (uses : UsesMailbox s 
       subst (λ p. Stands m board s.request (progress_of s (None ∷ [])) p (put_by (Some Idle) p) (taken_by (Some Idle) p)) same
       (moves s board m uses (progress_of s []) None (Some Idle) [] [] (opening s board m uses) good (subst IsCount (sym same) tt))
 
-  -- after an attempt that is followed by another, the next one begins
+  -- with the next attempt in the place of one that has ended without success, the progress still matches
   settles : (made : Attempts) (at : Option Phase) (put taken : List ℕ) → IsIn s board m uses made.given at put taken
       → IsIn s board m uses (next_attempt made (attempt_next (Sharing s) made.given)).given at put taken
   settles made at put taken stands =
@@ -88,7 +88,7 @@ module _ (s : SharedJob) (board : ℕ) (m : BoardMailbox) (uses : UsesMailbox s 
       ]
 
   module _ (config : Configuration) (who : ℕ) (line : Line) (is : line_attempt config who line ≡ Ok (Sharing s)) where
-    -- the state of the current attempt of the line, by the replies that the line was given
+    -- the progress of the line's current attempt, after the replies to the line's calls, matches a phase and words
     abbrev pub InLine : List EventReply → Option Phase → List ℕ → List ℕ → Type 0
     InLine replies at put taken = IsIn s board m uses (attempts_of (Sharing s) config.tries (given_of replies)).given at put taken
 
@@ -120,7 +120,7 @@ module _ (s : SharedJob) (board : ℕ) (m : BoardMailbox) (uses : UsesMailbox s 
         line_moves (mv.reply ∷ before) run replies next ps ts rest wanted
         (settles (record { given = Some mv.reply ∷ made.given; left = made.left }) next ps ts after) goes.1 turned.1 leads))
 
-    -- at the end of the line the mailbox is left, and the words are those of the outcome
+    -- at the end of the line the phase is idle, and the words are those of the outcome
     pub line_over : (replies : List EventReply) (answer : LineReply) (at : Option Phase) (put taken : List ℕ) → InLine replies at put taken
         → line_next config who line replies ≡ Returns answer
         → (outcome : SharedOutcome) × (answer ≡ Shared outcome) × IsOver s.request outcome at put taken
@@ -129,7 +129,7 @@ module _ (s : SharedJob) (board : ℕ) (m : BoardMailbox) (uses : UsesMailbox s 
         let end = shares_ends (shared_next s made.given) answer (sym (own_next replies) ∙ ends) in
         (end.0, end.2, ends_in m board s.request (progress_of s made.given) at put taken end.0 stands end.1)
 
--- an entry that does not touch the mailbox keeps the idle phase
+-- a command that does not touch the mailbox keeps the idle phase
 beside : (m : BoardMailbox) (given : Option Command) (reply : Reply) → ((c : Command) → given ≡ Some c → touches m c ≡ false)
     → after_command m (Some Idle) given reply ≡ Some Idle
 beside m None reply alone = refl

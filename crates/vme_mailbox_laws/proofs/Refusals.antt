@@ -103,7 +103,7 @@ word_none am addr is aligned within =
     none_refused is.row (read_word am addr) is.code refl is.alone refl refl
     (not_past (addresses_of is.row.space) (addr + 4) within) (rw (own_found Bytes03 addr (sym aligned)) refl)
 
--- an entry of a lawful map ends in its address space
+-- if a list has no first refusal, its second element is none and the elements after it have no first refusal
 no_other : (a b : Option MapFault) (more : List (Option MapFault)) → first_of (a ∷ b ∷ more) ≡ None
     → (b ≡ None) × (first_of more ≡ None)
 no_other None None more none = (refl, none)
@@ -118,7 +118,7 @@ not_outside limit last none =
       | inr within ↦ ltb-false limit last within
     ]
 
--- the first entry of a lawful map ends in its address space
+-- if a map's refusals have no first one, its first entry ends in its address space, nor have the others a first one
 own_end : (e : Entry) (more : List (Option MapFault)) → first_of (maps.entry_refusals e ++ more) ≡ None
     → (end_of e ≤ addresses_of e.space) × (first_of more ≡ None)
 own_end e more none =

@@ -29,31 +29,31 @@ use Rattle.vme_mailbox_laws.proofs.Through.{Wanted, behind, Through}
 use Rattle.vme_mailbox_laws.specs.Runs.{AllTurned}
 use Rattle.vme_mailbox_laws.proofs.Lines.{line_begins, line_moves, line_over, moves_beside, part_cons}
 
--- a put of the mailbox uses it
+-- the put of a line that names the mailbox uses it
 puts : (config : Configuration) (who box board word : ℕ) (m : BoardMailbox) → IsMailboxOf config box board m
     → UsesMailbox (shared_job config who (requests.Put (mailbox_at config box) word)) board m
 puts config who box board word m is =
     record { mailbox = mailbox_at config box; asked = refl; lies = is.lies; formed = is.formed; started = is.lawful }
 
--- a take of the mailbox uses it
+-- the take of a line that names the mailbox uses it
 takes : (config : Configuration) (who box board : ℕ) (m : BoardMailbox) → IsMailboxOf config box board m
     → UsesMailbox (shared_job config who (requests.Take (mailbox_at config box))) board m
 takes config who box board m is =
     record { mailbox = mailbox_at config box; asked = refl; lies = is.lies; formed = is.formed; started = is.lawful }
 
--- the word that a put reports is the one that its line reports
+-- the words that the outcome of a put reports as put are those that the reply of its line reports
 put_effect : (box word : ℕ) (mailbox : Mailbox) (outcome : SharedOutcome)
     → put_by_outcome outcome (requests.Put mailbox word) ≡ put_by_reply (lines.Put box word) (Shared outcome)
 put_effect box word mailbox shared.Put = refl
 put_effect box word mailbox outcome = refl
 
--- a take reports no word as put
+-- the words that the outcome of a take reports as put, none, are those that the reply of its line reports
 take_puts_nothing : (box : ℕ) (mailbox : Mailbox) (outcome : SharedOutcome)
     → put_by_outcome outcome (requests.Take mailbox) ≡ put_by_reply (lines.Take box) (Shared outcome)
 take_puts_nothing box mailbox shared.Put = refl
 take_puts_nothing box mailbox outcome = refl
 
--- the words that a take reports are those that its line reports
+-- the words that an outcome reports as taken are those that the reply of the line reports
 taken_shows : (outcome : SharedOutcome) → taken_by_outcome outcome ≡ taken_by_reply (Shared outcome)
 taken_shows (shared.Took word) = refl
 taken_shows outcome = refl

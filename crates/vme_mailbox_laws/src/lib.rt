@@ -1,6 +1,5 @@
-//! Laws of puts and takes, as the board of their mailbox sees them: their commands follow the
-//! mailbox protocol, their outcomes report the words that they put and take, and mailboxes are
-//! queues.
+//! Laws of puts and takes: their commands to the board of their mailbox follow the mailbox
+//! protocol, their outcomes report the words that they put and take, and mailboxes are queues.
 #![tactic(auto)]
 
 mod isolation_laws;

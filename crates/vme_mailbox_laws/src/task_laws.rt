@@ -1,3 +1,4 @@
+//! Laws of the commands that locks, puts and takes send to boards.
 ghost use Rattle.std.specs.Prelude.{◌≡◌, ◌≢◌, ◌≤◌, ◌∷◌, [], ℕ, false, Option, Some, IsTrue, is_some};
 ghost use Rattle.vme_cycle.specs.declared.modify.Modify.TheVariants.{Set};
 ghost use Rattle.vme_memory.specs.Boards.{Board};

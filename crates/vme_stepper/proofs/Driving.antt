@@ -12,16 +12,17 @@ use Rattle.vme_stepper.proofs.Steps.{set_each}
 module _ (config : Configuration) (self : StepperView) (machine : Machine) (processors : List ProcessorView) (board : ℕ) (processor : ProcessorView)
     (is : record { machine = machine; processors = processors } ≡ self) (sound : IsStepperOf config self) (there : board < length config.boards)
     (read : processor ≡ get_or processors board processor) where
-  -- the processor of the board
+  -- the stepper's processor at the index of the board is this one
   processor_there : slice_get self.processors board ≡ Some processor
   processor_there =
       ap (λ (d : StepperView). slice_get d.processors board) (sym is)
       ∙ slice_get_read processors (length processors) board processor refl (omega (arith, ap (λ (d : StepperView). length d.processors) is, sound.count)) read
 
+  -- the processor of the board is one of the configuration
   pub processor_sound : IsProcessorOf config board processor
   processor_sound = sound.each board processor processor_there
 
-  -- the stepper after the turn of the processor
+  -- the stepper with the machine and the processor after a turn is the stepper after the turn
   pub turned : (after : Machine) (new : ProcessorView) → (after, new) ≡ processor_turn config board machine processor
       → record { machine = after; processors = slice_set processors board new } ≡ stepper_turn config self board
   turned after new turn =

@@ -17,11 +17,11 @@ use Rattle.vme_stepper.proofs.Turning.{next_first}
 abbrev pub place_from : ℕ → ℕ → List BoardConfig → Option ℕ
 place_from slot i boards = position_from (λ board. board.slot == slot) i boards
 
--- the index of the board in a slot, among all boards
+-- the index of the board in a slot is the one among all boards
 pub place_is : (config : Configuration) (slot : ℕ) → board_in_slot config slot ≡ place_from slot 0 config.boards
 place_is config slot = position_from-zero (λ (board : BoardConfig). board.slot == slot) config.boards
 
--- a slot that stands in the list of slots is that of a board
+-- a slot in the list of slots is that of a board
 pub slot_found : (boards : List BoardConfig) (i own : ℕ) → slice_get (map (λ board. board.slot) boards) i ≡ Some own
     → (board : BoardConfig) × (slice_get boards i ≡ Some board) × (board.slot ≡ own)
 slot_found boards i own found =

@@ -70,6 +70,7 @@ round_more n slots = rw (add-one n) (by_round n)
     by_round zero = sym (append-nil slots)
     by_round (suc n) = append_assoc slots (round_turns n slots) slots ∙ ap (λ turns. slots ++ turns) (by_round n)
 
+-- rounds have as many turns as their number times the number of slots
 round_length : (n : ℕ) (slots : List ℕ) → length (round_turns n slots) ≡ n * length slots
 round_length zero slots = omega arith
 round_length (suc n) slots = length-append slots (round_turns n slots) ∙ ap (λ m. length slots + m) (round_length n slots) ∙ omega arith

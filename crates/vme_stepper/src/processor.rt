@@ -1,4 +1,4 @@
-//! A processor at work on its script.
+//! A processor and its script.
 ghost use Rattle.std.specs.Prelude.{◌≡◌, ◌<◌, ◌≤◌, ◌-◌, ◌^◌, length, map, slice_set, slice_index_or, is_some, true, Some, None, IfOk, IfSome, IsTrue};
 ghost use Rattle.vme_shared.specs.declared.reply.LineReply.TheVariants.{Unfinished};
 ghost use Rattle.vme_core.specs.Runs.{Machine};
@@ -16,10 +16,11 @@ use vme_line_task::{LineTask, ReadBuffers};
 use vme_script::{Config, Script};
 use vme_shared::LineReply;
 
-/// A script with the replies of the lines that have ended, and the line at work, if there is one.
+/// A script with the replies of the lines that have ended, and the task of the current line, if it
+/// has started.
 ///
-/// All memory, that for the bytes of its lines included, is allocated when the processor is made.
-/// The task of a line is not moved while the line is at work.
+/// `new` allocates all memory, including that for the bytes of the lines. The task of a line is not
+/// moved between its calls.
 #[derive(Drop)]
 pub(crate) struct Processor<'a> {
     script: &'a Script,
@@ -130,7 +131,7 @@ impl<'a> Processor<'a> {
         }
     }
 
-    /// Performs the next event of the line at work, if there is one.
+    /// Performs the next event of the current line, if it has started.
     #[inline(always)]
     #[tactic(auto, using(crate::proofs::Calls::can_make))]
     fn advance_on(&mut self, core: &mut Core, board: usize)
@@ -157,7 +158,7 @@ impl<'a> Processor<'a> {
     }
 }
 
-/// Records the reply of the line at work, which has ended, and drops its task. Out of line, to keep
+/// Records the reply of the current line, which has ended, and drops its task. Out of line, to keep
 /// the stack frame of a turn small.
 #[inline(never)]
 fn end_line(lines: &mut [(u16, LineReply)], place: usize, at_work: &mut Option<LineTask<'_>>)

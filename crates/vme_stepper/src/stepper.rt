@@ -1,4 +1,4 @@
-//! Boards and arbiter, and the processors on them, turn by turn.
+//! The boards, the arbiter and the processors of a configuration, and their turns.
 ghost use Rattle.std.specs.Prelude.{◌≡◌, ◌<◌, ◌-◌, ◌^◌, length, map, false, IfOk, IfErr, IfSome, OnOk, OnErr};
 ghost use Rattle.std.specs.Io.KnownBytes.{Appends};
 ghost use Rattle.vme_io.specs.Prefixes.{AppendsPrefix};
@@ -20,7 +20,7 @@ use vme_report::{BoardReportRef, RunFault, write_report};
 use vme_script::Config;
 use vme_shared::Status;
 
-/// The boards and the arbiter of a backplane, and the processors at work on their scripts.
+/// The boards and the arbiter of a backplane, and the processors with their scripts.
 #[derive(Drop)]
 pub(crate) struct Stepper<'a> {
     core: Core,
@@ -78,8 +78,8 @@ impl<'a> Stepper<'a> {
         }
     }
 
-    /// Performs the turns of the file, without a list of them: those of its schedule, and then its
-    /// rounds.
+    /// Performs the turns of the file: those of its schedule, and then its rounds. It makes no list
+    /// of them.
     pub(crate) fn run_configured(&mut self, config: &'a Config)
         requires lawful { IsLawful config.now }
         requires opening { self.old ≡ stepper_of config.now (initial_state config.now) }
@@ -126,7 +126,7 @@ impl<'a> Stepper<'a> {
         }
     }
 
-    /// Writes the report.
+    /// Writes the report and returns the status of the replies.
     pub(crate) fn report<W: Sink>(
         &self,
         alloc: Global,

@@ -26,7 +26,7 @@ use Rattle.vme_script.specs.Boards.{entries_of}
 use Rattle.vme_script.specs.Configurations.{Configuration, opening_memory}
 use Rattle.vme_script.specs.Lawful.{IsLawful, IsLawfulMailbox}
 
--- there are as many zero bytes as asked for
+-- the zero bytes of a size are as many as the size
 zeros_len : (size : ℕ) → length (zeros size) ≡ size
 unfolding zeros
 zeros_len size = length-replicate size 0

@@ -26,7 +26,7 @@ use Rattle.vme_mailbox_laws.proofs.Histories.{Led, led}
 use Rattle.vme_shared.proofs.lemmas.Opening.{opening}
 use Rattle.vme_mailbox_laws.proofs.Scripts.{script}
 
--- a number that is not below the number of callers has no entry
+-- a caller with a number past all callers of a history has no entry in it
 none_own : (n who : ℕ) (h : List (Entry BoardCmd Reply)) → n ≤ who → All (λ e. e.who < n) h → own who h ≡ []
 none_own n who [] past known = refl
 none_own n who (e ∷ h) past known =
@@ -34,7 +34,7 @@ none_own n who (e ∷ h) past known =
     let other : (e.who == who) ≡ false = ne_eqb e.who who (λ same. omega arith) in
     rw other (none_own n who h past (All-tail (λ (e : Entry BoardCmd Reply). e.who < n) e h known))
 
--- without replies, no word is reported
+-- without replies, no word is reported as put
 none_put : (box : ℕ) (ls : List Line) → lines_put box ls [] ≡ []
 none_put box [] = refl
 none_put box (line ∷ ls) = refl

@@ -5,7 +5,7 @@ use Rattle.vme_line_task.specs.ReadBuffers.{buffers_of}
 use Rattle.vme_stepper.specs.Steppers.{processor_turn}
 use Rattle.vme_stepper.proofs.processor.Processor.seek.Given as goal
 
--- the lines so far ended without a call, so that the turn is the same; the others have their buffers
+-- a turn from here is the turn from the start, no line has started, and each line that is left has its buffer
 abbrev pub invariant-loop-self : goal.invariant-loop-self
 invariant-loop-self l = record {
   script : l.self-inside.script.now ≡ script_at l.config l.board;
