@@ -17,8 +17,6 @@ mod plain;
 mod print;
 mod report;
 mod requests;
-#[cfg(test)]
-mod tests;
 mod texts;
 
 pub use check::{CheckEnd, check_engine};

@@ -1,10 +1,12 @@
 //! The texts of faults of a file as a document.
 use crate::context::Context;
+use crate::located::Input;
 use crate::texts::names::{keys_of, near_key, table_name};
 use crate::texts::quote::push_quoted;
 use memchr::memmem;
 use std::alloc::AllocError;
 use std::fmt::Write;
+use toml::de::Error;
 use vme_findings::{DocumentCause, Key, Place, TableName, ValueKind};
 use vme_positions::Span;
 
@@ -127,22 +129,40 @@ fn write_toml_message(message: &str, word: &[u8], to: &mut String) -> Result<(),
     to.push_str(" is not a value")
 }
 
-/// The offset of the quotes that open a string which does not end: the last three quotes of a text,
-/// if the text ends within a string.
-pub(crate) fn note_offset(cause: DocumentCause, text: &[u8], span: Span) -> Option<usize> {
+/// The offset of the note of a cause: where a repeated key stands first, or the quotes that open a
+/// string which does not end.
+pub(crate) fn note_offset(cause: DocumentCause, input: &Input<'_>, span: Span) -> Option<usize> {
     let DocumentCause::NotToml { error } = cause else {
         return None;
     };
-    if span.from < text.len() || !error.message().starts_with("invalid string") {
+    if is_repeated_key(error) {
+        return Some(input.outline?.first_of_key(input.text, span)?.from);
+    }
+    if span.from < input.text.len() || !error.message().starts_with("invalid string") {
         return None;
     }
-    let basic = memmem::rfind(text, b"\"\"\"");
-    let literal = memmem::rfind(text, b"'''");
+    let basic = memmem::rfind(input.text, b"\"\"\"");
+    let literal = memmem::rfind(input.text, b"'''");
     match (basic, literal) {
         (Some(basic), Some(literal)) => Some(basic.max(literal)),
         (basic, None) => basic,
         (None, literal) => literal,
     }
+}
+
+/// Appends the text of the note of a cause.
+pub(crate) fn write_note(cause: DocumentCause, to: &mut String) -> Result<(), AllocError> {
+    match cause {
+        DocumentCause::NotToml { error } if is_repeated_key(error) => {
+            to.push_str("the key is first here")
+        }
+        _ => to.push_str("the string begins here"),
+    }
+}
+
+/// Whether an error of TOML is that of a key which is there already.
+fn is_repeated_key(error: Error) -> bool {
+    error.message() == "duplicate key"
 }
 
 /// Appends the help for a word that is not a TOML value, or nothing.
