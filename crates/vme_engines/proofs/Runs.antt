@@ -26,7 +26,7 @@ run_text_of input config report status configures order good =
       config = config;
       configures = configures;
       slots = turns.0;
-      whole = ap report_text turns.1.boards;
+      text_is = ap report_text turns.1.boards;
       good = good ∙ ap report_status turns.1.boards;
       report = report;
       order = order;
@@ -61,4 +61,4 @@ pub step_prefix_written : (reported old new : Option (List ℕ)) (end : Result S
 step_prefix_written None old new end config configures written = tt
 step_prefix_written (Some input) old new (Ok status) config configures written = tt
 step_prefix_written (Some input) old new (Err fault) config configures written =
-    inr (run_text config (file_turns config), record { config = config; configures = configures; whole = refl }, written)
+    inr (run_text config (file_turns config), record { config = config; configures = configures; text_is = refl }, written)
