@@ -1,4 +1,4 @@
--- Defines what a closed port guarantees about its passes, and where an entry stands in the history.
+-- Defines what a closed port guarantees about its passes, and the place of an entry in the history.
 use Rattle.std.specs.Prelude.{ℕ, ◌≡◌, ◌<◌, ◌==◌, List, ◌∷◌, ◌++◌, length, All}
 use Rattle.std.specs.List.{sum_by, count_by}
 use Rattle.vme_object.specs.declared.history.Entry.{Entry}

@@ -11,9 +11,9 @@ ghost use Rattle.vme_port.specs.Settlements.{Settles, StandsIn};
 
 use vme_object::Object;
 
-/// Calls compose. A pass makes no entries over no call, and the entries that a call adds over that
-/// call. It makes the entries of one sequence of calls followed by those of a second sequence over
-/// both.
+/// Calls compose. Without a call, a pass makes no entry. Over one call, it makes the entries that
+/// the call adds. Over two sequences of calls, it makes the entries of the first, followed by those
+/// of the second.
 pub fn calls_compose<O: Object>()
     ensures none { (p : PassView O.Cmd O.Reply) → Makes [] p p }
     ensures one { (start : O) (es : List (Entry O.Cmd O.Reply)) (p q : PassView O.Cmd O.Reply) →

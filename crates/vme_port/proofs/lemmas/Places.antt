@@ -69,7 +69,7 @@ module _ {C R : Type 0} where
         subst (λ l. IsPlaceOf who (g ∷ h) (take (suc i) l) (slice_index_or l (suc i) d)) (sym its) (place_behind_other who g _ h _ other p)
   ]
 
-  -- two entries of `who` that follow as many of its own entries stand at one place
+  -- two entries of `who` that follow the same own entries of `who` have the same place
   pub same_place : (who : ℕ) (a b : List (Entry C R)) (e f : Entry C R) (x y : List (Entry C R)) → a ++ e ∷ x ≡ b ++ f ∷ y → e.who ≡ who
       → f.who ≡ who → own who a ≡ own who b → a ≡ b
   same_place who [] [] e f x y is mine theirs same = refl
