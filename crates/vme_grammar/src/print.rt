@@ -171,7 +171,7 @@ fn all_lanes(lines: DataLines) -> [u8; 16]
     ]
 }
 
-/// The greatest length of the line of a cycle's signals.
+/// The greatest length in bytes of the line of a cycle's signals, its LF included.
 const SIGNALS_LEN: usize = 73;
 
 /// Appends the line of a cycle's signals: the code, the address, the levels of the data strobes,
