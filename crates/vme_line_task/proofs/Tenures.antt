@@ -11,14 +11,12 @@ use Rattle.vme_core.specs.declared.event.EventReply.{EventReply}
 use Rattle.vme_core.specs.declared.event.EventReply.TheVariants as replies
 use Rattle.vme_core.specs.Calls.{Call, OnBus}
 use Rattle.vme_core.specs.NextSteps.{NextStep, Invokes, Returns}
-use Rattle.vme_master.specs.declared.job.BusJob.{BusJob}
 use Rattle.vme_master.specs.declared.job.LocalJob.{LocalJob}
 use Rattle.vme_master.specs.declared.job.Job.{Job}
 use Rattle.vme_master.specs.declared.job.Job.TheVariants.{Bus, Local}
 use Rattle.vme_master.specs.declared.outcome.Outcome.{Outcome}
 use Rattle.vme_master.specs.declared.outcome.Outcome.TheVariants as outcomes
 use Rattle.vme_master.specs.Jobs.{local_call, fits}
-use Rattle.vme_master.specs.Tables as tasks
 use Rattle.vme_master.specs.Tables.{Inputs, next_of, outcome_by, row_of_reply}
 use Rattle.vme_master.proofs.lemmas.Tenures.{ends_freed}
 use Rattle.vme_master.proofs.lemmas.Locals.{local_calls}
@@ -37,9 +35,6 @@ end_granted (outcomes.Read bytes) good denial = denial
 end_granted outcomes.Done good denial = denial
 end_granted (outcomes.Old bytes) good denial = denial
 end_granted (outcomes.Berr count bytes) good denial = denial
-
-datum_granted : (j : BusJob) (i : ℕ) → IsDenial (Invokes (tasks.datum_or_done j i)) → ⊥
-datum_granted j i denial = denial
 
 -- what follows a reply that fits and is no denial is no denial
 row_granted : (job : Job) (g : Inputs) (call : Call) (reply : EventReply) → next_of job g ≡ Invokes call → IsGood call reply

@@ -4,14 +4,13 @@ use Rattle.std.specs.List.{list_all}
 use Rattle.std.proofs.lemmas.Bool.{and_parts}
 use Rattle.std.specs.Prelude.{nat_lt, nat_le, not, ◌&&◌, is_ok}
 use Rattle.vme_decode.specs.declared.entry.Entry.{Entry}
-use Rattle.vme_decode.specs.Lawful.{some_overlap}
 use Rattle.vme_memory.specs.declared.class.Class.{Class}
 use Rattle.vme_script.specs.declared.board.BoardConfig.{BoardConfig}
 use Rattle.vme_script.specs.declared.fault.ConfigFault.{ConfigFault}
-use Rattle.vme_script.specs.declared.fault.ConfigFault.TheVariants.{BadSlot, BadLevel, Overlap}
+use Rattle.vme_script.specs.declared.fault.ConfigFault.TheVariants.{BadSlot, BadLevel}
 use Rattle.vme_script.specs.Answers.{◌>>=◌, refuse}
 use Rattle.vme_config_toml.specs.Files.{BoardValues}
-use Rattle.vme_script.specs.Boards.{entry_of, class_of, range_refused, board_config, boards_after, have_ranges, map_of}
+use Rattle.vme_script.specs.Boards.{entry_of, class_of, range_refused, board_config, boards_after, have_ranges}
 use Rattle.vme_script.specs.Scripts.{has_slots}
 
 -- a Boolean whose negation is false is true
@@ -111,12 +110,3 @@ ranges_known (board ∷ boards) lawful =
     let p = and_parts (is_lawful board) (list_all is_lawful boards) lawful in
     let q = and_parts (nat_le board.slot 21 && not (nat_lt 3 board.level)) (is_ok (range_refused board.entry)) p.0 in
     rw q.1 (ranges_known boards p.1)
-
--- a map equals the ranges that it was made from
-pub map_known : (entries map : List Entry) → map_of entries ≡ Ok map → map ≡ entries
-unfolding map_of
-map_known entries map e = made (some_overlap entries) entries map e
-  where
-    made : (overlap : Bool) (entries map : List Entry) → (refuse overlap Overlap >>= (λ _. Ok entries)) ≡ Ok map → map ≡ entries
-    made true entries map e = cc
-    made false entries map e = cc
