@@ -211,9 +211,9 @@ fn read_quad(rt: &impl Abort, addr: u32) -> BoardCmd {
     }
 }
 
-/// Commands in order to one board of 16 bytes, whose bytes lie in two words: the offset; the command
-/// to the local port, or `None` for a read of four bytes over the bus; and the bytes of the reply,
-/// empty after a write.
+/// Commands in order to one board of 16 bytes, whose bytes lie in two words: the offset; the
+/// command to the local port, or `None` for a read of four bytes over the bus; and the bytes of the
+/// reply, empty after a write.
 static ACROSS: [(u32, Option<Local>, &[u8]); 5] = [
     (3, Some(Local::Write(&[0xa1, 0xa2, 0xa3, 0xa4])), &[]),
     (0, None, &[0, 0, 0, 0xa1]),

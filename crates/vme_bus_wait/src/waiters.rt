@@ -70,7 +70,7 @@ impl BusWaiters {
 
     /// Records that the processor released the bus. If processors wait and all of them sleep, it
     /// wakes one of them. If there are two processors and this one had to wait for the bus, it
-    /// defers to the other for a while.
+    /// defers to the other for at most 16 polls.
     #[inline(always)]
     pub fn release(&self, wait_state: &mut WaitState)
         ensures { wait_state.new ≡ released (processors_of self.now) wait_state.old }
@@ -147,7 +147,8 @@ impl BusWaiters {
         self.counts.step_back();
     }
 
-    /// Returns whether more than one processor may wait at a time. Only then awake ones are counted.
+    /// Returns whether more than one processor may wait at a time. Only then are awake processors
+    /// counted.
     #[inline(always)]
     fn counts_awake(&self) -> bool
         ensures { result ≡ nat_lt 2 (processors_of self.now) }

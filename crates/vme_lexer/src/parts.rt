@@ -43,7 +43,8 @@ pub(crate) fn cut(text: &[u8], byte: u8) -> Option<(&[u8], &[u8])>
     Some((text.split_at(end).0, text.split_at(end + 1).1))
 }
 
-/// Returns the index of the first `byte` in `text`. It calls `memchr`, which is fast for long texts.
+/// Returns the index of the first `byte` in `text`. It calls `memchr`, which is fast for long
+/// texts.
 #[tactic(auto, using(crate::proofs::Cutting::place_found))]
 fn first_far_place(text: &[u8], byte: u8) -> Option<usize>
     ensures { result ≡ position (λ b. b == byte) text.now }

@@ -26,7 +26,7 @@ word_set [] new one = absurd (omega arith)
 word_set (w ∷ words) new one = refl
 
 module _ {C R : Type 0} where
-  -- a view that holds the object stands for at least one pass
+  -- a view that holds the object represents at least one pass
   pub out_weighs : (v : SeatView C R) (h : List (Entry C R)) → ((v.out ≡ true) → (a : Account C R) × (v.accounts ≡ a ∷ []) × (a.seen ≡ h))
       → (b : Bool) → v.out ≡ b → cond b 1 0 ≤ weight v
   out_weighs v h one true is = let accounts = (one is).1 in omega (arith, ap length accounts)

@@ -25,7 +25,7 @@ pub fn calls_compose<O: Object>()
 /// The calls of all passes of a settled port make one history.
 ///
 /// Each entry that a pass made after some moment has exactly one place in the history. That place
-/// is behind everything that the pass had seen at that moment and behind the entries that the pass
+/// is after everything that the pass had seen at that moment and after the entries that the pass
 /// made before this one, and the entry has the reply of the step there. The history has no other
 /// entries than those of the passes, and as many as they made together. A pass that was unused at
 /// that moment made exactly its own part of the history.

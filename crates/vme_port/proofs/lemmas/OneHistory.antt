@@ -40,7 +40,7 @@ module _ {C R : Type 0} where
     made = omega (arith, first.made, then.made, length-append a b);
   }
 
-  -- a pass makes the entries that it adds behind entries of others
+  -- a pass makes the entries that it adds after entries of others
   pub makes_added : (es : List (Entry C R)) (p q : PassView C R) → q.port ≡ p.port → q.who ≡ p.who → (others : List (Entry C R)) → own p.who others ≡ []
       → q.seen ≡ p.seen ++ others ++ es → All (λ e. e.who ≡ p.who) es → q.mine ≡ p.mine ++ es → q.made ≡ p.made + length es → Makes es p q
   makes_added es p q port who others apart seen whose mine made = record {

@@ -21,7 +21,7 @@ pub record IsShared {C R : Type 0} (k : ℕ) (h : List (Entry C R)) (passes : Li
   pub sound : All (λ p. own p.who p.seen ≡ p.mine) passes
   pub mine : All (λ p. own p.who h ≡ p.mine) passes
 
--- an entry has its place in a history: behind all that its caller had seen, after exactly the entries `mine` of its caller
+-- an entry has its place in a history: after all that its caller had seen, and after exactly the entries `mine` of its caller
 pub record IsOwnPlace {C R : Type 0} (h seen mine : List (Entry C R)) (e : Entry C R) : Type 0 where
   pub before : List (Entry C R)
   pub after : List (Entry C R)
