@@ -62,7 +62,7 @@ uncut byte text place =
       | inr le ↦ one_part (is_byte byte) text le
     ]
 
--- the first of two or more parts is a line
+-- the first of two or more parts, without the CR at its end, is a line
 lines_of_more : (x : List ℕ) (parts : List (List ℕ)) → 0 < length parts → lines_of_parts (x ∷ parts) ≡ strip_carriage_return x ∷ lines_of_parts parts
 lines_of_more x [] some = absurd (omega arith)
 lines_of_more x (y ∷ more) some = refl
