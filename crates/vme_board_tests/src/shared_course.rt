@@ -1,4 +1,5 @@
-//! The boards of the tests, and the driver that leads a task through a list of cycles and replies.
+//! The boards of the tests of locks and mailboxes, and the driver that leads a task through a list
+//! of cycles and replies.
 use crate::support::{ASK, DONE, FREED, GRANTED, Given, LOOK, WAITING, datum, replied, signals_of};
 use std::process::Abort;
 use vme_am::Space;

@@ -48,7 +48,7 @@ is_time_to_wake still = nat_le 8 still && is_power_of_two still
 abbrev pub may_sleep : WaitState → Bool
 may_sleep state = nat_lt 16 (rounds_of state) && (still_rounds_of state == 0)
 
--- whether a processor may sleep as the last one: the bus was not released in the last 64 rounds
+-- whether a processor may sleep although no other waits awake: the bus was not released in the last 64 rounds
 abbrev pub may_sleep_as_last : WaitState → Bool
 may_sleep_as_last state = nat_le 64 (still_rounds_of state)
 

@@ -1,7 +1,7 @@
 use crossbeam_utils::CachePadded;
 use std::sync::atomic::{AtomicBool, AtomicU64, Ordering};
 
-/// The values that all processors share, each on a cache line of its own.
+/// The counts and the mark that all processors share, each on a cache line of its own.
 #[derive(Drop)]
 pub(crate) struct Counts {
     releases: CachePadded<AtomicU64>,

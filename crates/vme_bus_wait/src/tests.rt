@@ -1,5 +1,5 @@
-//! Tests: three processors that wait for each other in rotation, one that waits long, and one that
-//! another wakes.
+//! Tests: three processors that use the bus in rotation, one that waits for 300 milliseconds, and
+//! one that sleeps until another wakes it.
 use crate::wait_state::WaitState;
 use crate::waiters::BusWaiters;
 use std::sync::Wait;

@@ -88,8 +88,8 @@ impl WaitState {
         self.rounds > AWAKE_ROUNDS && self.still == 0
     }
 
-    /// Returns whether the processor may sleep as the last one: the bus was not released in the
-    /// last 64 rounds.
+    /// Returns whether the processor may sleep although no other one waits awake: the bus was not
+    /// released in the last 64 rounds.
     pub(crate) fn is_spent(&self) -> bool
         ensures { result ≡ may_sleep_as_last self.now }
     {

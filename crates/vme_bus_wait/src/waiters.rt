@@ -34,9 +34,10 @@ const PAUSES_ASIDE: u32 = 32;
 /// this state before it asks the arbiter again, so that it does not contend with the processors
 /// that use the bus.
 ///
-/// A processor that waits long sleeps. While the bus passes from processor to processor, one
-/// waiting processor stays awake. It notices when releases stop, and wakes the others, because one
-/// of them may have got the bus. If no release follows for long, the last one sleeps too.
+/// A processor that has waited for many rounds sleeps. While the bus passes from processor to
+/// processor, one waiting processor stays awake. After several rounds without a release it wakes
+/// the others, because the arbiter may have granted the bus to one of them. After 64 such rounds it
+/// sleeps too.
 #[derive(Drop)]
 pub struct BusWaiters {
     pub(crate) counts: Counts,
@@ -69,7 +70,7 @@ impl BusWaiters {
 
     /// Records that the processor released the bus. If processors wait and all of them sleep, it
     /// wakes one of them. If there are two processors and this one had to wait for the bus, it
-    /// defers to the other for a while.
+    /// defers to the other for at most 16 polls.
     #[inline(always)]
     pub fn release(&self, wait_state: &mut WaitState)
         ensures { wait_state.new ≡ released (processors_of self.now) wait_state.old }
@@ -122,7 +123,7 @@ impl BusWaiters {
         }
     }
 
-    /// Lets the other of two processors use the bus until its releases stop, for at most
+    /// Defers to the other of two processors until no release follows within one poll, for at most
     /// `LOOKS_ASIDE` polls. Returns at once if the other one defers too. A change of the bus
     /// between threads takes longer than a transfer, so one processor makes several transfers
     /// before the other does.
@@ -146,7 +147,8 @@ impl BusWaiters {
         self.counts.step_back();
     }
 
-    /// Returns whether more than one processor may wait at a time, so that awake ones are counted.
+    /// Returns whether more than one processor may wait at a time. Only then are awake processors
+    /// counted.
     #[inline(always)]
     fn counts_awake(&self) -> bool
         ensures { result ≡ nat_lt 2 (processors_of self.now) }

@@ -92,7 +92,7 @@ fn class_values(table: &Table) -> Option<ClassTable>
     })
 }
 
-/// The values of a table `board`; `None` if a key or a value of it is faulty.
+/// Returns the values of a table `board`, or `None` if one of its keys or values is faulty.
 #[tactic(auto, unfolding(crate::specs::Keys::board_values))]
 fn board_values(table: &Table) -> Option<BoardTable<'_>>
     ensures { result ≡ board_values (table_view table.now) }
@@ -159,7 +159,7 @@ fn has_mailbox_keys(table: &Table) -> bool
     table.keys().all(|name| is_mailbox_key(name.as_str()))
 }
 
-/// The values of a table `mailbox`; `None` if a key or a value of it is faulty.
+/// Returns the values of a table `mailbox`, or `None` if one of its keys or values is faulty.
 #[tactic(auto, unfolding(crate::specs::Keys::mailbox_values))]
 fn mailbox_values(table: &Table) -> Option<MailboxTable>
     ensures { result ≡ mailbox_values (table_view table.now) }
@@ -203,7 +203,7 @@ fn mailboxes_of(alloc: Global, table: &Table) -> Result<Vec<MailboxTable>, Docum
     }
 }
 
-/// An array of exactly two whole numbers.
+/// Returns the two numbers of an array of exactly two whole numbers, or `None` for any other value.
 #[tactic(auto, using(crate::proofs::Lists::pair_in_others), unfolding(crate::specs::Values::pair))]
 fn pair(value: &Value) -> Option<(u32, u32)>
     ensures { result ≡ pair (view value.now) }

@@ -30,7 +30,7 @@ unlock_named (p ∷ q ∷ r ∷ s ∷ t ∷ []) long short u n l o c k = absurd 
 unlock_named (p ∷ q ∷ r ∷ s ∷ t ∷ v ∷ []) long short u n l o c k = rw (u, n, l, o, c, k) refl
 unlock_named (p ∷ q ∷ r ∷ s ∷ t ∷ v ∷ w ∷ more) long short u n l o c k = absurd (omega (arith, short))
 
--- the empty list of words matches any places if an absent word counts as a match
+-- the empty list of words matches all places if an absent word counts as a match
 go_by_none : (more : List Place) → go_by true more [] ≡ true
 go_by_none [] = refl
 go_by_none (Word text ∷ more) = go_by_none more
@@ -48,6 +48,7 @@ first_fails (Word text ∷ more) word words miss =
       | inr other ↦ rw other refl
     ]
 
+-- if no form begins with a word, no form matches words that begin with it
 none_named :
     (some : List LineForm) (word : List ℕ) (words : List (List ℕ)) → find (λ form. go_by true (places form) (word ∷ [])) some ≡ None
     → list_any (λ form. go_by true (places form) (word ∷ words)) some ≡ false
@@ -58,7 +59,7 @@ none_named (form ∷ some) word words none =
       | inr miss ↦ rw (first_fails (places form) word words miss) (none_named some word words (rw miss at none))
     ]
 
--- a word that begins no form is unknown, whatever follows it
+-- if no form begins with a word, words that begin with it are refused as an unknown word
 pub unnamed : (word : List ℕ) (words : List (List ℕ)) → form_named word ≡ None → form_of (word ∷ words) ≡ Err UnknownWord
 unfolding form_named form_of
 unnamed word words none = rw (none_named forms word words none) refl
@@ -84,6 +85,7 @@ first_is text (Word own ∷ more) word first passes =
       | inr miss ↦ absurd (let bad = rw miss at passes in cc)
     ]
 
+-- words that begin with `m` have the form of the function that their fifth word names
 modify_named : (words : List (List ℕ)) → form_of (codes "m" ∷ words) ≡ with_function (Modify Set) words
 unfolding form_of function_of
 modify_named [] = refl
@@ -105,6 +107,7 @@ modify_named (a ∷ b ∷ c ∷ word ∷ words) =
       ]
     ]
 
+-- words that begin with `lm` have the form of the function that their fourth word names
 local_modify_named : (words : List (List ℕ)) → form_of (codes "lm" ∷ words) ≡ with_function (LocalModify Set) words
 unfolding form_of function_of
 local_modify_named [] = refl
@@ -223,7 +226,7 @@ line_is_named word words form found =
       | inr (own, is) ↦ rw (named word words form found, is, by_first own word words) refl
     ]
 
--- a line whose first word names no form is refused
+-- a line whose first word names no form is refused as an unknown word
 pub line_is_unnamed : (word : List ℕ) (words : List (List ℕ)) → form_named word ≡ None → line_of_words (word ∷ words) ≡ Err UnknownWord
 unfolding line_of_words
 line_is_unnamed word words none = rw (unnamed word words none) refl

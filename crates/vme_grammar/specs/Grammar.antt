@@ -32,8 +32,8 @@ go_by absent (Word text ∷ more) words =
     option_map_or (λ word. bytes_eq word text) (slice_get words 0) absent && go_by absent more (drop 1 words)
 go_by absent (Of field ∷ more) words = go_by absent more (drop 1 words)
 
--- the form of a line: UnknownWord if the words, as far as they go, match no form; WordCount if none has all its fixed
--- words
+-- the form of a line: UnknownWord if the words match no form, absent words counted as matches; WordCount if they match
+-- a form only with absent words
 unfoldable pub form_of : List (List ℕ) → Result LineForm LineFault
 form_of words = do
   _ ← refuse (not (list_any (λ form. go_by true (places form) words) forms)) UnknownWord

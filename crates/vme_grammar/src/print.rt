@@ -13,6 +13,7 @@ use vme_lanes::{DataLines, Location};
 
 const DIGITS: [u8; 16] = *b"0123456789abcdef";
 
+/// Returns the lower-case hexadecimal digit of a number below 16.
 fn digit(n: u8) -> u8
     requires { n < 16 }
     ensures { result ≡ digit n }
@@ -67,6 +68,7 @@ pub fn print_hex(text: &mut Vec<u8>, bytes: &[u8]) -> Result<(), AllocError>
     Ok(())
 }
 
+/// Returns the two hexadecimal digits of a byte.
 fn hex_digits(byte: u8) -> [u8; 2]
     ensures { result ≡ hex_byte byte }
 {
@@ -135,6 +137,7 @@ fn write_text(high: bool) -> &'static [u8; 14]
     }
 }
 
+/// Returns the two digits of a data lane, or two dashes if it carries nothing.
 fn lane_digits(lane: Option<u8>) -> [u8; 2]
     ensures { result ≡ lane_text lane }
 {
@@ -171,7 +174,7 @@ fn all_lanes(lines: DataLines) -> [u8; 16]
     ]
 }
 
-/// The greatest length of the line of a cycle's signals.
+/// The greatest length in bytes of the line of a cycle's signals, its LF included.
 const SIGNALS_LEN: usize = 73;
 
 /// Appends the line of a cycle's signals: the code, the address, the levels of the data strobes,
@@ -299,6 +302,7 @@ pub fn print_refusal(text: &mut Vec<u8>, fault: CycleFault) -> Result<(), AllocE
     text.extend_from_slice(&refusal(fault))
 }
 
+/// Returns the line of a refused request.
 fn refusal(fault: CycleFault) -> [u8; 11]
     ensures { result ≡ output_line (codes "refused " ++ cycle_fault_text fault) }
 {
@@ -329,6 +333,7 @@ pub fn print_line_refusal(text: &mut Vec<u8>, fault: LineFault) -> Result<(), Al
     text.extend_from_slice(&line_refusal(fault))
 }
 
+/// Returns the line of a refused line.
 fn line_refusal(fault: LineFault) -> [u8; 16]
     ensures { result ≡ output_line (codes "line refused " ++ line_fault_text fault) }
 {

@@ -10,11 +10,12 @@ use Rattle.vme_lexer.specs.Numbers.{hex_digit, hex_from, hex_pairs, hex_bytes}
 abbrev pub Counts : Option ℕ → ℕ → Type 0
 Counts digit count = MatchOption digit (count ≡ 2 ^ 32) (λ d. (count ≡ d) × (d < 16))
 
--- whether `Counts` holds
+-- `Counts` as a test
 abbrev pub is_count : Option ℕ → ℕ → Bool
 is_count None count = nat_eq count 4294967296
 is_count (Some d) count = nat_eq count d && nat_lt d 16
 
+-- if a conjunction holds, both its parts hold
 both_true : (x y : Bool) → (x && y) ≡ true → (x ≡ true) × (y ≡ true)
 both_true true true both = (refl, refl)
 both_true true false both = cc
@@ -31,6 +32,7 @@ pub most_count : (digit : Option ℕ) (count : ℕ) → Counts digit count → c
 most_count None count counts = omega (arith, counts)
 most_count (Some d) count counts = omega (arith, counts.0, counts.1)
 
+-- if `is_count` returns true, `Counts` holds
 count_of : (digit : Option ℕ) (count : ℕ) → is_count digit count ≡ true → Counts digit count
 count_of None count is = eqb-true count 4294967296 is
 count_of (Some d) count is = let both = both_true (nat_eq count d) (nat_lt d 16) is in (eqb-true count d both.0, ltb-true d 16 both.1)
@@ -50,9 +52,11 @@ pub record IsRead (n k : ℕ) (rest word : List ℕ) : Type 0 where
   pub unread : 2 ^ 32 ≤ n → hex_from 0 word ≡ None
   pub capacity : n + 2 ^ 32 ≤ 2 ^ 32 * 16 ^ k
 
+-- 16 to the next power is sixteen times as much
 sixteenfold : (k : ℕ) → 16 ^ (k + 1) ≡ 16 * 16 ^ k
 sixteenfold k = ap (λ j. 16 ^ j) (omega arith) ∙ pow-succ' 16 k
 
+-- one more byte keeps `IsRead`, by the digit that the byte is
 read_by :
     (n k c count : ℕ) (rest word : List ℕ) (digit : Option ℕ) → k < 8 → hex_digit c ≡ digit → Counts digit count → IsRead n k (c ∷ rest) word
     → IsRead (16 * n + count) (k + 1) rest word
@@ -86,16 +90,16 @@ pub read_more :
     (n k c count : ℕ) (rest word : List ℕ) → k < 8 → Counts (hex_digit c) count → IsRead n k (c ∷ rest) word → IsRead (16 * n + count) (k + 1) rest word
 read_more n k c count rest word few counts so = read_by n k c count rest word (hex_digit c) few refl counts so
 
--- the bytes of a prefix, and then those that were read
+-- the bytes of a prefix, followed by those that were read
 abbrev pub with_prefix : List ℕ → Option (List ℕ) → Option (List ℕ)
 with_prefix prefix bytes = option_map (λ bs. prefix ++ bs) bytes
 
--- to add two lists as one prefix is to add the second and then the first
+-- a prefix of two lists is the second as a prefix and then the first
 with_prefix-append : (prefix bytes : List ℕ) (read : Option (List ℕ)) → with_prefix (prefix ++ bytes) read ≡ with_prefix prefix (with_prefix bytes read)
 with_prefix-append prefix bytes None = refl
 with_prefix-append prefix bytes (Some bs) = ap Some (append_assoc prefix bytes bs)
 
--- a pair of digits is one more byte
+-- two digits at the start of the rest spell one more byte
 pub hex_pairs-more :
     (bytes new rest tail : List ℕ) (high low : ℕ) → 2 ≤ length rest → hex_digit (get_or rest 0 0) ≡ Some high → hex_digit (get_or rest 1 0) ≡ Some low
     → new ≡ bytes ++ (16 * high + low) ∷ [] → tail ≡ drop 2 rest → with_prefix new (hex_pairs tail) ≡ with_prefix bytes (hex_pairs rest)
@@ -137,6 +141,7 @@ spelled_none bytes new sum pair rest tail word much most none longer so = record
   capacity = omega (arith, so.capacity, most, longer);
 }
 
+-- one more pair keeps `IsSpelled`, by the digits that its bytes are
 spelled_by :
     (bytes new : List ℕ) (sum high low : ℕ) (rest tail word : List ℕ) (first second : Option ℕ) → length bytes < 256 → 2 ≤ length rest
     → hex_digit (get_or rest 0 0) ≡ first → hex_digit (get_or rest 1 0) ≡ second → Counts first high → Counts second low
@@ -168,7 +173,7 @@ pub spelled_more :
 spelled_more bytes new sum high low rest tail word few long high_is low_is pushed cut longer so =
     spelled_by bytes new sum high low rest tail word _ _ few long refl refl high_is low_is pushed cut longer so
 
--- a word spells no bytes if its last digit is alone or a byte of it is no digit
+-- a word spells no bytes if it has an odd number of digits, or the sum of its pairs is at least 2 ^ 32
 pub unspelled_word :
     (bytes : List ℕ) (sum : ℕ) (rest word : List ℕ) → length rest < 2 → (length rest ≡ 0 → 2 ^ 32 ≤ sum) → IsSpelled bytes sum rest word
     → hex_pairs word ≡ None
@@ -177,11 +182,12 @@ unspelled_word bytes sum (c ∷ []) word short none so =
     elim (cases_lt sum (2 ^ 32)) [ inl less ↦ sym (so.spelled less) | inr le ↦ so.unspelled le ]
 unspelled_word bytes sum (c ∷ d ∷ cs) word short none so = absurd (omega arith)
 
+-- a conditional between no bytes and no bytes gives no bytes
 either_none : (b : Bool) (bytes : Option (List ℕ)) → bytes ≡ None → (if b then bytes else None) ≡ None
 either_none true bytes none = none
 either_none false bytes none = refl
 
--- a word whose pairs spell no bytes spells none of any number
+-- a word whose pairs spell no bytes spells no bytes, whatever the limit
 pub unspelled_bytes : (most : ℕ) (word : List ℕ) → hex_pairs word ≡ None → hex_bytes most word ≡ None
 unfolding hex_bytes
 unspelled_bytes most word none = either_none _ (hex_pairs word) none

@@ -39,7 +39,7 @@ attempt_begins (Transferring job) = begin_reported job
 attempt_begins (Awaiting job want) = begin_reported job
 attempt_begins (Sharing s) = laws.begin_reported s
 
--- the transfers of an attempt are of a slot, on a level
+-- the transfers of an attempt are those of a slot, which requests the bus on a level
 abbrev pub IsOwnAttempt : ℕ → ℕ → Attempt → Type 0
 IsOwnAttempt slot level (Transferring job) = IsOwnJob slot level job
 IsOwnAttempt slot level (Awaiting job want) = IsOwnJob slot level job
@@ -64,7 +64,7 @@ attempt_turns slot level (Sharing s) g cmd own lawful made =
     subst (λ (one : ℕ). may_give one (shared_arb_reply s g) cmd ≡ true) own.0
     (laws.turns_go_by s g cmd (subst (λ (l : ℕ). is_level l ≡ true) (sym own.1) lawful) (shares_makes (shared_next s g) (OnBus cmd) made))
 
--- the attempt is no command to the local port
+-- the attempt is not a command to the local port
 abbrev pub IsTransfer : Attempt → Type 0
 IsTransfer (Transferring (Bus j)) = Unit {0}
 IsTransfer (Transferring (Local j)) = ⊥
@@ -84,7 +84,7 @@ attempt_holds (Awaiting (Local j) want) g b command transfer made = absurd trans
 attempt_holds (Sharing s) g b command transfer made =
     laws.holds_for_data s g b command (shares_makes (shared_next s g) (OnBoard b command) made)
 
--- after a good reply of the arbiter the slot stands as the reply states
+-- after a reply of the arbiter that fits and is no denial, the slot's state is the one that the last reply states
 pub attempt_turn : (a : Attempt) (g : Inputs) (cmd : ArbCmd) (reply : ArbReply) (bus : Arbitration) (slot : ℕ)
     → attempt_next a g ≡ Invokes (OnBus cmd) → IsGood (OnBus cmd) (event_replies.Bus reply) → StandsAsReplied bus slot (Some reply)
     → StandsAsReplied bus slot (attempt_arb_reply a (Some (event_replies.Bus reply) ∷ g))
@@ -95,7 +95,7 @@ attempt_turn (Awaiting job want) g cmd reply bus slot made good stands =
 attempt_turn (Sharing s) g cmd reply bus slot made good stands =
     laws.turn_reported s g cmd reply bus slot (shares_makes (shared_next s g) (OnBus cmd) made) good.fit good.granted stands
 
--- a good reply of a board leaves the arbiter's last reply the same
+-- a reply of a board that fits leaves the arbiter's last reply unchanged
 pub attempt_datum : (a : Attempt) (g : Inputs) (call : Call) (reply : Reply) → attempt_next a g ≡ Invokes call → IsGood call (event_replies.Board reply)
     → attempt_arb_reply a (Some (event_replies.Board reply) ∷ g) ≡ attempt_arb_reply a g
 attempt_datum (Transferring job) g call reply made good = datum_reported job g reply
@@ -103,19 +103,20 @@ attempt_datum (Awaiting job want) g call reply made good = datum_reported job g 
 attempt_datum (Sharing s) g call reply made good =
     laws.datum_reported s g call reply (shares_makes (shared_next s g) call made) good.fit
 
--- an attempt that ends with a good reply is no denial, and leaves the slot as one without a reply of the arbiter; if
--- the reply is a board's, there was none before
+-- an end that is no denial, after which the slot's state is that of a slot without a reply of the arbiter; if the last
+-- reply is a board's, the arbiter had not replied before
 pub record EndsWell (a : Attempt) (g : Inputs) (reply : EventReply) (answer : LineReply) : Type 0 where
   pub granted : IsGranted answer
   pub free : (bus : Arbitration) (slot : ℕ) → StandsAsReplied bus slot (attempt_arb_reply a (Some reply ∷ g)) → StandsAsReplied bus slot None
   pub quiet : (datum : Reply) → reply ≡ event_replies.Board datum → attempt_arb_reply a g ≡ None
 
--- an attempt's end is that of its task
+-- the end of an attempt is the end of its task
 record EndsBy (next : NextStep Outcome) (answer : LineReply) : Type 0 where
   outcome : Outcome
   ends : next ≡ Returns outcome
   granted : outcome ≢ outcomes.Denied → IsGranted answer
 
+-- the end of a transfer or a local command is the end of its task
 moves_ends : (next : NextStep Outcome) (answer : LineReply) → moves_next next ≡ Returns answer → EndsBy next answer
 moves_ends NotStarted answer ends = absurd cc
 moves_ends (Invokes call) answer ends = absurd cc
@@ -125,10 +126,12 @@ moves_ends (Returns outcome) answer ends = record {
   granted = λ good. (λ denied. good cc, λ denied. absurd cc);
 }
 
+-- `Met` and `Timeout` are no denials
 found_granted : (b : Bool) (answer : LineReply) → Returns (if b then replies.Met else replies.Timeout) ≡ Returns answer → IsGranted answer
 found_granted true answer ends = (λ denied. absurd cc, λ denied. absurd cc)
 found_granted false answer ends = (λ denied. absurd cc, λ denied. absurd cc)
 
+-- the end of a read that waits for bytes is the end of its task
 waits_ends : (want : List ℕ) (next : NextStep Outcome) (answer : LineReply) → waits_next want next ≡ Returns answer → EndsBy next answer
 waits_ends want NotStarted answer ends = absurd cc
 waits_ends want (Invokes call) answer ends = absurd cc
@@ -149,19 +152,22 @@ record SharedEnd (next : NextStep SharedOutcome) (answer : LineReply) : Type 0 w
   ends : next ≡ Returns outcome
   is : replies.Shared outcome ≡ answer
 
+-- the end of a request to a lock or a mailbox is the end of its task
 shares_ends : (next : NextStep SharedOutcome) (answer : LineReply) → shares_next next ≡ Returns answer → SharedEnd next answer
 shares_ends NotStarted answer ends = absurd cc
 shares_ends (Invokes call) answer ends = absurd cc
 shares_ends (Returns outcome) answer ends = record { outcome = outcome; ends = refl; is = cc }
 
+-- the reply of a request to a lock or a mailbox whose outcome is no denial is no denial
 shared_granted : (outcome : SharedOutcome) → outcome ≢ shared.Denied → IsGranted (replies.Shared outcome)
 shared_granted outcome good = (λ denied. absurd cc, λ denied. good cc)
 
+-- if a board's reply ends a job, the job has no reply of the arbiter
 board_quiet : (job : Job) (g : Inputs) (reply : EventReply) (datum : Reply) → FreedBy job reply → reply ≡ event_replies.Board datum → job_arb_reply job g ≡ None
 board_quiet (Bus j) g reply datum freed board = absurd cc
 board_quiet (Local j) g reply datum freed board = refl
 
--- an attempt that ends with a good reply ends well
+-- an attempt that ends with a reply that fits and is no denial ends well
 pub attempt_ends : (a : Attempt) (g : Inputs) (call : Call) (reply : EventReply) (answer : LineReply) → attempt_next a g ≡ Invokes call
     → IsGood call reply → attempt_next a (Some reply ∷ g) ≡ Returns answer → EndsWell a g reply answer
 attempt_ends (Transferring job) g call reply answer made good ends =

@@ -14,7 +14,7 @@ use Rattle.vme_script.specs.Configurations.{Configuration}
 use Rattle.vme_script.specs.Lawful.{IsLawful}
 use Rattle.vme_line_task.specs.Scripts.{HasMailbox, HasItsMailbox}
 
--- a number in range is that of a mailbox
+-- a number from 1 to the number of mailboxes is that of a mailbox
 there : (config : Configuration) → IsLawful config → (box : ℕ) → 0 < box → box ≤ length config.mailboxes → HasMailbox config box
 there config lawful box first last =
     elim (slice_get_cases config.mailboxes (box - 1)).1 [
@@ -26,6 +26,7 @@ there config lawful box first last =
       | inr past ↦ absurd (omega (arith, past.0))
     ]
 
+-- a number that passes the test of declared mailboxes is that of a mailbox
 named : (config : Configuration) → IsLawful config → (box : ℕ) → (nat_le 1 box && nat_le box (length config.mailboxes)) ≡ true
     → HasMailbox config box
 named config lawful box is =
@@ -33,6 +34,7 @@ named config lawful box is =
     let last : box ≤ length config.mailboxes = grind (arith, nat_tests) in
     there config lawful box first last
 
+-- a line that names only declared mailboxes has its mailbox
 asked : (config : Configuration) → IsLawful config → (line : Line) → may_ask (Declared (length config.mailboxes)) line ≡ true
     → HasItsMailbox config line
 asked config lawful (lines.Bus request) may = tt

@@ -65,7 +65,7 @@ abbrev pub next_attempt : Attempts → NextStep LineReply → Attempts
 next_attempt made next =
     if next_wants_retry next && nat_lt 1 made.left then record { given = None ∷ []; left = made.left - 1 } else made
 
--- the attempts after one reply more, or an absent one
+-- the attempts after one more reply, or an absent one
 abbrev pub attempt_given : Attempt → Option EventReply → Attempts → Attempts
 attempt_given attempt last made =
     next_attempt (record { given = last ∷ made.given; left = made.left }) (attempt_next attempt (last ∷ made.given))

@@ -15,7 +15,7 @@ use vme_core::{Core, EventRef, EventReply};
 use vme_master::Task;
 use vme_shared::{LineReply, SharedOutcome, SharedTask};
 
-/// Attempts at a line, one of which is at work.
+/// Attempts at a line, one of which is the current one.
 #[derive(Debug, Drop)]
 pub struct Attempts<'a> {
     pub(crate) attempt: AttemptTask<'a>,

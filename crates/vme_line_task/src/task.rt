@@ -26,7 +26,7 @@ use vme_master::Task;
 use vme_script::Config;
 use vme_shared::LineReply;
 
-/// A line of a script at work.
+/// A line of a script that has been started.
 #[derive(Debug, Drop)]
 pub enum LineTask<'a> {
     /// The line's request is refused.
@@ -180,8 +180,8 @@ impl<'a> LineTask<'a> {
         }
     }
 
-    /// Returns any line of a board's processor before its first call. Out of line, so that a task
-    /// that is attempted once is made in its place.
+    /// Returns any line of a board's processor before its first call. It is not inlined, so that
+    /// `of` constructs a task that is attempted once in its final place.
     #[inline(never)]
     #[tactic(auto, unfolding(crate::specs::Machine::line_started))]
     fn of_any(config: &'a Config, board: usize, line: &'a Line, buffer: BlockBuffer) -> LineTask<'a>

@@ -16,7 +16,7 @@ use Rattle.vme_port.specs.Passes.{PassView, IsAtRest, seen_by, made_by}
 use Rattle.vme_port.specs.Calls.{Adds}
 use Rattle.vme_port.proofs.lemmas.Accounts.{own_all}
 
--- the first of the objects that are held
+-- the first of the objects that are held, or `other` if none is held
 abbrev first_home : {S : Type 0} → Home S → List (ℕ × Home S) → Home S
 first_home other [] = other
 first_home other (x ∷ xs) = x.1
@@ -155,9 +155,11 @@ module _ {S C R : Type 0} (step : S → C → S × R) (start : S) (k : ℕ) wher
         }
 
       module _ (m2 m3 : Me (Home S) (SeatView C R)) (full : IsFull 0 m1 m2) (reported : HasPut [] m2 m3) where
+        -- a full history leaves the view of the seat unchanged
         same_full : m2.0 ≡ m1.0
         same_full = ap (λ m. m.0) full.same
 
+        -- after a put without an entry, the pass has seen the whole history
         seen_full : seen_by m3.0.accounts ≡ found
         seen_full = seen_after [] m2 m3 same_full reported ∙ append-nil found
 
@@ -173,7 +175,7 @@ module _ {S C R : Type 0} (step : S → C → S × R) (start : S) (k : ℕ) wher
             adds_after [] m2 m3 same_full reported port port' same_port legal (All-nil (λ (e : Entry C R). e.who ≡ who)) in
             subst (λ n. Adds step start [] (pass_view port who made m0) (pass_view port' who n m3)) (omega arith) after
 
-        -- if the call was `Spent`, the history has 2^64 - 1 entries
+        -- after a call that was `Spent`, the pass has seen a history of 2^64 - 1 entries
         pub is_full : length (seen_by m3.0.accounts) ≡ 2 ^ 64 - 1
         is_full = ap length seen_full ∙ sym t.count ∙ ap (λ (h : Home S). h.count) (sym (same_home rest.only m1 t full.home full.out)) ∙ full.last
 
@@ -181,6 +183,7 @@ module _ {S C R : Type 0} (step : S → C → S × R) (start : S) (k : ℕ) wher
         abbrev e : Entry C R
         e = entry who cmd reply
 
+        -- the command leaves the view of the seat unchanged
         same_one : m2.0 ≡ m1.0
         same_one = ap (λ m. m.0) p.after
 

@@ -26,7 +26,7 @@ word_set [] new one = absurd (omega arith)
 word_set (w ∷ words) new one = refl
 
 module _ {C R : Type 0} where
-  -- a view that holds the object stands for at least one pass
+  -- a view that holds the object represents at least one pass
   pub out_weighs : (v : SeatView C R) (h : List (Entry C R)) → ((v.out ≡ true) → (a : Account C R) × (v.accounts ≡ a ∷ []) × (a.seen ≡ h))
       → (b : Bool) → v.out ≡ b → cond b 1 0 ≤ weight v
   out_weighs v h one true is = let accounts = (one is).1 in omega (arith, ap length accounts)
@@ -38,7 +38,7 @@ module _ {C R : Type 0} where
       let one : ◌≡◌ {A = ℕ} (cond u.out 1 0) 1 = ap (λ (b : Bool). cond b 1 0) out in
       omega (arith, sum_at (λ (v : SeatView C R). cond v.out 1 0) views j u at)
 
-  -- the account of any view has a number below k
+  -- the account of a view with one account has a number below k
   pub who_below : (k : ℕ) (views : List (SeatView C R)) (id : ℕ) (a : Account C R) (out : Bool)
       → ((who : ℕ) → sum_by (names who) views ≡ cond (ltb who k) 1 0) → get_elem? views id ≡ some (view (a ∷ []) out) → a.who < k
   who_below k views id a out shared at =

@@ -120,7 +120,7 @@ module _ {S C R : Type 0} (step : S → C → S × R) (start : S) (k : ℕ) wher
       ])
 
 module _ {S C R : Type 0} where
-  -- a split of a seat that stands for passes: one seat keeps the later accounts, and one has the first account
+  -- a split of a seat that represents passes: one seat keeps the later accounts, and one has the first account
   pub dealt : (k who : ℕ) (m : Me (Home S) (SeatView C R)) → StandsFor k who m → who < k
       → (m.0.out ≡ false) × StandsFor k (who + 1) (all_but_first m.0, m.1) × (first_alone m.0 ≡ view (account who [] [] ∷ []) false)
   dealt k who m (zero, sum, is) below = absurd (omega arith)
@@ -131,6 +131,6 @@ module _ {S C R : Type 0} where
         ap (λ m. first_alone m.0) is,
       )
 
-  -- a seat that stands for all passes stands for those from number 0 on
+  -- a seat that represents all passes represents those from number 0 on
   pub stands_first : (k : ℕ) (m : Me (Home S) (SeatView C R)) → m ≡ (newcomer k, []) → StandsFor k 0 m
   stands_first k m is = (k, omega arith, is)

@@ -23,7 +23,7 @@ module _ {S C R : Type 0} (step : S → C → S × R) (start : S) (k : ℕ) wher
   abbrev Rule : State (Home S) (SeatView C R) → Type 0
   Rule = Kept step start k
 
-  -- if a seat stands for k passes and does not hold the object, the object is in its slot
+  -- if a seat represents k passes and does not hold the object, the object is in its slot
   at_home : (s : State (Home S) (SeatView C R)) (id : ℕ) (accounts : List (Account C R)) (r : Rule s) → get_elem? s.views id ≡ some (view accounts false)
       → k ≤ length accounts → AtHome step start r.history s ⊎ Away step start r.history s → AtHome step start r.history s
   at_home s id accounts r at enough (inl home) = home
@@ -32,7 +32,7 @@ module _ {S C R : Type 0} (step : S → C → S × R) (start : S) (k : ℕ) wher
       let over = sum_over (λ (v : SeatView C R). cond v.out 1 0) weight s.views id (view accounts false) less at in
       absurd (omega (arith, away.one_out, r.weights))
 
-  -- a seat that stands for k passes has one account for each number below k
+  -- a seat that represents k passes has one account for each number below k
   each_named : (s : State (Home S) (SeatView C R)) (id : ℕ) (accounts : List (Account C R)) (r : Rule s) → get_elem? s.views id ≡ some (view accounts false)
       → k ≤ length accounts → (who : ℕ) → who < k → names_among who accounts ≡ 1
   each_named s id accounts r at enough who below =

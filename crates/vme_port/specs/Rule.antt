@@ -27,7 +27,7 @@ module _ {S C R : Type 0} (step : S → C → S × R) (start : S) where
     pub count : home.count ≡ length h
     pub none_out : holders s.views ≡ 0
 
-  -- exactly one view holds the object; it stands for one pass, which has seen the whole history
+  -- exactly one view holds the object; it represents one pass, which has seen the whole history
   pub record Away (h : List (Entry C R)) (s : State (Home S) (SeatView C R)) : Type 0 where
     pub taken : slice_index s.words 0 ≢ 0
     pub gone : s.homes ≡ none ∷ []

@@ -11,9 +11,9 @@ ghost use Rattle.vme_port.specs.Settlements.{Settles, StandsIn};
 
 use vme_object::Object;
 
-/// Calls compose. A pass makes no entries over no call, and the entries that a call adds over that
-/// call. It makes the entries of one sequence of calls followed by those of a second sequence over
-/// both.
+/// Calls compose. Without a call, a pass makes no entry. Over one call, it makes the entries that
+/// the call adds. Over two sequences of calls, it makes the entries of the first, followed by those
+/// of the second.
 pub fn calls_compose<O: Object>()
     ensures none { (p : PassView O.Cmd O.Reply) → Makes [] p p }
     ensures one { (start : O) (es : List (Entry O.Cmd O.Reply)) (p q : PassView O.Cmd O.Reply) →
@@ -25,7 +25,7 @@ pub fn calls_compose<O: Object>()
 /// The calls of all passes of a settled port make one history.
 ///
 /// Each entry that a pass made after some moment has exactly one place in the history. That place
-/// is behind everything that the pass had seen at that moment and behind the entries that the pass
+/// is after everything that the pass had seen at that moment and after the entries that the pass
 /// made before this one, and the entry has the reply of the step there. The history has no other
 /// entries than those of the passes, and as many as they made together. A pass that was unused at
 /// that moment made exactly its own part of the history.

@@ -29,7 +29,7 @@ pub struct Port<O: Object> {
     ghost some: { 0 < passes },
 }
 
-/// A new port, together with one seat that stands for all its passes.
+/// A new port, together with one seat that represents all its passes.
 struct Opened<O: Object> {
     port: Port<O>,
     seat: Seat<Home<O>, SeatView<O::Cmd, O::Reply>>,
@@ -78,7 +78,7 @@ impl<O: Object> Port<O> {
         self.table.shared.peek(0) == WANTED
     }
 
-    /// Opens the table of a port, and returns the port with one seat that stands for all its
+    /// Opens the table of a port, and returns the port with one seat that represents all its
     /// passes.
     fn open(alloc: Global, object: O, passes: usize) -> Result<Opened<O>, AllocError>
     where

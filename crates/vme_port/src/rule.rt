@@ -24,9 +24,9 @@ pub struct Account<C, R> {
     pub mine: LinkedList<Entry<C, R>>,
 }
 
-/// The knowledge of a seat: the accounts that it stands for, and whether it holds the object.
+/// The knowledge of a seat: the accounts that it represents, and whether it holds the object.
 pub struct SeatView<C, R> {
-    /// The accounts of the passes that the seat stands for.
+    /// The accounts of the passes that the seat represents.
     pub accounts: LinkedList<Account<C, R>>,
     /// Whether the seat holds the object.
     pub out: bool,

@@ -14,7 +14,7 @@ use vme_port::{Pass, Port, PortFault, Unsettled};
 /// The number of calls that each thread makes.
 const CALLS: usize = 1_000;
 
-/// The result of a thread: its pass and the replies to its calls.
+/// The result of a thread: its pass and the replies to its calls, in order.
 #[derive(Drop)]
 struct Worked {
     pass: Pass<Counter>,

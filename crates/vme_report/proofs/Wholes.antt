@@ -11,12 +11,13 @@ pub item_first :
     → flat_map f (drop i xs) ≡ f x ++ flat_map f (drop (i + 1) xs)
 item_first f xs i x within is = ap (flat_map f) (drop_more xs i x within) ∙ ap (λ y. f y ++ flat_map f (drop (i + 1) xs)) (sym is)
 
--- the text of the lines of a script from line i on begins with the text of line i
+-- the text of the replies to a script from line i on begins with the text of the reply to line i
 pub reply_first :
     (slot : ℕ) (lines : List (ℕ × LineReply)) (i : ℕ) (line : ℕ × LineReply) → i < length lines → line ≡ get_or lines i line
     → replies_text slot (drop i lines) ≡ line_text slot line.0 line.1 ++ replies_text slot (drop (i + 1) lines)
 reply_first slot lines i line within is = item_first {X = ℕ × LineReply} (λ (l : ℕ × LineReply). line_text slot l.0 l.1) lines i line within is
 
+-- the text of the numbers from i on begins with the text of i
 number_first :
     (f : ℕ → List ℕ) (i n : ℕ) → i < n → flat_map f (range_with_len i (n - i)) ≡ f i ++ flat_map f (range_with_len (i + 1) (n - (i + 1)))
 number_first f i n within = ap (λ k. flat_map f (range_with_len i k)) one_more

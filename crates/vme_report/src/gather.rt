@@ -56,6 +56,7 @@ fn gather_board<W: Sink>(
     }
 }
 
+/// Gathers the lines of the replies to a script.
 fn gather_replies<W: Sink>(
     slot: u16,
     lines: &[(u16, LineReply)],
@@ -74,6 +75,7 @@ fn gather_replies<W: Sink>(
     Ok(())
 }
 
+/// Gathers the line of one reply.
 #[tactic(auto, using(vme_io::proofs::lemmas::Gathering::printed_gathers, vme_io::proofs::lemmas::Gathering::printed_prefix, vme_io::proofs::lemmas::Gathering::nothing_prefix))]
 fn gather_reply<W: Sink>(
     slot: u16,
@@ -93,6 +95,7 @@ fn gather_reply<W: Sink>(
     Ok(())
 }
 
+/// Gathers the line of a board's counts.
 #[tactic(auto, using(vme_io::proofs::lemmas::Gathering::printed_gathers, vme_io::proofs::lemmas::Gathering::printed_prefix, vme_io::proofs::lemmas::Gathering::nothing_prefix))]
 fn gather_counts<W: Sink>(
     slot: u16,
@@ -132,6 +135,7 @@ fn gather_memory<W: Sink>(
     Ok(())
 }
 
+/// Gathers the line of a row of memory, unless the row is all zero.
 #[tactic(auto, using(vme_io::proofs::lemmas::Gathering::printed_gathers, vme_io::proofs::lemmas::Gathering::printed_prefix, vme_io::proofs::lemmas::Gathering::nothing_prefix))]
 fn gather_row<W: Sink>(
     slot: u16,

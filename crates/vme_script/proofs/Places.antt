@@ -31,6 +31,7 @@ most_addresses A16 = omega arith
 most_addresses A24 = omega arith
 most_addresses A32 = omega arith
 
+-- if a selection gives a range, the code and the address select its board and its offset, and it has the given length
 selected :
     (entries : List Entry) (code : CodeRow) (addr len : ℕ) (place : BoardRange) (found : Option (ℕ × ℕ)) → selection_at entries code addr ≡ found
     → option_map (λ at. record { board = at.0; offset = at.1; len = len }) found ≡ Some place
@@ -40,6 +41,7 @@ selected entries code addr len place (Some at) is e =
     let same : record { board = at.0; offset = at.1; len = len } ≡ place = cc in
     rw (← same) (place_falls entries code addr at.0 at.1 is, refl)
 
+-- a range at an address has a lawful code, which selects its board and its offset with the address
 by_code :
     (entries : List Entry) (read : Result CodeRow AmFault) (addr len : ℕ) (place : BoardRange) → range_by entries read addr len ≡ Some place
     → (code : CodeRow) × FallsTo entries code addr place.board place.offset × (place.len ≡ len)

@@ -1,4 +1,4 @@
--- What holds of every declared mailbox.
+-- What holds for every declared mailbox.
 use Rattle.std.proofs.Common.{◌≡◌, ℕ, zero, suc, ◌+◌, ◌≤◌, Bool, true, false, List, [], ◌∷◌, ◌++◌, length, Option, None, Some, Result, Ok, Err, refl, ap, subst, sym, ◌∙◌, arith}
 use Rattle.std.specs.Prelude.{nat_lt, ◌||◌, not, is_ok, slice_get}
 use Rattle.std.specs.Option.{ok_or}
@@ -26,10 +26,12 @@ use Rattle.vme_script.proofs.Maps.{end_of_range}
 
 -- ---- one mailbox
 
+-- if a required value and the checks after it give a result, the value is present and these checks give the result
 got : {A B : Type 0} (x : Option A) (rest : A → Result B ConfigFault) (c : B) → (ok_or x BadMailbox >>= rest) ≡ Ok c → (a : A) × (x ≡ Some a) × (rest a ≡ Ok c)
 got None rest c e = cc
 got (Some a) rest c e = (a, refl, e)
 
+-- if a check and the checks after it give a result, the check does not refuse and the others give the result
 kept : {B : Type 0} (wrong : Bool) (rest : Result B ConfigFault) (c : B) → (refuse wrong BadMailbox >>= (λ _. rest)) ≡ Ok c → (wrong ≡ false) × (rest ≡ Ok c)
 kept true rest c e = cc
 kept false rest c e = (refl, e)
@@ -40,9 +42,11 @@ with_board earlier mailbox place board =
     refuse (not (is_within place board.entry.size)) BadMailbox >>= (λ _. refuse (not (supports_mailboxes board.class)) BadMailbox >>= (λ _.
     refuse (list_any (share place) earlier) BadMailbox >>= (λ _. Ok (mailbox, place))))
 
+-- the checks of a mailbox, with its range known
 abbrev with_place : List BoardConfig → List BoardRange → Mailbox → BoardRange → Result (Mailbox × BoardRange) ConfigFault
 with_place boards earlier mailbox place = ok_or (slice_get boards place.board) BadMailbox >>= with_board earlier mailbox place
 
+-- the checks of a mailbox, with its numbers known
 abbrev with_mailbox : List BoardConfig → List BoardRange → Mailbox → Result (Mailbox × BoardRange) ConfigFault
 with_mailbox boards earlier mailbox = ok_or (range_of (entries_of boards) mailbox) BadMailbox >>= with_place boards earlier mailbox
 
@@ -56,6 +60,7 @@ record Sited (boards : List BoardConfig) (earlier : List BoardRange) (table : Ma
   able : supports_mailboxes board.class ≡ true
   apart : list_any (share place) earlier ≡ false
 
+-- the facts hold for a declared mailbox
 sited :
     (boards : List BoardConfig) (earlier : List BoardRange) (table : MailboxTable) (found : Mailbox × BoardRange)
     → declared_mailbox boards earlier table ≡ Ok found → Sited boards earlier table found.0 found.1
@@ -91,6 +96,7 @@ range_at (first ∷ more) zero board lawful there =
 range_at (first ∷ more) (suc i) board lawful there =
     range_at more i board (and_parts (is_lawful first) (list_all is_lawful more) lawful).1 there
 
+-- a declared mailbox on lawful boards is lawful
 lawful_mailbox :
     (boards : List BoardConfig) (earlier : List BoardRange) (table : MailboxTable) (mailbox : Mailbox) (place : BoardRange) → list_all is_lawful boards ≡ true
     → Sited boards earlier table mailbox place → IsLawfulMailbox boards mailbox
@@ -119,6 +125,7 @@ lawful_mailbox boards earlier table mailbox place lawful s =
 
 -- ---- one after another
 
+-- if the mailboxes after a mailbox give a list with it, they are not refused
 rest_parts :
     (x : Mailbox × BoardRange) (answer : Result (List Mailbox) ConfigFault) (mailboxes : List Mailbox) → (answer >>= (λ xs. Ok (x.0 ∷ xs))) ≡ Ok mailboxes
     → (xs : List Mailbox) × (answer ≡ Ok xs) × (x.0 ∷ xs ≡ mailboxes)
@@ -147,7 +154,7 @@ record Each (boards : List BoardConfig) (earlier : List BoardRange) (mailboxes :
       (j k : ℕ) (a b : Mailbox) (p q : BoardRange) → slice_get mailboxes j ≡ Some a → slice_get mailboxes k ≡ Some b
       → LiesAt boards a p → LiesAt boards b q → share p q ≡ true → j ≡ k
 
--- a range that is new among more ranges is new among fewer
+-- a range that shares no byte with some ranges and one more shares none with these ranges and none with that one
 new_among : (p first : BoardRange) (earlier : List BoardRange) → list_any (share p) (earlier ++ first ∷ []) ≡ false → (list_any (share p) earlier ≡ false) × (share p first ≡ false)
 new_among p first earlier none =
     let split : (list_any (share p) earlier || (share p first || false)) ≡ false = rw (← list_any-append (share p) earlier (first ∷ [])) none in
@@ -158,10 +165,11 @@ new_among p first earlier none =
     neither false true e = cc
     neither false false e = (refl, refl)
 
+-- a mailbox has one range on the boards
 one_place : (boards : List BoardConfig) (m : Mailbox) (p q : BoardRange) → LiesAt boards m p → LiesAt boards m q → p ≡ q
 one_place boards m p q here there = let same : Some p ≡ Some q = sym here ∙ there in cc
 
--- `Each` holds of a declared mailbox and the mailboxes after it
+-- if `Each` holds for the mailboxes after a declared mailbox, it holds for it and these mailboxes
 one_more :
     (boards : List BoardConfig) (earlier : List BoardRange) (table : MailboxTable) (m : Mailbox) (p : BoardRange) (ms : List Mailbox)
     → list_all is_lawful boards ≡ true → Sited boards earlier table m p → Each boards (earlier ++ p ∷ []) ms → Each boards earlier (m ∷ ms)
@@ -197,6 +205,7 @@ one_more boards earlier table m p ms lawful first others = record {
         absurd (false≢true (sym (later j a q o here (rw same at_b) at_a) ∙ shared))
     alone (suc j) (suc k) a b o q here there at_a at_b shared = ap suc (others.apart j k a b o q here there at_a at_b shared)
 
+-- `Each` holds for the mailboxes that tables declare
 each_known :
     (boards : List BoardConfig) (earlier : List BoardRange) (tables : List MailboxTable) (mailboxes : List Mailbox) → list_all is_lawful boards ≡ true
     → mailboxes_after boards earlier tables ≡ Ok mailboxes → Each boards earlier mailboxes

@@ -26,14 +26,14 @@ pub passed_over :
     → IsTaken rules number text before after None
 passed_over rules number text before after read same = (None, empty rules text read, same ∙ sym (append-nil before))
 
--- to put two lists of lines before others is to put the second before them and then the first
+-- two lists of lines before others are the second list before them, with the first list before that
 with_line-append :
     (first second : List ScriptLine) (others : Result (List ScriptLine) ScriptRefusal)
     → with_line (first ++ second) others ≡ with_line first (with_line second others)
 with_line-append first second (Ok others) = ap Ok (append_assoc first second others)
 with_line-append first second (Err refusal) = refl
 
--- after a processed line, the entries so far and those of the lines that are left give the script
+-- after a processed line, the entries so far and those of the remaining lines give the script
 pub taken :
     (rules : ScriptContext) (number : ℕ) (text : List ℕ) (more : List (List ℕ)) (before after : List ScriptLine) (refusal : Option LineFault)
     → refusal ≡ None → IsTaken rules number text before after refusal

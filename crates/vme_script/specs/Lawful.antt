@@ -1,4 +1,4 @@
--- What holds of every configuration.
+-- What holds for every configuration.
 use Rattle.std.specs.Prelude.{◌≡◌, ℕ, ◌+◌, ◌<◌, ◌≤◌, nat_le, true, false, List, length, Some, None, slice_get}
 use Rattle.std.specs.List.{list_all}
 use Rattle.vme_decode.specs.Lawful.{first_refusal}
@@ -26,8 +26,8 @@ pub record IsLawfulBoard (board : BoardConfig) : Type 0 where
   pub level : board.level ≤ 3
   pub size : is_board_size board.entry.size ≡ true
 
--- a mailbox with a lawful code and lawful numbers, whose bytes are wholly within one board that its code selects, which
--- has quad bytes and read-modify-writes
+-- a mailbox with a lawful code and lawful numbers; all its bytes are within one board that its code selects, and that
+-- board has quad bytes and read-modify-writes
 pub record IsLawfulMailbox (boards : List BoardConfig) (mailbox : Mailbox) : Type 0 where
   pub code : is_mailbox_code mailbox.am ≡ true
   pub numbers : IsMailbox mailbox

@@ -19,13 +19,13 @@ use Rattle.vme_grammar.specs.Naming.{function_of}
 use Rattle.vme_grammar.proofs.Cases.{cases_Option, cases_Result}
 use Rattle.vme_grammar.proofs.Naming.{find_passes, own_word}
 
--- filled places are as many as their words
+-- words that fill places are as many as the places
 count_filled : {some : List Place} {words : List (List ℕ)} {o given : Operands} → Fill some words o given → length words ≡ length some
 count_filled no_place = refl
 count_filled (word rest) = ap suc (count_filled rest)
 count_filled (field spelled rest) = ap suc (count_filled rest)
 
--- a list of places has as many fields
+-- a list of places has as many fields as places
 length_fields : (some : List Place) → length (map field_at some) ≡ length some
 length_fields [] = refl
 length_fields (place ∷ some) = ap suc (length_fields some)
@@ -144,12 +144,13 @@ spelled_read words line spelled =
     = eq-eqb _ _ (count_filled filled ∙ sym (length_fields (places spelled.form))) in
     rw (found spelled.form filled, count, filled_read filled) (ap Ok (sym spelled.same))
 
--- words that spell a line are not empty
+-- if words spell a line, `line_if_any` returns it
 read_if_any : (words : List (List ℕ)) (line : Line) → line_of_words words ≡ Ok line → line_if_any words ≡ Ok (Some line)
 unfolding line_of_words form_of
 read_if_any [] line read = absurd (cc)
 read_if_any (text ∷ words) line read = rw read refl
 
+-- a line that `line_if_any` returns is the one that the words spell
 any_read : (words : List (List ℕ)) (line : Line) → line_if_any words ≡ Ok (Some line) → line_of_words words ≡ Ok line
 any_read [] line read = absurd (cc)
 any_read (text ∷ words) line read =
@@ -175,6 +176,7 @@ unfolding line_of
 spelled_line_is_read text line short spelled =
     rw (le-ltb _ _ short, read_if_any (words_of text) line (spelled_read (words_of text) line spelled)) refl
 
+-- the line of a form commands the local port to do no bus cycle
 own_at : (form : LineForm) (o : Operands) → IsOwnLine (line_at form o)
 own_at Read o = tt
 own_at Write o = tt

@@ -21,6 +21,7 @@ moves_once NotStarted = refl
 moves_once (Invokes call) = refl
 moves_once (Returns outcome) = refl
 
+-- attempts at a transfer advance as the transfer's task does
 transfer_on : (left : ℕ) (t : TaskView) (reply : Option EventReply)
     → attempts_advance (record { attempt = Transfer t; left = left }) reply ≡ record { attempt = Transfer (advance t reply); left = left }
 transfer_on left t reply = rw (moves_once (to_do (advance t reply))) refl

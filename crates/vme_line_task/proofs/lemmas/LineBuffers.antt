@@ -38,15 +38,16 @@ pub record IsNextBuffer (script : List ScriptLine) (n : ℕ) (buffer : BufferVie
   pub enough : (line : Line) → slice_get (map (λ one. one.line) script) n ≡ Some line → line_read_len line ≤ buffer.capacity
   pub after : rest ≡ drop (n + 1) (buffers_of script)
 
+-- the greater of two numbers is at least the second
 most : (n m : ℕ) → m ≤ max n m
 most n m = omega arith
 
--- a line that is left has a buffer
+-- if a line remains, a buffer remains
 pub buffers_left : (script : List ScriptLine) (n : ℕ) (buffers : List BufferView) → n < length script → buffers ≡ drop n (buffers_of script) → 0 < length buffers
 buffers_left script n buffers within are =
     omega (arith, ap length are, length-drop n (buffers_of script), length-map script (λ (one : ScriptLine). buffer_of one.line))
 
--- the first buffer that is left is that of the next line
+-- the first of the remaining buffers is that of the next line
 pub next_buffer : (script : List ScriptLine) (n : ℕ) (buffers rest : List BufferView) (buffer : BufferView) → n < length script
     → buffers ≡ drop n (buffers_of script) → buffers ≡ buffer ∷ rest → IsNextBuffer script n buffer rest
 next_buffer script n buffers rest buffer within are is =
@@ -69,12 +70,12 @@ next_buffer script n buffers rest buffer within are is =
     line_there (one ∷ script) zero n< = (one.line, refl)
     line_there (one ∷ script) (suc n) n< = line_there script n (omega arith)
 
--- the buffers so far are those that are kept, whatever comes after
+-- the buffers so far are those that `buffers_kept` gives, whatever buffers follow
 unfoldable pub AreKept : List Bool → List BufferView → List BufferView → Type 0
 AreKept take_memory long buffers =
     (more : List Bool) (rest : List BufferView) → buffers_kept (take_memory ++ more) (long ++ rest) ≡ buffers ++ buffers_kept more rest
 
--- `AreKept` holds of the empty lists
+-- `AreKept` holds for empty lists
 pub kept_none : (take_memory : List Bool) (long : List BufferView) → take_memory ≡ [] → long ≡ [] → AreKept take_memory long []
 unfolding AreKept
 kept_none take_memory long none empty = λ more rest. rw (none, empty) refl
@@ -99,7 +100,7 @@ kept_long take_memory long buffers buffer before = λ more rest.
     ∙ before (true ∷ more) (buffer ∷ rest)
     ∙ sym (append_assoc buffers (buffer ∷ []) (buffers_kept more rest))
 
--- all buffers are those that are kept
+-- if `AreKept` holds for all buffers, `buffers_kept` gives them
 pub kept_all : (take_memory : List Bool) (long buffers : List BufferView) → AreKept take_memory long buffers → buffers_kept take_memory long ≡ buffers
 unfolding AreKept
 kept_all take_memory long buffers all =

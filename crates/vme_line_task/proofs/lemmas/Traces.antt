@@ -47,12 +47,12 @@ trace_length config board (one ∷ lines) moves [] script_state = absurd script_
 trace_length config board (one ∷ lines) moves (first ∷ answers) script_state =
     ap suc (trace_length config board lines script_state.1 answers script_state.4)
 
--- the line after those that have ended is the first that is left
+-- the line after those that have ended is the first of the remaining lines
 next_line : (finished left : List Line) → slice_get (finished ++ left) (length finished) ≡ slice_get left 0
 next_line [] left = refl
 next_line (one ∷ finished) left = next_line finished left
 
--- before its first call, the next line has no transitions
+-- without a transition, the next line is before its first call
 rests : (config : Configuration) (board : ℕ) (left : List Line) → AtWork config board left [] []
 rests config board [] = (refl, refl)
 rests config board (line ∷ left) = refl
@@ -70,7 +70,7 @@ follows_nothing config board = record {
   work = rests config board (lines_at config board);
 }
 
--- the line of a script state is the first of those that are left
+-- the next line of a script state is the first of the remaining lines
 left_first : (config : Configuration) (board : ℕ) (moves : List Transition) (script_state : ScriptState) (f : IsTracePrefix config board moves script_state) (line : Line)
     (left : List Line) → slice_get (lines_at config board) (length script_state.ended) ≡ Some line → lines_at config board ≡ f.finished ++ left
     → slice_get left 0 ≡ Some line

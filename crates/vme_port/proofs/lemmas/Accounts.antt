@@ -37,7 +37,7 @@ module _ {C R : Type 0} where
       let differs : e.who ≢ other = λ e'. apart (sym e' ∙ same) in
       rw (ne_eqb e.who other differs) rest
 
-  -- the part of a history behind what an account has seen contains none of its own entries
+  -- the part of a history after what an account has seen contains none of its own entries
   pub apart : (h : List (Entry C R)) (a : Account C R) (f : IsConsistent h a) → own a.who f.begins.0 ≡ []
   apart h a f = append_same a.mine (own a.who f.begins.0)
       (ap (λ l. l ++ own a.who f.begins.0) (sym f.sound) ∙ sym (own-append a.who a.seen f.begins.0) ∙ ap (own a.who) (sym f.begins.1) ∙ f.whole)

@@ -14,7 +14,7 @@ use Rattle.vme_port.proofs.lemmas.SharedHistory as Shared
 use Rattle.atomic_table.specs.Seated.{TableId}
 
 module _ {C R : Type 0} where
-  -- a pass makes no entries over no call
+  -- without a call, a pass makes no entry
   pub makes_none : (p : PassView C R) → Makes [] p p
   makes_none p = record {
     port = refl;
@@ -26,7 +26,7 @@ module _ {C R : Type 0} where
     made = omega arith;
   }
 
-  -- a pass makes, over two sequences of calls, the entries of both, in order
+  -- over two sequences of calls, a pass makes the entries of the first and then those of the second
   pub makes_more : (a b : List (Entry C R)) (p q r : PassView C R) → Makes a p q → Makes b q r → Makes (a ++ b) p r
   makes_more a b p q r first then = record {
     port = then.port ∙ first.port;
@@ -40,7 +40,7 @@ module _ {C R : Type 0} where
     made = omega (arith, first.made, then.made, length-append a b);
   }
 
-  -- a pass makes the entries that it adds behind entries of others
+  -- a pass makes the entries that it adds after entries of others
   pub makes_added : (es : List (Entry C R)) (p q : PassView C R) → q.port ≡ p.port → q.who ≡ p.who → (others : List (Entry C R)) → own p.who others ≡ []
       → q.seen ≡ p.seen ++ others ++ es → All (λ e. e.who ≡ p.who) es → q.mine ≡ p.mine ++ es → q.made ≡ p.made + length es → Makes es p q
   makes_added es p q port who others apart seen whose mine made = record {
@@ -54,7 +54,7 @@ module _ {C R : Type 0} where
   }
 
 module _ {S C R : Type 0} (step : S → C → S × R) (start : S) where
-  -- a pass makes, over one call, the entries that the call adds
+  -- over one call, a pass makes the entries that the call adds
   pub makes_one : (es : List (Entry C R)) (p q : PassView C R) → Adds step start es p q → Makes es p q
   makes_one es p q added = makes_added es p q added.port added.who added.others added.apart added.seen added.whose added.mine added.made
 
@@ -95,7 +95,7 @@ module _ {S C R : Type 0} (step : S → C → S × R) (start : S) where
   abbrev own_place : (h seen mine : List (Entry C R)) (e : Entry C R) → StandsIn step start h seen mine e → Shared.IsOwnPlace h seen mine e
   own_place h seen mine e at = record { before = at.before; after = at.after; place = at.place; behind = at.behind; only = at.only }
 
-  -- two entries of one caller that follow as many of its own entries have one place
+  -- two entries of one caller that follow the same own entries have the same place
   pub one_place : (h seen seen' mine : List (Entry C R)) (e f : Entry C R) → e.who ≡ f.who → (a : StandsIn step start h seen mine e) → (b : StandsIn step start h seen' mine f)
       → a.before ≡ b.before
   one_place h seen seen' mine e f same a b = Shared.one_place h seen seen' mine e f same (own_place h seen mine e a) (own_place h seen' mine f b)

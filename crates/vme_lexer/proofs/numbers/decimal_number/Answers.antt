@@ -1,4 +1,4 @@
--- One more digit does not overflow.
+-- One more digit does not overflow, and the number has at most `most` digits.
 use Rattle.std.proofs.Common.{◌<◌, arith}
 use Rattle.vme_cycle.proofs.lemmas.Numbers.{below_power}
 use Rattle.vme_lexer.proofs.numbers.decimal_number.Goals as goal

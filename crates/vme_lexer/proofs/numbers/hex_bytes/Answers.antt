@@ -1,4 +1,4 @@
--- One more pair of digits.
+-- One more pair of digits keeps `IsSpelled`, and a word that is rejected at the end spells no bytes.
 use Rattle.std.proofs.Common.{◌≡◌, ◌≤◌, ◌^◌, ◌==◌, ◌∙◌, sym, ap, true, false, inl, inr, arith, length, length-drop}
 use Rattle.std.proofs.lemmas.List.{take_rest}
 use Rattle.vme_lexer.proofs.Digits.{spelled_more, unspelled_word, unspelled_bytes}

@@ -1,4 +1,4 @@
--- One more board is reported, or a prefix of it.
+-- One more board is gathered; if the sink fails, a prefix of the part was written.
 use Rattle.std.proofs.Common.{◌<◌, ◌+◌, ◌++◌, length, drop, arith, rules}
 use Rattle.std.specs.List.{flat_map}
 use Rattle.vme_io.specs.Prefixes.{AppendsPrefix}

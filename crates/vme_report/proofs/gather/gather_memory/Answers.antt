@@ -1,4 +1,4 @@
--- One more row is reported, or a prefix of it.
+-- One more row is gathered; if the sink fails, a prefix of the memory's text was written.
 use Rattle.std.proofs.Common.{◌≡◌, ◌<◌, ◌+◌, ◌-◌, ◌*◌, ◌++◌, take, drop, ap, ◌∙◌, arith, rules}
 use Rattle.std.specs.List.{flat_map, range_with_len}
 use Rattle.vme_io.specs.Prefixes.{AppendsPrefix}

@@ -1,4 +1,4 @@
--- One more line is reported, or a prefix of it.
+-- One more line is gathered; if the sink fails, a prefix of the replies was written.
 use Rattle.std.proofs.Common.{◌<◌, ◌+◌, ◌++◌, length, drop, arith, rules}
 use Rattle.vme_io.specs.Prefixes.{AppendsPrefix}
 use Rattle.vme_report.specs.Texts.{line_text, replies_text}
