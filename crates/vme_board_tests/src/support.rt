@@ -63,7 +63,7 @@ pub const DONE: ArbCmd = ArbCmd::Done { slot: 2 };
 #[derive(Clone, Copy, Debug, PartialEq, Eq)]
 pub enum Given {
     Nothing,
-    Turn(ArbReply),
+    FromArbiter(ArbReply),
     /// Bytes that a board has read.
     Bytes(&'static [u8]),
     /// A board has written its bytes.
@@ -71,19 +71,19 @@ pub enum Given {
     Berr,
 }
 
-pub const WAITING: Given = Given::Turn(ArbReply::Waiting);
+pub const WAITING: Given = Given::FromArbiter(ArbReply::Waiting);
 
-pub const GRANTED: Given = Given::Turn(ArbReply::Granted);
+pub const GRANTED: Given = Given::FromArbiter(ArbReply::Granted);
 
-pub const FREED: Given = Given::Turn(ArbReply::Freed);
+pub const FREED: Given = Given::FromArbiter(ArbReply::Freed);
 
-pub const DENIED: Given = Given::Turn(ArbReply::Denied);
+pub const DENIED: Given = Given::FromArbiter(ArbReply::Denied);
 
 /// Returns the reply that `given` describes, or `None` for no reply.
 pub fn replied(given: Given) -> Option<EventReply> {
     match given {
         Given::Nothing => None,
-        Given::Turn(turn) => Some(EventReply::Bus(turn)),
+        Given::FromArbiter(arb_reply) => Some(EventReply::Bus(arb_reply)),
         Given::Bytes(bytes) => Some(EventReply::Board(Reply::Bytes(datum(bytes)))),
         Given::Done => Some(EventReply::Board(Reply::Done)),
         Given::Berr => Some(EventReply::Board(Reply::Berr)),

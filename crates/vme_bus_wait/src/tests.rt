@@ -13,7 +13,7 @@ use std::{io, thread};
 const TURNS: u64 = 1000;
 
 /// Proceeds `TURNS` times; among three processors, each proceeds after the previous one.
-fn take_turns<R: Wait>(rt: &R, waiters: &BusWaiters, turn: &AtomicU64, who: usize) {
+fn proceed_in_rotation<R: Wait>(rt: &R, waiters: &BusWaiters, turn: &AtomicU64, who: usize) {
     let mut wait_state = WaitState::new();
     for round in 0..TURNS {
         let mine = round.wrapping_mul(3).wrapping_add(who as u64);
@@ -30,23 +30,23 @@ fn take_turns<R: Wait>(rt: &R, waiters: &BusWaiters, turn: &AtomicU64, who: usiz
     }
 }
 
-/// Runs `take_turns` for three processors, each on a thread.
+/// Runs `proceed_in_rotation` for three processors, each on a thread.
 fn three<R: Threads + Wait + Sync>(rt: &R, waiters: &BusWaiters, turn: &AtomicU64) {
     join(
         rt,
-        || take_turns(rt, waiters, turn, 0),
+        || proceed_in_rotation(rt, waiters, turn, 0),
         || {
             join(
                 rt,
-                || take_turns(rt, waiters, turn, 1),
-                || take_turns(rt, waiters, turn, 2),
+                || proceed_in_rotation(rt, waiters, turn, 1),
+                || proceed_in_rotation(rt, waiters, turn, 2),
             )
         },
     );
 }
 
 #[test]
-fn three_take_turns(rt: HostRuntime) -> Result<(), Fail> {
+fn three_proceed_in_rotation(rt: HostRuntime) -> Result<(), Fail> {
     let waiters = BusWaiters::new(rt.alloc(), 3)?;
     let turn = AtomicU64::new(0);
     three(&rt, &waiters, &turn);

@@ -21,7 +21,7 @@ const PAUSES: u32 = 64;
 
 /// With this many processors, at most one waits at a time, so awake processors are not counted.
 /// With fewer, none ever waits.
-const ALONE: usize = 2;
+const PAIR: usize = 2;
 
 /// The number of times that a processor that defers to the other polls for that one's releases.
 const LOOKS_ASIDE: u32 = 16;
@@ -75,7 +75,7 @@ impl BusWaiters {
     pub fn release(&self, wait_state: &mut WaitState)
         ensures { wait_state.new ≡ released (processors_of self.now) wait_state.old }
     {
-        if self.sleepers.len() < ALONE {
+        if self.sleepers.len() < PAIR {
             return;
         }
         self.counts.add_release();
@@ -153,7 +153,7 @@ impl BusWaiters {
     fn counts_awake(&self) -> bool
         ensures { result ≡ nat_lt 2 (processors_of self.now) }
     {
-        self.sleepers.len() > ALONE
+        self.sleepers.len() > PAIR
     }
 
     /// Counts one more processor that waits awake, if awake processors are counted.

@@ -46,7 +46,7 @@ pub(crate) fn whole_or(table: &Table, key: &str, default: u32) -> Option<u32>
 
 /// Returns the Boolean at `key`, or `default` if the key is absent.
 #[tactic(auto, unfolding(crate::specs::Values::optional))]
-pub(crate) fn truth_or(table: &Table, key: &str, default: bool) -> Option<bool>
+pub(crate) fn bool_or(table: &Table, key: &str, default: bool) -> Option<bool>
     ensures { result ≡ optional as_bool key.now default (table_view table.now) }
 {
     match value_at(table, key) {
@@ -57,7 +57,7 @@ pub(crate) fn truth_or(table: &Table, key: &str, default: bool) -> Option<bool>
 
 /// Returns the string at `key`, or `default` if the key is absent.
 #[tactic(auto, unfolding(crate::specs::Values::optional))]
-pub(crate) fn text_or<'a>(table: &'a Table, key: &str, default: &'a str) -> Option<&'a str>
+pub(crate) fn str_or<'a>(table: &'a Table, key: &str, default: &'a str) -> Option<&'a str>
     ensures { option_copied result ≡ optional as_str key.now default.now (table_view table.now) }
 {
     match value_at(table, key) {

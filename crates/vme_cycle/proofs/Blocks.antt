@@ -207,12 +207,12 @@ same_levels : (strobes : Strobes) (a01 lword : Bool) → strobes.a01 ≡ a01 →
 same_levels strobes a01 lword high low = rw (← high, low) refl
 
 -- a slave that increments the address senses the datum's own location
-pub counts_on :
+pub sensed_own :
     (row : CodeRow) (request : Request) (i : ℕ) (first own : Location) (s : SignalLines) → IsLawful row request → i < count_of request
     → location_for (address_of request zero) (datum_len request) ≡ Some first → location_for (address_of request i) (datum_len request) ≡ Some own
     → s.am ≡ row → s.strobes ≡ shown_strobes (row_of first).strobes (row_of own).strobes
     → sensed_at s (address_of request i) ≡ Some own
-counts_on row request i first own s is less at_first at_own am shown =
+sensed_own row request i first own s is less at_first at_own am shown =
     let lword = same_lword row request i first own is less at_first at_own in
     elim (cases_Bool (is_block_request request)) [
       | inl block ↦

@@ -22,7 +22,7 @@ selection entries s = option_and_then (selection_at entries s.am) (first_byte s)
 
 -- the entry at a position responds to a code and an address, at an offset from its base: it has the code's space, admits
 -- the code, and contains the address; IEEE 1014-1987, 2.3.5 (addressing)
-pub record FallsTo (entries : List Entry) (code : CodeRow) (addr place offset : ℕ) : Type 0 where
+pub record RespondsAt (entries : List Entry) (code : CodeRow) (addr place offset : ℕ) : Type 0 where
   pub entry : Entry
   pub there : slice_get entries place ≡ Some entry
   pub space : entry.space ≡ code.space
@@ -35,4 +35,4 @@ pub record FallsTo (entries : List Entry) (code : CodeRow) (addr place offset : 
 pub record IsSelected (entries : List Entry) (s : SignalLines) (place offset : ℕ) : Type 0 where
   pub addr : ℕ
   pub first : first_byte s ≡ Some addr
-  pub falls : FallsTo entries s.am addr place offset
+  pub falls : RespondsAt entries s.am addr place offset

@@ -18,7 +18,7 @@ pub record IsRunText (input text : List ℕ) (status : Status) : Type 0 where
   pub configures : Configures input config
   pub slots : List ℕ
   pub text_is : text ≡ run_text config slots
-  pub good : status ≡ run_status config slots
+  pub status_is : status ≡ run_status config slots
   pub report : Report
   pub order : IsReportOfOneOrder config report
   pub state : IsReportOfState config report (state_after config slots)

@@ -36,16 +36,16 @@ local_places Add = refl
 local_places Compare = refl
 
 -- the result with a line and no refusal
-abbrev reported : Line → Result Line LineFault
-reported line = Ok line
+abbrev ok_line : Line → Result Line LineFault
+ok_line line = Ok line
 
 -- the data of a function, read one by one, are those that the fields of its places read
 data_read :
     (whole : ℕ → ℕ → ℕ → modify.Modify → Line) (function : Function) (o : Operands) (name : List ℕ) (rest : List (List ℕ))
     → (length rest == operand_count function) ≡ true
-    → (modify_of function o.n rest >>= (λ (f : modify.Modify). reported (whole o.am o.addr o.n f)))
+    → (modify_of function o.n rest >>= (λ (f : modify.Modify). ok_line (whole o.am o.addr o.n f)))
     ≡ (fields_read (map field_at (function_places function)) (name ∷ rest) o
-    >>= (λ (given : Operands). reported (whole given.am given.addr given.n (function_at function given))))
+    >>= (λ (given : Operands). ok_line (whole given.am given.addr given.n (function_at function given))))
 unfolding modify_of with_field
 data_read whole Set o name [] count = refl
 data_read whole Set o name (x ∷ rest) count = absurd (omega (arith, eqb-true (length (x ∷ rest)) 0 count))

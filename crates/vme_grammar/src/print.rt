@@ -22,7 +22,7 @@ fn digit(n: u8) -> u8
 }
 
 /// Reserves capacity for `fixed` bytes and for two digits for each of `bytes`.
-fn take_buffer(text: &mut Vec<u8>, fixed: usize, bytes: &[u8]) -> Result<(), AllocError>
+fn reserve_hex(text: &mut Vec<u8>, fixed: usize, bytes: &[u8]) -> Result<(), AllocError>
     ensures capacity { OnOk result
         (vec_len text.new + (fixed + 2 * length bytes.now) ≤ vec_capacity text.new) }
     ensures kept { text.new.items ≡ text.old.items }
@@ -63,7 +63,7 @@ pub fn print_hex(text: &mut Vec<u8>, bytes: &[u8]) -> Result<(), AllocError>
     ensures text { OnOk result (text.new.items ≡ text.old.items ++ hex_text bytes.now) }
     ensures kept { OnErr result (text.new.items ≡ text.old.items) }
 {
-    take_buffer(text, 0, bytes)?;
+    reserve_hex(text, 0, bytes)?;
     push_hex_bytes(text, bytes);
     Ok(())
 }
@@ -216,7 +216,7 @@ pub fn print_read(text: &mut Vec<u8>, bytes: &[u8]) -> Result<(), AllocError>
         (text.new.items ≡ text.old.items ++ output_line (outcome_text (Read bytes.now))) }
     ensures kept { OnErr result (text.new.items ≡ text.old.items) }
 {
-    take_buffer(text, 6, bytes)?;
+    reserve_hex(text, 6, bytes)?;
     push_text(text, b"read ");
     push_hex_bytes(text, bytes);
     push_text(text, b"\n");
@@ -234,7 +234,7 @@ pub fn print_old(text: &mut Vec<u8>, bytes: &[u8]) -> Result<(), AllocError>
         (text.new.items ≡ text.old.items ++ output_line (outcome_text (Old bytes.now))) }
     ensures kept { OnErr result (text.new.items ≡ text.old.items) }
 {
-    take_buffer(text, 5, bytes)?;
+    reserve_hex(text, 5, bytes)?;
     push_text(text, b"old ");
     push_hex_bytes(text, bytes);
     push_text(text, b"\n");
@@ -268,7 +268,7 @@ pub fn print_berr(text: &mut Vec<u8>, count: u16, bytes: &[u8]) -> Result<(), Al
 {
     let mut buffer = itoa::Buffer::new();
     let number = buffer.format(count).as_bytes();
-    take_buffer(text, 7 + number.len(), bytes)?;
+    reserve_hex(text, 7 + number.len(), bytes)?;
     push_text(text, b"berr ");
     push_text(text, number);
     push_more_bytes(text, bytes);

@@ -50,7 +50,7 @@ pub record IsRead (n k : ℕ) (rest word : List ℕ) : Type 0 where
   pub read : n < 2 ^ 32 → hex_from n rest ≡ hex_from 0 word
   pub small : n < 2 ^ 32 → n < 16 ^ k
   pub unread : 2 ^ 32 ≤ n → hex_from 0 word ≡ None
-  pub capacity : n + 2 ^ 32 ≤ 2 ^ 32 * 16 ^ k
+  pub bound : n + 2 ^ 32 ≤ 2 ^ 32 * 16 ^ k
 
 -- 16 to the next power is sixteen times as much
 sixteenfold : (k : ℕ) → 16 ^ (k + 1) ≡ 16 * 16 ^ k
@@ -64,7 +64,7 @@ read_by n k c count rest word None few none counts so = record {
   read = λ less. absurd (omega (arith, less, counts));
   small = λ less. absurd (omega (arith, less, counts));
   unread = λ more. elim (cases_lt n (2 ^ 32)) [ inl less ↦ sym (so.read less) ∙ rw none refl | inr le ↦ so.unread le ];
-  capacity = let more : 16 ^ (k + 1) ≡ 16 * 16 ^ k = sixteenfold k in omega (arith, counts, so.capacity, more);
+  bound = let more : 16 ^ (k + 1) ≡ 16 * 16 ^ k = sixteenfold k in omega (arith, counts, so.bound, more);
 }
 read_by n k c count rest word (Some d) few some counts so =
     let more : 16 ^ (k + 1) ≡ 16 * 16 ^ k = sixteenfold k in
@@ -75,15 +75,15 @@ read_by n k c count rest word (Some d) few some counts so =
         | inl less ↦ absurd (let low = below_power 16 n k 7 (omega arith) (so.small less) (omega (arith, few)) in omega (arith, counts.0, counts.1, low, much))
         | inr le ↦ so.unread le
       ];
-      capacity = omega (arith, counts.0, counts.1, so.capacity, more);
+      bound = omega (arith, counts.0, counts.1, so.bound, more);
     }
 
 -- one more digit does not overflow
-pub buffer_for : (n k count : ℕ) (digit : Option ℕ) → k < 8 → Counts digit count → n + 2 ^ 32 ≤ 2 ^ 32 * 16 ^ k → 16 * n + count < 2 ^ 64
-buffer_for n k count digit few counts capacity =
+pub digit_fits : (n k count : ℕ) (digit : Option ℕ) → k < 8 → Counts digit count → n + 2 ^ 32 ≤ 2 ^ 32 * 16 ^ k → 16 * n + count < 2 ^ 64
+digit_fits n k count digit few counts bound =
     let high : 16 ^ k ≤ 16 ^ 7 = pow-le-pow_right {n = 16} (omega arith) {i = k} {j = 7} (omega (arith, few)) in
     let low : count ≤ 2 ^ 32 = most_count digit count counts in
-    omega (arith, high, capacity, low)
+    omega (arith, high, bound, low)
 
 -- one more byte keeps `IsRead`
 pub read_more :
@@ -117,7 +117,7 @@ pub record IsSpelled (bytes : List ℕ) (sum : ℕ) (rest word : List ℕ) : Typ
   pub spelled : sum < 2 ^ 32 → with_prefix bytes (hex_pairs rest) ≡ hex_pairs word
   pub small : sum < 2 ^ 32 → sum ≤ 255 * length bytes
   pub unspelled : 2 ^ 32 ≤ sum → hex_pairs word ≡ None
-  pub capacity : sum ≤ 17 * 2 ^ 32 * length bytes
+  pub bound : sum ≤ 17 * 2 ^ 32 * length bytes
 
 -- if one of the first two bytes is no digit, the list spells no bytes
 unpaired :
@@ -138,7 +138,7 @@ spelled_none bytes new sum pair rest tail word much most none longer so = record
   spelled = λ less. absurd (omega (arith, less, much));
   small = λ less. absurd (omega (arith, less, much));
   unspelled = λ more. elim (cases_lt sum (2 ^ 32)) [ inl less ↦ sym (so.spelled less) ∙ ap (with_prefix bytes) none | inr le ↦ so.unspelled le ];
-  capacity = omega (arith, so.capacity, most, longer);
+  bound = omega (arith, so.bound, most, longer);
 }
 
 -- one more pair keeps `IsSpelled`, by the digits that its bytes are
@@ -162,7 +162,7 @@ spelled_by bytes new sum high low rest tail word (Some a) (Some b) few long one 
         | inl less ↦ absurd (let before = so.small less in omega (arith, before, few, more, high_is.0, high_is.1, low_is.0, low_is.1))
         | inr le ↦ so.unspelled le
       ];
-      capacity = omega (arith, so.capacity, longer, high_is.0, high_is.1, low_is.0, low_is.1);
+      bound = omega (arith, so.bound, longer, high_is.0, high_is.1, low_is.0, low_is.1);
     }
 
 -- one more pair keeps `IsSpelled`

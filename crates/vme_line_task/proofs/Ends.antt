@@ -21,7 +21,7 @@ use Rattle.vme_grammar.specs.declared.line.Line.{Line}
 use Rattle.vme_script.specs.Configurations.{Configuration}
 use Rattle.vme_line_task.specs.Scripts.{Attempt, Transferring, Awaiting, Sharing, line_attempt}
 use Rattle.vme_line_task.specs.Tenures.{IsGranted}
-use Rattle.vme_line_task.specs.Tables.{moves_next, waits_next, shares_next, attempt_next, asks_again, next_wants_retry, Attempts, next_attempt, attempts_of, lawful_next, next_given}
+use Rattle.vme_line_task.specs.Tables.{transferring_next, waits_next, shares_next, attempt_next, asks_again, next_wants_retry, Attempts, next_attempt, attempts_of, lawful_next, next_given}
 
 -- a task's outcome is final
 task_stays : (job : Job) (given : Inputs) (last : Option EventReply) (outcome : Outcome) → next_of job given ≡ Returns outcome
@@ -29,11 +29,11 @@ task_stays : (job : Job) (given : Inputs) (last : Option EventReply) (outcome : 
 task_stays job given last outcome ended = ap (λ next. next_after job next last given) ended
 
 -- the reply of a transfer or a local command is final
-moves_stays : (job : Job) (given : Inputs) (last : Option EventReply) (answer : LineReply) (next : NextStep Outcome) → next_of job given ≡ next
-    → moves_next next ≡ Returns answer → moves_next (next_of job (last ∷ given)) ≡ Returns answer
-moves_stays job given last answer NotStarted is ends = absurd cc
-moves_stays job given last answer (Invokes call) is ends = absurd cc
-moves_stays job given last answer (Returns outcome) is ends = ap moves_next (task_stays job given last outcome is) ∙ ends
+transferring_stays : (job : Job) (given : Inputs) (last : Option EventReply) (answer : LineReply) (next : NextStep Outcome) → next_of job given ≡ next
+    → transferring_next next ≡ Returns answer → transferring_next (next_of job (last ∷ given)) ≡ Returns answer
+transferring_stays job given last answer NotStarted is ends = absurd cc
+transferring_stays job given last answer (Invokes call) is ends = absurd cc
+transferring_stays job given last answer (Returns outcome) is ends = ap transferring_next (task_stays job given last outcome is) ∙ ends
 
 -- the reply of a read that waits for bytes is final
 waits_stays : (job : Job) (want : List ℕ) (given : Inputs) (last : Option EventReply) (answer : LineReply) (next : NextStep Outcome) → next_of job given ≡ next
@@ -52,7 +52,7 @@ shares_stays s given last answer (Returns outcome) is ends = ap shares_next (end
 -- an attempt's reply is final
 attempt_stays : (a : Attempt) (given : Inputs) (last : Option EventReply) (answer : LineReply) → attempt_next a given ≡ Returns answer
     → attempt_next a (last ∷ given) ≡ Returns answer
-attempt_stays (Transferring job) given last answer ends = moves_stays job given last answer (next_of job given) refl ends
+attempt_stays (Transferring job) given last answer ends = transferring_stays job given last answer (next_of job given) refl ends
 attempt_stays (Awaiting job want) given last answer ends = waits_stays job want given last answer (next_of job given) refl ends
 attempt_stays (Sharing s) given last answer ends = shares_stays s given last answer (shared_next s given) refl ends
 

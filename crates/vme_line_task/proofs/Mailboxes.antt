@@ -6,7 +6,7 @@ use Rattle.std.proofs.lemmas.List.{length-map}
 use Rattle.std.proofs.lemmas.Bool.Decides.{nat_tests}
 use Rattle.vme_shared.specs.Mailboxes.{IsMailbox}
 use Rattle.vme_script.specs.declared.mailbox_numbers.MailboxNumbers.TheVariants.{Declared}
-use Rattle.vme_script.specs.MailboxNumbers.{may_ask}
+use Rattle.vme_script.specs.MailboxNumbers.{may_name}
 use Rattle.vme_grammar.specs.declared.line.Line.{Line}
 use Rattle.vme_grammar.specs.declared.line.Line.TheVariants as lines
 use Rattle.vme_script.specs.declared.script.ScriptLine.{ScriptLine}
@@ -35,7 +35,7 @@ named config lawful box is =
     there config lawful box first last
 
 -- a line that names only declared mailboxes has its mailbox
-asked : (config : Configuration) → IsLawful config → (line : Line) → may_ask (Declared (length config.mailboxes)) line ≡ true
+asked : (config : Configuration) → IsLawful config → (line : Line) → may_name (Declared (length config.mailboxes)) line ≡ true
     → HasItsMailbox config line
 asked config lawful (lines.Bus request) may = tt
 asked config lawful (lines.Local cmd) may = tt
@@ -53,7 +53,7 @@ its_mailbox config lawful i j script line in_scripts in_script =
       | inl found ↦
           let same : found.0.line ≡ line = same_Some found.0.line line
           (sym (slice_get-map (λ (one : ScriptLine). one.line) script j ∙ ap (option_map (λ (one : ScriptLine). one.line)) found.2) ∙ in_script) in
-          asked config lawful line (subst (λ (l : Line). may_ask (Declared (length config.mailboxes)) l ≡ true) same
+          asked config lawful line (subst (λ (l : Line). may_name (Declared (length config.mailboxes)) l ≡ true) same
           (lawful.named i j script found.0 in_scripts found.2))
       | inr past ↦
           absurd (omega (arith, past.0, slice_get_within (map (λ one. one.line) script) j line in_script, length-map script (λ one. one.line)))

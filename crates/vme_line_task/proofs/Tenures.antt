@@ -6,7 +6,7 @@ use Rattle.vme_arbiter.specs.declared.command.ArbCmd.{ArbCmd}
 use Rattle.vme_arbiter.specs.declared.command.ArbReply.{ArbReply}
 use Rattle.vme_arbiter.specs.declared.command.ArbReply.TheVariants as arb_replies
 use Rattle.vme_arbiter.specs.Arbitration.{Arbitration}
-use Rattle.vme_arbiter.specs.Masters.{StandsAsReplied}
+use Rattle.vme_arbiter.specs.Masters.{MatchesReply}
 use Rattle.vme_core.specs.declared.event.EventReply.{EventReply}
 use Rattle.vme_core.specs.declared.event.EventReply.TheVariants as replies
 use Rattle.vme_core.specs.Calls.{Call, OnBus}
@@ -21,7 +21,7 @@ use Rattle.vme_master.specs.Tables.{Inputs, next_of, outcome_by, row_of_reply}
 use Rattle.vme_master.proofs.lemmas.Tenures.{ends_freed}
 use Rattle.vme_master.proofs.lemmas.Locals.{local_calls}
 use Rattle.vme_shared.proofs.lemmas.Granted.{expected_granted, outcome_granted}
-use Rattle.vme_line_task.specs.Tenures.{job_arb_reply, IsGood}
+use Rattle.vme_line_task.specs.Tenures.{job_arb_reply, IsUndeniedReply}
 
 -- an end that is a denial
 abbrev IsDenial : NextStep Outcome → Type 0
@@ -37,7 +37,7 @@ end_granted (outcomes.Old bytes) good denial = denial
 end_granted (outcomes.Berr count bytes) good denial = denial
 
 -- what follows a reply that fits and is no denial is no denial
-row_granted : (job : Job) (g : Inputs) (call : Call) (reply : EventReply) → next_of job g ≡ Invokes call → IsGood call reply
+row_granted : (job : Job) (g : Inputs) (call : Call) (reply : EventReply) → next_of job g ≡ Invokes call → IsUndeniedReply call reply
     → IsDenial (row_of_reply job reply g) → ⊥
 row_granted (Bus j) g call (replies.Bus arb_replies.Waiting) made good denial = denial
 row_granted (Bus j) g call (replies.Bus arb_replies.Granted) made good denial = denial
@@ -55,13 +55,13 @@ row_granted (Local j) g call (replies.Bus reply) made good denial =
     absurd cc
 
 -- after a reply that fits, the next step of a task is that of its table
-good_row : (job : Job) (g : Inputs) (call : Call) (reply : EventReply) → next_of job g ≡ Invokes call → IsGood call reply
+good_row : (job : Job) (g : Inputs) (call : Call) (reply : EventReply) → next_of job g ≡ Invokes call → IsUndeniedReply call reply
     → next_of job (Some reply ∷ g) ≡ row_of_reply job reply g
 good_row job g call reply made good = rw (made, good.fit) refl
 
 -- an outcome after a reply that fits and is no denial is no denial
 pub good_end : (job : Job) (g : Inputs) (call : Call) (reply : EventReply) (outcome : Outcome) → next_of job g ≡ Invokes call
-    → IsGood call reply → next_of job (Some reply ∷ g) ≡ Returns outcome → outcome ≢ outcomes.Denied
+    → IsUndeniedReply call reply → next_of job (Some reply ∷ g) ≡ Returns outcome → outcome ≢ outcomes.Denied
 good_end job g call reply outcome made good ends = λ denied.
     row_granted job g call reply made good
     (subst IsDenial (sym (ap Returns denied) ∙ sym ends ∙ good_row job g call reply made good) tt)
@@ -73,15 +73,15 @@ FreedBy (Local j) reply = Unit {0}
 
 -- if a reply that fits and is no denial ends a transfer over the bus, the reply is `Freed`
 pub good_freed : (job : Job) (g : Inputs) (call : Call) (reply : EventReply) (outcome : Outcome) → next_of job g ≡ Invokes call
-    → IsGood call reply → next_of job (Some reply ∷ g) ≡ Returns outcome → FreedBy job reply
+    → IsUndeniedReply call reply → next_of job (Some reply ∷ g) ≡ Returns outcome → FreedBy job reply
 good_freed (Bus j) g call reply outcome made good ends =
     ends_freed j g call reply outcome made ends (good_end (Bus j) g call reply outcome made good ends)
 good_freed (Local j) g call reply outcome made good ends = tt
 
 -- after `Freed`, the state of a slot is that of a slot without a reply of the arbiter
 pub freed_stands : (job : Job) (g : Inputs) (reply : EventReply) (bus : Arbitration) (slot : ℕ) → FreedBy job reply
-    → StandsAsReplied bus slot (job_arb_reply job (Some reply ∷ g)) → StandsAsReplied bus slot None
-freed_stands (Bus j) g reply bus slot freed stands = subst (λ r. StandsAsReplied bus slot (job_arb_reply (Bus j) (Some r ∷ g))) freed stands
+    → MatchesReply bus slot (job_arb_reply job (Some reply ∷ g)) → MatchesReply bus slot None
+freed_stands (Bus j) g reply bus slot freed stands = subst (λ r. MatchesReply bus slot (job_arb_reply (Bus j) (Some r ∷ g))) freed stands
 freed_stands (Local j) g reply bus slot freed stands = stands
 
 -- a local command makes no call to the arbiter
@@ -90,8 +90,8 @@ local_never j g cmd made = let own : OnBus cmd ≡ local_call j = local_calls j 
 
 -- after a reply of the arbiter, that reply is its last reply to the task
 pub turn_reported : (job : Job) (g : Inputs) (cmd : ArbCmd) (reply : ArbReply) (bus : Arbitration) (slot : ℕ)
-    → next_of job g ≡ Invokes (OnBus cmd) → StandsAsReplied bus slot (Some reply)
-    → StandsAsReplied bus slot (job_arb_reply job (Some (replies.Bus reply) ∷ g))
+    → next_of job g ≡ Invokes (OnBus cmd) → MatchesReply bus slot (Some reply)
+    → MatchesReply bus slot (job_arb_reply job (Some (replies.Bus reply) ∷ g))
 turn_reported (Bus j) g cmd reply bus slot made stands = stands
 turn_reported (Local j) g cmd reply bus slot made stands = absurd (local_never j g cmd made)
 

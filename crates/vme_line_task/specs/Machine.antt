@@ -17,7 +17,7 @@ use Rattle.vme_line_task.specs.declared.attempt.Attempts.{Attempts}
 use Rattle.vme_line_task.specs.declared.attempt.AttemptTask.{AttemptTask}
 use Rattle.vme_line_task.specs.declared.attempt.AttemptTask.TheVariants as tries
 use Rattle.vme_line_task.specs.Scripts.{Attempt, Transferring, Awaiting, Sharing, line_attempt}
-use Rattle.vme_line_task.specs.Tables.{moves_next, waits_next, shares_next, next_wants_retry, given_of}
+use Rattle.vme_line_task.specs.Tables.{transferring_next, waits_next, shares_next, next_wants_retry, given_of}
 use Rattle.vme_line_task.specs.Events.{IsCallBelow}
 
 -- the task of an attempt before its first call
@@ -45,7 +45,7 @@ attempt_advance (tries.Shared v) given = tries.Shared (shared_advance v given)
 
 -- what an attempt does next
 abbrev pub attempt_to_do : AttemptTask → NextStep LineReply
-attempt_to_do (tries.Transfer t) = moves_next (to_do t)
+attempt_to_do (tries.Transfer t) = transferring_next (to_do t)
 attempt_to_do (tries.Await w) = waits_next w.want.items (to_do w.task)
 attempt_to_do (tries.Shared v) = shares_next (shared_to_do v)
 

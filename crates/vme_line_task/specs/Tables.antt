@@ -17,8 +17,8 @@ use Rattle.vme_script.specs.Configurations.{Configuration}
 use Rattle.vme_line_task.specs.Scripts.{Attempt, Transferring, Awaiting, Sharing, line_attempt}
 
 -- a transfer or a local command: its outcome is the line's reply
-abbrev pub moves_next : NextStep Outcome → NextStep LineReply
-moves_next next = next_map Transfer next
+abbrev pub transferring_next : NextStep Outcome → NextStep LineReply
+transferring_next next = next_map Transfer next
 
 -- the reply to a read that waits for bytes: Met if it read them, Timeout if it read others, else its outcome
 abbrev pub await_reply : List ℕ → Outcome → LineReply
@@ -35,7 +35,7 @@ shares_next next = next_map Shared next
 
 -- what an attempt does next, by all that it was given
 abbrev pub attempt_next : Attempt → Inputs → NextStep LineReply
-attempt_next (Transferring job) given = moves_next (next_of job given)
+attempt_next (Transferring job) given = transferring_next (next_of job given)
 attempt_next (Awaiting job want) given = waits_next want (next_of job given)
 attempt_next (Sharing s) given = shares_next (shared_next s given)
 

@@ -40,8 +40,8 @@ use Rattle.vme_mailbox_laws.proofs.Stages.{IsStage, is_stage, stage_command, sta
 use Rattle.vme_mailbox_laws.proofs.Rows.{Before, Words, Leads, IsFine, IsFineEnd, goes}
 
 -- the current stage in this phase: its datum has no reply yet, or has one whose outcome leads to the next step
-abbrev pub AtWork : BoardMailbox → SharedRequest → Stage → BusJob → Inputs → Phase → List ℕ → List ℕ → Type 0
-AtWork m request stage bus g phase put taken =
+abbrev pub IsCurrentStage : BoardMailbox → SharedRequest → Stage → BusJob → Inputs → Phase → List ℕ → List ℕ → Type 0
+IsCurrentStage m request stage bus g phase put taken =
     (Waits bus g × (Before m request stage phase × Words request stage put taken))
     ⊎ ((reply : Reply) × Answered bus reply g
     × Leads m request (step_after request stage (expected_outcome (stage_expected stage) (reply_bytes reply))) phase put taken)
@@ -52,7 +52,7 @@ pub record IsAt (m : BoardMailbox) (board : ℕ) (request : SharedRequest) (stag
   pub phase : Phase
   pub is : at ≡ Some phase
   pub own : IsStage m board stage job
-  pub work : AtWork m request stage own.bus g phase put taken
+  pub work : IsCurrentStage m request stage own.bus g phase put taken
 
 -- the end of a put or a take: the phase is idle, and the words are those of the outcome
 pub record IsOver (request : SharedRequest) (end : SharedOutcome) (at : Option Phase) (put taken : List ℕ) : Type 0 where

@@ -35,7 +35,7 @@ use Rattle.vme_mailbox_laws.specs.Along.{UsesMailbox, IsGood, IsCount, phase_giv
 use Rattle.vme_mailbox_laws.proofs.Courses.{Stands, IsOver, opening, moves}
 use Rattle.vme_mailbox_laws.proofs.Ends.{ends_in}
 use Rattle.vme_mailbox_laws.specs.Names.{LeavesAlone}
-use Rattle.vme_mailbox_laws.specs.Runs.{AllTurned}
+use Rattle.vme_mailbox_laws.specs.Runs.{AllFittingReplies}
 use Rattle.vme_mailbox_laws.proofs.Through.{Wanted, behind, Through}
 use Rattle.vme_mailbox_laws.proofs.Tasks.{IsIn, move_on}
 
@@ -104,21 +104,21 @@ module _ (s : SharedJob) (board : ℕ) (m : BoardMailbox) (uses : UsesMailbox s 
 
     -- all transitions of the line follow the protocol
     pub line_moves : (before : List EventReply) (run : List Transition) (replies : List EventReply) (at : Option Phase) (put taken : List ℕ)
-        (rest : List (Entry BoardCmd Reply)) (wanted : Wanted) → InLine before at put taken → Continues config who line before run replies → AllTurned run
+        (rest : List (Entry BoardCmd Reply)) (wanted : Wanted) → InLine before at put taken → Continues config who line before run replies → AllFittingReplies run
         → ((next : Option Phase) (ps ts : List ℕ) → InLine replies next ps ts → Through m next rest (behind wanted ps ts))
         → Through m at (board_part board run ++ rest) (behind wanted put taken)
-    line_moves before [] replies at put taken rest wanted stands goes turned leads =
+    line_moves before [] replies at put taken rest wanted stands goes fitting_replies leads =
         leads at put taken (subst (λ l. InLine l at put taken) goes stands)
-    line_moves before (mv ∷ run) replies at put taken rest wanted stands goes turned leads =
+    line_moves before (mv ∷ run) replies at put taken rest wanted stands goes fitting_replies leads =
         let made = attempts_of (Sharing s) config.tries (given_of before) in
         let makes = shares_makes (shared_next s made.given) (call_of mv.event) (sym (own_next before) ∙ goes.0) in
         let whole : (board_part board (mv ∷ []) ++ board_part board run) ++ rest ≡ board_part board (mv ∷ run) ++ rest =
         ap (λ es. es ++ rest) (sym (part_cons board mv run)) in
         subst (λ es. Through m at es (behind wanted put taken)) (sym (append_assoc (board_part board (mv ∷ [])) (board_part board run) rest) ∙ whole)
-        (move_on s board m uses made.given at put taken mv.who mv.event mv.reply (board_part board run ++ rest) wanted stands makes turned.0
+        (move_on s board m uses made.given at put taken mv.who mv.event mv.reply (board_part board run ++ rest) wanted stands makes fitting_replies.0
         (λ next ps ts after.
         line_moves (mv.reply ∷ before) run replies next ps ts rest wanted
-        (settles (record { given = Some mv.reply ∷ made.given; left = made.left }) next ps ts after) goes.1 turned.1 leads))
+        (settles (record { given = Some mv.reply ∷ made.given; left = made.left }) next ps ts after) goes.1 fitting_replies.1 leads))
 
     -- at the end of the line the phase is idle, and the words are those of the outcome
     pub line_over : (replies : List EventReply) (answer : LineReply) (at : Option Phase) (put taken : List ℕ) → InLine replies at put taken

@@ -23,7 +23,7 @@ use Rattle.vme_decode.specs.Lawful as maps
 use Rattle.vme_decode.specs.declared.fault.MapFault.{MapFault}
 use Rattle.vme_decode.specs.declared.fault.MapFault.TheVariants.{Misaligned, OutsideSpace, Overlap}
 use Rattle.vme_decode.specs.Entries.{end_of}
-use Rattle.vme_decode.proofs.lemmas.Selection.{place_falls}
+use Rattle.vme_decode.proofs.lemmas.Selection.{place_responds}
 use Rattle.vme_shared.specs.MailboxSteps.{BoardMailbox}
 use Rattle.vme_shared.specs.declared.mailbox.Mailbox.{Mailbox}
 use Rattle.vme_shared.specs.Mailboxes.{IsMailbox, word_at, set_lock, read_word, refusal_in, mailbox_refusal}
@@ -153,7 +153,7 @@ module _ (map : List Entry) (mailbox : Mailbox) (board : ℕ) (m : BoardMailbox)
   inside : (row : CodeRow) → read_code mailbox.am ≡ Ok row → mailbox.addr + 16 + 4 * mailbox.slots ≤ addresses_of row.space
   inside row code =
       let last : 15 + 4 * mailbox.slots < 16 + 4 * m.slots = let same = lies.slots in omega arith in
-      let falls = place_falls map row (mailbox.addr + (15 + 4 * mailbox.slots)) board (m.offset + (15 + 4 * mailbox.slots))
+      let falls = place_responds map row (mailbox.addr + (15 + 4 * mailbox.slots)) board (m.offset + (15 + 4 * mailbox.slots))
       (lies.each row (15 + 4 * mailbox.slots) code last) in
       let in_space = ends map board falls.entry lawful falls.there in
       let within : falls.entry.base + falls.entry.size ≤ addresses_of row.space =

@@ -24,7 +24,7 @@ use Rattle.vme_shared.proofs.lemmas.Quiet.{no_put, no_taken}
 use Rattle.vme_mailbox_laws.specs.Along.{UsesMailbox, IsGood, IsCount, phase_given}
 use Rattle.vme_mailbox_laws.proofs.Datums.{commands, answered}
 use Rattle.vme_mailbox_laws.proofs.Courses.{Stands, moves, stands_count, command_goes}
-use Rattle.vme_mailbox_laws.specs.Runs.{IsTurned}
+use Rattle.vme_mailbox_laws.specs.Runs.{IsFittingReply}
 use Rattle.vme_mailbox_laws.proofs.Through.{IsAnswered, Wanted, behind, Through, through_map}
 
 -- a goal after words and further words is the goal after all of them
@@ -60,7 +60,7 @@ module _ (s : SharedJob) (board : ℕ) (m : BoardMailbox) (uses : UsesMailbox s 
 
   -- one transition and the entries after it follow the protocol and reach the goal
   pub one_move : (given : Inputs) (at : Option Phase) (put taken : List ℕ) (who : ℕ) (event : Event) (reply : EventReply)
-      (rest : List (Entry BoardCmd Reply)) (wanted : Wanted) → IsIn given at put taken → shared_next s given ≡ Invokes (call_of event) → IsTurned event reply
+      (rest : List (Entry BoardCmd Reply)) (wanted : Wanted) → IsIn given at put taken → shared_next s given ≡ Invokes (call_of event) → IsFittingReply event reply
       → ((next : Option Phase) (a b : List ℕ) → IsIn (Some reply ∷ given) next (put ++ a) (taken ++ b) → Through m next rest (behind wanted a b))
       → Through m at (board_part board (move who event reply ∷ []) ++ rest) wanted
   one_move given at put taken who (events.Bus cmd) (replies.Board reply) rest wanted stands makes good leads = absurd good
@@ -91,7 +91,7 @@ module _ (s : SharedJob) (board : ℕ) (m : BoardMailbox) (uses : UsesMailbox s 
 
   -- one transition and the entries after it reach the goal that remains after the words since the beginning
   pub move_on : (given : Inputs) (at : Option Phase) (put taken : List ℕ) (who : ℕ) (event : Event) (reply : EventReply)
-      (rest : List (Entry BoardCmd Reply)) (wanted : Wanted) → IsIn given at put taken → shared_next s given ≡ Invokes (call_of event) → IsTurned event reply
+      (rest : List (Entry BoardCmd Reply)) (wanted : Wanted) → IsIn given at put taken → shared_next s given ≡ Invokes (call_of event) → IsFittingReply event reply
       → ((next : Option Phase) (ps ts : List ℕ) → IsIn (Some reply ∷ given) next ps ts → Through m next rest (behind wanted ps ts))
       → Through m at (board_part board (move who event reply ∷ []) ++ rest) (behind wanted put taken)
   move_on given at put taken who event reply rest wanted stands makes good leads =

@@ -13,5 +13,5 @@ pub use queue_laws::{
 };
 pub use task_laws::{
     locks_touch_their_byte_alone, puts_and_takes_follow_the_protocol,
-    puts_and_takes_stay_in_their_mailbox, puts_and_takes_touch_their_mailbox_alone,
+    puts_and_takes_stay_in_their_mailbox, puts_and_takes_touch_their_mailbox,
 };

@@ -169,8 +169,8 @@ impl<'a> Task<'a> {
     {
         match reply {
             None => self.call(),
-            Some(EventReply::Bus(reply)) => self.turn(self.phase, *reply),
-            Some(EventReply::Board(reply)) => self.answer(self.phase, reply),
+            Some(EventReply::Bus(reply)) => self.on_bus_reply(self.phase, *reply),
+            Some(EventReply::Board(reply)) => self.on_board_reply(self.phase, reply),
         }
     }
 
@@ -196,27 +196,27 @@ impl<'a> Task<'a> {
             (Job::Bus(job), Phase::Requesting) => {
                 let (slot, level) = (job.slot, job.level);
                 let reply = core.apply_bus(who, ArbCmd::Ask { slot, level });
-                self.turn(Phase::Requesting, reply);
+                self.on_bus_reply(Phase::Requesting, reply);
             }
             (Job::Bus(job), Phase::Polling) => {
                 let reply = core.apply_bus(who, ArbCmd::Look { slot: job.slot });
-                self.turn(Phase::Polling, reply);
+                self.on_bus_reply(Phase::Polling, reply);
             }
             (Job::Bus(job), Phase::Releasing { berr }) => {
                 let reply = core.apply_bus(who, ArbCmd::Done { slot: job.slot });
-                self.turn(Phase::Releasing { berr }, reply);
+                self.on_bus_reply(Phase::Releasing { berr }, reply);
             }
             (Job::Bus(job), Phase::Transferring { i }) => {
                 let Some((board, offset)) = job.place else {
                     let reply = core.apply_bus(who, ArbCmd::Done { slot: job.slot });
-                    return self.turn(Phase::Transferring { i }, reply);
+                    return self.on_bus_reply(Phase::Transferring { i }, reply);
                 };
                 let reply = core.apply_datum(who, board, &job.datum_at(board, offset, i));
-                self.answer(Phase::Transferring { i }, &reply);
+                self.on_board_reply(Phase::Transferring { i }, &reply);
             }
             (Job::Local(job), Phase::Transferring { i }) => {
                 let reply = core.apply_board(who, job.board, &job.cmd);
-                self.answer(Phase::Transferring { i }, &reply);
+                self.on_board_reply(Phase::Transferring { i }, &reply);
             }
             _ => {}
         }
@@ -283,7 +283,7 @@ impl<'a> Task<'a> {
 
     /// Handles the arbiter's reply. `phase` is the task's own, which the caller knows.
     #[inline(always)]
-    fn turn(&mut self, phase: Phase, reply: ArbReply)
+    fn on_bus_reply(&mut self, phase: Phase, reply: ArbReply)
         requires { self.old.phase ≡ phase }
         ensures task { self.new ≡ advance self.old (Some (replies.Bus reply)) }
         ensures called { IsTrue (is_called self.new.phase) }
@@ -298,7 +298,7 @@ impl<'a> Task<'a> {
 
     /// Handles a board's reply. `phase` is the task's own, which the caller knows.
     #[inline(always)]
-    fn answer(&mut self, phase: Phase, reply: &Reply)
+    fn on_board_reply(&mut self, phase: Phase, reply: &Reply)
         requires { self.old.phase ≡ phase }
         ensures task { self.new ≡ advance self.old (Some (replies.Board reply.now)) }
         ensures called { IsTrue (is_called self.new.phase) }

@@ -82,8 +82,8 @@ module _ {S C R : Type 0} (step : S → C → S × R) (start : S) (k : ℕ) wher
       let seen : (a.seen ++ others) ≡ r.history = sym is in
       let fits' : IsConsistent r.history (account a.who (a.seen ++ others) a.mine) = record {
         begins = ([], sym seen ∙ sym (append-nil (a.seen ++ others)));
-        sound = ap (own a.who) seen ∙ fits.whole;
-        whole = fits.whole;
+        sound = ap (own a.who) seen ∙ fits.complete;
+        complete = fits.complete;
       } in record {
         history = r.history;
         legal = r.legal;
@@ -123,9 +123,9 @@ module _ {S C R : Type 0} (step : S → C → S × R) (start : S) (k : ℕ) wher
       → Allows Rule slots id (view (a ∷ []) false, []) 0 (λ x. either (eqb x 0) new x) (take_effect step opened (table_step slots 0 0 new none) (view (a ∷ []) false, []))
   tries_alone opened opens slots id new a some_new s r wide at fits64 =
       let me : Me (Home S) (SeatView C R) = (view (a ∷ []) false, []) in
-      let reported = take_effect step opened (table_step slots 0 0 new none) me (slice_index s.words 0) in
+      let outcome = take_effect step opened (table_step slots 0 0 new none) me (slice_index s.words 0) in
       exchanged (slice_index s.words 0) 0 new
-      (λ n. (w : SeatView C R) × (act : Act (Home S)) × Valid s.homes [] act × Rule (stepped s 0 n id [] w act) × reported (w, carried_after [] act))
+      (λ n. (w : SeatView C R) × (act : Act (Home S)) × Valid s.homes [] act × Rule (stepped s 0 n id [] w act) × outcome (w, carried_after [] act))
       (λ hit. elim r.place [
         | inl home ↦
             let fits : IsConsistent r.history a = r.each id (view (a ∷ []) false) at 0 a (omega arith) in

@@ -15,7 +15,7 @@ use Rattle.vme_port.specs.Views.{weight, names, holders}
 pub record IsConsistent {C R : Type 0} (h : List (Entry C R)) (a : Account C R) : Type 0 where
   pub begins : IsPrefix a.seen h
   pub sound : own a.who a.seen ≡ a.mine
-  pub whole : own a.who h ≡ a.mine
+  pub complete : own a.who h ≡ a.mine
 
 module _ {S C R : Type 0} (step : S → C → S × R) (start : S) where
   -- the object is in its slot, is the replay of the history, and counts its entries

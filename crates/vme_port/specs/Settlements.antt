@@ -39,7 +39,7 @@ module _ {S C R : Type 0} (step : S → C → S × R) (start : S) where
 
   -- an entry has its place in a history: after all that its caller had seen, and after exactly the entries `mine` of its
   -- caller, with the reply of the step there
-  pub record StandsIn (history seen mine : List (Entry C R)) (e : Entry C R) : Type 0 where
+  pub record HasPlaceIn (history seen mine : List (Entry C R)) (e : Entry C R) : Type 0 where
     pub before : List (Entry C R)
     pub after : List (Entry C R)
     pub place : history ≡ before ++ e ∷ after

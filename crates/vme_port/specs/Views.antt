@@ -38,9 +38,9 @@ module _ {C R : Type 0} where
   fresh_accounts first (suc n) = account first [] [] ∷ fresh_accounts (suc first) n
 
   -- the view of the first seat of a port with k passes, which represents all of them
-  abbrev pub newcomer : ℕ → SeatView C R
-  newcomer k = view (fresh_accounts 0 k) false
+  abbrev pub opening_view : ℕ → SeatView C R
+  opening_view k = view (fresh_accounts 0 k) false
 
   -- a seat represents the passes numbered from `who` up to k - 1, which have seen nothing
-  abbrev pub StandsFor : {S : Type 0} → ℕ → ℕ → Me (Home S) (SeatView C R) → Type 0
-  StandsFor k who m = (n : ℕ) × (who + n ≡ k) × (m ≡ (view (fresh_accounts who n) false, []))
+  abbrev pub Represents : {S : Type 0} → ℕ → ℕ → Me (Home S) (SeatView C R) → Type 0
+  Represents k who m = (n : ℕ) × (who + n ≡ k) × (m ≡ (view (fresh_accounts who n) false, []))

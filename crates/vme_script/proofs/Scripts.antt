@@ -12,7 +12,7 @@ use Rattle.vme_decode.specs.declared.entry.Entry.{Entry}
 use Rattle.vme_shared.specs.declared.mailbox.Mailbox.{Mailbox}
 use Rattle.vme_script.specs.declared.mailbox_numbers.MailboxNumbers.TheVariants.{Declared}
 use Rattle.vme_script.specs.declared.context.ScriptContext.{ScriptContext}
-use Rattle.vme_script.specs.MailboxNumbers.{may_ask}
+use Rattle.vme_script.specs.MailboxNumbers.{may_name}
 use Rattle.vme_script.specs.Contexts.{boxes_of, touches, asked_within, line_within}
 use Rattle.vme_script.specs.declared.fault.ConfigFault.{ConfigFault}
 use Rattle.vme_script.specs.declared.fault.ScriptRefusal.{ScriptRefusal}
@@ -50,7 +50,7 @@ script_short :
 unfolding script_within
 script_short rules text script e =
     elim (cases_lt 1000 (length (lines text))) [
-      | inl many ↦ absurd (let reported = rw (lt-ltb 1000 (length (lines text)) many) at e in cc)
+      | inl many ↦ absurd (let result_is = rw (lt-ltb 1000 (length (lines text)) many) at e in cc)
       | inr few ↦
           let read = rw (le-ltb 1000 (length (lines text)) few) at e in
           le-leb (length script) 1000 (omega (arith, lines_count rules 1 (lines text) script read, few))
@@ -124,7 +124,7 @@ all_script :
 unfolding script_within
 all_script P rules text script own e =
     elim (cases_lt 1000 (length (lines text))) [
-      | inl many ↦ absurd (let reported = rw (lt-ltb 1000 (length (lines text)) many) at e in cc)
+      | inl many ↦ absurd (let result_is = rw (lt-ltb 1000 (length (lines text)) many) at e in cc)
       | inr few ↦ all_lines P rules 1 (lines text) script own (rw (le-ltb 1000 (length (lines text)) few) at e)
     ]
 
@@ -161,14 +161,14 @@ all_scripts P entries mailboxes place (board ∷ more) scripts own e =
 -- a line that is read in a context is allowed by it
 read_within :
     (rules : ScriptContext) (read : Result (Option Line) LineFault) (line : Line) → asked_within rules read ≡ Ok (Some line)
-    → (read ≡ Ok (Some line)) × (may_ask (boxes_of rules) line ≡ true) × (touches rules line ≡ false)
+    → (read ≡ Ok (Some line)) × (may_name (boxes_of rules) line ≡ true) × (touches rules line ≡ false)
 read_within rules (Ok None) line e = cc
 read_within rules (Err fault) line e = cc
 read_within rules (Ok (Some own)) line e =
-    elim (cases_Bool (may_ask (boxes_of rules) own)) [
-      | inr not_there ↦ absurd (let reported = rw not_there at e in cc)
+    elim (cases_Bool (may_name (boxes_of rules) own)) [
+      | inr not_there ↦ absurd (let result_is = rw not_there at e in cc)
       | inl may ↦ elim (cases_Bool (touches rules own)) [
-        | inl bytes ↦ absurd (let reported = rw (may, bytes) at e in cc)
+        | inl bytes ↦ absurd (let result_is = rw (may, bytes) at e in cc)
         | inr free ↦
             let same : own ≡ line = cc (rw (may, free) at e) in
             (rw same refl, rw (← same) may, rw (← same) free)
@@ -181,7 +181,7 @@ unfolding line_within
 line_own rules text line e = line_is_own text line (read_within rules (line_of text) line e).0
 
 -- a line that is read names only mailboxes that it may name
-line_may : (rules : ScriptContext) → AllRead (λ line. may_ask (boxes_of rules) line ≡ true) rules
+line_may : (rules : ScriptContext) → AllRead (λ line. may_name (boxes_of rules) line ≡ true) rules
 unfolding line_within
 line_may rules text line e = (read_within rules (line_of text) line e).1
 
@@ -193,7 +193,7 @@ line_free rules text line e = (read_within rules (line_of text) line e).2
 -- the facts about each line of the scripts of a file
 pub record EachLine (entries : List Entry) (mailboxes : List Mailbox) (i : ℕ) (line : Line) : Type 0 where
   pub own : IsOwnLine line
-  pub named : may_ask (Declared (length mailboxes)) line ≡ true
+  pub named : may_name (Declared (length mailboxes)) line ≡ true
   pub free : touches (rules_of entries mailboxes i) line ≡ false
 
 -- the facts hold for each line that is read in the context of a board

@@ -9,7 +9,7 @@ use Rattle.vme_shared.specs.Mailboxes.{IsMailbox}
 use Rattle.vme_script.specs.declared.mailbox_numbers.MailboxNumbers.TheVariants.{Declared}
 use Rattle.vme_script.specs.declared.board_range.BoardRange.{BoardRange}
 use Rattle.vme_script.specs.MailboxTables.{is_mailbox_code, supports_mailboxes}
-use Rattle.vme_script.specs.MailboxNumbers.{may_ask}
+use Rattle.vme_script.specs.MailboxNumbers.{may_name}
 use Rattle.vme_script.specs.BoardRanges.{range_of, share}
 use Rattle.vme_script.specs.Contexts.{touches}
 use Rattle.vme_script.specs.declared.board.BoardConfig.{BoardConfig}
@@ -66,7 +66,7 @@ pub record IsLawful (config : Configuration) : Type 0 where
       → share p q ≡ true → j ≡ k
   pub named :
       (i j : ℕ) (script : List ScriptLine) (line : ScriptLine) → slice_get config.scripts i ≡ Some script
-      → slice_get script j ≡ Some line → may_ask (Declared (length config.mailboxes)) line.line ≡ true
+      → slice_get script j ≡ Some line → may_name (Declared (length config.mailboxes)) line.line ≡ true
   pub free :
       (i j : ℕ) (script : List ScriptLine) (line : ScriptLine) → slice_get config.scripts i ≡ Some script
       → slice_get script j ≡ Some line → touches (rules_of (entries_of config.boards) config.mailboxes i) line.line ≡ false

@@ -7,7 +7,7 @@ ghost use Rattle.vme_arbiter.specs.declared.command.ArbReply.{ArbReply};
 ghost use Rattle.vme_arbiter.specs.declared.command.ArbReply.TheVariants as arb_replies;
 ghost use Rattle.vme_arbiter.specs.Requests.{is_level};
 ghost use Rattle.vme_arbiter.specs.Arbitration.{Arbitration};
-ghost use Rattle.vme_arbiter.specs.Masters.{may_give, StandsAsReplied};
+ghost use Rattle.vme_arbiter.specs.Masters.{may_give, MatchesReply};
 ghost use Rattle.vme_core.specs.declared.event.EventReply.{EventReply};
 ghost use Rattle.vme_core.specs.declared.event.EventReply.TheVariants as replies;
 ghost use Rattle.vme_core.specs.Calls.{Call, OnBoard, OnBus};
@@ -72,8 +72,8 @@ pub fn shared_tasks_keep_their_tenure()
     ensures turn { (s : SharedJob) (given : Inputs) (cmd : ArbCmd) (reply : ArbReply)
         (bus : Arbitration) (slot : ℕ) → shared_next s given ≡ Invokes (OnBus cmd) →
         IsTrue (fits (OnBus cmd) (replies.Bus reply)) → replies.Bus reply ≢ replies.Bus arb_replies.Denied →
-        StandsAsReplied bus slot (Some reply) →
-        StandsAsReplied bus slot (shared_arb_reply s (Some (replies.Bus reply) ∷ given)) }
+        MatchesReply bus slot (Some reply) →
+        MatchesReply bus slot (shared_arb_reply s (Some (replies.Bus reply) ∷ given)) }
     ensures datum { (s : SharedJob) (given : Inputs) (call : Call) (reply : Reply) →
         shared_next s given ≡ Invokes call → IsTrue (fits call (replies.Board reply)) →
         shared_arb_reply s (Some (replies.Board reply) ∷ given) ≡ shared_arb_reply s given }

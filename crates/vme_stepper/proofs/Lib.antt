@@ -1,12 +1,12 @@
 pub mod Reported
 pub mod Processors
 pub mod Turning
-pub mod Drawing
+pub mod NextBuffers
 pub mod SystemStates
 pub mod Steps
 pub mod Calls
 pub mod Places
 pub mod Runs
-pub mod Driving
+pub mod StepperTurns
 pub mod Opening
 pub mod Reporting

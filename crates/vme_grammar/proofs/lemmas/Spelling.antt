@@ -14,7 +14,7 @@ use Rattle.vme_lexer.specs.Words.{words_of}
 use Rattle.vme_grammar.specs.Operands.{Operands, no_operands}
 use Rattle.vme_grammar.specs.Fields.{with_field}
 use Rattle.vme_grammar.specs.Forms.{Place, Word, Of, places, name_of, field_at, fields_of, forms, line_at}
-use Rattle.vme_grammar.specs.Grammar.{go_by, form_of, fields_read, operands_of, line_of_words, line_if_any, line_of, Fill, no_place, word, field, Spell, IsOwnLine}
+use Rattle.vme_grammar.specs.Grammar.{matches_fixed, form_of, fields_read, operands_of, line_of_words, line_if_any, line_of, Fill, no_place, word, field, Spell, IsOwnLine}
 use Rattle.vme_grammar.specs.Naming.{function_of}
 use Rattle.vme_grammar.proofs.Cases.{cases_Option, cases_Result}
 use Rattle.vme_grammar.proofs.Naming.{find_passes, own_word}
@@ -72,7 +72,7 @@ found Take (word rest) = own_word Take _
 
 -- words that match the fixed words, are as many as the places, and spell each field fill the places
 fills :
-    (some : List Place) (words : List (List ℕ)) (o given : Operands) → go_by false some words ≡ true → length words ≡ length some
+    (some : List Place) (words : List (List ℕ)) (o given : Operands) → matches_fixed false some words ≡ true → length words ≡ length some
     → fields_read (map field_at some) words o ≡ Ok given → Fill some words o given
 unfolding with_field
 fills [] [] o given agree count read = let same : o ≡ given = cc in rw (← same) no_place
@@ -92,15 +92,15 @@ fills (Of kind ∷ more) (text ∷ words) o given agree count read =
     ]
 
 -- words match the fixed words of their form
-form_agrees : (words : List (List ℕ)) (form : LineForm) → form_of words ≡ Ok form → go_by false (places form) words ≡ true
+form_agrees : (words : List (List ℕ)) (form : LineForm) → form_of words ≡ Ok form → matches_fixed false (places form) words ≡ true
 unfolding form_of
 form_agrees words form is =
-    elim (cases_Bool (list_any (λ form. go_by true (places form) words) forms)) [
-      | inl known ↦ elim (cases_Option (find (λ form. go_by false (places form) words) forms)) [
+    elim (cases_Bool (list_any (λ form. matches_fixed true (places form) words) forms)) [
+      | inl known ↦ elim (cases_Option (find (λ form. matches_fixed false (places form) words) forms)) [
         | inl none ↦ absurd (let bad = rw (known, none) at is in cc)
         | inr (own, there) ↦
             let same : own ≡ form = cc (rw (known, there) at is) in
-            rw (← same) (find_passes (λ form. go_by false (places form) words) forms own there)
+            rw (← same) (find_passes (λ form. matches_fixed false (places form) words) forms own there)
       ]
       | inr unknown ↦ absurd (let bad = rw unknown at is in cc)
     ]

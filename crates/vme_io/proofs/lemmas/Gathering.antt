@@ -9,20 +9,20 @@ use Rattle.vme_io.proofs.lemmas.Appending.{Appends-none, Appends-more, AppendsPr
 pub printed_gathers :
     (old new : Option (List ℕ)) (before text printed after : List ℕ) → Gathers old new printed after [] → printed ≡ before ++ text
     → Gathers old new before after text
-printed_gathers old new before text printed after passed as_reported = record {
+printed_gathers old new before text printed after passed as_printed = record {
   prefix = passed.prefix;
   appends = passed.appends;
-  split = sym as_reported ∙ sym (append-nil printed) ∙ passed.split;
+  split = sym as_printed ∙ sym (append-nil printed) ∙ passed.split;
 }
 
 -- if a text was printed after the gathered bytes and a write failed, a prefix of both together was written
 pub printed_prefix :
     (old new : Option (List ℕ)) (before text printed : List ℕ) → AppendsPrefix old new printed → printed ≡ before ++ text
     → AppendsPrefix old new (before ++ text)
-printed_prefix old new before text printed failed as_reported = record {
+printed_prefix old new before text printed failed as_printed = record {
   prefix = failed.prefix;
   rest = failed.rest;
-  split = sym as_reported ∙ failed.split;
+  split = sym as_printed ∙ failed.split;
   appends = failed.appends;
 }
 

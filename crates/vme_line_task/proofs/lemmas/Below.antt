@@ -32,7 +32,7 @@ use Rattle.vme_line_task.specs.declared.task.LineTask.{LineTask}
 use Rattle.vme_line_task.specs.declared.todo.LineTodo.{LineTodo}
 use Rattle.vme_line_task.specs.declared.todo.LineTodo.TheVariants as todos
 use Rattle.vme_line_task.specs.Scripts.{Attempt, Transferring, Awaiting, Sharing, slot_at, level_at, mailbox_at, transfer_job, request_attempt, unless_refused, shared_job, shared_attempt, line_attempt}
-use Rattle.vme_line_task.specs.Tables.{moves_next, await_reply, waits_next, shares_next, attempts_of, lawful_next, next_given}
+use Rattle.vme_line_task.specs.Tables.{transferring_next, await_reply, waits_next, shares_next, attempts_of, lawful_next, next_given}
 use Rattle.vme_line_task.specs.Machine.{line_started, line_advance, line_to_do, line_advanced, IsLineBelow}
 use Rattle.vme_line_task.specs.Events.{call_of_todo, IsCallBelow, IsTodoBelow}
 use Rattle.vme_line_task.proofs.lemmas.Lines.{by_the_given}
@@ -82,8 +82,8 @@ attempt_below config board (lines.Put box word) there = shared_below config boar
 attempt_below config board (lines.Take box) there = shared_below config board (asked_shared.Take (mailbox_at config box))
 
 -- a call of a transfer or a local command is that of its task
-pub moves_makes : (next : NextStep Outcome) (call : Call) → moves_next next ≡ Invokes call → next ≡ Invokes call
-moves_makes next call made = map_makes answers.Transfer next call made
+pub transferring_makes : (next : NextStep Outcome) (call : Call) → transferring_next next ≡ Invokes call → next ≡ Invokes call
+transferring_makes next call made = map_makes answers.Transfer next call made
 
 -- a call of a read that waits for bytes is that of its task
 pub waits_makes : (want : List ℕ) (next : NextStep Outcome) (call : Call) → waits_next want next ≡ Invokes call → next ≡ Invokes call
@@ -103,7 +103,7 @@ lawful_below : (n tries : ℕ) (attempt : Result Attempt CycleFault) (given : In
     → lawful_next tries attempt given ≡ Invokes call → IsCallBelow n call
 lawful_below n tries (Ok (Transferring job)) given call below made =
     let g = (attempts_of (Transferring job) tries given).given in
-    job_below n job g call below (moves_makes (next_of job g) call made)
+    job_below n job g call below (transferring_makes (next_of job g) call made)
 lawful_below n tries (Ok (Awaiting job want)) given call below made =
     let g = (attempts_of (Awaiting job want) tries given).given in
     job_below n job g call below (waits_makes want (next_of job g) call made)

@@ -12,19 +12,19 @@ use Rattle.vme_shared.specs.declared.reply.LineReply.TheVariants as answers
 use Rattle.vme_line_task.specs.declared.task.LineTask.TheVariants.{Running}
 use Rattle.vme_line_task.specs.declared.attempt.Attempts.{Attempts}
 use Rattle.vme_line_task.specs.declared.attempt.AttemptTask.TheVariants.{Transfer}
-use Rattle.vme_line_task.specs.Tables.{moves_next, next_wants_retry}
+use Rattle.vme_line_task.specs.Tables.{transferring_next, next_wants_retry}
 use Rattle.vme_line_task.specs.Machine.{line_advance, line_to_do, attempts_advance, attempts_to_do}
 
 -- a transfer or a local command is attempted once
-moves_once : (next : NextStep Outcome) → next_wants_retry (moves_next next) ≡ false
-moves_once NotStarted = refl
-moves_once (Invokes call) = refl
-moves_once (Returns outcome) = refl
+transferring_once : (next : NextStep Outcome) → next_wants_retry (transferring_next next) ≡ false
+transferring_once NotStarted = refl
+transferring_once (Invokes call) = refl
+transferring_once (Returns outcome) = refl
 
 -- attempts at a transfer advance as the transfer's task does
 transfer_on : (left : ℕ) (t : TaskView) (reply : Option EventReply)
     → attempts_advance (record { attempt = Transfer t; left = left }) reply ≡ record { attempt = Transfer (advance t reply); left = left }
-transfer_on left t reply = rw (moves_once (to_do (advance t reply))) refl
+transfer_on left t reply = rw (transferring_once (to_do (advance t reply))) refl
 
 -- attempts at a transfer make a call and advance as the transfer's task does
 pub transfer_advances : (left who : ℕ) (before after : Machine) (old new : TaskView) → AdvancesOn to_do advance who before after old new

@@ -22,7 +22,7 @@ use Rattle.vme_line_task.specs.declared.attempt.AttemptTask.{AttemptTask}
 use Rattle.vme_line_task.specs.declared.attempt.AttemptTask.TheVariants as tries
 use Rattle.vme_line_task.specs.Scripts.{Attempt, Transferring, Awaiting, Sharing, line_attempt}
 use Rattle.vme_line_task.specs.Tables as table
-use Rattle.vme_line_task.specs.Tables.{moves_next, waits_next, shares_next, attempt_next, next_wants_retry, next_attempt, attempts_of, lawful_next, next_given, line_next, given_of}
+use Rattle.vme_line_task.specs.Tables.{transferring_next, waits_next, shares_next, attempt_next, next_wants_retry, next_attempt, attempts_of, lawful_next, next_given, line_next, given_of}
 use Rattle.vme_line_task.specs.Machine.{attempt_fresh, attempt_anew, attempt_advance, attempt_to_do, attempts_again, attempts_advance, line_fresh, line_started, line_advance, line_to_do, line_advanced, line_given, line_after}
 
 -- the task of an attempt after all that it was given
@@ -53,7 +53,7 @@ task_anew (Sharing s) given = ap (λ (one : SharedJob). tries.Shared (shared_fre
 
 -- an attempt does next what its table says
 task_next : (a : Attempt) (given : Inputs) → attempt_to_do (attempt_task a given) ≡ attempt_next a given
-task_next (Transferring job) given = ap moves_next (by_the_table job given)
+task_next (Transferring job) given = ap transferring_next (by_the_table job given)
 task_next (Awaiting job want) given = ap (waits_next want) (by_the_table job given)
 task_next (Sharing s) given = ap shares_next (by_the_steps s given)
 

@@ -60,7 +60,7 @@ module _ (config : Configuration) (box board : ℕ) (m : BoardMailbox) (memory :
         | inl below ↦
             subst (λ es. Through m (Some Idle) es (Reported who)) (sym (share.owns who [] below))
             (script config who box board m is (lines_at config who) (slice_index_or runs who []) (slice_index_or answers who []) (Reported who) (is.others who)
-            (share.trace.each who [] [] below) (share.turned who [] below) (refl, refl))
+            (share.trace.each who [] [] below) (share.fitting_replies who [] below) (refl, refl))
         | inr past ↦
             let no_answers : slice_index_or answers who [] ≡ [] = get_or_past answers who [] (let count = share.trace.count in omega arith) in
             rw (none_own (length runs) who h past share.known) (rw no_answers (sym (none_put box (lines_at config who)), sym (none_taken box (lines_at config who))))

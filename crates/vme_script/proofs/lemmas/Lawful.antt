@@ -22,7 +22,7 @@ use Rattle.vme_script.specs.Scripts.{scripts_of}
 use Rattle.vme_script.specs.Configurations.{Configuration, configuration_of}
 use Rattle.vme_script.specs.Lawful.{IsLawfulBoard, IsLawful}
 use Rattle.vme_script.proofs.Maps.{refusal_of_lawful, size_of_range}
-use Rattle.vme_script.proofs.Sites.{mailboxes_known}
+use Rattle.vme_script.proofs.DeclaredMailboxes.{mailboxes_known}
 use Rattle.vme_script.proofs.Scripts.{scripts_known, each_line}
 use Rattle.vme_script.proofs.Facts.{ascend, is_lawful, boards_known, ranges_known, true_from_not}
 
@@ -34,14 +34,14 @@ ended :
     → (first >>= (λ x. second x >>= (λ y. Ok (make x y)))) ≡ Ok c → (x : A) × (y : B) × (first ≡ Ok x) × (second x ≡ Ok y) × (c ≡ make x y)
 ended (Err fault) second make c e = cc
 ended (Ok x) second make c e =
-    let last = reported (second x) (make x) c e in
+    let last = result_is (second x) (make x) c e in
     (x, last.0, refl, last.1, last.2)
   where
-    reported :
+    result_is :
         {B : Type 0} (answer : Result B ConfigFault) (make : B → Configuration) (c : Configuration) → (answer >>= (λ y. Ok (make y))) ≡ Ok c
         → (y : B) × (answer ≡ Ok y) × (c ≡ make y)
-    reported (Err fault) make c e = cc
-    reported (Ok y) make c e = (y, refl, cc)
+    result_is (Err fault) make c e = cc
+    result_is (Ok y) make c e = (y, refl, cc)
 
 -- if two checks and the rest give a result, neither check is refused and the rest gives the result
 passed :

@@ -71,9 +71,9 @@ module _ (m : BoardMailbox) (some : 1 ≤ m.slots) (who : ℕ) (given : Option C
       }
 
   -- a master that stays idle while another holds the mailbox keeps the mailbox
-  looks_on : (bytes after put taken : List ℕ) (holds : Holds m bytes put taken phases) → (holds.owner ≡ who → ⊥)
+  stays_idle : (bytes after put taken : List ℕ) (holds : Holds m bytes put taken phases) → (holds.owner ≡ who → ⊥)
       → after_command m (Some Idle) given reply ≡ Some Idle → Quiet m bytes after → Holds m after (put ++ puts_by) (taken ++ takes_by) moved
-  looks_on bytes after put taken holds apart goes still =
+  stays_idle bytes after put taken holds apart goes still =
       let at : phases who ≡ Some Idle = holds.others who apart in
       let own_after : after_command m (phases who) given reply ≡ phases who = ap (λ p. after_command m p given reply) at ∙ goes ∙ sym at in
       let put_is : put ≡ put ++ put_by (phases who) (after_command m (phases who) given reply) =
@@ -103,7 +103,7 @@ module _ (m : BoardMailbox) (some : 1 ≤ m.slots) (who : ℕ) (given : Option C
             goes_on after put taken holds.phase holds.phase (subst (λ w. phases w ≡ Some holds.phase) same holds.is) (stays holds.phase)
             (stayed m bytes after put taken holds.phase still holds.kept holds.stands)
             (λ w apart. holds.others w (λ is. apart (sym same ∙ is)))
-        | inr apart ↦ looks_on bytes after put taken holds apart (stays Idle) still
+        | inr apart ↦ stays_idle bytes after put taken holds apart (stays Idle) still
       ]
 
   -- a command that touches the mailbox and that the protocol allows leads to a next phase
@@ -149,7 +149,7 @@ module _ (m : BoardMailbox) (some : 1 ≤ m.slots) (who : ℕ) (given : Option C
                   ])
               | inr held ↦
                   let still = busy m board.bytes (step board command).1.bytes (access_of command (step board command).0) next.0 some held (did board command) next.2 in
-                  looks_on board.bytes (step board command).1.bytes put taken holds apart (next.1 ∙ ap Some still.0) still.1
+                  stays_idle board.bytes (step board command).1.bytes put taken holds apart (next.1 ∙ ap Some still.0) still.1
             ]
       ]
 

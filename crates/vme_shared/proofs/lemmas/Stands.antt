@@ -65,11 +65,11 @@ given_job s [] = refl
 given_job s (last ∷ g) = given_job s g
 
 -- the current transfer is the one that all given replies lead to
-given_work : (s : SharedJob) (g : Inputs) → (shared_given s g).current ≡ current_of (progress_of s g)
-given_work s [] = fresh_is (first_stage s.request) (stage_job s (first_stage s.request))
-given_work s (last ∷ g) =
+given_current : (s : SharedJob) (g : Inputs) → (shared_given s g).current ≡ current_of (progress_of s g)
+given_current s [] = fresh_is (first_stage s.request) (stage_job s (first_stage s.request))
+given_current s (last ∷ g) =
     ap (λ (t : SharedJob). current_after t (shared_given s g).current last) (given_job s g)
-    ∙ ap (λ current. current_after s current last) (given_work s g) ∙ after_is s (progress_of s g) last
+    ∙ ap (λ current. current_after s current last) (given_current s g) ∙ after_is s (progress_of s g) last
 
 -- the current transfer does next what the progress states
 shows : (p : Progress) → current_to_do (current_of p) ≡ next_at p
@@ -78,7 +78,7 @@ shows (Over end) = refl
 
 -- a task does next what the table says
 pub by_the_given : (s : SharedJob) (g : Inputs) → shared_to_do (shared_given s g) ≡ shared_next s g
-by_the_given s g = ap current_to_do (given_work s g) ∙ shows (progress_of s g)
+by_the_given s g = ap current_to_do (given_current s g) ∙ shows (progress_of s g)
 
 -- a task does next what the table says after one more reply
 pub next_by_the_given : (s : SharedJob) (g : Inputs) (v : SharedView) (last : Option EventReply) → v ≡ shared_given s g

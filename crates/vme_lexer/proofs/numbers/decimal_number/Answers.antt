@@ -5,14 +5,14 @@ use Rattle.vme_lexer.proofs.numbers.decimal_number.Goals as goal
 
 pub overflow_mul-number : goal.overflow_mul-number
 overflow_mul-number c =
-    let capacity = below_power 10 c.loop-digit.number c.loop-digit.digit-index 3 (omega arith) c.loop-digit.invariant.small (omega arith) in
-    omega (arith, capacity)
+    let bound = below_power 10 c.loop-digit.number c.loop-digit.digit-index 3 (omega arith) c.loop-digit.invariant.small (omega arith) in
+    omega (arith, bound)
 
 pub overflow_add-number : goal.overflow_add-number
 overflow_add-number c =
-    let capacity = below_power 10 c.loop-digit.number c.loop-digit.digit-index 3 (omega arith) c.loop-digit.invariant.small (omega arith) in
+    let bound = below_power 10 c.loop-digit.number c.loop-digit.digit-index 3 (omega arith) c.loop-digit.invariant.small (omega arith) in
     let digit : c.in_ok-decimal_digit.field-0 < 10 = c.in_ok-decimal_digit.ensures.small in
-    omega (arith, capacity, digit)
+    omega (arith, bound, digit)
 
 pub returns-clause-small : goal.returns-clause-small
 returns-clause-small c =

@@ -6,7 +6,7 @@ use Rattle.vme_lexer.proofs.numbers.hex_bytes.Given as goal
 abbrev pub invariant-loop-rest : goal.invariant-loop-rest
 invariant-loop-rest g l = record {
   bytes : IsSpelled l.bytes.items l.sum l.rest l.fn.word;
-  capacity : 2 * length l.bytes.items + length l.rest ≤ 2 * g.row.MOST;
+  bound : 2 * length l.bytes.items + length l.rest ≤ 2 * g.row.MOST;
 }
 
 abbrev pub decreases-loop-rest : goal.decreases-loop-rest

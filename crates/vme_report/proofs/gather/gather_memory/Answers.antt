@@ -4,7 +4,7 @@ use Rattle.std.specs.List.{flat_map, range_with_len}
 use Rattle.vme_io.specs.Prefixes.{AppendsPrefix}
 use Rattle.vme_report.specs.Texts.{row, row_text, row_count, memory_text}
 use Rattle.vme_io.proofs.lemmas.Gathering.{so_far_more, so_far_fails}
-use Rattle.vme_report.proofs.Wholes.{row_first}
+use Rattle.vme_report.proofs.FirstParts.{row_first}
 use Rattle.vme_report.proofs.gather.gather_memory.Goals as goal
 
 pub returns-in_err-gather_row-clause-gathers : goal.returns-in_err-gather_row-clause-gathers

@@ -3,7 +3,7 @@ use Rattle.std.proofs.Common.{◌<◌, ◌+◌, ◌++◌, length, drop, arith, r
 use Rattle.vme_io.specs.Prefixes.{AppendsPrefix}
 use Rattle.vme_report.specs.Texts.{line_text, replies_text}
 use Rattle.vme_io.proofs.lemmas.Gathering.{so_far_more, so_far_fails}
-use Rattle.vme_report.proofs.Wholes.{reply_first}
+use Rattle.vme_report.proofs.FirstParts.{reply_first}
 use Rattle.vme_report.proofs.gather.gather_replies.Goals as goal
 
 pub returns-in_err-gather_reply-clause-gathers : goal.returns-in_err-gather_reply-clause-gathers

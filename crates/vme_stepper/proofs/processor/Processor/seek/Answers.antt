@@ -5,7 +5,7 @@ use Rattle.vme_line_task.specs.Scripts.{lines_at}
 use Rattle.vme_line_task.specs.Machine.{line_to_do}
 use Rattle.vme_core.proofs.lemmas.NextSteps.{at_work, its_call, ends_so}
 use Rattle.vme_stepper.proofs.Turning.{turn_begins, turn_passes}
-use Rattle.vme_stepper.proofs.Drawing.{draws}
+use Rattle.vme_stepper.proofs.NextBuffers.{draws}
 use Rattle.vme_stepper.proofs.processor.Processor.seek.Goals as goal
 
 pub start-task-requires-clause-none : goal.start-task-requires-clause-none
