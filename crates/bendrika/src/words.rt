@@ -34,8 +34,8 @@ fn check<'a>(alloc: Global) -> Result<Command<'a>, AllocError> {
         .action(ArgAction::SetTrue)
         .help("Report errors alone");
     Command::new(alloc, "check")
-        .about("Report every fault of configuration files, with line and column")
-        .after_help("Status: 0 no error, 1 errors, 2 wrong words, 3 a file or device fault")
+        .about("Report the faults of configuration files, with line and column")
+        .after_help("Status: 0 no error, 1 errors, 2 wrong words, 3 a file or the output failed")
         .arg(files)?
         .arg(json(alloc))?
         .arg(quiet(alloc))?
@@ -49,8 +49,8 @@ fn cycles<'a>(alloc: Global) -> Result<Command<'a>, AllocError> {
         .value_name("FILE")
         .help("A file of request lines; - or none is standard input");
     Command::new(alloc, "cycles")
-        .about("Report every fault of request lines, and make no cycle")
-        .after_help("Status: 0 no error, 1 errors, 2 wrong words, 3 a file or device fault")
+        .about("Report the faults of request lines, and make no cycle")
+        .after_help("Status: 0 no error, 1 errors, 2 wrong words, 3 a file or the output failed")
         .arg(file)?
         .arg(json(alloc))?
         .arg(quiet(alloc))?
