@@ -7,7 +7,7 @@ ghost use Rattle.vme_config_toml.specs.Keys.{is_board_key, range_values, class_v
 
 use crate::fault::DocumentFault;
 use crate::file::{BoardTable, ClassTable, FileTable, MailboxTable, RangeTable};
-use crate::values::{required_whole, str_or, bool_or, value_at, whole, whole_or};
+use crate::values::{bool_or, required_whole, str_or, value_at, whole, whole_or};
 use std::alloc::Global;
 use toml::{Table, Value};
 

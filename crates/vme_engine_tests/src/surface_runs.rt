@@ -15,7 +15,7 @@ use vme_runner::{
     BoardReport, Gate, LineTask, LineTodo, Ports, Ran, Report, RunFault, Status, Worker,
     a_run_of_threads_is_a_run_of_turns, a_turn_makes_its_call_alone, blocks_do_not_interleave,
     commands_are_the_holders, data_move_for_the_holder, declared_mailboxes_are_queues,
-    no_line_is_unfinished, each_transition_is_a_turn, gather, no_line_is_denied,
+    each_transition_is_a_turn, gather, no_line_is_denied, no_line_is_unfinished,
     one_order_has_a_history_of_each_object, report_text, run_steps, run_threads, texts_show_queues,
     the_arbiter_denies_no_command, turns_are_a_run_of_transitions,
 };

@@ -42,7 +42,14 @@ fn finds_the_keys_of_one_board_too_many(rt: HostRuntime) {
     let faulty = "[[board]]\nx = 1\nslot = 1\nbase = 0\nsize = 16\n";
     let file = repeated(rt.alloc(), boards.as_str(), faulty, 3, "").expect(&rt, "no memory");
     let codes = codes_of(rt.alloc(), file.as_bytes()).expect(&rt, "no memory");
-    assert_eq!(rt; codes.as_str().split(' ').filter(|code| *code == "C7").count(), 1);
+    assert_eq!(rt;
+        codes
+            .as_str()
+            .split(' ')
+            .filter(|code| *code == "C7")
+            .count(),
+        1
+    );
 }
 
 #[test]

@@ -18,8 +18,9 @@ fn printed(alloc: Global, limit: usize) -> Result<String, Fail> {
     };
     let mut source = SliceSource::new(TEXT, 64, usize::MAX);
     let mut sink = RoomSink::new(alloc, 64, 4096)?;
-    let end = check_engine(alloc, "a\u{1}.toml", &form, &mut source, &mut sink)
-        .map_err(|_| Fail::from("check"))?;
+    let end = check_engine(alloc, "a\u{1}.toml", &form, &mut source, &mut sink).map_err(
+        |_| Fail::from("check"),
+    )?;
     let wanted = CheckEnd {
         counts: Counts {
             errors: 4,

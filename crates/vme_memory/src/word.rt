@@ -60,7 +60,10 @@ pub fn merge_across(here: u32, next: u32, place: u32, new: u32) -> (u32, u32)
 {
     let rotated_word = new.rotate_right(8 * place);
     let mask = u32::MAX >> (8 * place);
-    (here & !mask | rotated_word & mask, rotated_word & !mask | next & mask)
+    (
+        here & !mask | rotated_word & mask,
+        rotated_word & !mask | next & mask,
+    )
 }
 
 /// Returns the four bytes of a word, the lowest address most significant.

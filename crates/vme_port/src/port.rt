@@ -105,7 +105,11 @@ impl<O: Object> Port<O> {
     }
 
     /// Splits the seat's first account off, and returns a pass for it.
-    fn split_pass(&self, seat: &mut Seat<Home<O>, SeatView<O::Cmd, O::Reply>>, who: usize) -> Pass<O>
+    fn split_pass(
+        &self,
+        seat: &mut Seat<Home<O>, SeatView<O::Cmd, O::Reply>>,
+        who: usize,
+    ) -> Pass<O>
         requires port { seat.old.table_id ≡ port_id self.now }
         requires below { who < passes_of self.now }
         requires all { Represents (passes_of self.now) who seat.old.me }
@@ -118,7 +122,11 @@ impl<O: Object> Port<O> {
     }
 
     /// Makes a pass for each account of the seat.
-    fn make_passes(&self, mut seat: Seat<Home<O>, SeatView<O::Cmd, O::Reply>>, passes: &mut Vec<Pass<O>>)
+    fn make_passes(
+        &self,
+        mut seat: Seat<Home<O>, SeatView<O::Cmd, O::Reply>>,
+        passes: &mut Vec<Pass<O>>,
+    )
         requires port { seat.table_id ≡ port_id self.now }
         requires all { Represents (passes_of self.now) 0 seat.me }
         requires empty { passes.old.items ≡ [] }

@@ -149,9 +149,11 @@ fn first_of_last(rt: HostRuntime, text: &str) -> Result<Option<usize>, AllocErro
         from,
         to: text.len(),
     };
-    Ok(outline
-        .first_of_key(text.as_bytes(), again)
-        .map(|first| first.from))
+    Ok(
+        outline
+            .first_of_key(text.as_bytes(), again)
+            .map(|first| first.from),
+    )
 }
 
 #[test]
@@ -159,7 +161,10 @@ fn a_repeated_key_has_its_first_place(rt: HostRuntime) -> Result<(), Fail> {
     let rows = [
         ("rounds = 1\ntries = 2\nrounds = 3", Some(0)),
         ("rounds = 1\n[[board]]\nslot = 1\nslot = 2", Some(21)),
-        ("[[board]]\nslot = 1\n[[board]]\n 'slot' = 2\n'slot' = 3", Some(30)),
+        (
+            "[[board]]\nslot = 1\n[[board]]\n 'slot' = 2\n'slot' = 3",
+            Some(30),
+        ),
         ("[[board]]\nx = 1\n  x = 2", Some(10)),
         ("[[board]]\n[[mailbox]]\nam = 1\nam = 2", Some(22)),
         ("[[mailbox]]\n[[board]]\nslot = 1\nam = 1\nam = 2", Some(31)),

@@ -7,8 +7,8 @@ ghost use Rattle.vme_threads.specs.Reports.{CanGather};
 ghost use Rattle.vme_threads.specs.OneOrder.{IsReportOfOneOrder};
 ghost use Rattle.vme_threads.specs.Gatherings.{IsBoardHome, IsEntryOfHome, IsGatheredFrom};
 
-use crate::processor_pass::ProcessorPass;
 use crate::ports::Ports;
+use crate::processor_pass::ProcessorPass;
 use crate::report::{BoardReport, Report};
 use crate::run_buffers::{PassBuffers, ReportBuffers};
 use crate::worker::Ran;

@@ -20,8 +20,8 @@ ghost use Rattle.vme_line_task.specs.Tables.{transferring_next};
 ghost use Rattle.vme_threads.specs.ProcessorPasses.{MatchesPorts};
 ghost use Rattle.vme_threads.specs.Rans.{IsAnsweredBy, AddsLine};
 
-use crate::processor_pass::ProcessorPass;
 use crate::ports::Ports;
+use crate::processor_pass::ProcessorPass;
 use std::sync::Wait;
 use std::sync::atomic::Ordering;
 use vme_core::EventReply;

@@ -2,8 +2,8 @@ ghost use Rattle.std.specs.Prelude.{ℕ, ◌≡◌, ◌<◌, ◌≤◌, ◌+◌,
 ghost use Rattle.vme_line_task.specs.ReadBuffers.{buffers_of};
 
 use crate::gate::Gate;
-use crate::processor_pass::ProcessorPass;
 use crate::ports::Ports;
+use crate::processor_pass::ProcessorPass;
 use std::alloc::{AllocError, Global};
 use std::sync::Wait;
 use std::sync::atomic::Ordering;
@@ -110,6 +110,9 @@ impl Worker {
             gate.after(slot, number);
             lines.push_reserved((number, answer));
         }
-        Ok(Ran { processor_pass, lines })
+        Ok(Ran {
+            processor_pass,
+            lines,
+        })
     }
 }
