@@ -217,6 +217,13 @@ impl Core {
         }
     }
 
+    /// Returns the arbiter.
+    pub fn arbiter(&self) -> &Arbiter
+        ensures { result.now ≡ self.now.bus.object }
+    {
+        self.bus.object()
+    }
+
     /// Returns the memory of a board.
     pub fn memory(&self, board: usize) -> &ByteMemory
         requires { board < length self.now.boards }

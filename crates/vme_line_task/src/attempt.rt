@@ -5,6 +5,7 @@ ghost use Rattle.vme_core.specs.Machines.{process_count};
 ghost use Rattle.vme_core.specs.NextSteps.{NotStarted, call_in, result_in};
 ghost use Rattle.vme_core.specs.Advances.{CanMake, AdvancesOn};
 ghost use Rattle.vme_shared.specs.Machine.{shared_to_do};
+ghost use Rattle.vme_line_task.specs.CurrentData.{attempt_datum, attempt_command};
 ghost use Rattle.vme_line_task.specs.Tables.{next_wants_retry, shares_next};
 ghost use Rattle.vme_line_task.specs.Events.{reply_in};
 ghost use Rattle.vme_line_task.specs.Machine.{attempt_anew, attempt_advance, attempt_to_do, attempts_advance, attempts_to_do};
@@ -12,7 +13,8 @@ ghost use Rattle.vme_line_task.specs.Machine.{attempt_anew, attempt_advance, att
 use crate::reply::LineReplyRef;
 use crate::wait::AwaitTask;
 use vme_core::{Core, EventRef, EventReply};
-use vme_master::Task;
+use vme_master::{CurrentDatum, Task};
+use vme_memory::BoardCmd;
 use vme_shared::{LineReply, SharedOutcome, SharedTask};
 
 /// Attempts at a line, one of which is the current one.
@@ -105,6 +107,27 @@ impl AttemptTask<'_> {
             AttemptTask::Transfer(task) => task.event_ref(),
             AttemptTask::Await(wait) => wait.event_ref(),
             AttemptTask::Shared(task) => task.event_ref(),
+        }
+    }
+
+    /// Returns the datum that the attempt is at, if it is at a transfer over the bus.
+    pub(crate) fn current_datum(&self) -> Option<CurrentDatum<'_>>
+        ensures { result ≡ attempt_datum self.now }
+    {
+        match self {
+            AttemptTask::Transfer(task) => task.current_datum(),
+            AttemptTask::Await(wait) => wait.current_datum(),
+            AttemptTask::Shared(task) => task.current_datum(),
+        }
+    }
+
+    /// Returns a copy of the command to the local port, if the attempt is one.
+    pub(crate) fn local_command(&self) -> Option<BoardCmd>
+        ensures { result ≡ attempt_command self.now }
+    {
+        match self {
+            AttemptTask::Transfer(task) => task.local_command(),
+            AttemptTask::Await(_) | AttemptTask::Shared(_) => None,
         }
     }
 

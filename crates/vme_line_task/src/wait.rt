@@ -3,6 +3,7 @@ ghost use Rattle.std.specs.Prelude.{◌≡◌, ◌≢◌, option_map, option_cop
 ghost use Rattle.std.specs.Str.{bytes_eq};
 ghost use Rattle.vme_core.specs.EventRefs.{call_asked};
 ghost use Rattle.vme_core.specs.NextSteps.{NotStarted, call_in, result_in};
+ghost use Rattle.vme_master.specs.CurrentData.{task_datum};
 ghost use Rattle.vme_master.specs.Machine.{advance, fresh_task, to_do};
 ghost use Rattle.vme_line_task.specs.Tables.{waits_next, next_wants_retry};
 ghost use Rattle.vme_line_task.specs.Events.{reply_in};
@@ -10,7 +11,7 @@ ghost use Rattle.vme_line_task.specs.Events.{reply_in};
 use crate::reply::LineReplyRef;
 use vme_core::{EventRef, EventReply};
 use vme_lanes::Datum;
-use vme_master::{Outcome, OutcomeRef, Task};
+use vme_master::{CurrentDatum, Outcome, OutcomeRef, Task};
 use vme_shared::LineReply;
 
 /// A read that waits for bytes, which are so few that they lie in the task itself.
@@ -43,6 +44,13 @@ impl<'a> AwaitTask<'a> {
         ensures { option_map call_asked result ≡ call_in (waits_next self.now.want.items (to_do self.now.task)) }
     {
         self.task.event_ref()
+    }
+
+    /// Returns the datum that the read is at.
+    pub(crate) fn current_datum(&self) -> Option<CurrentDatum<'_>>
+        ensures { result ≡ task_datum self.now.task }
+    {
+        self.task.current_datum()
     }
 
     /// Returns whether the read has ended.

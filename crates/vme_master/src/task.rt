@@ -9,10 +9,12 @@ ghost use Rattle.vme_core.specs.EventRefs.{call_asked};
 ghost use Rattle.vme_core.specs.Machines.{process_count};
 ghost use Rattle.vme_core.specs.NextSteps.{NotStarted, call_in, result_in};
 ghost use Rattle.vme_core.specs.Advances.{CanMake, AdvancesOn};
+ghost use Rattle.vme_master.specs.CurrentData.{task_datum, job_command};
 ghost use Rattle.vme_master.specs.Tables.{Inputs, next_of};
 ghost use Rattle.vme_master.specs.Machine.{bytes_of, fresh_task, bus_task, advance, task_given, to_do, is_called, job_read_len, IsPlaced};
 ghost use Rattle.vme_master.specs.Events.{call_of_todo, outcome_in};
 
+use crate::current::CurrentDatum;
 use crate::expected::ExpectedReply;
 use crate::job::{BusJob, Job, LocalJob};
 use crate::outcome::{Outcome, OutcomeRef};
@@ -219,6 +221,23 @@ impl<'a> Task<'a> {
                 self.on_board_reply(Phase::Transferring { i }, &reply);
             }
             _ => {}
+        }
+    }
+
+    /// Returns the datum that the task is at, if it is a transfer over the bus.
+    pub fn current_datum(&self) -> Option<CurrentDatum<'_>>
+        ensures { result ≡ task_datum self.now }
+    {
+        self.job.current_datum(self.phase)
+    }
+
+    /// Returns a copy of the command to a local port, if the task is one.
+    pub fn local_command(&self) -> Option<BoardCmd>
+        ensures { result ≡ job_command self.now.job }
+    {
+        match &self.job {
+            Job::Bus(_) => None,
+            Job::Local(job) => Some(job.cmd.copy()),
         }
     }
 

@@ -2,6 +2,7 @@ ghost use Rattle.std.specs.Prelude.{◌≡◌, ◌≢◌};
 ghost use Rattle.std.specs.Option.{option_map, option_copied};
 ghost use Rattle.vme_core.specs.EventRefs.{call_asked};
 ghost use Rattle.vme_core.specs.NextSteps.{NotStarted, call_in, result_in};
+ghost use Rattle.vme_shared.specs.CurrentData.{shared_datum};
 ghost use Rattle.vme_shared.specs.Mailboxes.{IsWellFormed};
 ghost use Rattle.vme_shared.specs.Machine.{shared_fresh, shared_task, shared_advance, shared_to_do};
 ghost use Rattle.vme_shared.specs.Events.{next_in, IsNextOf};
@@ -15,6 +16,7 @@ use std::marker::Model;
 use vme_core::{EventRef, EventReply};
 use vme_cycle::CycleFault;
 use vme_decode::AddressMap;
+use vme_master::CurrentDatum;
 
 /// The task of a lock, an unlock, a put or a take, call by call.
 ///
@@ -89,6 +91,16 @@ impl<'a> SharedTask<'a> {
     {
         match &self.current {
             CurrentTransfer::Running { task, .. } => task.event_ref(),
+            CurrentTransfer::Finished(_) => None,
+        }
+    }
+
+    /// Returns the datum that the current transfer is at, if the task has not ended.
+    pub fn current_datum(&self) -> Option<CurrentDatum<'_>>
+        ensures { result ≡ shared_datum self.now }
+    {
+        match &self.current {
+            CurrentTransfer::Running { task, .. } => task.current_datum(),
             CurrentTransfer::Finished(_) => None,
         }
     }
