@@ -8,7 +8,7 @@ ghost use Rattle.vme_shared.specs.Machine.{shared_to_do};
 ghost use Rattle.vme_line_task.specs.CurrentData.{attempt_datum, attempt_command};
 ghost use Rattle.vme_line_task.specs.Tables.{next_wants_retry, shares_next};
 ghost use Rattle.vme_line_task.specs.Events.{reply_in};
-ghost use Rattle.vme_line_task.specs.Machine.{attempt_anew, attempt_advance, attempt_to_do, attempts_advance, attempts_to_do};
+ghost use Rattle.vme_line_task.specs.Machine.{attempt_anew, attempt_advance, attempt_to_do, attempts_again, attempts_advance, attempts_to_do};
 
 use crate::reply::LineReplyRef;
 use crate::wait::AwaitTask;
@@ -45,6 +45,16 @@ impl Attempts<'_> {
         ensures begun { attempts_to_do self.new ≢ NotStarted }
     {
         self.attempt.advance(given);
+        self.retry();
+    }
+
+    /// Begins another attempt, if the current one has ended with a reply that asks for another and
+    /// one is left.
+    #[inline(always)]
+    fn retry(&mut self)
+        ensures task { self.new ≡ attempts_again self.old (attempts_to_do self.old) }
+        ensures begun { attempts_to_do self.old ≢ NotStarted → attempts_to_do self.new ≢ NotStarted }
+    {
         if self.left > 1 && self.attempt.wants_retry() {
             self.left -= 1;
             self.attempt.restart();
@@ -64,23 +74,23 @@ impl Attempts<'_> {
         if let AttemptTask::Transfer(task) = &mut self.attempt {
             task.advance_on(core, who);
         } else {
-            self.advance_on_by_ref(core, who);
+            self.advance_retrying(core, who);
         }
     }
 
-    /// Performs the current attempt's next event, which `event_ref` returns, on `core` for
-    /// processor `who` and gives the attempts the reply. Another attempt may begin.
+    /// Performs the current attempt's next event on `core` for processor `who` and gives the
+    /// attempt the reply. Another attempt may begin.
     #[inline(never)]
-    fn advance_on_by_ref(&mut self, core: &mut Core, who: usize)
+    fn advance_retrying(&mut self, core: &mut Core, who: usize)
         requires who { who < process_count core.old }
         requires can { CanMake core.old (call_in (attempts_to_do self.old)) }
         ensures { AdvancesOn attempts_to_do attempts_advance who core.old core.new self.old self.new }
     {
-        let Some(event_ref) = &self.attempt.event_ref() else {
+        if self.attempt.is_finished() {
             return;
-        };
-        let reply = core.apply_ref(who, event_ref);
-        self.advance(Some(&reply));
+        }
+        self.attempt.advance_on(core, who);
+        self.retry();
     }
 }
 
@@ -94,6 +104,20 @@ impl AttemptTask<'_> {
             AttemptTask::Transfer(task) => task.advance(given),
             AttemptTask::Await(wait) => wait.advance(given),
             AttemptTask::Shared(task) => task.advance(given),
+        }
+    }
+
+    /// Performs the next event on `core` for processor `who` and gives the attempt the reply.
+    #[inline(always)]
+    fn advance_on(&mut self, core: &mut Core, who: usize)
+        requires who { who < process_count core.old }
+        requires can { CanMake core.old (call_in (attempt_to_do self.old)) }
+        ensures { AdvancesOn attempt_to_do attempt_advance who core.old core.new self.old self.new }
+    {
+        match self {
+            AttemptTask::Transfer(task) => task.advance_on(core, who),
+            AttemptTask::Await(wait) => wait.advance_on(core, who),
+            AttemptTask::Shared(task) => task.advance_on(core, who),
         }
     }
 

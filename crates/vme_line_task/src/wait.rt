@@ -1,7 +1,9 @@
 //! Reads that wait for bytes.
-ghost use Rattle.std.specs.Prelude.{◌≡◌, ◌≢◌, option_map, option_copied, is_some};
+ghost use Rattle.std.specs.Prelude.{◌≡◌, ◌≢◌, ◌<◌, option_map, option_copied, is_some};
 ghost use Rattle.std.specs.Str.{bytes_eq};
+ghost use Rattle.vme_core.specs.Advances.{CanMake, AdvancesOn};
 ghost use Rattle.vme_core.specs.EventRefs.{call_asked};
+ghost use Rattle.vme_core.specs.Machines.{process_count};
 ghost use Rattle.vme_core.specs.NextSteps.{NotStarted, call_in, result_in};
 ghost use Rattle.vme_master.specs.CurrentData.{task_datum};
 ghost use Rattle.vme_master.specs.Machine.{advance, fresh_task, to_do};
@@ -9,7 +11,7 @@ ghost use Rattle.vme_line_task.specs.Tables.{waits_next, next_wants_retry};
 ghost use Rattle.vme_line_task.specs.Events.{reply_in};
 
 use crate::reply::LineReplyRef;
-use vme_core::{EventRef, EventReply};
+use vme_core::{Core, EventRef, EventReply};
 use vme_lanes::Datum;
 use vme_master::{CurrentDatum, Outcome, OutcomeRef, Task};
 use vme_shared::LineReply;
@@ -36,6 +38,17 @@ impl<'a> AwaitTask<'a> {
         ensures begun { waits_next self.new.want.items (to_do self.new.task) ≢ NotStarted }
     {
         self.task.advance(given);
+    }
+
+    /// Performs the next event on `core` for processor `who` and gives the read the reply.
+    #[inline(always)]
+    pub(crate) fn advance_on(&mut self, core: &mut Core, who: usize)
+        requires who { who < process_count core.old }
+        requires can { CanMake core.old (call_in (to_do self.old.task)) }
+        ensures task { AdvancesOn to_do advance who core.old core.new self.old.task self.new.task }
+        ensures want { self.new.want ≡ self.old.want }
+    {
+        self.task.advance_on(core, who);
     }
 
     /// Returns the event that comes next as a reference, if there is one, without the signals of a

@@ -1,6 +1,8 @@
-ghost use Rattle.std.specs.Prelude.{◌≡◌, ◌≢◌};
+ghost use Rattle.std.specs.Prelude.{◌≡◌, ◌≢◌, ◌<◌};
 ghost use Rattle.std.specs.Option.{option_map, option_copied};
+ghost use Rattle.vme_core.specs.Advances.{CanMake, AdvancesOn};
 ghost use Rattle.vme_core.specs.EventRefs.{call_asked};
+ghost use Rattle.vme_core.specs.Machines.{process_count};
 ghost use Rattle.vme_core.specs.NextSteps.{NotStarted, call_in, result_in};
 ghost use Rattle.vme_shared.specs.CurrentData.{shared_datum};
 ghost use Rattle.vme_shared.specs.Mailboxes.{IsWellFormed};
@@ -13,7 +15,7 @@ use crate::outcome::SharedOutcome;
 use crate::request::SharedRequest;
 use crate::todo::SharedTodo;
 use std::marker::Model;
-use vme_core::{EventRef, EventReply};
+use vme_core::{Core, EventRef, EventReply};
 use vme_cycle::CycleFault;
 use vme_decode::AddressMap;
 use vme_master::CurrentDatum;
@@ -79,6 +81,20 @@ impl<'a> SharedTask<'a> {
         ensures begun { shared_to_do self.new ≢ NotStarted }
     {
         if let Some(step) = self.current.advance(self.job.request(), reply) {
+            self.current = self.job.stepped(step);
+        }
+    }
+
+    /// Performs the next event on `core` for processor `who` and gives the task the reply. Without
+    /// a next event nothing changes. This is `event_ref`, `Core::apply_ref` and `advance` in one,
+    /// and faster.
+    #[inline(never)]
+    pub fn advance_on(&mut self, core: &mut Core, who: usize)
+        requires who { who < process_count core.old }
+        requires can { CanMake core.old (call_in (shared_to_do self.old)) }
+        ensures { AdvancesOn shared_to_do shared_advance who core.old core.new self.old self.new }
+    {
+        if let Some(step) = self.current.advance_on(self.job.request(), core, who) {
             self.current = self.job.stepped(step);
         }
     }
