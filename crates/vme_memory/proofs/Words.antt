@@ -1,9 +1,10 @@
 -- Bytes in words: the offsets of a word's bytes, and the effect of a change to one word.
 use Rattle.std.proofs.Common.{◌≡◌, ℕ, ◌+◌, ◌-◌, ◌*◌, ◌<◌, ◌≤◌, zero, suc, List, [], ◌∷◌, ◌++◌, length, take, drop, get_or, set, slice_range, replicate, None, min, refl, ap, sym, ◌∙◌, arith}
-use Rattle.std.specs.Prelude.{slice_get, ◌/◌, ◌%◌, ◌^◌}
+use Rattle.std.specs.Prelude.{slice_get, ◌/◌, ◌%◌, ◌^◌, bit_or}
 use Rattle.std.proofs.lemmas.Grind.{common_steps}
 use Rattle.std.proofs.lemmas.List.{set_split, take-append-drop, length-take-le, length-append, length-drop, get_or-drop, take_more, take_min, append-nil, take_at, append_assoc, drop-drop, drop_at, drop-append-le, take-append-le, drop_more}
 use Rattle.std.proofs.lemmas.List.Concat.{flat_map-append}
+use Rattle.std.proofs.lemmas.Nat.{le_or_l, le_or_r}
 use Rattle.std.proofs.lemmas.Option.{slice_get_past}
 use Rattle.std.proofs.Math.Seq.{take-add, take-append-add}
 use Rattle.vme_memory.specs.Words.{bytes_after_write, word_bytes, bytes_of_words}
@@ -235,6 +236,35 @@ row_more words first i word from less own =
     ∙ ap bytes_of_words (take_more rest (i - first) word there ∙ ap (λ w. take (i - first) rest ++ (w ∷ [])) item)
     ∙ flat_map-append word_bytes (take (i - first) rest) (word ∷ [])
     ∙ ap (λ last. bytes_of_words (take (i - first) rest) ++ last) (append-nil (word_bytes word)))
+
+-- the words from one of zero on are a zero and the words from the next on
+drop_zero : (words : List ℕ) (i j word : ℕ) → i < length words → j ≡ i + 1 → word ≡ get_or words i word → word ≡ 0
+    → drop i words ≡ 0 ∷ drop j words
+drop_zero words i j word less next own none =
+    drop_more words i word less ∙ ap (λ w. w ∷ drop (i + 1) words) (sym own ∙ none) ∙ ap (λ k. 0 ∷ drop k words) (sym next)
+
+-- four words of which no bit is set are sixteen zero bytes
+pub blank_row :
+    (words : List ℕ) (at a b c d : ℕ) → at % 4 ≡ 0 → at / 4 + 4 ≤ length words → a ≡ get_or words (at / 4) a
+    → b ≡ get_or words (at / 4 + 1) b → c ≡ get_or words (at / 4 + 2) c → d ≡ get_or words (at / 4 + 3) d
+    → bit_or (bit_or (bit_or a b) c) d ≡ 0 → take 16 (drop at (bytes_of_words words)) ≡ replicate 16 0
+unfolding word_bytes
+blank_row words at a b c d even within own_a own_b own_c own_d none =
+    let i = at / 4 in
+    let start : at ≡ 4 * i = omega arith in
+    let none_d : d ≡ 0 = omega (arith, le_or_r (bit_or (bit_or a b) c) d) in
+    let none_c : c ≡ 0 = omega (arith, le_or_l (bit_or (bit_or a b) c) d, le_or_r (bit_or a b) c) in
+    let none_b : b ≡ 0 = omega (arith, le_or_l (bit_or (bit_or a b) c) d, le_or_l (bit_or a b) c, le_or_r a b) in
+    let none_a : a ≡ 0 = omega (arith, le_or_l (bit_or (bit_or a b) c) d, le_or_l (bit_or a b) c, le_or_l a b) in
+    let last : drop (i + 3) words ≡ 0 ∷ drop (i + 4) words = drop_zero words (i + 3) (i + 4) d (omega arith) (omega arith) own_d none_d in
+    let third : drop (i + 2) words ≡ 0 ∷ drop (i + 3) words = drop_zero words (i + 2) (i + 3) c (omega arith) (omega arith) own_c none_c in
+    let second : drop (i + 1) words ≡ 0 ∷ drop (i + 2) words = drop_zero words (i + 1) (i + 2) b (omega arith) (omega arith) own_b none_b in
+    let zeros : drop i words ≡ 0 ∷ 0 ∷ 0 ∷ 0 ∷ drop (i + 4) words =
+    drop_zero words i (i + 1) a (omega arith) (omega arith) own_a none_a
+    ∙ ap (λ rest. 0 ∷ rest) (second ∙ ap (λ rest. 0 ∷ rest) (third ∙ ap (λ rest. 0 ∷ rest) last)) in
+    ap (λ k. take 16 (drop k (bytes_of_words words))) start
+    ∙ ap (take 16) (drop_words words i)
+    ∙ ap (λ rest. take 16 (bytes_of_words rest)) zeros
 
 -- the bytes of four words, or of fewer at the end, are the sixteen bytes from their offset on, or fewer
 pub row_whole :

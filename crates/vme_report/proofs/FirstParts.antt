@@ -1,8 +1,9 @@
 -- A text of several parts begins with the first of them.
-use Rattle.std.proofs.Common.{◌≡◌, ℕ, ◌+◌, ◌-◌, ◌*◌, ◌<◌, suc, List, [], ◌++◌, length, drop, get_or, sym, ap, ◌∙◌, arith}
+use Rattle.std.proofs.Common.{◌≡◌, ℕ, ◌+◌, ◌-◌, ◌*◌, ◌<◌, suc, List, [], ◌++◌, length, drop, get_or, refl, sym, ap, ◌∙◌, arith}
 use Rattle.std.proofs.lemmas.List.{drop_more}
 use Rattle.std.specs.List.{flat_map, range_with_len}
 use Rattle.vme_shared.specs.declared.reply.LineReply.{LineReply}
+use Rattle.vme_memory.specs.Boards.{zeros}
 use Rattle.vme_report.specs.Texts.{line_text, replies_text, row, row_text, row_count}
 
 -- the text of the items from item i on begins with the text of item i
@@ -33,3 +34,8 @@ pub row_first :
 row_first slot i bytes own within is =
     number_first (λ k. row_text slot (16 * k) (row bytes k)) i (row_count bytes) within
     ∙ ap (λ r. row_text slot (16 * i) r ++ flat_map (λ k. row_text slot (16 * k) (row bytes k)) (range_with_len (i + 1) (row_count bytes - (i + 1)))) (sym is)
+
+-- sixteen zero bytes have no text
+pub blank_row : (slot offset : ℕ) (own : List ℕ) → own ≡ zeros 16 → row_text slot offset own ≡ []
+unfolding row_text zeros
+blank_row slot offset own blank = rw blank refl
