@@ -156,27 +156,29 @@ fn first_of_last(rt: HostRuntime, text: &str) -> Result<Option<usize>, AllocErro
     )
 }
 
+/// Documents whose last line may repeat a key, with the offset where that key is first.
+static REPEATED: [(&str, Option<usize>); 13] = [
+    ("rounds = 1\ntries = 2\nrounds = 3", Some(0)),
+    ("rounds = 1\n[[board]]\nslot = 1\nslot = 2", Some(21)),
+    (
+        "[[board]]\nslot = 1\n[[board]]\n 'slot' = 2\n'slot' = 3",
+        Some(30),
+    ),
+    ("[[board]]\nx = 1\n  x = 2", Some(10)),
+    ("[[board]]\n[[mailbox]]\nam = 1\nam = 2", Some(22)),
+    ("[[mailbox]]\n[[board]]\nslot = 1\nam = 1\nam = 2", Some(31)),
+    ("[[board]]\nslot = 1\n[board]", Some(0)),
+    ("x = 1\n[ x ]", Some(0)),
+    ("[[board]]\nslot = 1\n[x]\nslot = 2", None),
+    ("[[board]]\nslot.x = 1\nslot.x = 2", None),
+    ("rounds = 1\ntries = 2", None),
+    ("rounds", None),
+    ("", None),
+];
+
 #[test]
 fn a_repeated_key_has_its_first_place(rt: HostRuntime) -> Result<(), Fail> {
-    let rows = [
-        ("rounds = 1\ntries = 2\nrounds = 3", Some(0)),
-        ("rounds = 1\n[[board]]\nslot = 1\nslot = 2", Some(21)),
-        (
-            "[[board]]\nslot = 1\n[[board]]\n 'slot' = 2\n'slot' = 3",
-            Some(30),
-        ),
-        ("[[board]]\nx = 1\n  x = 2", Some(10)),
-        ("[[board]]\n[[mailbox]]\nam = 1\nam = 2", Some(22)),
-        ("[[mailbox]]\n[[board]]\nslot = 1\nam = 1\nam = 2", Some(31)),
-        ("[[board]]\nslot = 1\n[board]", Some(0)),
-        ("x = 1\n[ x ]", Some(0)),
-        ("[[board]]\nslot = 1\n[x]\nslot = 2", None),
-        ("[[board]]\nslot.x = 1\nslot.x = 2", None),
-        ("rounds = 1\ntries = 2", None),
-        ("rounds", None),
-        ("", None),
-    ];
-    for (text, first) in &rows {
+    for (text, first) in &REPEATED {
         assert_eq!(rt; first_of_last(rt, text)?, *first, "{text:?}");
     }
     Ok(())
