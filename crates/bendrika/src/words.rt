@@ -18,7 +18,8 @@ pub(crate) fn program<'a>(alloc: Global) -> Result<Command<'a>, AllocError> {
         .subcommand_required(true)
         .subcommand(check(alloc)?)?
         .subcommand(explain(alloc)?)?
-        .subcommand(cycles(alloc)?)
+        .subcommand(cycles(alloc)?)?
+        .subcommand(serve(alloc)?)
 }
 
 /// `bendrika check`.
@@ -77,6 +78,18 @@ fn explain<'a>(alloc: Global) -> Result<Command<'a>, AllocError> {
         .arg(words)?
         .arg(all)?
         .arg(json(alloc))
+}
+
+/// `bendrika serve`.
+fn serve<'a>(alloc: Global) -> Result<Command<'a>, AllocError> {
+    let file = Arg::new(alloc, "FILE")
+        .value_name("FILE")
+        .required(true)
+        .help("A configuration file; its scripts, schedule, rounds and tries play no part");
+    Command::new(alloc, "serve")
+        .about("Answer lines `SLOT LINE` of standard input, one by one, over a file's boards")
+        .after_help("Status: 0 end of input, 1 not a configuration, 2 wrong words, 3 a fault")
+        .arg(file)
 }
 
 /// The option `--json`.
