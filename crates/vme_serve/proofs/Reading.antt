@@ -149,7 +149,7 @@ left_over (Some input) (Some rest) (Some last) kept there so_far none end is =
     no_bytes [] none = refl
     no_bytes (byte ∷ bytes) none = absurd (omega arith)
 
--- a byte is kept if there is room
+-- a byte is kept if the line has fewer bytes than it may have
 pub kept_byte : (n : ℕ) (old : List ℕ) (byte : ℕ) → length old < n → old ++ byte ∷ [] ≡ take n (old ++ byte ∷ [])
 kept_byte n old byte less = sym (take_all n (old ++ byte ∷ []) (omega (arith, less, length-append old (byte ∷ []))))
 

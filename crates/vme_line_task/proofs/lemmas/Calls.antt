@@ -53,7 +53,7 @@ pub transferring_advances : (who : ℕ) (before after : Machine) (old new : Task
 transferring_advances who before after old new it =
     part_advances Transfer answers.Transfer to_do attempt_to_do advance attempt_advance who before after old new (λ t. refl) (λ t reply. refl) it
 
--- so does a read that waits for bytes
+-- a read that waits for bytes makes a call and advances as its task does
 pub waits_advances : (who : ℕ) (before after : Machine) (old new : AwaitTask) → new.want ≡ old.want
     → AdvancesOn to_do advance who before after old.task new.task
     → AdvancesOn attempt_to_do attempt_advance who before after (Await old) (Await new)
