@@ -49,7 +49,7 @@ stepper_begun config stepper board = stepper_begun_at config stepper board (slic
 abbrev pub line_in : ProcessorView → Option (ℕ × LineTask)
 line_in processor = option_map (λ task. ((slice_index_or processor.lines processor.ended (0, Unfinished)).0, task)) processor.at
 
--- the number and the task of the current line of the processor of the board at an index, if there is one
+-- the number and the task of the current line of the board at an index, if there is one
 abbrev pub line_of : StepperView → ℕ → Option (ℕ × LineTask)
 line_of stepper board = option_and_then line_in (slice_get stepper.processors board)
 

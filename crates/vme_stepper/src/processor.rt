@@ -143,8 +143,8 @@ impl<'a> Processor<'a> {
         ensures machine { (task : AnyTask) (call : Call) → self.old.at ≡ Some task →
             line_to_do task ≡ Invokes call → core.new ≡ (machine_step core.old board call).0 }
         ensures below { IfSome self.new.at (IsLineBelow (length core.old.boards)) }
-        ensures script { self.new.script ≡ self.old.script }
         ensures lines { length self.new.lines ≡ length self.old.lines }
+        ensures script { self.new.script ≡ self.old.script }
         ensures process_count { process_count core.new ≡ process_count core.old }
         ensures boards { length core.new.boards ≡ length core.old.boards }
     {

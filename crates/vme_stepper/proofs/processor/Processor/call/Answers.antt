@@ -24,15 +24,15 @@ returns-clause-below c =
 
 pub returns-clause-turn : goal.returns-clause-turn
 returns-clause-turn c =
-    let sound = rw c.in-Some.is at c.self.invariant.work in
     let is = ap (processor_with c.self.inside.script.now c.self.inside.lines.items c.self.inside.ended) (sym c.in-Some.is) ∙ c.self.view_is in
+    let sound = rw c.in-Some.is at c.self.invariant.work in
     let call = its_call (line_to_do c.in-Some.task) sound.1 in
     let reply = (machine_step c.args.core.now c.args.board call.0).1 in
     let begun = is_begun (line_to_do c.in-Some.task) sound.1 in
     let made =
     made_by c.args.board c.args.core.now c.perform-reply.new.core c.in-Some.task c.perform-reply.new.task call.0 call.1 c.perform-reply.ensures.step in
-    let step = ap (λ (r : Machine × LineTask). (r.0, reply)) made in
     let given = ap (λ (r : Machine × LineTask). r.1) made in
+    let step = ap (λ (r : Machine × LineTask). (r.0, reply)) made in
     let next = its_call (line_to_do c.perform-reply.new.task)
     (at_work (line_to_do c.perform-reply.new.task) (c.perform-reply.ensures.step.begun begun) (sym c.is_finished.ensures ∙ c.if-is_finished.false)) in
     λ config processor some.
@@ -42,8 +42,8 @@ returns-clause-turn c =
 pub returns-then-is_finished-clause-turn : goal.returns-then-is_finished-clause-turn
 returns-then-is_finished-clause-turn c =
     let end = its_result (line_to_do c.perform-reply.new.task) (sym c.is_finished.ensures ∙ c.if-is_finished.true) in
-    let sound = rw c.in-Some.is at c.self.invariant.work in
     let is = ap (processor_with c.self.inside.script.now c.self.inside.lines.items c.self.inside.ended) (sym c.in-Some.is) ∙ c.self.view_is in
+    let sound = rw c.in-Some.is at c.self.invariant.work in
     let call = its_call (line_to_do c.in-Some.task) sound.1 in
     let reply = (machine_step c.args.core.now c.args.board call.0).1 in
     let made =
