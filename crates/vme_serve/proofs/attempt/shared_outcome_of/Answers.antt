@@ -28,13 +28,13 @@ loop-left-preserved c = record {
       c.shared_advance_on.new.task c.loop-left-test.true c.loop-left.invariant.steps c.shared_advance_on.ensures;
 }
 
-pub returns-clause-machine : goal.returns-clause-machine
-returns-clause-machine c =
-    (shared_ends c.args.task.job c.args.who c.args.left.now c.loop-left.left c.args.core.now c.loop-left.core c.loop-left.task
+pub returns-clause-outcome : goal.returns-clause-outcome
+returns-clause-outcome c =
+    c.outcome.ensures ∙ (shared_ends c.args.task.job c.args.who c.args.left.now c.loop-left.left c.args.core.now c.loop-left.core c.loop-left.task
     (elim c.loop-left-test.branch [
       | then-loop-left-test+else-not-is_finished w ↦ inr (sym w.is_finished.ensures ∙ w.if-not-is_finished.false)
       | else-loop-left-test w ↦ inl (omega (arith, w.loop-left-test.false))
-    ]) c.loop-left.invariant.made).machine_is
+    ]) c.loop-left.invariant.made).result_is
 
 pub returns-clause-left : goal.returns-clause-left
 returns-clause-left c =
@@ -44,10 +44,10 @@ returns-clause-left c =
       | else-loop-left-test w ↦ inl (omega (arith, w.loop-left-test.false))
     ]) c.loop-left.invariant.made).left_is
 
-pub returns-clause-outcome : goal.returns-clause-outcome
-returns-clause-outcome c =
-    c.outcome.ensures ∙ (shared_ends c.args.task.job c.args.who c.args.left.now c.loop-left.left c.args.core.now c.loop-left.core c.loop-left.task
+pub returns-clause-machine : goal.returns-clause-machine
+returns-clause-machine c =
+    (shared_ends c.args.task.job c.args.who c.args.left.now c.loop-left.left c.args.core.now c.loop-left.core c.loop-left.task
     (elim c.loop-left-test.branch [
       | then-loop-left-test+else-not-is_finished w ↦ inr (sym w.is_finished.ensures ∙ w.if-not-is_finished.false)
       | else-loop-left-test w ↦ inl (omega (arith, w.loop-left-test.false))
-    ]) c.loop-left.invariant.made).result_is
+    ]) c.loop-left.invariant.made).machine_is
