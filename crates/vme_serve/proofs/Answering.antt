@@ -131,3 +131,9 @@ pub answered_part_at : {T E : Type 0} (end : Result T E) (config : Configuration
 answered_part_at end config service kept text input now after old mid new so_far takes is prefix =
     at_end (λ bytes. AppendsPrefix old new (session_text config bytes)) input end
     (answered_part config service kept text input now after old mid new so_far takes is prefix)
+
+-- the text that was printed into an empty buffer is the answer to what was kept of the line
+pub answer_printed : (service : ServiceView) (text printed cleared asked kept : List ℕ) → text ≡ printed
+    → printed ≡ cleared ++ (answer service asked).text → cleared ≡ [] → asked ≡ kept → text ≡ (answer service kept).text
+answer_printed service text printed cleared asked kept same is none own =
+    same ∙ is ∙ ap (λ (bytes : List ℕ). bytes ++ (answer service asked).text) none ∙ ap (λ (bytes : List ℕ). (answer service bytes).text) own

@@ -1,26 +1,28 @@
 -- The calls of tasks: they go to boards that are there, and their objects can count them.
-use Rattle.std.proofs.Common.{◌≡◌, ℕ, ◌+◌, ◌-◌, ◌<◌, length, Option, Some, None, refl, ap, sym, subst, ◌∙◌, arith}
+use Rattle.std.proofs.Common.{◌≡◌, ℕ, ◌+◌, ◌-◌, ◌<◌, length, Option, Some, None, refl, ap, sym, subst, ◌∙◌, ◌⊎◌, true, arith, ◌∷◌, []}
+use Rattle.std.specs.Prelude.{is_some}
 use Rattle.vme_core.specs.declared.event.EventReply.{EventReply}
 use Rattle.vme_core.specs.declared.event.Target.{Target}
 use Rattle.vme_core.specs.Runs.{Machine}
 use Rattle.vme_core.specs.Calls.{Call, OnBoard, OnBus}
 use Rattle.vme_core.specs.EventRefs.{target_of_call, CanCount}
 use Rattle.vme_core.specs.Machines.{IsThere}
-use Rattle.vme_core.specs.NextSteps.{NextStep, NotStarted, Invokes, Returns, call_in}
+use Rattle.vme_core.specs.NextSteps.{NextStep, NotStarted, Invokes, Returns, call_in, result_in}
 use Rattle.vme_core.specs.Advances.{CanMake, advanced_on, AdvancesOn}
 use Rattle.vme_master.specs.declared.job.Job.{Job}
 use Rattle.vme_master.specs.Laws.{IsBelow}
-use Rattle.vme_master.specs.Machine.{TaskView, task_given, to_do}
+use Rattle.vme_master.specs.Machine.{TaskView, task_given, to_do, advance}
 use Rattle.vme_master.specs.Tables.{Inputs, next_of}
 use Rattle.vme_master.proofs.lemmas.Locals.{calls_below}
 use Rattle.vme_master.proofs.lemmas.Stands.{by_the_table}
-use Rattle.vme_shared.specs.Machine.{SharedView, shared_given, shared_to_do}
+use Rattle.vme_shared.specs.Machine.{SharedView, shared_given, shared_to_do, shared_advance}
 use Rattle.vme_shared.specs.Tables.{SharedJob, shared_next}
 use Rattle.vme_shared.proofs.lemmas.Stands.{by_the_given}
 use Rattle.vme_shared.proofs.lemmas.Tenures.{calls_below as shared_calls_below}
-use Rattle.vme_serve.specs.Calls.{CallsMade, CanCountMore}
-use Rattle.vme_serve.proofs.Calling.{HasMadeCalls}
+use Rattle.vme_serve.specs.Calls.{CallsMade, CanCountMore, calls_made}
+use Rattle.vme_serve.proofs.Calling.{HasMadeCalls, IsCallsEnd, calls_end}
 use Rattle.vme_serve.proofs.Counts.{machine_steps, none_spent}
+use Rattle.vme_serve.proofs.Serving.{task_follows, shared_follows}
 
 -- an object that is there can count one of the calls that are left
 can_count : (left : ℕ) (machine : Machine) (target : Target) → 0 < left → CanCountMore left machine → IsThere machine target
@@ -78,3 +80,21 @@ pub one_step_more : {T R : Type 0} (next : T → NextStep R) (advance : T → Op
     → 0 < left → CanCountMore left before → AdvancesOn next advance who before after old new → CanCountMore (left - 1) after
 one_step_more next advance who left before after old new some more it =
     step_by advance who left before after old new (call_in (next old)) some more it.step
+
+-- a transfer or a local command has made its calls once it has ended, or no more can be counted
+pub task_ends : (job : Job) (who before left : ℕ) (start machine : Machine) (task : TaskView)
+    → (left ≡ 0) ⊎ (is_some (result_in (to_do task)) ≡ true)
+    → HasMadeCalls (task_given job) (next_of job) to_do who left machine task (calls_made (next_of job) who before start (None ∷ []))
+    → IsCallsEnd (next_of job) to_do left machine task (calls_made (next_of job) who before start (None ∷ []))
+task_ends job who before left start machine task over made =
+    calls_end (task_given job) (next_of job) to_do advance (task_follows job) who left machine task
+    (calls_made (next_of job) who before start (None ∷ [])) over made
+
+-- so has a lock, an unlock, a put or a take
+pub shared_ends : (s : SharedJob) (who before left : ℕ) (start machine : Machine) (task : SharedView)
+    → (left ≡ 0) ⊎ (is_some (result_in (shared_to_do task)) ≡ true)
+    → HasMadeCalls (shared_given s) (shared_next s) shared_to_do who left machine task (calls_made (shared_next s) who before start (None ∷ []))
+    → IsCallsEnd (shared_next s) shared_to_do left machine task (calls_made (shared_next s) who before start (None ∷ []))
+shared_ends s who before left start machine task over made =
+    calls_end (shared_given s) (shared_next s) shared_to_do shared_advance (shared_follows s) who left machine task
+    (calls_made (shared_next s) who before start (None ∷ [])) over made

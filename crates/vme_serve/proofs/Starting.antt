@@ -1,5 +1,5 @@
 -- The tasks of lines before their first calls.
-use Rattle.std.proofs.Common.{◌≡◌, ℕ, List, length, map, Option, Some, None, Result, Ok, Err, refl, ap, sym, subst, ◌∙◌}
+use Rattle.std.proofs.Common.{◌≡◌, ℕ, List, length, map, Option, Some, None, Result, Ok, Err, refl, ap, sym, subst, ◌∙◌, ◌∷◌, []}
 use Rattle.std.specs.Prelude.{slice_get}
 use Rattle.std.proofs.lemmas.List.{length-map}
 use Rattle.std.proofs.lemmas.Option.{get_or_from_slice_get}
@@ -9,19 +9,28 @@ use Rattle.vme_cycle.specs.Requests.{read_len}
 use Rattle.vme_cycle.specs.Lawful.{Transfer, transfer_of}
 use Rattle.vme_cycle.proofs.lemmas.Transfers.{comes_from}
 use Rattle.vme_decode.specs.declared.entry.Entry.{Entry}
+use Rattle.vme_core.specs.Runs.{Machine}
+use Rattle.vme_core.specs.NextSteps.{result_in}
 use Rattle.vme_master.specs.declared.job.Job.{Job}
+use Rattle.vme_master.specs.declared.outcome.Outcome.{Outcome}
 use Rattle.vme_master.specs.Laws.{IsBelow}
 use Rattle.vme_master.specs.Machine.{TaskView, fresh_task, bus_task}
+use Rattle.vme_master.specs.Tables.{next_of}
+use Rattle.vme_shared.specs.declared.outcome.SharedOutcome.{SharedOutcome}
+use Rattle.vme_shared.specs.declared.reply.LineReply.{LineReply}
+use Rattle.vme_shared.specs.declared.reply.LineReply.TheVariants as replies
 use Rattle.vme_shared.specs.declared.request.SharedRequest.{SharedRequest}
 use Rattle.vme_shared.specs.Mailboxes.{shared_refusal}
 use Rattle.vme_shared.specs.Machine.{SharedView, shared_fresh, shared_started, shared_task}
-use Rattle.vme_shared.specs.Tables.{SharedJob}
+use Rattle.vme_shared.specs.Tables.{SharedJob, shared_next}
 use Rattle.vme_script.specs.Boards.{entries_of}
 use Rattle.vme_script.specs.Configurations.{Configuration}
 use Rattle.vme_script.specs.declared.board.BoardConfig.{BoardConfig}
-use Rattle.vme_line_task.specs.Scripts.{Attempt, Sharing, slot_at, level_at, transfer_job, request_attempt, unless_refused, shared_job, shared_attempt}
-use Rattle.vme_serve.specs.Services.{ServiceView, attempt_served}
-use Rattle.vme_serve.proofs.Serving.{transfer_below}
+use Rattle.vme_line_task.specs.Scripts.{Attempt, Awaiting, Sharing, slot_at, level_at, transfer_job, request_attempt, unless_refused, shared_job, shared_attempt}
+use Rattle.vme_line_task.specs.Tables.{await_reply}
+use Rattle.vme_serve.specs.Services.{ServiceView, Served, attempt_served}
+use Rattle.vme_serve.specs.Calls.{calls_made}
+use Rattle.vme_serve.proofs.Serving.{IsServed, reply_by, awaiting_served, sharing_served, transfer_below}
 
 -- a lawful read reads as many bytes as it states
 pub reads_so_many : (am addr n : ℕ) (t : Transfer) → transfer_of (Read am addr n) ≡ Ok t → read_len t.request ≡ n
@@ -114,3 +123,47 @@ pub shared_served : (service : ServiceView) (board : ℕ) (task : SharedView) (r
 shared_served service board task request it =
     ap (λ (one : SharedView). attempt_served service board (Ok (Sharing one.job))) it.is
     ∙ sym (ap (λ refusal. attempt_served service board (unless_refused (Sharing (shared_job service.config board request)) refusal)) it.accepted)
+
+-- a line was served by its attempt, or its request is refused: the reply, and the service after it
+pub record IsLineServed (service : ServiceView) (board : ℕ) (attempt : Result Attempt CycleFault) (reply : LineReply) (machine : Machine) (left : ℕ)
+    : Type 0 where
+  pub reply_is : reply ≡ (attempt_served service board attempt).reply
+  pub service_is : record { config = service.config; machine = machine; left = left } ≡ (attempt_served service board attempt).service
+
+served_line : (service : ServiceView) (board : ℕ) (own : Attempt) (attempt : Result Attempt CycleFault) (reply : LineReply) (machine : Machine) (left : ℕ)
+    → IsServed service board own reply machine left → attempt_served service board (Ok own) ≡ attempt_served service board attempt
+    → IsLineServed service board attempt reply machine left
+served_line service board own attempt reply machine left served same = record {
+  reply_is = served.reply_is ∙ ap (λ (one : Served). one.reply) same;
+  service_is = served.service_is ∙ ap (λ (one : Served). one.service) same;
+}
+
+-- a line that waits for bytes was served by its read
+pub compared : (service : ServiceView) (board am addr : ℕ) (bytes want : List ℕ) (task : TaskView) (result : Option Outcome) (machine : Machine) (left : ℕ)
+    → IsStarted service.config board task (transfer_of (Read am addr (length bytes))) → bytes ≡ want
+    → machine ≡ (calls_made (next_of task.job) board service.left service.machine (None ∷ [])).machine
+    → left ≡ (calls_made (next_of task.job) board service.left service.machine (None ∷ [])).left
+    → result ≡ result_in (next_of task.job (calls_made (next_of task.job) board service.left service.machine (None ∷ [])).given)
+    → IsLineServed service board
+    (request_attempt (λ t. Awaiting (transfer_job service.config board t) want) (transfer_of (Read am addr (length want))))
+    (reply_by (await_reply want) result) machine left
+compared service board am addr bytes want task result machine left it same machine_is left_is result_is =
+    served_line service board (Awaiting task.job want)
+    (request_attempt (λ t. Awaiting (transfer_job service.config board t) want) (transfer_of (Read am addr (length want))))
+    (reply_by (await_reply want) result) machine left
+    (awaiting_served service board task.job want result machine left machine_is left_is result_is)
+    (started_attempt service board task (transfer_of (Read am addr (length bytes)))
+    (λ t. Awaiting (transfer_job service.config board t) want) (λ job. Awaiting job want) (λ t. refl) it
+    ∙ ap (λ (all : List ℕ). attempt_served service board (request_attempt (λ t. Awaiting (transfer_job service.config board t) want)
+    (transfer_of (Read am addr (length all))))) same)
+
+-- a request to a lock or a mailbox was served by its task
+pub shared_with : (service : ServiceView) (board : ℕ) (request : SharedRequest) (task : SharedView) (result : Option SharedOutcome) (machine : Machine)
+    (left : ℕ) → IsSharedStarted service.config board task request
+    → machine ≡ (calls_made (shared_next task.job) board service.left service.machine (None ∷ [])).machine
+    → left ≡ (calls_made (shared_next task.job) board service.left service.machine (None ∷ [])).left
+    → result ≡ result_in (shared_next task.job (calls_made (shared_next task.job) board service.left service.machine (None ∷ [])).given)
+    → IsLineServed service board (shared_attempt service.config board request) (reply_by replies.Shared result) machine left
+shared_with service board request task result machine left it machine_is left_is result_is =
+    served_line service board (Sharing task.job) (shared_attempt service.config board request) (reply_by replies.Shared result) machine left
+    (sharing_served service board task.job result machine left machine_is left_is result_is) (shared_served service board task request it)

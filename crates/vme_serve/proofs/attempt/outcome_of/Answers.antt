@@ -5,8 +5,8 @@ use Rattle.vme_master.specs.Laws.{IsBelow}
 use Rattle.vme_master.specs.Machine.{task_given, to_do, advance}
 use Rattle.vme_master.specs.Tables.{next_of}
 use Rattle.vme_serve.specs.Calls.{calls_made}
-use Rattle.vme_serve.proofs.Calling.{IsCallsEnd, one_call_more, calls_end}
-use Rattle.vme_serve.proofs.Making.{task_can, one_step_more}
+use Rattle.vme_serve.proofs.Calling.{one_call_more}
+use Rattle.vme_serve.proofs.Making.{task_can, task_ends, one_step_more}
 use Rattle.vme_serve.proofs.Serving.{task_follows}
 use Rattle.vme_serve.proofs.attempt.outcome_of.Goals as goal
 use Rattle.vme_serve.proofs.attempt.outcome_of.Goals.{then-loop-left-test+else-not-is_finished, else-loop-left-test}
@@ -31,39 +31,24 @@ loop-left-preserved c = record {
 
 pub returns-clause-machine : goal.returns-clause-machine
 returns-clause-machine c =
-    let end : (c.loop-left.left ≡ 0) ⊎ (is_some (result_in (to_do c.loop-left.task)) ≡ true) = elim c.loop-left-test.branch [
+    (task_ends c.args.task.job c.args.who c.args.left.now c.loop-left.left c.args.core.now c.loop-left.core c.loop-left.task
+    (elim c.loop-left-test.branch [
       | then-loop-left-test+else-not-is_finished w ↦ inr (sym w.is_finished.ensures ∙ w.if-not-is_finished.false)
       | else-loop-left-test w ↦ inl (omega (arith, w.loop-left-test.false))
-    ] in
-    let over : IsCallsEnd (next_of c.args.task.job) to_do c.loop-left.left c.loop-left.core c.loop-left.task
-    (calls_made (next_of c.args.task.job) c.args.who c.args.left.now c.args.core.now (None ∷ [])) =
-    calls_end (task_given c.args.task.job) (next_of c.args.task.job) to_do advance (task_follows c.args.task.job) c.args.who c.loop-left.left
-    c.loop-left.core c.loop-left.task
-    (calls_made (next_of c.args.task.job) c.args.who c.args.left.now c.args.core.now (None ∷ [])) end c.loop-left.invariant.made in
-    over.machine_is
+    ]) c.loop-left.invariant.made).machine_is
 
 pub returns-clause-left : goal.returns-clause-left
 returns-clause-left c =
-    let end : (c.loop-left.left ≡ 0) ⊎ (is_some (result_in (to_do c.loop-left.task)) ≡ true) = elim c.loop-left-test.branch [
+    (task_ends c.args.task.job c.args.who c.args.left.now c.loop-left.left c.args.core.now c.loop-left.core c.loop-left.task
+    (elim c.loop-left-test.branch [
       | then-loop-left-test+else-not-is_finished w ↦ inr (sym w.is_finished.ensures ∙ w.if-not-is_finished.false)
       | else-loop-left-test w ↦ inl (omega (arith, w.loop-left-test.false))
-    ] in
-    let over : IsCallsEnd (next_of c.args.task.job) to_do c.loop-left.left c.loop-left.core c.loop-left.task
-    (calls_made (next_of c.args.task.job) c.args.who c.args.left.now c.args.core.now (None ∷ [])) =
-    calls_end (task_given c.args.task.job) (next_of c.args.task.job) to_do advance (task_follows c.args.task.job) c.args.who c.loop-left.left
-    c.loop-left.core c.loop-left.task
-    (calls_made (next_of c.args.task.job) c.args.who c.args.left.now c.args.core.now (None ∷ [])) end c.loop-left.invariant.made in
-    over.left_is
+    ]) c.loop-left.invariant.made).left_is
 
 pub returns-clause-outcome : goal.returns-clause-outcome
 returns-clause-outcome c =
-    let end : (c.loop-left.left ≡ 0) ⊎ (is_some (result_in (to_do c.loop-left.task)) ≡ true) = elim c.loop-left-test.branch [
+    c.into_outcome.ensures ∙ (task_ends c.args.task.job c.args.who c.args.left.now c.loop-left.left c.args.core.now c.loop-left.core c.loop-left.task
+    (elim c.loop-left-test.branch [
       | then-loop-left-test+else-not-is_finished w ↦ inr (sym w.is_finished.ensures ∙ w.if-not-is_finished.false)
       | else-loop-left-test w ↦ inl (omega (arith, w.loop-left-test.false))
-    ] in
-    let over : IsCallsEnd (next_of c.args.task.job) to_do c.loop-left.left c.loop-left.core c.loop-left.task
-    (calls_made (next_of c.args.task.job) c.args.who c.args.left.now c.args.core.now (None ∷ [])) =
-    calls_end (task_given c.args.task.job) (next_of c.args.task.job) to_do advance (task_follows c.args.task.job) c.args.who c.loop-left.left
-    c.loop-left.core c.loop-left.task
-    (calls_made (next_of c.args.task.job) c.args.who c.args.left.now c.args.core.now (None ∷ [])) end c.loop-left.invariant.made in
-    c.into_outcome.ensures ∙ over.result_is
+    ]) c.loop-left.invariant.made).result_is

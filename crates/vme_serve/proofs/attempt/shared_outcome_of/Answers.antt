@@ -4,8 +4,8 @@ use Rattle.vme_core.specs.NextSteps.{result_in}
 use Rattle.vme_shared.specs.Machine.{shared_given, shared_to_do, shared_advance}
 use Rattle.vme_shared.specs.Tables.{shared_next}
 use Rattle.vme_serve.specs.Calls.{calls_made}
-use Rattle.vme_serve.proofs.Calling.{IsCallsEnd, one_call_more, calls_end}
-use Rattle.vme_serve.proofs.Making.{shared_can, one_step_more}
+use Rattle.vme_serve.proofs.Calling.{one_call_more}
+use Rattle.vme_serve.proofs.Making.{shared_can, shared_ends, one_step_more}
 use Rattle.vme_serve.proofs.Serving.{shared_follows}
 use Rattle.vme_serve.proofs.attempt.shared_outcome_of.Goals as goal
 use Rattle.vme_serve.proofs.attempt.shared_outcome_of.Goals.{then-loop-left-test+else-not-is_finished, else-loop-left-test}
@@ -28,41 +28,26 @@ loop-left-preserved c = record {
       c.shared_advance_on.new.task c.loop-left-test.true c.loop-left.invariant.steps c.shared_advance_on.ensures;
 }
 
-pub returns-clause-machine : goal.returns-clause-machine
-returns-clause-machine c =
-    let end : (c.loop-left.left ≡ 0) ⊎ (is_some (result_in (shared_to_do c.loop-left.task)) ≡ true) = elim c.loop-left-test.branch [
+pub returns-clause-outcome : goal.returns-clause-outcome
+returns-clause-outcome c =
+    c.outcome.ensures ∙ (shared_ends c.args.task.job c.args.who c.args.left.now c.loop-left.left c.args.core.now c.loop-left.core c.loop-left.task
+    (elim c.loop-left-test.branch [
       | then-loop-left-test+else-not-is_finished w ↦ inr (sym w.is_finished.ensures ∙ w.if-not-is_finished.false)
       | else-loop-left-test w ↦ inl (omega (arith, w.loop-left-test.false))
-    ] in
-    let over : IsCallsEnd (shared_next c.args.task.job) shared_to_do c.loop-left.left c.loop-left.core c.loop-left.task
-    (calls_made (shared_next c.args.task.job) c.args.who c.args.left.now c.args.core.now (None ∷ [])) =
-    calls_end (shared_given c.args.task.job) (shared_next c.args.task.job) shared_to_do shared_advance (shared_follows c.args.task.job) c.args.who c.loop-left.left
-    c.loop-left.core c.loop-left.task
-    (calls_made (shared_next c.args.task.job) c.args.who c.args.left.now c.args.core.now (None ∷ [])) end c.loop-left.invariant.made in
-    over.machine_is
+    ]) c.loop-left.invariant.made).result_is
 
 pub returns-clause-left : goal.returns-clause-left
 returns-clause-left c =
-    let end : (c.loop-left.left ≡ 0) ⊎ (is_some (result_in (shared_to_do c.loop-left.task)) ≡ true) = elim c.loop-left-test.branch [
+    (shared_ends c.args.task.job c.args.who c.args.left.now c.loop-left.left c.args.core.now c.loop-left.core c.loop-left.task
+    (elim c.loop-left-test.branch [
       | then-loop-left-test+else-not-is_finished w ↦ inr (sym w.is_finished.ensures ∙ w.if-not-is_finished.false)
       | else-loop-left-test w ↦ inl (omega (arith, w.loop-left-test.false))
-    ] in
-    let over : IsCallsEnd (shared_next c.args.task.job) shared_to_do c.loop-left.left c.loop-left.core c.loop-left.task
-    (calls_made (shared_next c.args.task.job) c.args.who c.args.left.now c.args.core.now (None ∷ [])) =
-    calls_end (shared_given c.args.task.job) (shared_next c.args.task.job) shared_to_do shared_advance (shared_follows c.args.task.job) c.args.who c.loop-left.left
-    c.loop-left.core c.loop-left.task
-    (calls_made (shared_next c.args.task.job) c.args.who c.args.left.now c.args.core.now (None ∷ [])) end c.loop-left.invariant.made in
-    over.left_is
+    ]) c.loop-left.invariant.made).left_is
 
-pub returns-clause-outcome : goal.returns-clause-outcome
-returns-clause-outcome c =
-    let end : (c.loop-left.left ≡ 0) ⊎ (is_some (result_in (shared_to_do c.loop-left.task)) ≡ true) = elim c.loop-left-test.branch [
+pub returns-clause-machine : goal.returns-clause-machine
+returns-clause-machine c =
+    (shared_ends c.args.task.job c.args.who c.args.left.now c.loop-left.left c.args.core.now c.loop-left.core c.loop-left.task
+    (elim c.loop-left-test.branch [
       | then-loop-left-test+else-not-is_finished w ↦ inr (sym w.is_finished.ensures ∙ w.if-not-is_finished.false)
       | else-loop-left-test w ↦ inl (omega (arith, w.loop-left-test.false))
-    ] in
-    let over : IsCallsEnd (shared_next c.args.task.job) shared_to_do c.loop-left.left c.loop-left.core c.loop-left.task
-    (calls_made (shared_next c.args.task.job) c.args.who c.args.left.now c.args.core.now (None ∷ [])) =
-    calls_end (shared_given c.args.task.job) (shared_next c.args.task.job) shared_to_do shared_advance (shared_follows c.args.task.job) c.args.who c.loop-left.left
-    c.loop-left.core c.loop-left.task
-    (calls_made (shared_next c.args.task.job) c.args.who c.args.left.now c.args.core.now (None ∷ [])) end c.loop-left.invariant.made in
-    c.outcome.ensures ∙ over.result_is
+    ]) c.loop-left.invariant.made).machine_is

@@ -1,6 +1,6 @@
-use Rattle.std.proofs.Common.{◌≡◌, ap, ◌∙◌, ◌++◌}
+use Rattle.std.proofs.Common.{ap, ◌∙◌}
 use Rattle.vme_serve.specs.Services.{answer}
-use Rattle.vme_serve.proofs.Answering.{answered_more, answered_all, answered_whole, answered_first, answered_first_at, answered_part_at}
+use Rattle.vme_serve.proofs.Answering.{answered_more, answered_all, answered_whole, answered_first, answered_first_at, answered_part_at, answer_printed}
 use Rattle.vme_serve.proofs.session.serve.Goals as goal
 
 pub returns-then-not-branch-clause-text : goal.returns-then-not-branch-clause-text
@@ -34,10 +34,8 @@ pub returns-in_err-write_all-clause-prefix : goal.returns-in_err-write_all-claus
 returns-in_err-write_all-clause-prefix g c =
     let kept = c.read_line.new.line.items in
     let takes = rw c.if-not-branch.false at c.in_ok-read_line.ensures.line in
-    let text_is : c.as_slice-answer.result.now ≡ (answer c.loop-line.service kept).text =
-    c.as_slice-answer.ensures.value ∙ c.in_ok-answer.ensures.text
-    ∙ ap (λ bytes. bytes ++ (answer c.loop-line.service c.as_slice-asked.result.now).text) c.clear.ensures.items
-    ∙ ap (λ bytes. (answer c.loop-line.service bytes).text) c.as_slice-asked.ensures.value in
+    let text_is = answer_printed c.loop-line.service c.as_slice-answer.result.now c.answer.new.text.items c.clear.new.self.items
+    c.as_slice-asked.result.now kept c.as_slice-answer.ensures.value c.in_ok-answer.ensures.text c.clear.ensures.items c.as_slice-asked.ensures.value in
     answered_part_at _ c.args.config.now c.loop-line.service kept c.as_slice-answer.result.now (g.R.Source.remaining c.args.reader.now) (g.R.Source.remaining c.loop-line.reader)
     (g.R.Source.remaining c.read_line.new.reader) (g.W.Sink.contents c.args.writer.now) (g.W.Sink.contents c.loop-line.writer) (g.W.Sink.contents c.write_all.new.writer)
     c.loop-line.invariant.answered takes text_is c.in_err-write_all.ensures.prefix
@@ -46,10 +44,8 @@ pub loop-line-preserved : goal.loop-line-preserved
 loop-line-preserved g c =
     let kept = c.read_line.new.line.items in
     let takes = rw c.if-not-branch.false at c.in_ok-read_line.ensures.line in
-    let text_is : c.as_slice-answer.result.now ≡ (answer c.loop-line.service kept).text =
-    c.as_slice-answer.ensures.value ∙ c.in_ok-answer.ensures.text
-    ∙ ap (λ bytes. bytes ++ (answer c.loop-line.service c.as_slice-asked.result.now).text) c.clear.ensures.items
-    ∙ ap (λ bytes. (answer c.loop-line.service bytes).text) c.as_slice-asked.ensures.value in
+    let text_is = answer_printed c.loop-line.service c.as_slice-answer.result.now c.answer.new.text.items c.clear.new.self.items
+    c.as_slice-asked.result.now kept c.as_slice-answer.ensures.value c.in_ok-answer.ensures.text c.clear.ensures.items c.as_slice-asked.ensures.value in
     record {
       answered = answered_more c.args.config.now c.loop-line.service c.answer.new.self c.as_slice-answer.result.now kept (g.R.Source.remaining c.args.reader.now) (g.R.Source.remaining c.loop-line.reader)
           (g.R.Source.remaining c.read_line.new.reader) (g.W.Sink.contents c.args.writer.now) (g.W.Sink.contents c.loop-line.writer) (g.W.Sink.contents c.write_all.new.writer)
