@@ -1,14 +1,15 @@
 //! The program `bendrika`, the companion of `vme`.
 //!
 //! `bendrika check` reports every fault of configuration files, `bendrika cycles` those of request
-//! lines, `bendrika explain` prints what a code or a reply of `vme` means, and `bendrika serve`
-//! answers lines one by one. The exit status is 0, or 1 after errors in an input, 2 for wrong words,
-//! or 3 after a fault.
+//! lines, `bendrika explain` prints what a code or a reply of `vme` means, `bendrika serve` answers
+//! lines one by one, and `bendrika outcomes` lists every outcome of a file. The exit status is 0, or
+//! 1 after errors in an input, 2 for wrong words, or 3 after a fault.
 #![tactic(auto)]
 
 mod check;
 mod explain;
 mod fault;
+mod outcomes;
 mod serve;
 mod status;
 mod words;
@@ -16,6 +17,7 @@ mod words;
 use crate::check::{checked, requests_checked};
 use crate::explain::explained;
 use crate::fault::{Fault, fault_of};
+use crate::outcomes::listed;
 use crate::serve::served;
 use crate::status::Status;
 use crate::words::program;
@@ -50,6 +52,7 @@ fn run(rt: &HostRuntime) -> Result<Status, Fault> {
             Some(("check", words)) => checked(rt, words),
             Some(("cycles", words)) => requests_checked(rt, words),
             Some(("explain", words)) => explained(rt, words),
+            Some(("outcomes", words)) => listed(rt, words),
             Some(("serve", words)) => served(rt, words),
             _ => Ok(Status::WrongWords),
         },

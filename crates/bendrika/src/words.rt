@@ -1,4 +1,5 @@
 //! The words of the command line.
+use crate::outcomes::outcomes;
 use clap::{Arg, ArgAction, Command, value_parser};
 use std::alloc::{AllocError, Global};
 
@@ -19,7 +20,8 @@ pub(crate) fn program<'a>(alloc: Global) -> Result<Command<'a>, AllocError> {
         .subcommand(check(alloc)?)?
         .subcommand(explain(alloc)?)?
         .subcommand(cycles(alloc)?)?
-        .subcommand(serve(alloc)?)
+        .subcommand(serve(alloc)?)?
+        .subcommand(outcomes(alloc)?)
 }
 
 /// `bendrika check`.
