@@ -1,9 +1,11 @@
 //! Why a run of the engine ends early.
 ghost use Rattle.std.specs.Prelude.{◌≡◌};
+ghost use Rattle.vme_engines.specs.declared.fault.ProgramFault.TheVariants.{Memory};
 ghost use Rattle.vme_engines.specs.Faults.{fault_of_run};
 ghost use Rattle.vme_outcome_listing.specs.declared.fault.OutcomesFault.TheVariants.{Program};
 ghost use Rattle.vme_outcome_listing.specs.Ends.{fault_of_explore};
 
+use std::alloc::AllocError;
 use thiserror::Error;
 use vme_engines::ProgramFault;
 use vme_explore::ExploreFault;
@@ -22,6 +24,14 @@ pub enum OutcomesFault {
     /// There are more states than the limit.
     #[error("limit")]
     Limit,
+}
+
+impl From<AllocError> for OutcomesFault {
+    ghost from_gives = { λ _ end. end ≡ Program Memory };
+
+    fn from(_error: AllocError) -> OutcomesFault {
+        OutcomesFault::Program(ProgramFault::Memory)
+    }
 }
 
 impl From<ProgramFault> for OutcomesFault {

@@ -2,7 +2,11 @@
 ghost use Rattle.std.specs.Prelude.{◌<◌, IfSome, length};
 
 use crate::condition::Condition;
+use std::alloc::{AllocError, Global};
 use vme_script::Config;
+
+/// The number of bytes in a row of memory.
+const ROW_SIZE: u32 = 16;
 
 /// The first words of replies.
 const REPLIES: [&str; 14] = [
@@ -11,31 +15,41 @@ const REPLIES: [&str; 14] = [
 ];
 
 /// Returns the index of the first condition with a line that can be in no outcome of the file.
-pub(crate) fn first_unnamed(config: &Config, conditions: &[Condition<'_>]) -> Option<usize> {
+pub(crate) fn first_unnamed(
+    alloc: Global,
+    config: &Config,
+    conditions: &[Condition<'_>],
+) -> Result<Option<usize>, AllocError> {
     for (i, condition) in conditions.iter().enumerate() {
         for line in condition.wanted() {
-            if !is_named(config, line) {
-                return Some(i);
+            if !is_named(alloc, config, line)? {
+                return Ok(Some(i));
             }
         }
     }
-    None
+    Ok(None)
 }
 
 /// Returns whether a line is a reply to a line of a script, or a row of a board's memory.
-fn is_named(config: &Config, line: &str) -> bool {
+fn is_named(alloc: Global, config: &Config, line: &str) -> Result<bool, AllocError> {
     let Some((first, rest)) = line.split_once(' ') else {
-        return false;
+        return Ok(false);
     };
     if first == "mem" {
-        return is_row(config, rest);
+        return is_row(alloc, config, rest);
     }
-    let Some((slot, number)) = first.split_once(':') else {
+    Ok(is_reply(config, first, rest))
+}
+
+/// Returns whether a place is that of a line of a script, and a text begins with the word of a
+/// reply.
+fn is_reply(config: &Config, place: &str, text: &str) -> bool {
+    let Some((slot, number)) = place.split_once(':') else {
         return false;
     };
-    let word = match rest.split_once(' ') {
+    let word = match text.split_once(' ') {
         Some((word, _)) => word,
-        None => rest,
+        None => text,
     };
     has_line(config, slot, number) && REPLIES.contains(&word)
 }
@@ -57,17 +71,45 @@ fn has_line(config: &Config, slot: &str, number: &str) -> bool {
     false
 }
 
-/// Returns whether a slot, an offset and some bytes may be those of a row of a board's memory. An
-/// offset has eight digits, and is a multiple of sixteen.
-fn is_row(config: &Config, text: &str) -> bool {
+/// Returns whether a slot, an offset and some bytes may be those of a row of a board's memory.
+fn is_row(alloc: Global, config: &Config, text: &str) -> Result<bool, AllocError> {
     let Some((slot, rest)) = text.split_once(' ') else {
-        return false;
+        return Ok(false);
     };
     let Some((offset, bytes)) = rest.split_once(' ') else {
+        return Ok(false);
+    };
+    let Some(board) = board_in(config, slot) else {
+        return Ok(false);
+    };
+    let Ok(memory) = config.memory(alloc, board) else {
+        return Err(AllocError);
+    };
+    Ok(is_row_of(memory.size(), offset, bytes))
+}
+
+/// Returns whether an offset is that of a row of a memory of a size, and bytes are as many as the
+/// row has, all in lower-case hexadecimal digits.
+fn is_row_of(size: u32, offset: &str, bytes: &str) -> bool {
+    if !is_hex(offset) || !is_hex(bytes) || offset.len() != 8 {
+        return false;
+    }
+    let Ok(start) = u32::from_str_radix(offset, 16) else {
         return false;
     };
-    let is_offset = offset.len() == 8 && offset.ends_with('0');
-    board_in(config, slot).is_some() && is_offset && !bytes.is_empty()
+    if start % ROW_SIZE != 0 || size <= start {
+        return false;
+    }
+    let count = ROW_SIZE.min(size - start) as usize;
+    bytes.len() == count * 2
+}
+
+/// Returns whether a text has lower-case hexadecimal digits alone.
+fn is_hex(text: &str) -> bool {
+    text.as_bytes().iter().all(|digit| match *digit {
+        b'0'..=b'9' | b'a'..=b'f' => true,
+        _ => false,
+    })
 }
 
 /// Returns the index of the board in a slot.

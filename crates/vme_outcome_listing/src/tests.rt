@@ -134,7 +134,10 @@ fn a_condition_names_lines_of_the_file(rt: HostRuntime) -> Result<(), Fail> {
     for (text, named) in [
         ("1:1 done", true),
         ("2:2 read 01; 1:1 done", true),
-        ("mem 2 00000000 01", true),
+        ("mem 2 00000000 01000000000000000000000000000000", true),
+        ("mem 2 00000000 01", false),
+        ("mem 2 00000010 01000000000000000000000000000000", false),
+        ("mem 2 0000000g 01000000000000000000000000000000", false),
         ("3:1 done", false),
         ("1:3 done", false),
         ("01:1 done", false),
@@ -142,8 +145,8 @@ fn a_condition_names_lines_of_the_file(rt: HostRuntime) -> Result<(), Fail> {
         ("1:1", false),
         ("", false),
         ("1:1 done; ", false),
-        ("mem 3 00000000 01", false),
-        ("mem 2 00000008 01", false),
+        ("mem 3 00000000 01000000000000000000000000000000", false),
+        ("mem 2 00000008 01000000000000000000000000000000", false),
     ] {
         let conditions = [Condition::new(rt.alloc(), Kind::Never, text)?];
         let asked = Asked {
