@@ -17,7 +17,7 @@ use Rattle.vme_stepper.specs.Reports.{texts_of_boards, texts_of_system}
 use Rattle.vme_stepper.specs.Turns.{SystemState, state_after}
 use Rattle.vme_stepper.specs.Steppers.{ProcessorView, StepperView, texts_of_processors, processors_from, stepper_of}
 use Rattle.vme_stepper.proofs.Reported.{get_map}
-use Rattle.vme_stepper.proofs.Places.{slot_found}
+use Rattle.vme_stepper.proofs.lemmas.Places.{slot_found}
 use Rattle.vme_stepper.proofs.Turning.{next_first}
 
 -- the value of a counted state is the one at its index in the list of these values

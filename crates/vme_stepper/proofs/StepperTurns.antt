@@ -13,7 +13,7 @@ module _ (config : Configuration) (self : StepperView) (machine : Machine) (proc
     (is : record { machine = machine; processors = processors } ≡ self) (sound : IsStepperOf config self) (there : board < length config.boards)
     (read : processor ≡ get_or processors board processor) where
   -- the stepper's processor at the index of the board is this one
-  processor_there : slice_get self.processors board ≡ Some processor
+  pub processor_there : slice_get self.processors board ≡ Some processor
   processor_there =
       ap (λ (d : StepperView). slice_get d.processors board) (sym is)
       ∙ slice_get_read processors (length processors) board processor refl (omega (arith, ap (λ (d : StepperView). length d.processors) is, sound.count)) read

@@ -15,15 +15,16 @@ use Rattle.vme_line_task.specs.declared.task.LineTask.{LineTask}
 use Rattle.vme_line_task.specs.Scripts.{lines_at}
 use Rattle.vme_line_task.specs.Machine.{line_started, line_advance, line_to_do}
 use Rattle.vme_stepper.specs.Steppers.{ProcessorView, processor_answered, processor_settled, processor_called, line_begun, processor_turn}
-
--- a processor with this task of its current line
-abbrev pub processor_at : ProcessorView → LineTask → ProcessorView
-processor_at processor task = record { script = processor.script; lines = processor.lines; ended = processor.ended; at = Some task }
+use Rattle.vme_stepper.specs.Lines.{processor_at}
 
 -- the next element of a list is the first of those that are left
 pub next_first : {A : Type 0} → (lines : List A) (n : ℕ) (line : A) → slice_get lines n ≡ Some line → drop n lines ≡ line ∷ drop (n + 1) lines
 next_first lines n line found =
     drop_more lines n line (slice_get_within lines n line found) ∙ ap (λ one. one ∷ drop (n + 1) lines) (get_or_from_slice_get lines n line line found)
+
+-- an index below the length of a list has an element
+pub line_there : (lines : List Line) (n : ℕ) → n < length lines → (line : Line) × (slice_get lines n ≡ Some line)
+line_there lines n there = elim (slice_get_cases lines n).1 [ inl found ↦ (found.0, found.2) | inr past ↦ absurd (omega (arith, past.0)) ]
 
 module _ (config : Configuration) (board : ℕ) (machine : Machine) where
   -- if the next line ends without a call, the turn is that of the lines after it
@@ -48,17 +49,13 @@ module _ (config : Configuration) (board : ℕ) (machine : Machine) where
   pub turn_over : (processor : ProcessorView) → length (lines_at config board) ≤ processor.ended → processor_turn config board machine processor ≡ (machine, processor)
   turn_over processor over = rw (drop_all processor.ended (lines_at config board) over) refl
 
-  -- an index below the length of a list has an element
-  place_found : (n : ℕ) (lines : List Line) → n < length lines → (line : Line) × (slice_get lines n ≡ Some line)
-  place_found n lines there = elim (slice_get_cases lines n).1 [ inl found ↦ (found.0, found.2) | inr past ↦ absurd (omega (arith, past.0)) ]
-
   -- the call of the current line, with the reply to it, is the turn
   pub turn_made : (after : Machine) (processor : ProcessorView) (task : LineTask) (call : Call) (reply : EventReply)
       → processor.at ≡ Some task → processor.ended < length (lines_at config board)
       → line_to_do task ≡ Invokes call → (after, reply) ≡ machine_step machine board call
       → (after, processor_settled processor (line_advance task (Some reply)) (line_to_do (line_advance task (Some reply)))) ≡ processor_turn config board machine processor
   turn_made after processor task call reply at within makes step =
-      let found = place_found processor.ended (lines_at config board) within in
+      let found = line_there (lines_at config board) processor.ended within in
       ap (λ (s : Machine × EventReply). (s.0, processor_settled processor (line_advance task (Some s.1)) (line_to_do (line_advance task (Some s.1))))) step
       ∙ sym (turn_called processor found.0 task call at found.1 makes)
 
@@ -97,7 +94,7 @@ module _ (config : Configuration) (board : ℕ) (machine : Machine) where
       → processor_turn config board machine (record { script = script; lines = lines; ended = ended; at = Some task })
       ≡ processor_turn config board machine (record { script = script; lines = lines; ended = ended; at = None })
   turn_begins script lines ended started task call within starts goes todo =
-      let found = place_found ended (lines_at config board) within in
+      let found = line_there (lines_at config board) ended within in
       let begun : task ≡ line_begun config board found.0 = goes ∙ ap (λ (t : LineTask). line_advance t None) (starts found.0 found.1) in
       let idle : ProcessorView = record { script = script; lines = lines; ended = ended; at = None } in
       ap (λ (t : LineTask). processor_turn config board machine (processor_at idle t)) begun
@@ -111,6 +108,6 @@ module _ (config : Configuration) (board : ℕ) (machine : Machine) where
       (record { script = script; lines = slice_set lines ended ((slice_index_or lines ended (0, answer)).0, answer); ended = ended + 1; at = None })
       ≡ processor_turn config board machine (record { script = script; lines = lines; ended = ended; at = None })
   turn_passes script lines ended started task answer within starts goes todo =
-      let found = place_found ended (lines_at config board) within in
+      let found = line_there (lines_at config board) ended within in
       let begun : task ≡ line_begun config board found.0 = goes ∙ ap (λ (t : LineTask). line_advance t None) (starts found.0 found.1) in
       sym (turn_answered (record { script = script; lines = lines; ended = ended; at = None }) found.0 answer refl found.1 (ap line_to_do (sym begun) ∙ sym todo))

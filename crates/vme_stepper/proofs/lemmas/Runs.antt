@@ -1,13 +1,14 @@
 -- Turns, one after another.
-use Rattle.std.proofs.Common.{◌≡◌, ℕ, zero, suc, ◌+◌, ◌-◌, ◌*◌, ◌^◌, ◌<◌, ◌≤◌, List, [], ◌∷◌, ◌++◌, length, take, get_or, replicate, Option, None, refl, sym, ap, subst, ◌∙◌, arith, append_assoc, length-append, add-one}
+use Rattle.std.proofs.Common.{◌≡◌, ℕ, zero, suc, ◌+◌, ◌-◌, ◌*◌, ◌^◌, ◌<◌, ◌≤◌, List, [], ◌∷◌, ◌++◌, length, map, take, get_or, replicate, Option, None, refl, sym, ap, subst, ◌∙◌, arith, append_assoc, length-append, add-one}
 use Rattle.std.proofs.Math.Nat.{mul-le-mul}
-use Rattle.std.proofs.lemmas.List.{append-nil, take_more, length-replicate, length-take, flat_map_more}
+use Rattle.std.proofs.lemmas.List.{append-nil, take_more, length-replicate, length-take, length-map, flat_map_more}
 use Rattle.std.proofs.lemmas.List.Sums.{sum_by-cons, sum_by_push, sum_by-take-le}
+use Rattle.vme_script.specs.declared.board.BoardConfig.{BoardConfig}
 use Rattle.vme_script.specs.Configurations.{Configuration}
 use Rattle.vme_script.specs.Schedules.{turns_of}
 use Rattle.vme_script.specs.Lawful.{IsLawful}
 use Rattle.vme_stepper.specs.Turns.{board_in_slot, state_after}
-use Rattle.vme_stepper.specs.Schedules.{schedule_turns, round_turns}
+use Rattle.vme_stepper.specs.Schedules.{schedule_turns, round_turns, file_turns}
 use Rattle.vme_stepper.specs.Steppers.{StepperView, stepper_turn_at, stepper_of, StepsWithin}
 use Rattle.vme_stepper.proofs.SystemStates.{system_more}
 use Rattle.vme_stepper.proofs.Steps.{steps_after}
@@ -88,4 +89,21 @@ rounds_few config slots i k lawful within few =
       schedule_length config.schedule,
       lawful.turns,
       mul-le-mul {n₁ = i} {m₁ = length slots} {n₂ = 1000000} {m₂ = 21} (omega (arith, lawful.rounds)) few,
+    )
+
+-- a file has at most 22,000,000 turns
+pub file_few : (config : Configuration) → IsLawful config → length (file_turns config) ≤ 22000000
+unfolding file_turns
+file_few config lawful =
+    let slots : List ℕ = map (λ board. board.slot) config.boards in
+    omega (
+      arith,
+      length-append (schedule_turns config.schedule) (round_turns config.rounds slots),
+      round_length config.rounds slots,
+      length-map config.boards (λ (board : BoardConfig). board.slot),
+      schedule_length config.schedule,
+      lawful.turns,
+      lawful.most,
+      mul-le-mul {n₁ = config.rounds} {m₁ = length slots} {n₂ = 1000000} {m₂ = 21} lawful.rounds
+          (omega (arith, length-map config.boards (λ (board : BoardConfig). board.slot), lawful.most)),
     )
