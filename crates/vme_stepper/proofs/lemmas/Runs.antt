@@ -105,5 +105,5 @@ file_few config lawful =
       lawful.turns,
       lawful.most,
       mul-le-mul {n₁ = config.rounds} {m₁ = length slots} {n₂ = 1000000} {m₂ = 21} lawful.rounds
-      (omega (arith, length-map config.boards (λ (board : BoardConfig). board.slot), lawful.most)),
+          (omega (arith, length-map config.boards (λ (board : BoardConfig). board.slot), lawful.most)),
     )
